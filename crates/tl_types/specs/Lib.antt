@@ -1,0 +1,7 @@
+pub mod Bytes
+pub mod Channel
+pub mod Codes
+pub mod Message
+pub mod Permission
+pub mod Text
+pub mod Ticket

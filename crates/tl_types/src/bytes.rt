@@ -1,0 +1,174 @@
+//! The bytes of an access and of a block. Contracts see both as lists of numbers below 256.
+ghost use Rattle.std.specs.Prelude.{◌≡◌, ◌↔◌, ◌+◌, ◌^◌, ◌<◌, ◌≤◌, IsTrue, IfSome, IsSome, List, ℕ, [], length, slice_range};
+ghost use Rattle.tl_types.specs.Bytes.{overwrite, image_bytes};
+
+use arrayvec::ArrayVec;
+use std::marker::Model;
+
+/// The bytes of one access, at most eight.
+#[derive(Debug, Drop)]
+pub struct AccessBytes {
+    bytes: ArrayVec<u8, 8>,
+}
+
+impl Model for AccessBytes {
+    ghost use Rattle.std.specs.Prelude.{List, ℕ};
+
+    ghost Value = { List ℕ };
+
+    ghost view = { λ w. w.bytes.items };
+}
+
+impl AccessBytes {
+    /// The same bytes again.
+    pub fn copied(&self) -> AccessBytes
+        ensures { result ≡ self.now }
+    {
+        let mut bytes = ArrayVec::new();
+        let _ = bytes.try_extend_from_slice(self.bytes.as_slice());
+        AccessBytes { bytes }
+    }
+
+    /// No bytes.
+    pub fn new() -> AccessBytes
+        ensures { result ≡ [] }
+    {
+        AccessBytes {
+            bytes: ArrayVec::new(),
+        }
+    }
+
+    /// These bytes, if they are at most eight.
+    pub fn from_slice(bytes: &[u8]) -> Option<AccessBytes>
+        ensures some { IsSome result ↔ (length bytes.now ≤ 8) }
+        ensures bytes { IfSome result (λ w. w ≡ bytes.now) }
+    {
+        let mut access = ArrayVec::new();
+        match access.try_extend_from_slice(bytes) {
+            Ok(()) => Some(AccessBytes { bytes: access }),
+            Err(_) => None,
+        }
+    }
+
+    /// The bytes, in rising order of address.
+    pub fn as_slice(&self) -> &[u8]
+        ensures value { result.now ≡ self.now }
+        ensures fits { length self.now ≤ 8 }
+    {
+        self.bytes.as_slice()
+    }
+}
+
+/// The bytes of one block, at most 64.
+#[derive(Debug, Drop)]
+pub struct BlockBytes {
+    bytes: ArrayVec<u8, 64>,
+}
+
+impl Model for BlockBytes {
+    ghost use Rattle.std.specs.Prelude.{List, ℕ};
+
+    ghost Value = { List ℕ };
+
+    ghost view = { λ w. w.bytes.items };
+}
+
+impl BlockBytes {
+    /// No bytes.
+    pub fn new() -> BlockBytes
+        ensures { result ≡ [] }
+    {
+        BlockBytes {
+            bytes: ArrayVec::new(),
+        }
+    }
+
+    /// The bytes, in rising order of address.
+    pub fn as_slice(&self) -> &[u8]
+        ensures value { result.now ≡ self.now }
+        ensures fits { length self.now ≤ 64 }
+    {
+        self.bytes.as_slice()
+    }
+
+    /// These bytes, if they are at most 64.
+    pub fn from_slice(bytes: &[u8]) -> Option<BlockBytes>
+        ensures some { IsSome result ↔ (length bytes.now ≤ 64) }
+        ensures bytes { IfSome result (λ b. b ≡ bytes.now) }
+    {
+        let mut block = ArrayVec::new();
+        match block.try_extend_from_slice(bytes) {
+            Ok(()) => Some(BlockBytes { bytes: block }),
+            Err(_) => None,
+        }
+    }
+
+    /// The `len` bytes of an image from `from` on, 0 past its end.
+    #[tactic(auto, using(crate::proofs::Image::images))]
+    pub fn from_image(image: &[u8], from: usize, len: usize) -> BlockBytes
+        requires len { len ≤ 64 }
+        requires from { from < 2 ^ 32 }
+        ensures { result ≡ image_bytes image.now from len }
+    {
+        let mut bytes = ArrayVec::new();
+        for i in 0..len {
+            bytes.push(image.get(from + i).copied().unwrap_or(0));
+        }
+        BlockBytes { bytes }
+    }
+
+    /// The same bytes again.
+    pub fn copied(&self) -> BlockBytes
+        ensures { result ≡ self.now }
+    {
+        let mut bytes = ArrayVec::new();
+        let _ = bytes.try_extend_from_slice(self.bytes.as_slice());
+        BlockBytes { bytes }
+    }
+
+    /// The `len` bytes from `offset` on, where they are there and at most eight.
+    pub fn access_at(&self, offset: u32, len: u32) -> Option<AccessBytes>
+        ensures some { IsSome result ↔ ((offset + len ≤ length self.now) × (len ≤ 8)) }
+        ensures bytes { IfSome result (λ access. (access ≡ slice_range self.now offset (offset + len)) × (length access ≡ len)) }
+    {
+        let block = self.bytes.as_slice();
+        let from = offset as usize;
+        let to = from + len as usize;
+        if to <= block.len() {
+            AccessBytes::from_slice(&block[from..to])
+        } else {
+            None
+        }
+    }
+
+    /// Writes `access` over the bytes from `offset` on.
+    pub fn overwrite(&mut self, offset: usize, access: &AccessBytes)
+        requires { offset + length access.now ≤ 64 }
+        ensures { self.new ≡ overwrite offset access.now self.old }
+    {
+        let access = access.as_slice();
+        let block = self.bytes.as_slice();
+        let before = offset.min(block.len());
+        let after = (offset + access.len()).min(block.len());
+        let mut bytes = ArrayVec::new();
+        let _ = bytes.try_extend_from_slice(&block[..before]);
+        let _ = bytes.try_extend_from_slice(access);
+        let _ = bytes.try_extend_from_slice(&block[after..]);
+        self.bytes = bytes;
+    }
+
+    /// Whether the bytes from `offset` on are those of `access`.
+    pub fn reads_as(&self, offset: usize, access: &AccessBytes) -> bool
+        requires nonempty { 0 < length access.now }
+        requires inside { offset ≤ 64 }
+        ensures { IsTrue result ↔ (slice_range self.now offset (offset + length access.now) ≡ access.now) }
+    {
+        let block = self.bytes.as_slice();
+        let bytes = access.as_slice();
+        if offset + bytes.len() <= block.len() {
+            &block[offset..offset + bytes.len()] == bytes
+        } else {
+            false
+        }
+    }
+}

@@ -1,0 +1,20 @@
+//! The vocabulary of TileLink TL-C: permissions, the parameters of messages, the messages themselves, their codes, and names.
+#![tactic(auto)]
+
+mod bytes;
+mod channel;
+mod kind;
+mod message;
+mod names;
+mod permission;
+mod ticket;
+mod wait;
+
+pub use bytes::{AccessBytes, BlockBytes};
+pub use channel::Channel;
+pub use kind::{Kind, code, codes_are_the_table, decode};
+pub use message::{Body, Downward, Message, ProbeAnswer, Surrender, Upward};
+pub use names::{BankNo, BlockNo, ClientId};
+pub use permission::{Cap, DirtyPrune, GrantCap, Grow, Perm, ProbeCap, ProbeReport, Prune, Report};
+pub use ticket::Ticket;
+pub use wait::Wait;
