@@ -2,6 +2,9 @@
 use Rattle.std.specs.Prelude.{ℕ, Bool, true, false, List, Option, Some, None}
 use Rattle.tl_types.specs.Permission.{report_from, report_to, prune_from, prune_to}
 use Rattle.tl_types.specs.declared.permission.Perm.{Perm}
+use Rattle.tl_types.specs.declared.permission.Perm.TheVariants.{None as p_None, Branch, Tip}
+use Rattle.tl_types.specs.declared.permission.ProbeCap.{ProbeCap}
+use Rattle.tl_types.specs.declared.permission.ProbeCap.TheVariants.{ToB, ToN}
 use Rattle.tl_types.specs.declared.permission.Prune.{Prune}
 use Rattle.tl_types.specs.declared.permission.Prune.TheVariants.{TtoB, TtoN, BtoN}
 use Rattle.tl_types.specs.declared.permission.DirtyPrune.TheVariants.{TtoB as d_TtoB, TtoN as d_TtoN}
@@ -38,6 +41,14 @@ answer_bytes a_BtoB = None
 answer_bytes a_BtoN = None
 answer_bytes a_NtoN = None
 
+-- what a copy with a permission answers to a Probe, with the bytes that it gives if it was dirty
+abbrev pub probe_answer : Perm → ProbeCap → Option (List ℕ) → ProbeAnswer
+probe_answer p_None cap bytes = a_NtoN
+probe_answer Branch ToB bytes = a_BtoB
+probe_answer Branch ToN bytes = a_BtoN
+probe_answer Tip ToB bytes = a_TtoB bytes
+probe_answer Tip ToN bytes = a_TtoN bytes
+
 abbrev pub answer_kind : ProbeAnswer → Kind
 answer_kind (a_TtoB None) = kind.ProbeAck p_TtoB
 answer_kind (a_TtoB (Some bytes)) = kind.ProbeAckData d_TtoB
@@ -58,6 +69,12 @@ abbrev pub surrender_bytes : Surrender → Option (List ℕ)
 surrender_bytes (s_TtoB bytes) = bytes
 surrender_bytes (s_TtoN bytes) = bytes
 surrender_bytes s_BtoN = None
+
+-- what a Release gives up, with the bytes of the copy if it was dirty
+abbrev pub surrender : Prune → Option (List ℕ) → Surrender
+surrender TtoB bytes = s_TtoB bytes
+surrender TtoN bytes = s_TtoN bytes
+surrender BtoN bytes = s_BtoN
 
 abbrev pub surrender_kind : Surrender → Kind
 surrender_kind (s_TtoB None) = kind.Release TtoB

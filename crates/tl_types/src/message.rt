@@ -1,7 +1,8 @@
 //! The messages between home and a client, and what they carry (TileLink 1.8, section 9).
 ghost use Rattle.std.specs.Prelude.{◌≡◌};
 ghost use Rattle.std.specs.Option.{option_map};
-ghost use Rattle.tl_types.specs.Message.{answer_report, answer_bytes, answer_kind, surrender_prune, surrender_bytes, surrender_kind, upward_kind, upward_to, downward_kind, body_kind, body_bytes, upward_bytes, downward_bytes, is_probe_ack, is_grant};
+ghost use Rattle.tl_types.specs.Permission.{report_of, probe_cap};
+ghost use Rattle.tl_types.specs.Message.{probe_answer, surrender, answer_report, answer_bytes, answer_kind, surrender_prune, surrender_bytes, surrender_kind, upward_kind, upward_to, downward_kind, body_kind, body_bytes, upward_bytes, downward_bytes, is_probe_ack, is_grant};
 
 use crate::bytes::BlockBytes;
 use crate::kind::Kind;
@@ -63,6 +64,20 @@ pub struct Message {
 }
 
 impl ProbeAnswer {
+    /// What a copy with `perm` answers to a Probe, with `bytes` where it gives up Tip.
+    pub fn of(perm: Perm, cap: ProbeCap, bytes: Option<BlockBytes>) -> ProbeAnswer
+        ensures value { result ≡ probe_answer perm cap bytes }
+        ensures report { answer_report result ≡ report_of perm (probe_cap cap) }
+    {
+        match (perm, cap) {
+            (Perm::None, _) => ProbeAnswer::NtoN,
+            (Perm::Branch, ProbeCap::ToB) => ProbeAnswer::BtoB,
+            (Perm::Branch, ProbeCap::ToN) => ProbeAnswer::BtoN,
+            (Perm::Tip, ProbeCap::ToB) => ProbeAnswer::TtoB(bytes),
+            (Perm::Tip, ProbeCap::ToN) => ProbeAnswer::TtoN(bytes),
+        }
+    }
+
     /// Its kind.
     pub fn kind(&self) -> Kind
         ensures { result ≡ answer_kind self.now }
@@ -113,6 +128,18 @@ impl ProbeAnswer {
 }
 
 impl Surrender {
+    /// What a Release gives up, with `bytes` where it gives up Tip.
+    pub fn of(prune: Prune, bytes: Option<BlockBytes>) -> Surrender
+        ensures value { result ≡ surrender prune bytes }
+        ensures prune { surrender_prune result ≡ prune }
+    {
+        match prune {
+            Prune::TtoB => Surrender::TtoB(bytes),
+            Prune::TtoN => Surrender::TtoN(bytes),
+            Prune::BtoN => Surrender::BtoN,
+        }
+    }
+
     /// Its kind.
     pub fn kind(&self) -> Kind
         ensures { result ≡ surrender_kind self.now }

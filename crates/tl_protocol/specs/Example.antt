@@ -1,0 +1,23 @@
+-- A run in which each kind of event stands.
+use Rattle.std.specs.Prelude.{ℕ, List, [], ◌∷◌}
+use Rattle.tl_types.specs.declared.permission.Grow.TheVariants.{NtoB, NtoT}
+use Rattle.tl_types.specs.declared.permission.Prune.TheVariants.{TtoN, BtoN}
+use Rattle.tl_types.specs.declared.permission.ProbeCap.TheVariants.{ToB}
+use Rattle.tl_protocol.specs.declared.event.Event.{Event}
+use Rattle.tl_protocol.specs.declared.event.Event.TheVariants.{Load, Store, SendAcquire, SendRelease, AnswerProbe, TakeGrant, TakeReleaseAck, AcceptAcquire, SendProbe, TakeC, SendGrant, TakeGrantAck, SendGet, Serve, TakeData, Drop, SendPut, TakePutAck}
+use Rattle.tl_protocol.specs.declared.shape.Shape.{Shape}
+use Rattle.tl_protocol.specs.Runs.{IsRun}
+
+abbrev pub two_clients : Shape
+two_clients = record { clients = 2; block_bytes = 8; blocks = 1 }
+
+abbrev pub three_bytes : List ℕ
+three_bytes = 1 ∷ 2 ∷ 3 ∷ []
+
+abbrev pub each_kind : List Event
+each_kind =
+    SendAcquire 0 0 NtoB ∷ AcceptAcquire 0 0 ∷ SendGet 0 ∷ Serve 0 ∷ TakeData 0 ∷ SendGrant 0 0 ∷ TakeGrant 0 0 ∷ TakeGrantAck 0 0 ∷ Store (record { client = 0; address = 1; bytes = 9 ∷ []; stamp = 0; index = 0 }) ∷ SendAcquire 1 0 NtoB ∷ AcceptAcquire 1 0 ∷ SendProbe 0 0 ToB ∷ AnswerProbe 0 0 ∷ TakeC 0 0 ∷ SendGrant 1 0 ∷ TakeGrant 1 0 ∷ TakeGrantAck 1 0 ∷ Load (record { client = 1; address = 1; bytes = 9 ∷ []; stamp = 0; index = 0 }) ∷ SendRelease 0 0 BtoN ∷ TakeC 0 0 ∷ TakeReleaseAck 0 0 ∷ SendRelease 1 0 BtoN ∷ TakeC 1 0 ∷ TakeReleaseAck 1 0 ∷ SendPut 0 ∷ Serve 0 ∷ TakePutAck 0 ∷ SendAcquire 0 0 NtoT ∷ AcceptAcquire 0 0 ∷ SendGet 0 ∷ Serve 0 ∷ TakeData 0 ∷ SendGrant 0 0 ∷ TakeGrant 0 0 ∷ TakeGrantAck 0 0 ∷ SendRelease 0 0 TtoN ∷ TakeC 0 0 ∷ TakeReleaseAck 0 0 ∷ Drop 0 ∷ []
+
+-- one client writes, the other reads, both give up, home writes back, and a client asks again
+abbrev pub EachKindIsARun : Type 0
+EachKindIsARun = IsRun two_clients three_bytes each_kind

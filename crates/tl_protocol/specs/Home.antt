@@ -1,0 +1,12 @@
+-- What passes between home and the memory.
+use Rattle.std.specs.Prelude.{◌≡◌, ◌⊎◌, ℕ, List}
+use Rattle.tl_protocol.specs.declared.home.Outward.{Outward}
+use Rattle.tl_protocol.specs.declared.home.Outward.TheVariants.{Get, Data, Put}
+
+-- a request that the memory may answer
+abbrev pub IsRequest : Outward → Type 0
+IsRequest out = (out ≡ Get) ⊎ ((bytes : List ℕ) × (out ≡ Put bytes))
+
+-- the bytes that home asked for
+abbrev pub IsData : Outward → Type 0
+IsData out = (bytes : List ℕ) × (out ≡ Data bytes)

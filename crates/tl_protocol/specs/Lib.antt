@@ -1,0 +1,11 @@
+pub mod Access
+pub mod Client
+pub mod Coherent
+pub mod Example
+pub mod Copy
+pub mod Ledger
+pub mod OneMemory
+pub mod Home
+pub mod Protocol
+pub mod Queue
+pub mod Runs

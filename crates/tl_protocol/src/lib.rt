@@ -1,0 +1,16 @@
+//! The permitted steps of TileLink TL-C on a home and its clients, and what holds of each run of them.
+#![tactic(auto)]
+
+mod client;
+mod copy;
+mod event;
+mod home;
+mod queue;
+mod shape;
+
+pub use client::Client;
+pub use copy::CachedCopy;
+pub use event::{Access, Event};
+pub use home::{Accepted, Line, Outward};
+pub use queue::{AckCount, Queue};
+pub use shape::Shape;

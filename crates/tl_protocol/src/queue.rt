@@ -1,0 +1,120 @@
+//! The messages of a channel, oldest first.
+ghost use Rattle.std.specs.Prelude.{◌≡◌, ◌↔◌, ◌+◌, ◌-◌, [], ◌∷◌, ◌++◌, IsTrue, drop, OnOk, OnErr, MatchOption};
+ghost use Rattle.tl_protocol.specs.Queue.{HasFirst};
+
+use std::alloc::{AllocError, Global};
+use std::marker::Model;
+use tl_types::ProbeCap;
+
+/// A list that messages join at its end and leave at its front.
+#[derive(Drop)]
+pub struct Queue<T> {
+    items: Vec<T>,
+}
+
+impl<T> Model for Queue<T> {
+    ghost use Rattle.std.specs.Prelude.{List};
+
+    ghost Value = { List T };
+
+    ghost view = { λ q. q.items.items };
+}
+
+impl<T: Drop> Queue<T> {
+    pub fn new(alloc: Global) -> Queue<T>
+        ensures { result ≡ [] }
+    {
+        Queue {
+            items: Vec::new(alloc),
+        }
+    }
+
+    pub fn push(&mut self, item: T) -> Result<(), AllocError>
+        ensures ok { OnOk result (self.new ≡ self.old ++ item ∷ []) }
+        ensures err { OnErr result (self.new ≡ self.old) }
+    {
+        self.items.push(item)?;
+        Ok(())
+    }
+
+    pub fn pop_front(&mut self) -> Option<T>
+        ensures { MatchOption result ((self.old ≡ []) × (self.new ≡ [])) (λ item. self.old ≡ item ∷ self.new) }
+    {
+        if self.items.is_empty() {
+            None
+        } else {
+            Some(self.items.remove(0))
+        }
+    }
+
+    pub fn is_empty(&self) -> bool
+        ensures { IsTrue result ↔ (self.now ≡ []) }
+    {
+        self.items.is_empty()
+    }
+
+    pub fn has_first(&self) -> bool
+        ensures { IsTrue result ↔ HasFirst self.now }
+    {
+        !self.as_slice().is_empty()
+    }
+
+    pub fn as_slice(&self) -> &[T]
+        ensures { result.now ≡ self.now }
+    {
+        self.items.as_slice()
+    }
+}
+
+/// The GrantAcks on their way to home, which differ in nothing.
+#[derive(Drop)]
+pub struct AckCount {
+    acks: Vec<()>,
+}
+
+impl Model for AckCount {
+    ghost use Rattle.std.specs.Prelude.{ℕ, length};
+
+    ghost Value = { ℕ };
+
+    ghost view = { λ q. length q.acks.items };
+}
+
+impl AckCount {
+    pub fn new(alloc: Global) -> AckCount
+        ensures { result ≡ 0 }
+    {
+        AckCount {
+            acks: Vec::new(alloc),
+        }
+    }
+
+    pub fn add(&mut self) -> Result<(), AllocError>
+        ensures ok { OnOk result (self.new ≡ self.old + 1) }
+        ensures err { OnErr result (self.new ≡ self.old) }
+    {
+        self.acks.push(())?;
+        Ok(())
+    }
+
+    pub fn remove(&mut self)
+        ensures { self.new ≡ self.old - 1 }
+    {
+        self.acks.pop();
+    }
+
+    pub fn is_empty(&self) -> bool
+        ensures { IsTrue result ↔ (self.now ≡ 0) }
+    {
+        self.acks.is_empty()
+    }
+}
+
+impl Queue<ProbeCap> {
+    /// The first of the Probes.
+    pub fn first(&self) -> Option<ProbeCap>
+        ensures { MatchOption result (self.now ≡ []) (λ cap. self.now ≡ cap ∷ drop 1 self.now) }
+    {
+        self.items.first().copied()
+    }
+}
