@@ -1,0 +1,8 @@
+-- A log with the room that it has.
+use Rattle.std.specs.Prelude.{ℕ, List}
+use Rattle.tl_protocol.specs.declared.event.Event.{Event}
+
+-- the events, oldest first, and how many more need no memory
+pub record Journal : Type 0 where
+  pub events : List Event
+  pub room : ℕ

@@ -1,0 +1,4 @@
+pub mod Journal
+pub mod Plain
+pub mod PlainBlock
+pub mod PlainState

@@ -1,0 +1,15 @@
+-- The whole plain map.
+use Rattle.std.specs.Prelude.{◌≡◌, ◌<◌, ◌≤◌, List, All, length}
+use Rattle.tl_protocol.specs.declared.shape.Shape.{Shape}
+use Rattle.tl_rules.specs.PlainBlock.{PlainBlock}
+
+pub record PlainState : Type 0 where
+  pub shape : Shape
+  pub blocks : List PlainBlock
+
+-- a block is of 1 to 64 bytes; each block of the memory is there, with each client
+pub record IsShaped (shape : Shape) (blocks : List PlainBlock) : Type 0 where
+  pub nonempty : 0 < shape.block_bytes
+  pub at_most : shape.block_bytes ≤ 64
+  pub all_blocks : length blocks ≡ shape.blocks
+  pub all_clients : All (λ block. length block.clients ≡ shape.clients) blocks

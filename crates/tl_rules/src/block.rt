@@ -1,0 +1,417 @@
+//! One block of the plain map: what home, its clients and the memory hold of it.
+ghost use Rattle.std.specs.Prelude.{◌≡◌, ◌↔◌, ◌<◌, ◌≤◌, ◌+◌, ◌*◌, IsTrue, OnOk, OnErr, IfOk, IfSome, IsSome, is_some, slice_range, length};
+ghost use Rattle.tl_protocol.specs.Copy.{perm_of, bytes_of, CanRead};
+ghost use Rattle.tl_protocol.specs.Client.{MayTakeA, MayTakeC, took_grant_ack};
+ghost use Rattle.tl_protocol.specs.declared.home.Outward.TheVariants.{Put};
+ghost use Rattle.tl_rules.specs.Plain.{block_state, client_at, set_client};
+ghost use Rattle.tl_protocol.specs.Protocol.{reset, after, MayOn, MayTakeData, accepted_from, took_c, with_client, served, took_data, home_bytes, is_alone, granted_cap, MaySendProbe, MaySendGrant, MaySendGet, MayGiveUp, grants, RoomFor, Idle, NoGrant, NoProbe, NobodyRecorded};
+
+use std::alloc::{AllocError, Global};
+use std::marker::Model;
+use std::mem;
+use tl_protocol::{Accepted, CachedCopy, Client, Event, Line, Outward, Shape};
+use tl_types::{AccessBytes, BlockBytes, ClientId, GrantCap, Grow, Perm, ProbeCap};
+
+/// One block, with each of its clients.
+#[derive(Drop)]
+pub struct BlockState {
+    memory: BlockBytes,
+    home: Option<Line>,
+    accepted: Option<Accepted>,
+    outward: Outward,
+    clients: Vec<Client>,
+}
+
+impl Model for BlockState {
+    ghost use Rattle.tl_rules.specs.PlainBlock.{PlainBlock};
+
+    ghost Value = { PlainBlock };
+
+    ghost view = { λ b. record { memory = b.memory; home = b.home; accepted = b.accepted; outward = b.outward; clients = b.clients.items } };
+}
+
+impl BlockState {
+    /// A block that nobody but the memory holds.
+    pub fn new(alloc: Global, clients: u32, memory: BlockBytes) -> Result<BlockState, AllocError>
+        ensures reset { IfOk result (λ b. block_state b ≡ reset memory) }
+        ensures clients { IfOk result (λ b. length b.clients ≡ clients) }
+    {
+        let mut fresh = Vec::new(alloc);
+        for _client in 0..clients {
+            fresh.push(Client::new(alloc))?;
+        }
+        Ok(BlockState {
+            memory,
+            home: None,
+            accepted: None,
+            outward: Outward::Quiet,
+            clients: fresh,
+        })
+    }
+
+    /// What the client may do.
+    pub fn perm(&self, c: ClientId) -> Perm
+        ensures { result ≡ perm_of (client_at self.now c).held }
+    {
+        match self.clients.get(c.index()) {
+            Some(client) => client.held.perm(),
+            None => Perm::None,
+        }
+    }
+
+    /// The bytes of the client's copy at a place, where it has them.
+    pub fn read(&self, c: ClientId, offset: u32, len: u32) -> Option<AccessBytes>
+        ensures some { IsSome result ↔ CanRead (client_at self.now c).held offset len }
+        ensures bytes { IfSome result (λ word. (word ≡ slice_range (bytes_of (client_at self.now c).held) offset (offset + len)) × (length word ≡ len)) }
+    {
+        match &self.clients.get(c.index())?.held {
+            CachedCopy::Absent => None,
+            CachedCopy::Readable(bytes) | CachedCopy::Writable(bytes, _) => bytes.access_at(
+                offset, len,
+            ),
+        }
+    }
+
+    pub fn is_at_home(&self) -> bool
+        ensures { result ≡ is_some self.now.home }
+    {
+        self.home.is_some()
+    }
+
+    /// Home takes the first Acquire of a client.
+    fn accept_acquire(&mut self, c: ClientId)
+        requires client { c < length self.old.clients }
+        requires first { MayTakeA (client_at self.old c) }
+        ensures after { block_state self.new ≡ accepted_from (block_state self.old) c (client_at self.old c).a }
+        ensures clients { length self.new.clients ≡ length self.old.clients }
+    {
+        if let Some(grow) = self.clients[c.index()].a.pop_front() {
+            self.accepted = Some(Accepted { client: c, grow });
+        }
+    }
+
+    /// Home takes the first message of C of a client.
+    fn take_c(&mut self, c: ClientId) -> Result<(), AllocError>
+        requires client { c < length self.old.clients }
+        requires first { MayTakeC (client_at self.old c) }
+        ensures ok { OnOk result (block_state self.new ≡ took_c (block_state self.old) c) }
+        ensures err { OnErr result (self.new ≡ self.old) }
+        ensures clients { length self.new.clients ≡ length self.old.clients }
+    {
+        if let Some(bytes) = self.clients[c.index()].take_c()? {
+            self.home = Some(Line { bytes, dirty: true });
+        }
+        Ok(())
+    }
+
+    fn take_grant_ack(&mut self, c: ClientId)
+        requires client { c < length self.old.clients }
+        ensures after { block_state self.new ≡ with_client (record (block_state self.old) { accepted = None }) c (took_grant_ack (client_at self.old c)) }
+        ensures clients { length self.new.clients ≡ length self.old.clients }
+    {
+        self.clients[c.index()].take_grant_ack();
+        self.accepted = None;
+    }
+
+    /// The memory answers what home asked of it.
+    fn serve(&mut self)
+        ensures after { block_state self.new ≡ served (block_state self.old) self.old.outward }
+        ensures clients { length self.new.clients ≡ length self.old.clients }
+    {
+        self.outward = match mem::replace(&mut self.outward, Outward::Quiet) {
+            Outward::Get => Outward::Data(self.memory.copied()),
+            Outward::Put(bytes) => {
+                self.memory = bytes;
+                Outward::PutAck
+            }
+            other => other,
+        };
+    }
+
+    fn take_data(&mut self)
+        requires { MayTakeData (block_state self.old) }
+        ensures after { block_state self.new ≡ took_data (block_state self.old) self.old.outward }
+        ensures clients { length self.new.clients ≡ length self.old.clients }
+    {
+        if let Outward::Data(bytes) = mem::replace(&mut self.outward, Outward::Quiet) {
+            self.home = Some(Line {
+                bytes,
+                dirty: false,
+            });
+        }
+    }
+
+    fn send_put(&mut self)
+        requires { IsSome self.old.home }
+        ensures after { block_state self.new ≡ record (block_state self.old) { home = None; outward = Put (home_bytes self.old.home) } }
+        ensures clients { length self.new.clients ≡ length self.old.clients }
+    {
+        if let Some(line) = self.home.take() {
+            self.outward = Outward::Put(line.bytes);
+        }
+    }
+
+    /// Whether no client but `c` is recorded above None.
+    fn is_alone(&self, c: ClientId) -> bool
+        ensures { result ≡ is_alone (length self.now.clients) c (client_at self.now) }
+    {
+        let mut alone = true;
+        for i in 0..self.clients.len() {
+            alone = (i == c.index() || self.clients[i].recorded == Perm::None) && alone;
+        }
+        alone
+    }
+
+    /// The permission that a Grant for `acquire` gives now.
+    fn granted(&self, acquire: Accepted) -> GrantCap
+        ensures { result ≡ granted_cap acquire.grow (is_alone (length self.now.clients) acquire.client (client_at self.now)) }
+    {
+        match acquire.grow {
+            Grow::NtoB if !self.is_alone(acquire.client) => GrantCap::ToB,
+            _ => GrantCap::ToT,
+        }
+    }
+
+    /// Answers the Acquire that home accepted of the client.
+    fn send_grant(&mut self, shape: Shape, c: ClientId) -> Result<(), AllocError>
+        requires size { length self.old.clients ≡ shape.clients }
+        requires client { c < shape.clients }
+        requires may { MaySendGrant shape (block_state self.old) c }
+        ensures ok { OnOk result (block_state self.new ≡ grants shape (block_state self.old) c self.old.accepted) }
+        ensures err { OnErr result (self.new ≡ self.old) }
+        ensures clients { length self.new.clients ≡ length self.old.clients }
+    {
+        let Some(acquire) = self.accepted else {
+            return Ok(());
+        };
+        let cap = self.granted(acquire);
+        let Some(line) = &self.home else {
+            return Ok(());
+        };
+        self.clients[c.index()].send_grant(cap, &line.bytes)
+    }
+
+    #[tactic(auto, using(crate::proofs::Blocks::each_client))]
+    fn has_no_grant(&self, shape: Shape) -> bool
+        requires { length self.now.clients ≡ shape.clients }
+        ensures { IsTrue result ↔ NoGrant shape (block_state self.now) }
+    {
+        self.clients.iter().all(|client| client.has_no_grant())
+    }
+
+    #[tactic(auto, using(crate::proofs::Blocks::each_client))]
+    fn has_no_probe(&self, shape: Shape) -> bool
+        requires { length self.now.clients ≡ shape.clients }
+        ensures { IsTrue result ↔ NoProbe shape (block_state self.now) }
+    {
+        self.clients.iter().all(|client| client.has_no_probe())
+    }
+
+    #[tactic(auto, using(crate::proofs::Blocks::each_client))]
+    fn has_nobody_recorded(&self, shape: Shape) -> bool
+        requires { length self.now.clients ≡ shape.clients }
+        ensures { IsTrue result ↔ NobodyRecorded shape (block_state self.now) }
+    {
+        self.clients
+            .iter()
+            .all(|client| client.recorded == Perm::None)
+    }
+
+    #[tactic(auto, using(crate::proofs::Blocks::each_client))]
+    fn has_no_tip(&self, shape: Shape) -> bool
+        requires { length self.now.clients ≡ shape.clients }
+        ensures { IsTrue result ↔ RoomFor shape (block_state self.now) 0 GrantCap.ToB }
+    {
+        self.clients
+            .iter()
+            .all(|client| client.recorded != Perm::Tip)
+    }
+
+    /// Whether home may grant `cap` to the client beside the other records.
+    fn has_room_for(&self, shape: Shape, c: ClientId, cap: GrantCap) -> bool
+        requires { length self.now.clients ≡ shape.clients }
+        ensures { IsTrue result ↔ RoomFor shape (block_state self.now) c cap }
+    {
+        match cap {
+            GrantCap::ToT => self.is_alone(c),
+            GrantCap::ToB => self.has_no_tip(shape),
+        }
+    }
+
+    fn is_idle(&self, shape: Shape) -> bool
+        requires { length self.now.clients ≡ shape.clients }
+        ensures { IsTrue result ↔ Idle shape (block_state self.now) }
+    {
+        self.has_nobody_recorded(shape)
+            && self.has_no_probe(shape)
+            && self.has_no_grant(shape)
+            && self.accepted.is_none()
+            && self.outward.is_quiet()
+    }
+
+    fn may_send_probe(&self, shape: Shape, c: ClientId, cap: ProbeCap) -> bool
+        requires size { length self.now.clients ≡ shape.clients }
+        requires client { c < shape.clients }
+        ensures { IsTrue result ↔ MaySendProbe shape (block_state self.now) c cap }
+    {
+        let client = &self.clients[c.index()];
+        cap.perm() < client.recorded && client.has_no_probe() && self.has_no_grant(shape)
+    }
+
+    fn may_send_grant(&self, shape: Shape, c: ClientId) -> bool
+        requires size { length self.now.clients ≡ shape.clients }
+        requires client { c < shape.clients }
+        ensures { IsTrue result ↔ MaySendGrant shape (block_state self.now) c }
+    {
+        match (&self.accepted, &self.home) {
+            (Some(acquire), Some(_)) => {
+                acquire.client == c
+                    && self.has_room_for(shape, c, self.granted(*acquire))
+                    && self.has_no_probe(shape)
+                    && self.has_no_grant(shape)
+            }
+            _ => false,
+        }
+    }
+
+    fn may_send_get(&self) -> bool
+        ensures { IsTrue result ↔ MaySendGet (block_state self.now) }
+    {
+        match (&self.accepted, &self.home) {
+            (Some(_), None) => self.outward.is_quiet(),
+            _ => false,
+        }
+    }
+
+    /// Whether home may give up its copy, which is dirty or not.
+    fn may_give_up(&self, shape: Shape, dirty: bool) -> bool
+        requires { length self.now.clients ≡ shape.clients }
+        ensures { IsTrue result ↔ MayGiveUp shape (block_state self.now) dirty }
+    {
+        match &self.home {
+            Some(line) => line.dirty == dirty && self.is_idle(shape),
+            None => false,
+        }
+    }
+
+    /// Whether an event of this block may come next.
+    pub fn may_follow(&self, shape: Shape, event: &Event) -> bool
+        requires size { length self.now.clients ≡ shape.clients }
+        requires bytes { (0 < shape.block_bytes) × (shape.block_bytes ≤ 64) }
+        ensures { IsTrue result ↔ MayOn shape (block_state self.now) event.now }
+    {
+        match event {
+            Event::Load(access) => match self.clients.get(access.client.index()) {
+                Some(client) => client.may_load(shape, access),
+                None => false,
+            },
+            Event::Store(access) => match self.clients.get(access.client.index()) {
+                Some(client) => client.may_store(shape, access),
+                None => false,
+            },
+            Event::SendAcquire(c, _, grow) => match self.clients.get(c.index()) {
+                Some(client) => client.may_send_acquire(*grow),
+                None => false,
+            },
+            Event::SendRelease(c, _, prune) => match self.clients.get(c.index()) {
+                Some(client) => client.may_send_release(*prune),
+                None => false,
+            },
+            Event::AnswerProbe(c, _) => match self.clients.get(c.index()) {
+                Some(client) => client.may_answer_probe(),
+                None => false,
+            },
+            Event::TakeGrant(c, _) => match self.clients.get(c.index()) {
+                Some(client) => client.may_take_grant(),
+                None => false,
+            },
+            Event::TakeReleaseAck(c, _) => match self.clients.get(c.index()) {
+                Some(client) => client.may_take_release_ack(),
+                None => false,
+            },
+            Event::AcceptAcquire(c, _) => match self.clients.get(c.index()) {
+                Some(client) => client.may_take_a() && self.accepted.is_none(),
+                None => false,
+            },
+            Event::SendProbe(c, _, cap) => c.number() < shape.clients
+                && self.may_send_probe(shape, *c, *cap),
+            Event::TakeC(c, _) => match self.clients.get(c.index()) {
+                Some(client) => client.may_take_c(),
+                None => false,
+            },
+            Event::SendGrant(c, _) => c.number() < shape.clients && self.may_send_grant(shape, *c),
+            Event::TakeGrantAck(c, _) => match self.clients.get(c.index()) {
+                Some(client) => client.may_take_grant_ack(),
+                None => false,
+            },
+            Event::SendGet(_) => self.may_send_get(),
+            Event::Serve(_) => self.outward.may_serve(),
+            Event::TakeData(_) => self.outward.is_data(),
+            Event::Drop(_) => self.may_give_up(shape, false),
+            Event::SendPut(_) => self.may_give_up(shape, true),
+            Event::TakePutAck(_) => self.outward.is_put_ack(),
+        }
+    }
+
+    /// Carries out an event that may come next. For want of memory nothing changes.
+    pub fn apply(&mut self, shape: Shape, event: &Event) -> Result<(), AllocError>
+        requires size { length self.old.clients ≡ shape.clients }
+        requires bytes { (0 < shape.block_bytes) × (shape.block_bytes ≤ 64) }
+        requires may { MayOn shape (block_state self.old) event.now }
+        ensures ok { OnOk result (block_state self.new ≡ after shape (block_state self.old) event.now) }
+        ensures err { OnErr result (self.new ≡ self.old) }
+        ensures clients { length self.new.clients ≡ length self.old.clients }
+    {
+        match event {
+            Event::Load(_) => Ok(()),
+            Event::Store(access) => {
+                let offset = access.address % shape.block_bytes;
+                self.clients[access.client.index()].store(offset as usize, &access.bytes);
+                Ok(())
+            }
+            Event::SendAcquire(c, _, grow) => self.clients[c.index()].send_acquire(*grow),
+            Event::SendRelease(c, _, prune) => self.clients[c.index()].send_release(*prune),
+            Event::AnswerProbe(c, _) => self.clients[c.index()].answer_probe(),
+            Event::TakeGrant(c, _) => self.clients[c.index()].take_grant(),
+            Event::TakeReleaseAck(c, _) => {
+                self.clients[c.index()].take_release_ack();
+                Ok(())
+            }
+            Event::AcceptAcquire(c, _) => {
+                self.accept_acquire(*c);
+                Ok(())
+            }
+            Event::SendProbe(c, _, cap) => self.clients[c.index()].send_probe(*cap),
+            Event::TakeC(c, _) => self.take_c(*c),
+            Event::SendGrant(c, _) => self.send_grant(shape, *c),
+            Event::TakeGrantAck(c, _) => {
+                self.take_grant_ack(*c);
+                Ok(())
+            }
+            Event::SendGet(_) => {
+                self.outward = Outward::Get;
+                Ok(())
+            }
+            Event::Serve(_) => {
+                self.serve();
+                Ok(())
+            }
+            Event::TakeData(_) => {
+                self.take_data();
+                Ok(())
+            }
+            Event::Drop(_) => {
+                self.home = None;
+                Ok(())
+            }
+            Event::SendPut(_) => {
+                self.send_put();
+                Ok(())
+            }
+            Event::TakePutAck(_) => {
+                self.outward = Outward::Quiet;
+                Ok(())
+            }
+        }
+    }
+}

@@ -1,0 +1,129 @@
+//! The plain map of the protocol's state: all blocks and all clients.
+ghost use Rattle.std.specs.Prelude.{◌≡◌, ◌↔◌, ◌<◌, ◌≤◌, ◌*◌, ◌/◌, ◌%◌, ℕ, IsTrue, OnOk, OnErr, IfOk, IfSome, IsSome, is_some, length};
+ghost use Rattle.tl_protocol.specs.Access.{ReadsAs};
+ghost use Rattle.tl_protocol.specs.Copy.{perm_of, bytes_of, CanRead};
+ghost use Rattle.tl_rules.specs.Plain.{state_of_plain, IsReset, IsStep};
+ghost use Rattle.tl_protocol.specs.Protocol.{May, block_of};
+
+use crate::block::BlockState;
+use std::alloc::{AllocError, Global};
+use std::marker::Model;
+use tl_protocol::{Event, Shape};
+use tl_types::{AccessBytes, BlockBytes, BlockNo, ClientId, Perm};
+
+/// Why an event was not carried out.
+#[derive(Clone, Copy, Debug, PartialEq, Eq)]
+pub enum ApplyError {
+    /// The rules do not permit it now.
+    NotPermitted,
+    /// A request for memory was refused.
+    Memory,
+}
+
+/// What home, the clients and the memory hold of each block.
+#[derive(Drop)]
+pub struct Plain {
+    shape: Shape,
+    blocks: Vec<BlockState>,
+}
+
+impl Model for Plain {
+    ghost use Rattle.tl_rules.specs.PlainState.{PlainState, IsShaped};
+
+    ghost Value = { PlainState };
+
+    ghost view = { λ p. record { shape = p.shape; blocks = p.blocks.items } };
+
+    ghost invariant = { λ p. IsShaped p.shape p.blocks.items };
+}
+
+impl Plain {
+    /// The map at reset, with the image as the first bytes of the memory, 0 past its end. Err is a refused request for memory.
+    pub fn new(alloc: Global, shape: Shape, image: &[u8]) -> Result<Plain, AllocError>
+        requires bytes { (0 < shape.block_bytes) × (shape.block_bytes ≤ 64) }
+        requires blocks { shape.blocks ≤ 65536 }
+        ensures { IfOk result (IsReset shape image.now) }
+    {
+        let mut blocks = Vec::new(alloc);
+        for i in 0..shape.blocks {
+            let from = (i * shape.block_bytes) as usize;
+            let memory = BlockBytes::from_image(image, from, shape.block_bytes as usize);
+            let block = BlockState::new(alloc, shape.clients, memory)?;
+            blocks.push(block)?;
+        }
+        Ok(Plain { shape, blocks })
+    }
+
+    /// The numbers of clients and blocks, and the size of a block in bytes.
+    pub fn shape(&self) -> Shape
+        ensures value { result ≡ self.now.shape }
+        ensures nonempty { 0 < result.block_bytes }
+    {
+        self.shape
+    }
+
+    /// What a client may do with a block.
+    pub fn perm(&self, client: ClientId, block: BlockNo) -> Perm
+        ensures { result ≡ perm_of ((state_of_plain self.now block).client client).held }
+    {
+        match self.blocks.get(block.index()) {
+            Some(state) => state.perm(client),
+            None => Perm::None,
+        }
+    }
+
+    /// The `len` bytes of a client's copy from an address on, where it has them and they are at most eight.
+    pub fn read(&self, client: ClientId, address: u32, len: u32) -> Option<AccessBytes>
+        ensures some { IsSome result
+            ↔ CanRead ((state_of_plain self.now (address / self.now.shape.block_bytes)).client client).held (address % self.now.shape.block_bytes) len }
+        ensures bytes { IfSome result
+            (λ word. ReadsAs (bytes_of ((state_of_plain self.now (address / self.now.shape.block_bytes)).client client).held) (address % self.now.shape.block_bytes) word) }
+        ensures len { IfSome result (λ word. length word ≡ len) }
+    {
+        let block = self
+            .blocks
+            .get((address / self.shape.block_bytes) as usize)?;
+        block.read(client, address % self.shape.block_bytes, len)
+    }
+
+    /// Whether home holds a block.
+    pub fn is_at_home(&self, block: BlockNo) -> bool
+        ensures { result ≡ is_some (state_of_plain self.now block).home }
+    {
+        match self.blocks.get(block.index()) {
+            Some(state) => state.is_at_home(),
+            None => false,
+        }
+    }
+
+    /// Carries out an event that may come next: NotPermitted exactly where it may not, Memory where a request for memory was
+    /// refused. After an error nothing has changed.
+    pub fn apply(&mut self, event: &Event) -> Result<(), ApplyError>
+        ensures ok { OnOk result (IsStep self.old self.new event.now) }
+        ensures err { OnErr result (self.new ≡ self.old) }
+        ensures refused { (result ≡ Err ApplyError.NotPermitted)
+            ↔ ¬ May self.old.shape (state_of_plain self.old (block_of self.old.shape event.now)) event.now }
+    {
+        if !may_follow(self, event) {
+            return Err(ApplyError::NotPermitted);
+        }
+        let shape = self.shape;
+        let block = event.block(shape) as usize;
+        match self.blocks[block].apply(shape, event) {
+            Ok(()) => Ok(()),
+            Err(_) => Err(ApplyError::Memory),
+        }
+    }
+}
+
+/// Whether an event may come next.
+pub fn may_follow(plain: &Plain, event: &Event) -> bool
+    ensures { IsTrue result
+        ↔ May plain.now.shape (state_of_plain plain.now (block_of plain.now.shape event.now)) event.now }
+{
+    let shape = plain.shape;
+    match plain.blocks.get(event.block(shape) as usize) {
+        Some(block) => block.may_follow(shape, event),
+        None => false,
+    }
+}
