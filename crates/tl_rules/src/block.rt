@@ -1,5 +1,6 @@
 //! One block of the plain map: what home, its clients and the memory hold of it.
 ghost use Rattle.std.specs.Prelude.{◌≡◌, ◌↔◌, ◌<◌, ◌≤◌, ◌+◌, ◌*◌, IsTrue, OnOk, OnErr, IfOk, IfSome, IsSome, is_some, slice_range, length};
+ghost use Rattle.tl_protocol.specs.Ledger.{count_clients, has_copy, is_recorded};
 ghost use Rattle.tl_protocol.specs.Copy.{perm_of, bytes_of, CanRead};
 ghost use Rattle.tl_protocol.specs.Client.{MayTakeA, MayTakeC, took_grant_ack};
 ghost use Rattle.tl_protocol.specs.declared.home.Outward.TheVariants.{Put};
@@ -72,6 +73,33 @@ impl BlockState {
         }
     }
 
+    /// How many clients have a copy.
+    pub fn held(&self) -> usize
+        ensures { result ≡ count_clients has_copy (length self.now.clients) (client_at self.now) }
+    {
+        let mut count = 0;
+        for i in 0..self.clients.len() {
+            if self.clients[i].held.perm() != Perm::None {
+                count += 1;
+            }
+        }
+        count
+    }
+
+    /// For how many clients home records a permission.
+    pub fn recorded(&self) -> usize
+        ensures { result ≡ count_clients is_recorded (length self.now.clients) (client_at self.now) }
+    {
+        let mut count = 0;
+        for i in 0..self.clients.len() {
+            if self.clients[i].recorded != Perm::None {
+                count += 1;
+            }
+        }
+        count
+    }
+
+    /// Whether home has a copy.
     pub fn is_at_home(&self) -> bool
         ensures { result ≡ is_some self.now.home }
     {

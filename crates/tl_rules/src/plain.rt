@@ -1,6 +1,7 @@
 //! The plain map of the protocol's state: all blocks and all clients.
 ghost use Rattle.std.specs.Prelude.{◌≡◌, ◌↔◌, ◌<◌, ◌≤◌, ◌*◌, ◌/◌, ◌%◌, ℕ, IsTrue, OnOk, OnErr, IfOk, IfSome, IsSome, is_some, length};
 ghost use Rattle.tl_protocol.specs.Access.{ReadsAs};
+ghost use Rattle.tl_protocol.specs.Ledger.{count_clients, has_copy, is_recorded};
 ghost use Rattle.tl_protocol.specs.Copy.{perm_of, bytes_of, CanRead};
 ghost use Rattle.tl_rules.specs.Plain.{state_of_plain, IsReset, IsStep};
 ghost use Rattle.tl_protocol.specs.Protocol.{May, block_of};
@@ -84,6 +85,22 @@ impl Plain {
             .blocks
             .get((address / self.shape.block_bytes) as usize)?;
         block.read(client, address % self.shape.block_bytes, len)
+    }
+
+    /// How many clients have a copy of a block.
+    pub fn held(&self, block: BlockNo) -> usize
+        requires { block < self.now.shape.blocks }
+        ensures { result ≡ count_clients has_copy self.now.shape.clients (state_of_plain self.now block).client }
+    {
+        self.blocks[block.index()].held()
+    }
+
+    /// For how many clients home records a permission on a block.
+    pub fn recorded(&self, block: BlockNo) -> usize
+        requires { block < self.now.shape.blocks }
+        ensures { result ≡ count_clients is_recorded self.now.shape.clients (state_of_plain self.now block).client }
+    {
+        self.blocks[block.index()].recorded()
     }
 
     /// Whether home holds a block.
