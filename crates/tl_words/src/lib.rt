@@ -1,0 +1,20 @@
+//! The texts of a script: numbers, addresses, bytes, tickets, commands and steps.
+#![tactic(auto)]
+
+mod command;
+mod error;
+mod hex;
+mod laws;
+mod step;
+mod ticket;
+mod words;
+
+pub use command::Command;
+pub use error::ParseError;
+pub use hex::{Address, Hex};
+pub use laws::numbers_are_printed;
+pub use step::{BlockCall, Step, TicketCall};
+pub use words::parse_bytes;
+
+#[cfg(test)]
+mod tests;
