@@ -9,4 +9,6 @@ mod plain;
 pub use block::BlockState;
 pub use log::Log;
 pub use plain::{ApplyError, Plain, may_follow};
-pub use tl_protocol::{Accepted, Access, CachedCopy, Client, Event, Line, Outward, Shape};
+pub use tl_protocol::{
+    Accepted, Access, CachedCopy, Client, Event, Line, Outward, Shape, every_run, some_run,
+};
