@@ -1,10 +1,11 @@
 -- Laws of the limits.
-use Rattle.std.proofs.Common.{◌≡◌, ℕ, ℤ, pos, negsuc, ◌≤◌, ◌^◌, List, [], ◌∷◌, get_or, Fits, w32, w64, SFits, to_z, of_z, false, refl, ap, sym, ◌∙◌, suc, arith, inl, inr, lit≤}
+use Rattle.std.proofs.Common.{◌≡◌, ℕ, ℤ, pos, negsuc, ◌≤◌, ◌^◌, List, [], ◌∷◌, get_or, Fits, w32, w64, SFits, to_z, of_z, false, refl, ap, subst, sym, ◌∙◌, suc, arith, inl, inr, lit≤}
 use Rattle.std.specs.Prelude.{◌||◌, ◌==◌, IsTrue}
 use Rattle.std.specs.Int.{FitsUnsignedBits}
 use Rattle.std.proofs.lemmas.Bool.{cases_eq}
 use Rattle.std.proofs.lemmas.Bool.Decides.{nat_tests}
 use Rattle.std.proofs.lemmas.Int.{to_z-of_z}
+use Rattle.tl_map.specs.Numbers.{IsPowerBetween}
 use Rattle.tl_map.specs.Limits.{is_one_of, is_value, bank_counts, block_sizes, set_counts}
 
 -- a number past 32 bits is none of a list of such numbers
@@ -25,48 +26,53 @@ pub is_one_of-outside : (z : ℤ) (xs : List ℕ) → SFits w64 z → ((i : ℕ)
     → (FitsUnsignedBits 32 (to_z w64 (of_z w64 z)) → ⊥) → false ≡ is_one_of xs z
 is_one_of-outside z xs signed fits out = outside z xs fits (rw (to_z-of_z w64 z signed) at out)
 
--- a power of two up to a greatest
-abbrev pub IsPower : ℕ → ℕ → Type 0
-IsPower most n = (k : ℕ) × (k ≤ most) × (n ≡ 2 ^ k)
-
--- each of these is such a power
-abbrev EachPower : ℕ → List ℕ → Type 0
-EachPower most [] = Unit {0}
-EachPower most (x ∷ xs) = IsPower most x × EachPower most xs
+-- each of these is a power of two from a least to a greatest
+abbrev EachPower : ℕ → ℕ → List ℕ → Type 0
+EachPower low high [] = Unit {0}
+EachPower low high (x ∷ xs) = IsPowerBetween low high x × EachPower low high xs
 
 -- a number that is one of some powers of two is such a power
-among : (most : ℕ) (xs : List ℕ) (n : ℕ) → EachPower most xs → IsTrue (is_value xs n) → IsPower most n
-among most [] n powers is = absurd (cc)
-among most (x ∷ xs) n powers is =
+among : (low high : ℕ) (xs : List ℕ) (n : ℕ) → EachPower low high xs → IsTrue (is_value xs n) → IsPowerBetween low high n
+among low high [] n powers is = absurd (cc)
+among low high (x ∷ xs) n powers is =
     elim (cases_eq x n) [
-      | inl same ↦ (powers.0.0, powers.0.1, sym same ∙ powers.0.2)
+      | inl same ↦ subst (IsPowerBetween low high) same powers.0
       | inr other ↦
           let differ : (x == n) ≡ false = grind (arith, nat_tests) in
-          among most xs n powers.1 (rw differ at is)
+          among low high xs n powers.1 (rw differ at is)
     ]
 
+-- a power of two by its exponent
+at_exponent : (low high k : ℕ) → low ≤ 2 ^ k → 2 ^ k ≤ high → IsPowerBetween low high (2 ^ k)
+at_exponent low high k least most = record { least = least; most = most; exponent = k; power = refl }
+
 -- the banks are a power of two
-pub bank_power : (n : ℕ) → IsTrue (is_value bank_counts n) → IsPower 3 n
+pub bank_power : (n : ℕ) → IsTrue (is_value bank_counts n) → IsPowerBetween 1 8 n
 bank_power n is =
-    among 3 bank_counts n ((0, lit≤ tt, refl), ((1, lit≤ tt, refl), ((2, lit≤ tt, refl), ((3, lit≤ tt, refl), tt)))) is
+    let at : (k : ℕ) → 1 ≤ 2 ^ k → 2 ^ k ≤ 8 → IsPowerBetween 1 8 (2 ^ k) = at_exponent 1 8 in
+    among 1 8 bank_counts n
+    (at 0 (lit≤ tt) (lit≤ tt), (at 1 (lit≤ tt) (lit≤ tt), (at 2 (lit≤ tt) (lit≤ tt), (at 3 (lit≤ tt) (lit≤ tt), tt)))) is
 
 -- so are the bytes of a block
-pub block_power : (n : ℕ) → IsTrue (is_value block_sizes n) → IsPower 6 n
+pub block_power : (n : ℕ) → IsTrue (is_value block_sizes n) → IsPowerBetween 8 64 n
 block_power n is =
-    among 6 block_sizes n ((3, lit≤ tt, refl), ((4, lit≤ tt, refl), ((5, lit≤ tt, refl), ((6, lit≤ tt, refl), tt)))) is
+    let at : (k : ℕ) → 8 ≤ 2 ^ k → 2 ^ k ≤ 64 → IsPowerBetween 8 64 (2 ^ k) = at_exponent 8 64 in
+    among 8 64 block_sizes n
+    (at 3 (lit≤ tt) (lit≤ tt), (at 4 (lit≤ tt) (lit≤ tt), (at 5 (lit≤ tt) (lit≤ tt), (at 6 (lit≤ tt) (lit≤ tt), tt)))) is
 
 -- so are the sets
-pub set_power : (n : ℕ) → IsTrue (is_value set_counts n) → IsPower 6 n
+pub set_power : (n : ℕ) → IsTrue (is_value set_counts n) → IsPowerBetween 1 64 n
 set_power n is =
-    among 6 set_counts n (
-      (0, lit≤ tt, refl),
+    let at : (k : ℕ) → 1 ≤ 2 ^ k → 2 ^ k ≤ 64 → IsPowerBetween 1 64 (2 ^ k) = at_exponent 1 64 in
+    among 1 64 set_counts n (
+      at 0 (lit≤ tt) (lit≤ tt),
       (
-        (1, lit≤ tt, refl),
+        at 1 (lit≤ tt) (lit≤ tt),
         (
-          (2, lit≤ tt, refl),
+          at 2 (lit≤ tt) (lit≤ tt),
           (
-            (3, lit≤ tt, refl),
-            ((4, lit≤ tt, refl), ((5, lit≤ tt, refl), ((6, lit≤ tt, refl), tt))),
+            at 3 (lit≤ tt) (lit≤ tt),
+            (at 4 (lit≤ tt) (lit≤ tt), (at 5 (lit≤ tt) (lit≤ tt), (at 6 (lit≤ tt) (lit≤ tt), tt))),
           ),
         ),
       ),

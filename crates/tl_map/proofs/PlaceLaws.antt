@@ -5,7 +5,6 @@ use Rattle.std.specs.Int.Bits.{xor_assoc, xor_self, xor_zero_l, xor_zero_r}
 use Rattle.std.proofs.lemmas.Nat.{xor_lt, mod_below, pow_pos, div_below, div-add-mod', div-mul-add, mod-mul-add, mul-le}
 use Rattle.std.proofs.Math.Nat.{pow-suc, div-le_self}
 use Rattle.tl_map.specs.Numbers.{Numbers, IsLawful}
-use Rattle.tl_map.proofs.LimitLaws.{bank_power, set_power}
 use Rattle.tl_map.specs.Places.{xor_of_groups, bank_of, slot_of, set_of, tag_of, place_of}
 use Rattle.tl_map.specs.declared.place.Place.{Place}
 
@@ -70,9 +69,9 @@ more_groups : (g : Numbers) (block : ℕ) → IsLawful g → block < 2 ^ 16
     → xor_of_groups g.banks 16 (slot_of g block) ≡ xor_of_groups g.banks 15 (slot_of g block)
 unfolding slot_of
 more_groups g block lawful small =
-    let power = bank_power g.banks lawful.banks in
-    subst (λ banks. xor_of_groups banks 16 (block / banks) ≡ xor_of_groups banks 15 (block / banks)) (sym power.2)
-    (slot_groups power.0 block small)
+    let power = lawful.banks in
+    subst (λ banks. xor_of_groups banks 16 (block / banks) ≡ xor_of_groups banks 15 (block / banks)) (sym power.power)
+    (slot_groups power.exponent block small)
 
 -- ## Places
 
@@ -135,8 +134,8 @@ place_of-alone g a b same =
 -- the groups of any number are a bank's
 pub xor_of_groups-bank : (g : Numbers) (count number : ℕ) → IsLawful g → xor_of_groups g.banks count number < g.banks
 xor_of_groups-bank g count number lawful =
-    let power = bank_power g.banks lawful.banks in
-    rw power.2 (xor_of_groups-lt power.0 count number)
+    let power = lawful.banks in
+    rw power.power (xor_of_groups-lt power.exponent count number)
 
 -- the bank is one of the banks
 pub bank_of-lt : (g : Numbers) (block : ℕ) → IsLawful g → bank_of g block < g.banks
@@ -146,8 +145,8 @@ bank_of-lt g block lawful = xor_of_groups-bank g 16 block lawful
 -- there is a set
 pub some_sets : (g : Numbers) → IsLawful g → 0 < g.sets
 some_sets g lawful =
-    let power = set_power g.sets lawful.sets in
-    rw power.2 (pow_pos power.0)
+    let power = lawful.sets in
+    rw power.power (pow_pos power.exponent)
 
 -- the set is one of the sets
 pub set_of-lt : (g : Numbers) (block : ℕ) → 0 < g.sets → set_of g block < g.sets
@@ -158,8 +157,8 @@ set_of-lt g block some = mod_below (slot_of g block) g.sets some
 pub slot_at-le : (g : Numbers) (place : Place) (block : ℕ) → IsLawful g → place_of g block ≡ place → slot_at g place ≤ block
 unfolding slot_of
 slot_at-le g place block lawful same =
-    let power = bank_power g.banks lawful.banks in
-    let some : 0 < g.banks = rw power.2 (pow_pos power.0) in
+    let power = lawful.banks in
+    let some : 0 < g.banks = rw power.power (pow_pos power.exponent) in
     let slot : slot_of g block ≡ slot_at g place = slot_by_set g block ∙ ap (λ (p : Place). p.tag * g.sets + p.set) same in
     rw (← slot) (div-le_self block g.banks)
 
@@ -179,9 +178,9 @@ block_in-is g place block lawful small same =
 pub low_at-lt : (g : Numbers) (place : Place) → IsLawful g → place.bank < g.banks
     → bit_xor place.bank (xor_of_groups g.banks 16 (slot_at g place)) < g.banks
 low_at-lt g place lawful bank =
-    let power = bank_power g.banks lawful.banks in
-    let bank' : place.bank < 2 ^ power.0 = rw (← power.2) bank in
-    rw power.2 (xor_lt power.0 place.bank _ bank' (xor_of_groups-lt power.0 16 (slot_at g place)))
+    let power = lawful.banks in
+    let bank' : place.bank < 2 ^ power.exponent = rw (← power.power) bank in
+    rw power.power (xor_lt power.exponent place.bank _ bank' (xor_of_groups-lt power.exponent 16 (slot_at g place)))
 
 -- the slot of the block of a place
 slot_of-block_in : (g : Numbers) (place : Place) → IsLawful g → place.bank < g.banks → slot_of g (block_in g place) ≡ slot_at g place

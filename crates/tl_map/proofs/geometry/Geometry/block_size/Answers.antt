@@ -3,7 +3,6 @@ use Rattle.std.proofs.lemmas.Nat.{pow_pos}
 use Rattle.std.proofs.Math.Nat.{pow-suc}
 use Rattle.std.proofs.Math.Pow.{pow_mono}
 use Rattle.std.proofs.lemmas.Bool.{cases_order}
-use Rattle.tl_map.proofs.LimitLaws.{block_power}
 use Rattle.tl_map.proofs.geometry.Geometry.block_size.Goals as goal
 
 -- a logarithm of a power is its exponent
@@ -21,5 +20,5 @@ exponent k r n power below above =
 
 pub returns : goal.returns
 returns c =
-    let power = block_power c.self.inside.block_bytes c.self.invariant.block_bytes in
-    rw (← c.self.view_is) (exponent power.0 _ _ power.2 c.ilog2.ensures.power_le c.ilog2.ensures.next_power_gt)
+    let power = c.self.invariant.block_bytes in
+    rw (← c.self.view_is) (exponent power.exponent _ _ power.power c.ilog2.ensures.power_le c.ilog2.ensures.next_power_gt)
