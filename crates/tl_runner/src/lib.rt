@@ -2,4 +2,6 @@
 #![tactic(auto)]
 
 mod bank;
+mod steps;
 pub use bank::PlainBank;
+pub use steps::serve;

@@ -1,6 +1,6 @@
 use Rattle.std.proofs.Common.{◌≡◌, ◌≤◌, ◌++◌, length, map, take, vec_len, vec_capacity}
 use Rattle.tl_runner.specs.Answers.{answers_of, accesses_among, command_of, IsSameCache}
-use Rattle.tl_runner.proofs.serve.serve.Given as goal
+use Rattle.tl_runner.proofs.steps.serve.Given as goal
 
 abbrev pub invariant-loop-command : goal.invariant-loop-command
 invariant-loop-command l = record {
