@@ -1,0 +1,5 @@
+pub mod Calls
+pub mod Cases
+pub mod Refusal
+pub mod Share
+pub mod View
