@@ -1,0 +1,10 @@
+//! The report of a run, as text.
+#![tactic(auto)]
+
+mod lines;
+mod report;
+
+pub use report::{Answered, BankLine, Report};
+
+#[cfg(test)]
+mod tests;
