@@ -1,0 +1,215 @@
+//! The links of one bank: five channels for each client.
+ghost use Rattle.std.specs.Prelude.{◌≡◌, ◌↔◌, ◌≤◌, ◌<◌, ◌+◌, ◌-◌, ◌^◌, ◌∷◌, ◌*◌, ℕ, List, [], length, IfOk, IfErr, OnOk, OnErr, IsErr, MatchOption, MatchResult, if◌then◌else◌};
+ghost use Rattle.std.specs.List.{list_any};
+ghost use Rattle.tl_types.specs.Channel.{place_of};
+ghost use Rattle.tl_types.specs.Lane.{empty_lane, sent, is_here, with_message, without_first, bodies_of};
+ghost use Rattle.tl_types.specs.declared.channel.Channel.{Channel};
+ghost use Rattle.tl_types.specs.declared.message.Message.{Message};
+ghost use Rattle.tl_links.specs.Table.{lane_in, IsNotHead, SameSize};
+ghost use Rattle.tl_links.specs.Wanted.{is_wanted};
+
+use crate::queue::{PLACES, Queue};
+use crate::ticket_error::TicketError;
+use crate::wanted::Wanted;
+use std::alloc::{AllocError, Global};
+use std::marker::Model;
+use tl_types::{BankNo, BlockNo, Channel, ClientId, Message, Ticket};
+
+/// The channels between a bank and its clients. Each keeps its messages in order, at most 64 at a time.
+#[derive(Drop)]
+pub struct Links {
+    bank: BankNo,
+    clients: u32,
+    queues: Vec<Queue>,
+}
+
+impl Model for Links {
+    ghost use Rattle.std.specs.Prelude.{◌≡◌, ◌≤◌, ◌*◌, length};
+    ghost use Rattle.tl_links.specs.Table.{Table};
+
+    ghost Value = { Table };
+
+    ghost view = { λ l. record { bank = l.bank; clients = l.clients; lanes = l.queues.items } };
+
+    ghost invariant = { λ l. (length l.queues.items ≡ l.clients * 5) × (l.clients ≤ 16) };
+}
+
+/// 64 messages wait on the channel. The message comes back.
+#[derive(Debug, Drop)]
+pub struct Full {
+    pub message: Message,
+}
+
+impl Links {
+    /// The links of a bank to so many clients, with no message on them. All memory that they ever use is taken here.
+    #[tactic(auto, unfolding(crate::specs::Table::lane_in))]
+    pub fn new(alloc: Global, bank: BankNo, clients: u32) -> Result<Links, AllocError>
+        requires { clients ≤ 16 }
+        ensures bank { IfOk result (λ l. l.bank ≡ bank) }
+        ensures clients { IfOk result (λ l. l.clients ≡ clients) }
+        ensures empty { IfOk result (λ l. (x : ℕ) (k : Channel) → lane_in l x k ≡ empty_lane) }
+    {
+        let mut queues = Vec::with_capacity(alloc, clients as usize * Channel::ALL.len())?;
+        for _ in 0..clients as usize * Channel::ALL.len() {
+            queues.push(Queue::new(alloc)?)?;
+        }
+        Ok(Links {
+            bank,
+            clients,
+            queues,
+        })
+    }
+
+    /// The bank.
+    pub fn bank(&self) -> BankNo
+        ensures { result ≡ self.now.bank }
+    {
+        self.bank
+    }
+
+    /// How many clients there are.
+    pub fn clients(&self) -> u32
+        ensures value { result ≡ self.now.clients }
+        ensures few { result ≤ 16 }
+    {
+        self.clients
+    }
+
+    /// How many messages were sent on a channel: the serial of the next.
+    pub fn sent(&self, client: ClientId, channel: Channel) -> u64
+        requires { client < self.now.clients }
+        ensures { result ≡ sent (lane_in self.now client channel) }
+    {
+        self.queue(client, channel).sent()
+    }
+
+    /// How many messages of a channel were taken: the serial of the first that waits.
+    pub fn taken(&self, client: ClientId, channel: Channel) -> u64
+        requires { client < self.now.clients }
+        ensures { result ≡ (lane_in self.now client channel).taken }
+    {
+        self.queue(client, channel).taken()
+    }
+
+    /// How many messages wait on a channel.
+    pub fn waiting(&self, client: ClientId, channel: Channel) -> usize
+        requires { client < self.now.clients }
+        ensures value { result ≡ length (lane_in self.now client channel).messages }
+        ensures few { result ≤ 64 }
+    {
+        self.queue(client, channel).waiting()
+    }
+
+    /// The first message that waits on a channel.
+    pub fn first(&self, client: ClientId, channel: Channel) -> Option<&Message>
+        requires { client < self.now.clients }
+        ensures { MatchOption result ((lane_in self.now client channel).messages ≡ [])
+            (λ x. (rest : List Message) × ((lane_in self.now client channel).messages ≡ x.now ∷ rest)) }
+    {
+        self.queue(client, channel).first()
+    }
+
+    /// Whether a message of a block waits on a channel that is looked for.
+    pub fn has(&self, client: ClientId, channel: Channel, block: BlockNo, wanted: Wanted) -> bool
+        requires { client < self.now.clients }
+        ensures { result ≡ list_any (is_wanted wanted) (bodies_of block (lane_in self.now client channel).messages) }
+    {
+        self.queue(client, channel).has(block, wanted)
+    }
+
+    /// Sends a message. The answer is its ticket, or the message where 64 wait already, and then nothing changes.
+    #[tactic(auto, unfolding(crate::specs::Table::lane_in))]
+    pub fn send(
+        &mut self,
+        client: ClientId,
+        channel: Channel,
+        message: Message,
+    ) -> Result<Ticket, Full>
+        requires here { client < self.old.clients }
+        requires counted { sent (lane_in self.old client channel) < 2 ^ 64 - 1 }
+
+        ensures ticket { IfOk result
+            (λ t. t
+            ≡ record { bank = self.old.bank; client = client; channel = channel; serial = sent (lane_in self.old client channel) }) }
+        ensures same { SameSize self.old self.new }
+        ensures after { OnOk result
+            ((x : ℕ) (k : Channel)
+            → lane_in self.new x k
+            ≡ (if is_here client channel x k then with_message (lane_in self.old x k) message else lane_in self.old x k)) }
+
+        ensures full { IsErr result ↔ (length (lane_in self.old client channel).messages ≡ 64) }
+        ensures message { IfErr result (λ full. full.message ≡ message) }
+        ensures unchanged { OnErr result (self.new ≡ self.old) }
+    {
+        let queue = self.queue(client, channel);
+        if queue.waiting() == PLACES {
+            return Err(Full { message });
+        }
+        let serial = queue.sent();
+        self.queues[place(client, channel)].push(message);
+        Ok(Ticket {
+            bank: self.bank,
+            client,
+            channel,
+            serial,
+        })
+    }
+
+    /// The message that a ticket names, where it is the first that waits on its channel.
+    pub fn head(&self, ticket: Ticket) -> Result<&Message, TicketError>
+        requires bank { ticket.bank ≡ self.now.bank }
+        requires here { ticket.client < self.now.clients }
+        ensures message { IfOk result
+            (λ x. (rest : List Message) × ((lane_in self.now ticket.client ticket.channel).messages ≡ x.now ∷ rest)) }
+        ensures serial { OnOk result (ticket.serial ≡ (lane_in self.now ticket.client ticket.channel).taken) }
+        ensures refused { IfErr result (IsNotHead (lane_in self.now ticket.client ticket.channel) ticket.serial) }
+    {
+        let queue = self.queue(ticket.client, ticket.channel);
+        let Some(message) = queue.first() else {
+            return Err(TicketError::NothingThere);
+        };
+        if ticket.serial == queue.taken() {
+            Ok(message)
+        } else {
+            Err(TicketError::NotHead)
+        }
+    }
+
+    /// Takes the message that a ticket names, where it is the first that waits on its channel; else nothing changes.
+    #[tactic(auto, unfolding(crate::specs::Table::lane_in))]
+    pub fn take(&mut self, ticket: Ticket) -> Result<Message, TicketError>
+        requires bank { ticket.bank ≡ self.old.bank }
+        requires here { ticket.client < self.old.clients }
+
+        ensures message { IfOk result
+            (λ x. (rest : List Message) × ((lane_in self.old ticket.client ticket.channel).messages ≡ x ∷ rest)) }
+        ensures serial { OnOk result (ticket.serial ≡ (lane_in self.old ticket.client ticket.channel).taken) }
+        ensures same { SameSize self.old self.new }
+        ensures after { OnOk result
+            ((x : ℕ) (k : Channel)
+            → lane_in self.new x k
+            ≡ (if is_here ticket.client ticket.channel x k then without_first (lane_in self.old x k) else lane_in self.old x k)) }
+
+        ensures refused { IfErr result (IsNotHead (lane_in self.old ticket.client ticket.channel) ticket.serial) }
+        ensures unchanged { OnErr result (self.new ≡ self.old) }
+    {
+        let place = place(ticket.client, ticket.channel);
+        self.head(ticket)?;
+        self.queues[place].pop().ok_or(TicketError::NothingThere)
+    }
+
+    #[tactic(auto, unfolding(crate::specs::Table::lane_in))]
+    fn queue(&self, client: ClientId, channel: Channel) -> &Queue
+        requires { client < self.now.clients }
+        ensures { result.now ≡ lane_in self.now client channel }
+    {
+        &self.queues[place(client, channel)]
+    }
+}
+
+/// A client's channel among all channels.
+fn place(client: ClientId, channel: Channel) -> usize
+    ensures { result ≡ client * 5 + place_of channel }
+{
+    client.number() as usize * Channel::ALL.len() + channel.index()
+}
