@@ -1,5 +1,5 @@
 -- The lowest number that passes a test.
-use Rattle.std.proofs.Common.{◌≡◌, ℕ, zero, suc, ◌+◌, ◌-◌, ◌<◌, Bool, true, false, Option, Some, None, refl, arith}
+use Rattle.std.proofs.Common.{◌≡◌, ℕ, zero, suc, ◌+◌, ◌-◌, ◌<◌, Bool, true, Option, Some, None, refl, arith}
 use Rattle.tl_registers.specs.Register.{lowest, or_this}
 
 -- where no lower number passes, this one is the lowest just where it passes

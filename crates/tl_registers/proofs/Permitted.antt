@@ -1,5 +1,5 @@
 -- What a register does next is permitted.
-use Rattle.std.proofs.Common.{◌≡◌, ◌≢◌, ℕ, zero, suc, ◌+◌, ◌<◌, ◌==◌, ◌&&◌, ◌||◌, not, nat_lt, Bool, true, false, List, [], ◌∷◌, ◌++◌, Option, Some, None, if◌then◌else◌, refl, sym, ◌∙◌, ap, subst, arith, inl, inr, eqb-true, eq-eqb}
+use Rattle.std.proofs.Common.{◌≡◌, ◌≢◌, ℕ, zero, suc, ◌<◌, ◌==◌, ◌&&◌, ◌||◌, not, Bool, true, false, List, [], ◌∷◌, Option, Some, None, if◌then◌else◌, refl, sym, ◌∙◌, ap, subst, arith, inl, inr, eqb-true}
 use Rattle.std.specs.Prelude.{◌⊎◌}
 use Rattle.std.proofs.lemmas.Bool.{cases_eq}
 use Rattle.tl_types.specs.Permission.{rank, probe_perm}
@@ -21,10 +21,10 @@ use Rattle.tl_registers.specs.declared.due.Due.TheVariants.{Probe, Grant, Get, P
 use Rattle.tl_registers.specs.declared.register.Register.{Register}
 use Rattle.tl_registers.specs.declared.register.Task.{Task}
 use Rattle.tl_registers.specs.declared.register.Task.TheVariants.{Acquire, Replace, Evict}
-use Rattle.tl_registers.specs.Fit.{event_of, ProbesFit, Leaves, IsServed, TaskFits, Fits, EveryActionIsPermitted}
-use Rattle.tl_registers.specs.NextAction.{Case, passes, waits, acts, first, probes, probe_victim, await_probes, give_up, await_put, away, probes_before, fetch, probe_others, grant, serve, cases, next_due}
+use Rattle.tl_registers.specs.Fit.{event_of, ProbesFit, Leaves, IsServed, TaskFits, EveryActionIsPermitted}
+use Rattle.tl_registers.specs.NextAction.{Case, passes, waits, acts, first, probes, probe_victim, await_probes, give_up, await_put, probes_before, fetch, probe_others, grant, serve, cases}
 use Rattle.tl_registers.specs.Pending.{is_probed, probe_pending, grant_pending, is_quiet}
-use Rattle.tl_registers.specs.Register.{has_probed, is_above, is_other, must_probe, or_this, lowest, victim_in, IsBelow, IsKnown}
+use Rattle.tl_registers.specs.Register.{has_probed, is_above, is_other, must_probe, or_this, lowest, victim_in, IsBelow}
 use Rattle.tl_registers.proofs.Pending.{bool-cases, any_below-false, probe-free, no-probe, no-grant, quiet-is}
 
 and-true : (a b : Bool) → (a && b) ≡ true → (a ≡ true) × (b ≡ true)

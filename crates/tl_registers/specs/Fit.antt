@@ -1,5 +1,5 @@
 -- When a register fits the protocol's state: what it does next is then permitted (this project's own).
-use Rattle.std.specs.Prelude.{◌≡◌, ◌≢◌, ℕ, ◌<◌, ◌≤◌, Bool, true, false, length, Option, Some, None}
+use Rattle.std.specs.Prelude.{◌≡◌, ◌≢◌, ℕ, ◌<◌, ◌≤◌, true, false, length, Option, Some, None}
 use Rattle.tl_types.specs.declared.permission.Perm.TheVariants.{Tip}
 use Rattle.tl_types.specs.declared.permission.Grow.TheVariants.{NtoB}
 use Rattle.tl_types.specs.declared.permission.ProbeCap.{ProbeCap}

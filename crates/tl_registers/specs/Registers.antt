@@ -1,5 +1,5 @@
 -- The open registers of a bank (this project's own).
-use Rattle.std.specs.Prelude.{◌≡◌, ℕ, ◌==◌, ◌&&◌, not, Bool, true, false, List, [], ◌∷◌, ◌++◌, map, filter, find, Option, Some, None, if◌then◌else◌}
+use Rattle.std.specs.Prelude.{ℕ, ◌==◌, ◌&&◌, not, Bool, true, false, List, map, filter, find, Option, Some, None, if◌then◌else◌}
 use Rattle.std.specs.List.{list_any}
 use Rattle.tl_protocol.specs.Protocol.{Block}
 use Rattle.tl_protocol.specs.declared.shape.Shape.{Shape}
@@ -9,7 +9,7 @@ use Rattle.tl_registers.specs.declared.register.Task.{Task}
 use Rattle.tl_registers.specs.declared.register.Task.TheVariants.{Acquire, Replace, Evict}
 use Rattle.tl_registers.specs.declared.way.Way.{Way}
 use Rattle.tl_registers.specs.NextAction.{next_due}
-use Rattle.tl_registers.specs.Register.{victim_of, is_block, works_on, with_probed}
+use Rattle.tl_registers.specs.Register.{works_on, with_probed}
 
 -- The open registers, oldest first, and how many there may be.
 pub record Table : Type 0 where

@@ -1,6 +1,6 @@
 use Rattle.std.proofs.Common.{◌==◌, ◌&&◌, List, not, ap, rules}
 use Rattle.arrayvec.proofs.ArrayVecLemmas.{filter-from_retain}
-use Rattle.tl_registers.specs.Registers.{Table, is_evict}
+use Rattle.tl_registers.specs.Registers.{is_evict}
 use Rattle.tl_registers.specs.declared.register.Register.{Register}
 use Rattle.tl_registers.proofs.registers.Registers.close_evict.Goals as goal
 

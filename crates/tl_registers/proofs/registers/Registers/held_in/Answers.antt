@@ -1,6 +1,5 @@
-use Rattle.std.proofs.Common.{◌≡◌, ◌≤◌, length, take, ap, arith, rules, append-nil, lit<, length-take-le}
+use Rattle.std.proofs.Common.{length, take, ap, arith, lit<, length-take-le}
 use Rattle.std.proofs.lemmas.Grind.{common_steps}
-use Rattle.tl_registers.specs.Registers.{held_in}
 use Rattle.tl_registers.proofs.Held.{held_in-more, length-held_in}
 use Rattle.tl_registers.proofs.registers.Registers.held_in.Goals as goal
 use Rattle.tl_registers.proofs.registers.Registers.held_in.Goals.{then-register-set, else-register-set}
