@@ -1,0 +1,4 @@
+pub mod Held
+pub mod Lowest
+pub mod Pending
+pub mod Permitted

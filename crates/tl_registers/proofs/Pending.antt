@@ -1,0 +1,100 @@
+-- Whether a Probe or a Grant is pending, as the protocol says it.
+use Rattle.std.proofs.Common.{◌≡◌, ℕ, zero, suc, ◌<◌, ◌==◌, ◌||◌, not, Bool, true, false, List, [], ◌∷◌, refl, ◌∙◌, ap, arith, inl, inr, eqb-true, eq-eqb}
+use Rattle.std.specs.Prelude.{◌⊎◌}
+use Rattle.std.specs.List.{list_any}
+use Rattle.std.proofs.lemmas.Bool.{cases_eq}
+use Rattle.tl_types.specs.Message.{is_probe_ack, is_grant}
+use Rattle.tl_protocol.specs.declared.client.Client.{Client}
+use Rattle.tl_protocol.specs.declared.home.Outward.{Outward}
+use Rattle.tl_protocol.specs.declared.home.Outward.TheVariants.{Quiet, Get, Data, Put, PutAck}
+use Rattle.tl_protocol.specs.declared.shape.Shape.{Shape}
+use Rattle.tl_protocol.specs.Client.{NoProbePending, NoGrantPending}
+use Rattle.tl_protocol.specs.Protocol.{Block, NoProbe, NoGrant}
+use Rattle.tl_registers.specs.Pending.{has_first, is_probed, is_granted, any_below, probe_pending, grant_pending, is_quiet, PendingIsTheProtocols}
+
+-- ## Booleans
+
+-- a test passes or it does not
+pub bool-cases : (a : Bool) → (a ≡ true) ⊎ (a ≡ false)
+bool-cases true = inl refl
+bool-cases false = inr refl
+
+pub or-false : (a b : Bool) → (a || b) ≡ false → (a ≡ false) × (b ≡ false)
+or-false true b h = cc
+or-false false b h = (refl, h)
+
+not-false : (a : Bool) → not a ≡ false → a ≡ true
+not-false true h = refl
+not-false false h = cc
+
+-- ## Tests below a number
+
+-- where none below n passes, this one does not
+pub any_below-false : (test : ℕ → Bool) (n x : ℕ) → any_below test n ≡ false → x < n → test x ≡ false
+any_below-false test zero x h l = absurd (omega arith)
+any_below-false test (suc n) x h l =
+    let k = or-false (any_below test n) (test n) h in
+    elim (cases_eq x n) [
+      | inl e ↦ ap test e ∙ k.1
+      | inr e ↦ any_below-false test n x k.0 (omega arith)
+    ]
+
+-- where each below n fails, none passes
+pub any_below-none : (test : ℕ → Bool) (n : ℕ) → ((x : ℕ) → x < n → test x ≡ false) → any_below test n ≡ false
+any_below-none test zero h = refl
+any_below-none test (suc n) h =
+    let before = any_below-none test n (λ x l. h x (omega arith)) in
+    let here = h n (omega arith) in
+    rw (before, here) refl
+
+-- ## One client
+
+no-first : {X : Type 0} (xs : List X) → has_first xs ≡ false → xs ≡ []
+no-first [] h = refl
+no-first (x ∷ xs) h = cc
+
+pub probe-free : (k : Client) → is_probed k ≡ false → NoProbePending k
+probe-free k h =
+    let both = or-false (has_first k.b) (list_any is_probe_ack k.c) h in
+    (no-first k.b both.0, both.1)
+
+pub free-probe : (k : Client) → NoProbePending k → is_probed k ≡ false
+free-probe k h = rw (h.0, h.1) refl
+
+pub grant-free : (k : Client) → is_granted k ≡ false → NoGrantPending k
+grant-free k h =
+    let both = or-false (list_any is_grant k.d) (not (k.e == 0)) h in
+    (both.0, eqb-true k.e 0 (not-false (k.e == 0) both.1))
+
+pub free-grant : (k : Client) → NoGrantPending k → is_granted k ≡ false
+free-grant k h =
+    let e : (k.e == 0) ≡ true = eq-eqb k.e 0 h.1 in
+    rw (h.0, e) refl
+
+-- ## All clients
+
+pub no-probe : (shape : Shape) (s : Block) → probe_pending shape s ≡ false → NoProbe shape s
+no-probe shape s h = λ x l. probe-free (s.client x) (any_below-false (λ c. is_probed (s.client c)) shape.clients x h l)
+
+pub probe-none : (shape : Shape) (s : Block) → NoProbe shape s → probe_pending shape s ≡ false
+probe-none shape s h = any_below-none (λ c. is_probed (s.client c)) shape.clients (λ x l. free-probe (s.client x) (h x l))
+
+pub no-grant : (shape : Shape) (s : Block) → grant_pending shape s ≡ false → NoGrant shape s
+no-grant shape s h = λ x l. grant-free (s.client x) (any_below-false (λ c. is_granted (s.client c)) shape.clients x h l)
+
+pub grant-none : (shape : Shape) (s : Block) → NoGrant shape s → grant_pending shape s ≡ false
+grant-none shape s h = any_below-none (λ c. is_granted (s.client c)) shape.clients (λ x l. free-grant (s.client x) (h x l))
+
+pub quiet-is : (o : Outward) → is_quiet o ≡ true → o ≡ Quiet
+quiet-is Quiet h = refl
+quiet-is Get h = cc
+quiet-is (Data bytes) h = cc
+quiet-is (Put bytes) h = cc
+quiet-is PutAck h = cc
+
+pub pending-is-the-protocols : PendingIsTheProtocols
+pending-is-the-protocols shape s = (
+  (no-probe shape s, probe-none shape s),
+  (no-grant shape s, grant-none shape s),
+  (quiet-is s.outward, λ e. ap is_quiet e),
+)

@@ -1,0 +1,9 @@
+use Rattle.std.proofs.Common.{◌==◌, List, not, ap, rules}
+use Rattle.arrayvec.proofs.ArrayVecLemmas.{filter-from_retain}
+use Rattle.tl_registers.specs.declared.register.Register.{Register}
+use Rattle.tl_registers.proofs.registers.Registers.close.Goals as goal
+
+pub returns : goal.returns
+returns c =
+    let e = filter-from_retain _ (λ r. not (r.own == c.args.block)) _ (λ x b f' y called. search rules) _ _ c.retain.ensures.filtered in
+    rw (← c.self.view_is) (ap (λ (xs : List Register). record { limit = c.self.inside.limit; open_registers = xs }) e)

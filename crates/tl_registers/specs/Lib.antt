@@ -1,0 +1,5 @@
+pub mod Fit
+pub mod NextAction
+pub mod Pending
+pub mod Register
+pub mod Registers

@@ -1,0 +1,13 @@
+//! What ties the register's rule to the protocol.
+ghost use Rattle.tl_registers.specs.Fit.{EveryActionIsPermitted};
+ghost use Rattle.tl_registers.specs.Pending.{PendingIsTheProtocols};
+
+/// Whether a Probe or a Grant is pending is answered here as the protocol defines it.
+pub fn pending_is_the_protocols()
+    ensures { PendingIsTheProtocols }
+{}
+
+/// What a register does next is permitted by the protocol, wherever the register fits the state.
+pub fn every_action_is_permitted()
+    ensures { EveryActionIsPermitted }
+{}

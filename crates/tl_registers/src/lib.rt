@@ -1,0 +1,18 @@
+//! The miss registers of a bank: what home is at work on, and the one rule that says what a register does next.
+#![tactic(auto)]
+
+mod client_set;
+mod due;
+mod laws;
+mod protocol;
+mod register;
+mod registers;
+mod way;
+
+pub use client_set::ClientSet;
+pub use due::Due;
+pub use laws::{every_action_is_permitted, pending_is_the_protocols};
+pub use protocol::Protocol;
+pub use register::{Register, Task};
+pub use registers::Registers;
+pub use way::Way;

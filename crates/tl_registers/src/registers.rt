@@ -1,0 +1,199 @@
+//! The open registers of a bank.
+ghost use Rattle.std.specs.Prelude.{◌≡◌, ◌≤◌, ◌<◌, ◌∷◌, ◌++◌, ◌==◌, Some, None, [], length, map, filter, IfSome};
+ghost use Rattle.std.specs.Option.{option_copied};
+ghost use Rattle.tl_registers.specs.declared.register.Task.{Task};
+ghost use Rattle.tl_registers.specs.Register.{opened, acquire_task, IsKnown};
+ghost use Rattle.tl_registers.specs.Registers.{register_of, due_of, is_busy, is_held, held_in, noted, ended, closed, without_evict, without_victim};
+
+use crate::due::Due;
+use crate::protocol::Protocol;
+use crate::register::{Register, Task};
+use crate::way::Way;
+use arrayvec::ArrayVec;
+use std::marker::Model;
+use tl_protocol::Accepted;
+use tl_types::{BlockNo, ClientId};
+
+/// The open registers, oldest first: at most as many as the geometry gives a bank.
+#[derive(Drop)]
+pub struct Registers {
+    limit: usize,
+    registers: ArrayVec<Register, 8>,
+}
+
+impl Model for Registers {
+    ghost use Rattle.std.specs.Prelude.{◌≤◌, length};
+    ghost use Rattle.tl_registers.specs.Registers.{Table};
+
+    ghost Value = { Table };
+
+    ghost view = { λ r. record { limit = r.limit; open_registers = r.registers.items } };
+
+    ghost invariant = { λ r. (length r.registers.items ≤ r.limit) × (r.limit ≤ 8) };
+}
+
+impl Registers {
+    /// No open register, and room for `limit`.
+    pub fn new(limit: usize) -> Registers
+        requires { limit ≤ 8 }
+        ensures { result ≡ record { limit = limit; open_registers = [] } }
+    {
+        Registers {
+            limit,
+            registers: ArrayVec::new(),
+        }
+    }
+
+    /// The open registers.
+    pub fn as_slice(&self) -> &[Register]
+        ensures is { result.now ≡ self.now.open_registers }
+        ensures few { length result.now ≤ 8 }
+    {
+        self.registers.as_slice()
+    }
+
+    /// How many are open.
+    pub fn len(&self) -> usize
+        ensures is { result ≡ length self.now.open_registers }
+        ensures within { result ≤ self.now.limit }
+    {
+        self.registers.len()
+    }
+
+    /// Whether none is open.
+    pub fn is_empty(&self) -> bool
+        ensures { result ≡ (length self.now.open_registers == 0) }
+    {
+        self.registers.is_empty()
+    }
+
+    /// Whether all are in use.
+    pub fn is_full(&self) -> bool
+        ensures { result ≡ (length self.now.open_registers == self.now.limit) }
+    {
+        self.registers.len() == self.limit
+    }
+
+    /// Opens a register that serves an Acquire of the block `own` in a way, once the victim, where there is one, has left it.
+    pub fn open_acquire(
+        &mut self,
+        own: BlockNo,
+        acquire: Accepted,
+        way: Way,
+        victim: Option<BlockNo>,
+    )
+        requires { length self.old.open_registers < self.old.limit }
+        ensures { self.new ≡ record self.old {
+          open_registers = self.old.open_registers ++ opened own way (acquire_task acquire victim) ∷ [];
+        } }
+    {
+        self.registers
+            .push(Register::open(own, way, Task::acquire(acquire, victim)));
+    }
+
+    /// Opens a register that sends the block `own` away, which is in a way.
+    pub fn open_evict(&mut self, own: BlockNo, way: Way)
+        requires { length self.old.open_registers < self.old.limit }
+        ensures { self.new ≡ record self.old {
+          open_registers = self.old.open_registers ++ opened own way Task.Evict ∷ [];
+        } }
+    {
+        self.registers.push(Register::open(own, way, Task::Evict));
+    }
+
+    /// The register whose own block it is.
+    pub fn of_block(&self, block: BlockNo) -> Option<&Register>
+        ensures { option_copied result ≡ register_of block self.now.open_registers }
+    {
+        self.as_slice()
+            .iter()
+            .find(|register| register.own.number() == block.number())
+    }
+
+    /// What the register of a block does next: None where it waits, and where the block has none.
+    pub fn next_action<V: Protocol>(&self, block: BlockNo, view: &V) -> Option<Due>
+        requires few { (V.shape view.now).clients ≤ 16 }
+        requires known { IfSome (register_of block self.now.open_registers) (IsKnown (V.shape view.now).blocks) }
+        ensures { result ≡ due_of (V.shape view.now) (V.state view.now) (register_of block self.now.open_registers) }
+    {
+        self.of_block(block)?.next_action(view)
+    }
+
+    /// Whether a block is the own block or the victim of an open register.
+    pub fn is_busy(&self, block: BlockNo) -> bool
+        ensures { result ≡ is_busy block self.now.open_registers }
+    {
+        self.as_slice()
+            .iter()
+            .any(|register| register.works_on(block))
+    }
+
+    /// Whether a register holds a way.
+    pub fn is_held(&self, way: Way) -> bool
+        ensures { result ≡ is_held way self.now.open_registers }
+    {
+        self.as_slice().iter().any(|register| register.way.set == way.set
+            && register.way.way == way.way)
+    }
+
+    /// The numbers of the ways of a set that registers hold.
+    pub fn held_in(&self, set: u32) -> ArrayVec<u32, 8>
+        ensures { result.items ≡ held_in set self.now.open_registers }
+    {
+        let mut held = ArrayVec::new();
+        for register in self.as_slice() {
+            if register.way.set == set {
+                held.push(register.way.way);
+            }
+        }
+        held
+    }
+
+    /// The register of a block has sent a client a Probe.
+    pub fn note_probe(&mut self, block: BlockNo, client: ClientId)
+        requires { client < 16 }
+        ensures { self.new ≡ record self.old { open_registers = noted block client self.old.open_registers } }
+    {
+        note(self.registers.as_mut_slice(), block, client);
+    }
+
+    /// A victim is gone, by its drop or by the acknowledgement of its Put: an evict register of it closes, and an acquire
+    /// register goes on without it.
+    pub fn end_victim(&mut self, victim: BlockNo)
+        ensures { self.new ≡ record self.old { open_registers = ended victim self.old.open_registers } }
+    {
+        self.close_evict(victim);
+        end(self.registers.as_mut_slice(), victim);
+    }
+
+    fn close_evict(&mut self, block: BlockNo)
+        ensures { self.new ≡ record self.old { open_registers = without_evict block self.old.open_registers } }
+    {
+        self.registers.retain(|register| !register.evicts(block));
+    }
+
+    /// Closes the register of a block.
+    pub fn close(&mut self, block: BlockNo)
+        ensures { self.new ≡ record self.old { open_registers = closed block self.old.open_registers } }
+    {
+        self.registers
+            .retain(|register| register.own.number() != block.number());
+    }
+}
+
+fn note(registers: &mut [Register], block: BlockNo, client: ClientId)
+    requires { client < 16 }
+    ensures { registers.new ≡ noted block client registers.old }
+{
+    for register in registers.iter_mut() {
+        register.note_probe(block, client);
+    }
+}
+
+fn end(registers: &mut [Register], victim: BlockNo)
+    ensures { registers.new ≡ map (without_victim victim) registers.old }
+{
+    for register in registers.iter_mut() {
+        register.end_victim(victim);
+    }
+}
