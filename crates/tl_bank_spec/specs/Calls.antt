@@ -1,5 +1,5 @@
 -- The clients' calls: each with its refusals, in the order in which they are tested (this project's own).
-use Rattle.std.specs.Prelude.{ℕ, ◌||◌, ◌&&◌, ◌==◌, Bool, List, [], ◌∷◌, ◌++◌, not}
+use Rattle.std.specs.Prelude.{ℕ, ◌||◌, ◌==◌, Bool, List, [], ◌∷◌, ◌++◌, not}
 use Rattle.tl_types.specs.Permission.{grow_from, prune_from}
 use Rattle.tl_types.specs.declared.channel.Channel.{Channel}
 use Rattle.tl_types.specs.declared.channel.Channel.TheVariants.{A, B, C, D, E}
@@ -10,7 +10,6 @@ use Rattle.tl_types.specs.declared.ticket.Ticket.{Ticket}
 use Rattle.tl_map.specs.Places.{block_at as block_of_address}
 use Rattle.tl_bank_spec.specs.Share.{Holding}
 use Rattle.tl_bank_spec.specs.View.{View}
-use Rattle.tl_bank_spec.specs.Refusal.{Case}
 use Rattle.tl_bank_spec.specs.Cases.{no_client, no_block, bad_access, elsewhere, bad_share, other_share, may_not_read, may_not_write, waits, other_perm, copies_full, release_pending, clock_full, link_full, is_empty, any_body, is_a_grant, is_a_release_ack, waiting_at, block_named, other_channel, not_head}
 use Rattle.tl_bank_spec.specs.declared.refusal.Refusal.{Refusal}
 use Rattle.tl_bank_spec.specs.declared.refusal.Refusal.TheVariants.{NoPermission, Waiting, WrongFrom, NothingThere, NotHead, ReleasePending, OutOfRange, WrongBank, CopiesFull, LinkFull, ClockFull}
@@ -22,57 +21,57 @@ block_named_by v address = block_of_address v.geometry address
 abbrev pub load_cases : View → ℕ → ℕ → ℕ → ℕ → List (Bool × Refusal)
 load_cases v client address len clock =
     (no_client v client || bad_access v address len, OutOfRange)
-        ∷ (elsewhere v (block_named_by v address), WrongBank)
-        ∷ (may_not_read v client (block_named_by v address), NoPermission)
-        ∷ (clock_full v clock, ClockFull) ∷ []
+    ∷ (elsewhere v (block_named_by v address), WrongBank)
+    ∷ (may_not_read v client (block_named_by v address), NoPermission)
+    ∷ (clock_full v clock, ClockFull) ∷ []
 
 abbrev pub store_cases : View → ℕ → ℕ → ℕ → ℕ → List (Bool × Refusal)
 store_cases v client address len clock =
     (no_client v client || bad_access v address len, OutOfRange)
-        ∷ (elsewhere v (block_named_by v address), WrongBank)
-        ∷ (may_not_write v client (block_named_by v address), NoPermission)
-        ∷ (clock_full v clock, ClockFull) ∷ []
+    ∷ (elsewhere v (block_named_by v address), WrongBank)
+    ∷ (may_not_write v client (block_named_by v address), NoPermission)
+    ∷ (clock_full v clock, ClockFull) ∷ []
 
 abbrev pub acquire_cases : View → ℕ → ℕ → Grow → List (Bool × Refusal)
 acquire_cases v client block grow =
     (no_client v client || no_block v block, OutOfRange)
-        ∷ (elsewhere v block, WrongBank)
-        ∷ (waits v client block, Waiting)
-        ∷ (other_perm v client block (grow_from grow), WrongFrom)
-        ∷ (copies_full v client block, CopiesFull)
-        ∷ (link_full v client A, LinkFull) ∷ []
+    ∷ (elsewhere v block, WrongBank)
+    ∷ (waits v client block, Waiting)
+    ∷ (other_perm v client block (grow_from grow), WrongFrom)
+    ∷ (copies_full v client block, CopiesFull)
+    ∷ (link_full v client A, LinkFull) ∷ []
 
 abbrev pub release_cases : View → ℕ → ℕ → Prune → Holding → List (Bool × Refusal)
 release_cases v client block prune share =
     (no_client v client || no_block v block || bad_share v client share, OutOfRange)
-        ∷ (elsewhere v block || other_share v share, WrongBank)
-        ∷ (waits v client block, Waiting)
-        ∷ (other_perm v client block (prune_from prune), WrongFrom)
-        ∷ (link_full v client C, LinkFull) ∷ []
+    ∷ (elsewhere v block || other_share v share, WrongBank)
+    ∷ (waits v client block, Waiting)
+    ∷ (other_perm v client block (prune_from prune), WrongFrom)
+    ∷ (link_full v client C, LinkFull) ∷ []
 
 -- A ticket's tests: its client and bank are there, it names the channel, a message waits, and it names that message.
 abbrev pub ticket_cases : View → Ticket → Channel → (Body → Bool) → List (Bool × Refusal)
 ticket_cases v ticket channel kind =
     (no_client v ticket.client, OutOfRange)
-        ∷ (not (ticket.bank == v.number), WrongBank)
-        ∷ (other_channel ticket channel, NotHead)
-        ∷ (is_empty (waiting_at v ticket channel), NothingThere)
-        ∷ (not_head v ticket channel kind, NotHead) ∷ []
+    ∷ (not (ticket.bank == v.number), WrongBank)
+    ∷ (other_channel ticket channel, NotHead)
+    ∷ (is_empty (waiting_at v ticket channel), NothingThere)
+    ∷ (not_head v ticket channel kind, NotHead) ∷ []
 
 -- The same where the call takes a share as well.
 abbrev pub shared_ticket_cases : View → Ticket → Holding → Channel → (Body → Bool) → List (Bool × Refusal)
 shared_ticket_cases v ticket share channel kind =
     (no_client v ticket.client || bad_share v ticket.client share, OutOfRange)
-        ∷ (not (ticket.bank == v.number) || other_share v share, WrongBank)
-        ∷ (other_channel ticket channel, NotHead)
-        ∷ (is_empty (waiting_at v ticket channel), NothingThere)
-        ∷ (not_head v ticket channel kind, NotHead) ∷ []
+    ∷ (not (ticket.bank == v.number) || other_share v share, WrongBank)
+    ∷ (other_channel ticket channel, NotHead)
+    ∷ (is_empty (waiting_at v ticket channel), NothingThere)
+    ∷ (not_head v ticket channel kind, NotHead) ∷ []
 
 abbrev pub answer_probe_cases : View → Ticket → Holding → List (Bool × Refusal)
 answer_probe_cases v ticket share =
     shared_ticket_cases v ticket share B any_body
-        ++ (release_pending v ticket.client (block_named v ticket B), ReleasePending)
-        ∷ (link_full v ticket.client C, LinkFull) ∷ []
+    ++ (release_pending v ticket.client (block_named v ticket B), ReleasePending)
+    ∷ (link_full v ticket.client C, LinkFull) ∷ []
 
 abbrev pub take_grant_cases : View → Ticket → Holding → List (Bool × Refusal)
 take_grant_cases v ticket share = shared_ticket_cases v ticket share D is_a_grant ++ (link_full v ticket.client E, LinkFull) ∷ []

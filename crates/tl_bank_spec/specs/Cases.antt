@@ -1,12 +1,10 @@
 -- The cases of refusals: one definition each, which all calls share that test it (this project's own).
-use Rattle.std.specs.Prelude.{◌≡◌, ℕ, ◌+◌, ◌-◌, ◌^◌, ◌==◌, ◌&&◌, ◌||◌, not, Bool, true, false, List, [], ◌∷◌, length, Option, Some, None, if◌then◌else◌, nat_lt, nat_le, is_some, is_none as is_nothing}
+use Rattle.std.specs.Prelude.{ℕ, ◌-◌, ◌^◌, ◌==◌, ◌&&◌, ◌||◌, not, Bool, true, false, List, [], ◌∷◌, length, nat_lt, nat_le}
 use Rattle.tl_types.specs.Channel.{same_channel}
-use Rattle.tl_types.specs.Lane.{Lane}
 use Rattle.tl_types.specs.Permission.{rank}
 use Rattle.tl_types.specs.declared.channel.Channel.{Channel}
 use Rattle.tl_types.specs.declared.message.Body.{Body}
 use Rattle.tl_types.specs.declared.message.Body.TheVariants.{AcquireBlock, ProbeBlock, Upward as b_Upward, Downward as b_Downward, GrantAck}
-use Rattle.tl_types.specs.declared.message.Downward.{Downward}
 use Rattle.tl_types.specs.declared.message.Message.{Message}
 use Rattle.tl_types.specs.declared.message.Upward.{Upward}
 use Rattle.tl_types.specs.declared.message.Upward.TheVariants.{ProbeAck, Release}
@@ -15,10 +13,9 @@ use Rattle.tl_types.specs.declared.ticket.Ticket.{Ticket}
 use Rattle.tl_types.specs.declared.wait.Wait.{Wait}
 use Rattle.tl_types.specs.declared.wait.Wait.TheVariants.{Nothing, ForGrant, ForReleaseAck}
 use Rattle.tl_types.specs.Message.{is_grant}
-use Rattle.tl_map.specs.Places.{bank_of, block_at as block_of_address, has_block, has_bytes, set_of}
-use Rattle.tl_protocol.specs.Protocol.{is_none}
+use Rattle.tl_map.specs.Places.{bank_of, has_block, has_bytes}
 use Rattle.tl_bank_spec.specs.Share.{Holding}
-use Rattle.tl_bank_spec.specs.View.{View, block_at, client_at, lane_at, perm_at, has_entry, entries_at, copies_at, is_waiting, latest}
+use Rattle.tl_bank_spec.specs.View.{View, client_at, lane_at, perm_at, has_entry, entries_at, copies_at, is_waiting, latest}
 
 -- ## Out of range, and of another bank
 

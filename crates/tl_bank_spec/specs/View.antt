@@ -1,6 +1,6 @@
 -- A bank as its callers see it: what it was made of, the log of what happened since, and its open registers. All that a bank
 -- holds follows from these (this project's own).
-use Rattle.std.specs.Prelude.{◌≡◌, ℕ, zero, suc, ◌+◌, ◌<◌, ◌≤◌, max, Bool, true, false, List, [], ◌∷◌, ◌++◌, Option, Some, None, is_some, if◌then◌else◌}
+use Rattle.std.specs.Prelude.{◌≡◌, ℕ, zero, suc, ◌+◌, ◌≤◌, max, Bool, true, false, List, [], ◌∷◌, ◌++◌, if◌then◌else◌}
 use Rattle.tl_types.specs.Lane.{Lane}
 use Rattle.tl_types.specs.declared.channel.Channel.{Channel}
 use Rattle.tl_types.specs.declared.permission.Perm.{Perm}
@@ -8,7 +8,7 @@ use Rattle.tl_types.specs.declared.wait.Wait.{Wait}
 use Rattle.tl_types.specs.declared.wait.Wait.TheVariants.{Nothing, ForGrant, ForReleaseAck}
 use Rattle.tl_map.specs.Numbers.{Numbers}
 use Rattle.tl_protocol.specs.Copy.{perm_of}
-use Rattle.tl_protocol.specs.Ledger.{has_copy, is_recorded, is_under_way}
+use Rattle.tl_protocol.specs.Ledger.{has_copy}
 use Rattle.tl_protocol.specs.Protocol.{Block}
 use Rattle.tl_protocol.specs.Runs.{end_of}
 use Rattle.tl_protocol.specs.declared.client.Client.{Client}
