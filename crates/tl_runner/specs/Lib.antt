@@ -1,2 +1,5 @@
+pub mod Answer
 pub mod Answers
 pub mod Bank
+pub mod Fault
+pub mod Run

@@ -9,7 +9,7 @@ use tl_rules::{ApplyError, Event, Log, Plain, Shape, every_run};
 
 /// A bank whose log is a run from the image, and whose map is the end of that run.
 #[derive(Drop)]
-pub struct PlainBank {
+pub(crate) struct PlainBank {
     image: Vec<u8>,
     log: Log,
     plain: Plain,

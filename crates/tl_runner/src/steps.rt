@@ -158,7 +158,7 @@ fn give_up(bank: &mut PlainBank, client: ClientId, address: u32) -> Result<Answe
 
 /// Carries out the commands of a client in their order. The answers, also those before an error, are those of the first
 /// commands, and those to loads and stores have the bytes that their events in the log carry.
-pub fn serve(
+pub(crate) fn serve(
     bank: &mut PlainBank,
     client: ClientId,
     commands: &[Command],

@@ -1,0 +1,32 @@
+-- The status of each fault (this project's own).
+use Rattle.std.specs.Prelude.{ℕ}
+use Rattle.tl_job.specs.declared.asked.JobError.{JobError}
+use Rattle.tl_job.specs.declared.asked.JobError.TheVariants.{Usage as j_Usage, Memory as j_Memory}
+use Rattle.tl_script.specs.declared.error.ScriptError.{ScriptError}
+use Rattle.tl_script.specs.declared.error.ScriptError.TheVariants as script
+use Rattle.tl_runner.specs.declared.fault.RunError.{RunError}
+use Rattle.tl_runner.specs.declared.fault.RunError.TheVariants.{Stalled, Memory as r_Memory}
+use Rattle.tl_runner.specs.declared.fault.Fault.{Fault}
+use Rattle.tl_runner.specs.declared.fault.Fault.TheVariants.{Usage, File, Memory, Script, Run}
+
+-- the fault of words that are no job
+abbrev pub fault_of_job : JobError → Fault
+fault_of_job j_Usage = Usage
+fault_of_job j_Memory = Memory
+
+-- a script that is refused ends with 1, want of memory with 4
+abbrev pub script_status : ScriptError → ℕ
+script_status script.Memory = 4
+script_status _ = 1
+
+-- a run that stalled ends with 3, want of memory with 4
+abbrev pub run_status : RunError → ℕ
+run_status (Stalled turns) = 3
+run_status r_Memory = 4
+
+abbrev pub status_of : Fault → ℕ
+status_of Usage = 2
+status_of File = 5
+status_of Memory = 4
+status_of (Script e) = script_status e
+status_of (Run e) = run_status e

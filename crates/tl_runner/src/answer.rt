@@ -1,0 +1,86 @@
+//! The answer to a job.
+ghost use Rattle.std.specs.Prelude.{◌≡◌, ◌≢◌, ◌≤◌, ℕ, List, Err, IfOk, IfErr, IfSome, OnOk, string_bytes};
+ghost use Rattle.std.specs.Option.{option_and_then};
+ghost use Rattle.std.specs.Io.KnownBytes.{Appends, Keeps};
+ghost use Rattle.tl_runner.specs.Answer.{IsAnswerTo};
+ghost use Rattle.tl_runner.specs.Fault.{fault_of_job, status_of};
+
+use crate::fault::Fault;
+use crate::run::{run, supported};
+use std::alloc::Global;
+use std::io;
+use std::io::{ErrorKind, Read, Write};
+use tl_job::{Job, JobError};
+use tl_script::read_script;
+
+fn read_all<R: Read>(alloc: Global, reader: &mut R) -> Result<Vec<u8>, Fault>
+    ensures { IfOk result (λ bytes. IfSome (R.remaining reader.old) (λ known. bytes.items ≡ known)) }
+{
+    let mut bytes = Vec::new(alloc);
+    match reader.read_to_end(&mut bytes) {
+        Ok(_) => Ok(bytes),
+        Err(error) => match error.kind() {
+            ErrorKind::OutOfMemory => Err(Fault::Memory),
+            _ => Err(Fault::File),
+        },
+    }
+}
+
+/// The text of the answer: the words, the file, the script, the run, in this order.
+fn text<R: Read + Drop>(
+    alloc: Global,
+    job: Result<Job, JobError>,
+    file: Option<R>,
+) -> Result<String, Fault>
+    ensures answer { IfOk result (λ text. IsAnswerTo (option_and_then R.remaining file) (string_bytes text)) }
+    ensures usage { IfErr job (λ e. result ≡ Err (fault_of_job e)) }
+{
+    let job = job?;
+    if job.traces {
+        return Err(Fault::Usage);
+    }
+    let mut reader = file.ok_or(Fault::File)?;
+    let bytes = read_all(alloc, &mut reader)?;
+    let script = read_script(alloc, &bytes)?;
+    supported(&script)?;
+    let report = run(alloc, &script)?;
+    Ok(report.text(alloc)?)
+}
+
+fn write_all<W: Write>(output: &mut W, text: &str) -> io::Result<()>
+    ensures { OnOk result (Appends (W.contents output.old) (W.contents output.new) text.now) }
+{
+    output.write_all(text.as_bytes())?;
+    output.flush()
+}
+
+/// Writes the whole answer to `output`, or one line to `faults` that says what stopped the job, and answers the status: 0 where
+/// all was written, else that of the fault. A failing `faults` does not change it.
+pub fn answer<R: Read + Drop, W: Write, E: Write>(
+    alloc: Global,
+    job: Result<Job, JobError>,
+    file: Option<R>,
+    output: &mut W,
+    faults: &mut E,
+) -> u8
+    ensures at_most { result ≤ 5 }
+    ensures whole {
+        result ≡ 0
+            → (text : List ℕ) × IsAnswerTo (option_and_then R.remaining file) text × Appends (W.contents output.old) (W.contents output.new) text
+    }
+    ensures nothing { result ≢ 0 → result ≢ 5 → W.contents output.new ≡ W.contents output.old }
+    ensures usage { IfErr job (λ e. result ≡ status_of (fault_of_job e)) }
+{
+    let fault = match text(alloc, job, file) {
+        Ok(text) => match write_all(output, &text) {
+            Ok(()) => return 0,
+            Err(_) => Fault::File,
+        },
+        Err(fault) => fault,
+    };
+    let _ = writeln!(faults, "{fault}");
+    fault.status()
+}
+
+#[cfg(test)]
+mod tests;

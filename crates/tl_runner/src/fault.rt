@@ -1,0 +1,109 @@
+//! What stops a job, and the status that the program ends with.
+ghost use Rattle.std.specs.Prelude.{◌≡◌};
+ghost use Rattle.tl_runner.specs.declared.fault.Fault.TheVariants as a;
+ghost use Rattle.tl_runner.specs.declared.fault.RunError.TheVariants.{Memory as OutOfMemory};
+ghost use Rattle.tl_runner.specs.Fault.{fault_of_job};
+
+use std::alloc::{AllocError, AllocFailed};
+use thiserror::Error;
+use tl_job::JobError;
+use tl_script::ScriptError;
+
+/// Why a run gave no report.
+#[derive(Debug, Drop, Error)]
+pub enum RunError {
+    /// A client's command was not answered within the script's turns.
+    #[error("error 40 stalled {0}")]
+    Stalled(u32),
+    /// A request for memory was refused.
+    #[error("error 41 memory")]
+    Memory,
+}
+
+impl From<AllocError> for RunError {
+    ghost from_gives = { λ _ e. e ≡ OutOfMemory };
+
+    fn from(_error: AllocError) -> RunError {
+        RunError::Memory
+    }
+}
+
+impl<T: Drop> From<AllocFailed<T>> for RunError {
+    ghost from_gives = { λ _ e. e ≡ OutOfMemory };
+
+    fn from(_error: AllocFailed<T>) -> RunError {
+        RunError::Memory
+    }
+}
+
+/// What stops a job. It prints as the one fault line.
+#[derive(Debug, Drop, Error)]
+pub enum Fault {
+    /// The words of the command line were refused.
+    #[error("error usage")]
+    Usage,
+    /// The file could not be read, or the output not written.
+    #[error("error file")]
+    File,
+    /// A request for memory was refused outside the script's reading and its run.
+    #[error("error 41 memory")]
+    Memory,
+    /// The script was refused, or could not be read for want of memory.
+    #[error(transparent)]
+    Script(ScriptError),
+    /// The run gave no report.
+    #[error(transparent)]
+    Run(RunError),
+}
+
+impl From<JobError> for Fault {
+    ghost from_gives = { λ error fault. fault ≡ fault_of_job error };
+
+    fn from(error: JobError) -> Fault {
+        match error {
+            JobError::Usage => Fault::Usage,
+            JobError::Memory => Fault::Memory,
+        }
+    }
+}
+
+impl From<ScriptError> for Fault {
+    ghost from_gives = { λ error fault. fault ≡ a.Script error };
+
+    fn from(error: ScriptError) -> Fault {
+        Fault::Script(error)
+    }
+}
+
+impl From<RunError> for Fault {
+    ghost from_gives = { λ error fault. fault ≡ a.Run error };
+
+    fn from(error: RunError) -> Fault {
+        Fault::Run(error)
+    }
+}
+
+impl From<AllocError> for Fault {
+    ghost from_gives = { λ _ fault. fault ≡ a.Memory };
+
+    fn from(_error: AllocError) -> Fault {
+        Fault::Memory
+    }
+}
+
+impl Fault {
+    ghost use Rattle.tl_runner.specs.Fault.{status_of};
+
+    /// The status that the program ends with.
+    pub fn status(&self) -> u8
+        ensures { result ≡ status_of self.now }
+    {
+        match self {
+            Fault::Script(ScriptError::Memory) | Fault::Run(RunError::Memory) | Fault::Memory => 4,
+            Fault::Script(_) => 1,
+            Fault::Usage => 2,
+            Fault::Run(_) => 3,
+            Fault::File => 5,
+        }
+    }
+}
