@@ -1,0 +1,8 @@
+pub mod Key
+pub mod Each
+pub mod Document
+pub mod Numbers
+pub mod Image
+pub mod Commands
+pub mod Steps
+pub mod Script
