@@ -6,7 +6,7 @@ ghost use Rattle.tl_runner.specs.Answer.{IsAnswerTo};
 ghost use Rattle.tl_runner.specs.Fault.{fault_of_job, status_of};
 
 use crate::fault::Fault;
-use crate::run::{run, supported};
+use crate::plain_run::{run, supported};
 use std::alloc::Global;
 use std::io;
 use std::io::{ErrorKind, Read, Write};
@@ -64,10 +64,8 @@ pub fn answer<R: Read + Drop, W: Write, E: Write>(
     faults: &mut E,
 ) -> u8
     ensures at_most { result ≤ 5 }
-    ensures whole {
-        result ≡ 0
-            → (text : List ℕ) × IsAnswerTo (option_and_then R.remaining file) text × Appends (W.contents output.old) (W.contents output.new) text
-    }
+    ensures whole { result ≡ 0
+        → (text : List ℕ) × IsAnswerTo (option_and_then R.remaining file) text × Appends (W.contents output.old) (W.contents output.new) text }
     ensures nothing { result ≢ 0 → result ≢ 5 → W.contents output.new ≡ W.contents output.old }
     ensures usage { IfErr job (λ e. result ≡ status_of (fault_of_job e)) }
 {

@@ -65,10 +65,12 @@ fn line_of(bank: &PlainBank) -> BankLine
     }
 }
 
-fn single<T>(alloc: Global, item: T) -> Result<Vec<T>, AllocError>
+fn single<T: Drop>(alloc: Global, item: T) -> Result<Vec<T>, AllocError>
     ensures { IfOk result (λ items. items.items ≡ item ∷ []) }
 {
-    Ok(Vec::from_array(alloc, [item])?)
+    let mut items = Vec::new(alloc);
+    items.push(item)?;
+    Ok(items)
 }
 
 /// Carries out the commands of a script's client, in order. The report is that of a bank which went from reset over the script's

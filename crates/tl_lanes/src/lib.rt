@@ -1,4 +1,0 @@
-//! stub
-#![tactic(auto)]
-
-pub fn stub() {}
