@@ -1,5 +1,5 @@
 -- The document of a script, and the values of its keys (TOML 1.0, by the definitions of `toml`).
-use Rattle.std.specs.Prelude.{ℕ, ℤ, List, [], ◌∷◌, Option, None, Result, Ok, Err, option_and_then, if◌then◌else◌}
+use Rattle.std.specs.Prelude.{ℕ, ℤ, List, [], ◌∷◌, Option, None, Result, option_and_then, if◌then◌else◌}
 use Rattle.std.specs.Str.{is_utf8}
 use Rattle.toml.specs.Data.{Data, Items, no_items, item, Members, as_str, as_integer, as_array, get_member}
 use Rattle.toml.specs.Parse.{parse_document}

@@ -1,5 +1,5 @@
 -- The steps of a script (this project's own format).
-use Rattle.std.specs.Prelude.{ℕ, List, [], Option, Some, None, Result, Ok, Err}
+use Rattle.std.specs.Prelude.{ℕ, List, [], Option, Some, None, Result, Ok}
 use Rattle.toml.specs.Data.{Data, Members, get_member}
 use Rattle.tl_words.specs.declared.step.Step.{Step}
 use Rattle.tl_words.specs.Step.{step_of}

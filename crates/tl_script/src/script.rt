@@ -1,6 +1,9 @@
 //! A script.
 
-use tl_map::GeometryNumbers;
+ghost use Rattle.std.specs.Prelude.{◌≡◌, ◌*◌, ◌≤◌, None, length, unsigned_abs, vec_len};
+ghost use Rattle.tl_map.specs.Refusals.{refusal_of, numbers_of};
+
+use tl_map::{Geometry, GeometryNumbers};
 use tl_words::{Command, Step};
 
 /// What a script asks for.
@@ -16,4 +19,25 @@ pub struct Script {
     pub commands: Vec<Vec<Command>>,
     /// The steps of a trace.
     pub steps: Vec<Step>,
+
+    // The numbers make a geometry.
+    pub ghost lawful: { refusal_of numbers ≡ None },
+    // The image is no longer than the memory.
+    pub ghost inside: { length image.items ≤ unsigned_abs numbers.memory_blocks * unsigned_abs numbers.block_bytes },
+    // Each client has its list of commands.
+    pub ghost each_client: { length commands.items ≡ unsigned_abs numbers.clients },
+}
+
+impl Script {
+    /// The geometry that the numbers make.
+    pub fn geometry(&self) -> Geometry
+        ensures numbers { numbers_of result ≡ self.now.numbers }
+        ensures image { length self.now.image.items ≤ result.memory_blocks * result.block_bytes }
+        ensures clients { length self.now.commands.items ≡ result.clients }
+    {
+        match Geometry::new(self.numbers) {
+            Ok(geometry) => geometry,
+            Err(_) => unreachable!(),
+        }
+    }
 }
