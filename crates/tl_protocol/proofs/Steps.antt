@@ -42,6 +42,7 @@ now_after shape now e = now
 
 -- ## Steps of a client
 
+-- the stored bytes are a dirty copy, which home need not have
 pub store_home :
     (now later memory : List ℕ) (home : Option Line) (outward : Outward) (client : ℕ → Client) (c : ℕ) (k : Client)
     → (client c).recorded ≡ Tip → IsDirty k → HomeIs now memory home outward client
@@ -50,6 +51,7 @@ store_home now later memory None outward client c k tip dirty h = let none = h.0
 store_home now later memory (Some line) outward client c k tip dirty h =
     (h.0, inr (c, at_put IsDirty client c k c (λ e. dirty) (λ n. absurd (n refl))), h.2)
 
+-- a client stores: it is the only one with a record above None, and its copy becomes the newest
 pub store_step :
     (shape : Shape) (now : List ℕ) (s : Block) (c offset : ℕ) (bytes : List ℕ) → c < shape.clients
     → perm_of (s.client c).held ≡ Tip → Invariant shape now s
@@ -71,6 +73,7 @@ store_step shape now s c offset bytes inside e holds =
       home = store_home now later s.memory s.home s.outward s.client c k tip (inl tt) holds.home;
     }
 
+-- a client sends an Acquire
 pub acquire_step :
     (shape : Shape) (now : List ℕ) (s : Block) (c : ℕ) (grow : Grow) → c < shape.clients → (s.client c).wait ≡ Nothing
     → perm_of (s.client c).held ≡ grow_from grow → Invariant shape now s
@@ -80,11 +83,13 @@ acquire_step shape now s c grow inside w e holds =
     (acquired_ok now (s.client c) grow w e (holds.local c)) refl (λ p. p) (λ x p. holds.service.no_probe x c p)
     (λ served none. let waits = holds.service.waits c served none in cc) (λ d. d)
 
+-- a Release is no answer to a Probe
 pub no_ack_more : (c : List Upward) (given : Surrender) → has_probe_ack c ≡ false → has_probe_ack (c ++ Release given ∷ []) ≡ false
 no_ack_more [] given e = refl
 no_ack_more (ProbeAck answer ∷ rest) given e = e
 no_ack_more (Release other ∷ rest) given e = no_ack_more rest given e
 
+-- a client sends a Release
 pub release_step :
     (shape : Shape) (now : List ℕ) (s : Block) (c : ℕ) (prune : Prune) → c < shape.clients → (s.client c).wait ≡ Nothing
     → perm_of (s.client c).held ≡ prune_from prune → Invariant shape now s
@@ -97,6 +102,7 @@ release_step shape now s c prune inside w e holds =
     (λ served none. let waits = holds.service.waits c served none in cc)
     (released_dirty now (s.client c) prune e (holds.local c))
 
+-- a client answers its Probe
 pub answer_step :
     (shape : Shape) (now : List ℕ) (s : Block) (c : ℕ) (cap : ProbeCap) (rest : List ProbeCap) → c < shape.clients
     → (s.client c).b ≡ cap ∷ rest → (s.client c).wait ≢ ForReleaseAck → Invariant shape now s
@@ -108,6 +114,7 @@ answer_step shape now s c cap rest inside e w holds =
     (λ x p. let quiet = holds.service.no_probe x c p in cc) (holds.service.waits c)
     (answered_dirty now (s.client c) (cap ∷ rest) (holds.local c)))
 
+-- a client takes its Grant, and owes a GrantAck from then on
 pub take_grant_step :
     (shape : Shape) (now : List ℕ) (s : Block) (c : ℕ) (cap : GrantCap) (bytes : Option (List ℕ)) (rest : List Downward)
     → c < shape.clients → (s.client c).d ≡ Grant cap bytes ∷ rest → Invariant shape now s
@@ -120,6 +127,7 @@ take_grant_step shape now s c cap bytes rest inside e holds =
     refl (λ p. inl (ap has_grant e)) (λ x p. holds.service.no_probe x c p) (λ served none. absurd (omega arith))
     (took_grant_dirty now (s.client c) (Grant cap bytes ∷ rest) (sym e) (holds.local c)))
 
+-- a client takes a ReleaseAck
 pub take_release_ack_step :
     (shape : Shape) (now : List ℕ) (s : Block) (c : ℕ) (rest : List Downward) → c < shape.clients
     → (s.client c).d ≡ ReleaseAck ∷ rest → Invariant shape now s
@@ -138,6 +146,7 @@ take_release_ack_step shape now s c rest inside e holds =
 
 -- ## Steps of home towards a client
 
+-- home accepts an Acquire, while it serves no other
 pub accept_step :
     (shape : Shape) (now : List ℕ) (s : Block) (c : ℕ) (grow : Grow) (rest : List Grow) → c < shape.clients
     → (s.client c).a ≡ grow ∷ rest → s.accepted ≡ None → Invariant shape now s
@@ -162,6 +171,7 @@ accept_step shape now s c grow rest inside e none holds =
       home = put_home now s.memory s.home s.outward s.client c k (λ n. n) (λ d. d) holds.home;
     }
 
+-- home sends a Probe, while no Grant is pending
 pub probe_step :
     (shape : Shape) (now : List ℕ) (s : Block) (c : ℕ) (cap : ProbeCap) → c < shape.clients → NoProbePending (s.client c)
     → NoGrant shape s → Invariant shape now s
@@ -172,6 +182,7 @@ probe_step shape now s c cap inside probe grant holds =
     (probed_ok now (s.client c) cap probe (all c) (holds.local c)) refl (λ p. p)
     (λ x p. absurd (not_pending (s.client x) (all x) p)) (holds.service.waits c) (λ d. d)
 
+-- a message's data becomes home's copy, which is dirty then; without data nobody's newer bytes are lost
 pub took_home :
     (now memory : List ℕ) (home : Option Line) (sent : Option (List ℕ)) (outward : Outward) (client : ℕ → Client) (c : ℕ) (k : Client)
     → IsData now sent (client c).recorded → ((client c).recorded ≡ p_None → k.recorded ≡ p_None)
@@ -182,12 +193,14 @@ took_home now memory home None outward client c k sent none dirty h =
 took_home now memory None (Some bytes) outward client c k sent none dirty h = let nobody = h.0 c in cc
 took_home now memory (Some line) (Some bytes) outward client c k sent none dirty h = (h.0, inl sent.0, λ q. cc)
 
+-- a message without data leaves the bytes that home has not got yet where they are
 pub still_dirty :
     (held : CachedCopy) (c rest : List Upward) (m : Upward) → m ∷ rest ≡ c → (IsThere (upward_bytes m) → ⊥)
     → IsThere (dirty_bytes held) ⊎ HasData c → IsThere (dirty_bytes held) ⊎ HasData rest
 still_dirty held c rest m e n (inl d) = inl d
 still_dirty held c rest m e n (inr h) = absurd (n (subst (λ (u : List Upward). HasData u) (sym e) h))
 
+-- home takes the first message of C, whichever it is
 pub took_step :
     (shape : Shape) (now : List ℕ) (s : Block) (c : ℕ) (m : Upward) (rest : List Upward) (k : Client) → c < shape.clients
     → m ∷ rest ≡ (s.client c).c → Invariant shape now s → ClientIs now k → k.recorded ≡ upward_to m
@@ -206,10 +219,12 @@ took_step shape now s c m rest k inside e holds mine to before quiet waits dirty
       home = took_home now s.memory s.home (upward_bytes m) s.outward s.client c k first.1 none dirty holds.home;
     }
 
+-- where no answer to a Probe is on C, none is behind the first message
 pub no_ack_rest : (m : Upward) (rest : List Upward) → has_probe_ack (m ∷ rest) ≡ false → has_probe_ack rest ≡ false
 no_ack_rest (ProbeAck answer) rest e = cc
 no_ack_rest (Release given) rest e = e
 
+-- a message that home takes brings no Probe
 pub quiet_rest :
     (b : List ProbeCap) (c rest : List Upward) (m : Upward) → m ∷ rest ≡ c → (b ≡ []) × (has_probe_ack c ≡ false)
     → (b ≡ []) × (has_probe_ack rest ≡ false)
@@ -219,6 +234,7 @@ quiet_rest b c rest m e quiet = (quiet.0, no_ack_rest m rest (ap has_probe_ack e
 abbrev pub took_by : Block → ℕ → List Upward → Block
 took_by s c u = with_client (record s { home = home_after s.home (first_bytes u) }) c (took_c_from (s.client c) u)
 
+-- home takes the first message of C, and answers a Release
 pub take_c_step :
     (shape : Shape) (now : List ℕ) (s : Block) (c : ℕ) (m : Upward) (rest : List Upward) → c < shape.clients
     → m ∷ rest ≡ (s.client c).c → Invariant shape now s → Invariant shape now (took_by s c (m ∷ rest))
@@ -268,6 +284,7 @@ clean_home now memory home line outward client e clean h =
     let at : HomeIs now memory (Some line) outward client = subst (λ (o : Option Line). HomeIs now memory o outward client) e h in
     (at.0, ⊎_elim (λ (q : line.bytes ≡ now). q) (λ (d : (x : ℕ) × IsDirty (client x)). absurd (clean d.0 d.1)) at.1, at.2)
 
+-- home sends a Grant of its copy, while no Probe and no Grant is pending: nobody has newer bytes
 pub grant_step :
     (shape : Shape) (now : List ℕ) (s : Block) (c : ℕ) (acquire : Accepted) (cap : GrantCap) (line : Line) → c < shape.clients
     → s.accepted ≡ Some acquire → acquire.client ≡ c → RoomFor shape s c cap → s.home ≡ Some line
@@ -308,6 +325,7 @@ grant_step shape now s c acquire cap line inside acc is room e probe grant holds
           (home.0, inl home.1, home.2);
     }
 
+-- home takes a GrantAck, and serves nobody then
 pub take_grant_ack_step :
     (shape : Shape) (now : List ℕ) (s : Block) (c : ℕ) → c < shape.clients → 0 < (s.client c).e → Invariant shape now s
     → Invariant shape now (with_client (record s { accepted = None }) c (record (s.client c) { e = (s.client c).e - 1 }))
@@ -335,6 +353,7 @@ take_grant_ack_step shape now s c inside some holds =
 
 -- ## Steps between home and the memory
 
+-- a step between home and the memory, which leaves the clients alone
 pub home_step :
     (shape : Shape) (now : List ℕ) (s : Block) (memory : List ℕ) (home : Option Line) (outward : Outward)
     → HomeIs now memory home outward s.client → Invariant shape now s
@@ -347,6 +366,7 @@ home_step shape now s memory home outward h holds = record {
   home = h;
 }
 
+-- home sends a Get
 pub get_home :
     (now memory : List ℕ) (home : Option Line) (outward : Outward) (client : ℕ → Client) → home ≡ None → outward ≡ Quiet
     → HomeIs now memory home outward client → HomeIs now memory home Get client
@@ -354,18 +374,21 @@ get_home now memory None outward client e q h =
     (h.0, subst (λ (o : Outward). OutwardIs now memory o) q h.1)
 get_home now memory (Some line) outward client e q h = cc
 
+-- the memory answers a Get with the bytes last stored
 pub data_home :
     (now memory : List ℕ) (home : Option Line) (client : ℕ → Client)
     → HomeIs now memory home Get client → HomeIs now memory home (Data memory) client
 data_home now memory None client h = (h.0, (h.1, h.1))
 data_home now memory (Some line) client h = cc
 
+-- the memory takes the bytes last stored
 pub put_ack_home :
     (now memory bytes : List ℕ) (home : Option Line) (client : ℕ → Client)
     → HomeIs now memory home (Put bytes) client → HomeIs now bytes home PutAck client
 put_ack_home now memory bytes None client h = (h.0, h.1)
 put_ack_home now memory bytes (Some line) client h = cc
 
+-- home takes the data: its copy is clean and the newest
 pub filled_home :
     (now memory bytes : List ℕ) (home : Option Line) (client : ℕ → Client)
     → HomeIs now memory home (Data bytes) client
@@ -373,12 +396,14 @@ pub filled_home :
 filled_home now memory bytes None client h = (refl, inl h.1.0, λ q. h.1.1 ∙ sym h.1.0)
 filled_home now memory bytes (Some line) client h = cc
 
+-- home takes the acknowledgement of a Put
 pub settled_home :
     (now memory : List ℕ) (home : Option Line) (client : ℕ → Client)
     → HomeIs now memory home PutAck client → HomeIs now memory home Quiet client
 settled_home now memory None client h = (h.0, h.1)
 settled_home now memory (Some line) client h = cc
 
+-- the memory answers whatever is outward
 pub serve_step :
     (shape : Shape) (now : List ℕ) (s : Block) (o : Outward) → o ≡ s.outward → Invariant shape now s → Invariant shape now (served s o)
 serve_step shape now s Quiet e holds = holds
@@ -391,6 +416,7 @@ serve_step shape now s (Put bytes) e holds =
     (put_ack_home now s.memory bytes s.home s.client (subst (λ (o : Outward). HomeIs now s.memory s.home o s.client) (sym e) holds.home)) holds
 serve_step shape now s PutAck e holds = holds
 
+-- home takes the data that is there
 pub take_data_step :
     (shape : Shape) (now : List ℕ) (s : Block) (o : Outward) → o ≡ s.outward → Invariant shape now s → Invariant shape now (took_data s o)
 take_data_step shape now s Quiet e holds = holds
@@ -401,6 +427,7 @@ take_data_step shape now s (Data bytes) e holds =
 take_data_step shape now s (Put bytes) e holds = holds
 take_data_step shape now s PutAck e holds = holds
 
+-- where nobody is recorded, nobody has bytes that home has not got
 pub nobody_dirty :
     (shape : Shape) (now : List ℕ) (s : Block) → Invariant shape now s → NobodyRecorded shape s → (x : ℕ) → IsDirty (s.client x) → ⊥
 nobody_dirty shape now s holds nobody x d =
@@ -408,6 +435,7 @@ nobody_dirty shape now s holds nobody x d =
     let tip : (s.client x).recorded ≡ Tip = dirty_tip now (s.client x) (holds.local x) d in
     cc
 
+-- home gives up a clean copy, which equals the memory
 pub drop_step :
     (shape : Shape) (now : List ℕ) (s : Block) (line : Line) → s.home ≡ Some line → line.dirty ≡ false
     → Idle shape s → Invariant shape now s → Invariant shape now (record s { home = None })
@@ -419,6 +447,7 @@ drop_step shape now s line e clean idle holds =
       subst (λ (o : Outward). OutwardIs now s.memory o) (sym home.0) (home.2 clean ∙ home.1),
     ) holds
 
+-- home gives up a dirty copy, whose bytes are on their way to the memory then
 pub put_step :
     (shape : Shape) (now : List ℕ) (s : Block) (line : Line) → s.home ≡ Some line
     → Idle shape s → Invariant shape now s → Invariant shape now (record s { home = None; outward = Put (home_bytes s.home) })
@@ -464,6 +493,7 @@ step_on shape now s (TakePutAck block) m holds =
     home_step shape now s s.memory s.home Quiet
     (settled_home now s.memory s.home s.client (subst (λ (o : Outward). HomeIs now s.memory s.home o s.client) m holds.home)) holds
 
+-- an event that is permitted
 pub step :
     (shape : Shape) (now : List ℕ) (s : Block) (e : Event) → May shape s e → Invariant shape now s
     → Invariant shape (now_after shape now e) (after shape s e)
