@@ -16,6 +16,8 @@ use Rattle.tl_protocol.specs.Access.{ReadsAs}
 use Rattle.tl_protocol.specs.Runs.{MayNext, after_next, IsRunFrom, end_from, IsRun, end_of, at_reset}
 use Rattle.tl_types.specs.Bytes.{image_bytes}
 use Rattle.tl_protocol.specs.Coherent.{byte_after, last_from, last, AreLast, IsKeptAt, IsNewestAt, LoadsLast, EveryRunKeepsCopies, EveryRunReadsLast}
+use Rattle.tl_protocol.specs.Sizes.{IsWholeAt, EveryRunKeepsSizes}
+use Rattle.tl_protocol.proofs.Sizes.{HomeIsWhole, step_whole, copy_whole, c_whole, d_whole}
 use Rattle.tl_protocol.proofs.Talk.{held_talk}
 use Rattle.tl_protocol.proofs.Clients.{fresh, tip_is}
 use Rattle.tl_protocol.proofs.Invariant.{ClientIs, HomeIs, Invariant}
@@ -26,11 +28,12 @@ use Rattle.tl_protocol.proofs.Runs.{cond_at, run_split}
 
 -- ## The whole state
 
--- a block is right, and the bytes last stored in it are those that the events before say
+-- a block is right and whole, and the bytes last stored in it are those that the events before say
 pub record Kept (shape : Shape) (byte : ℕ → ℕ) (block : ℕ) (s : Block) : Type 0 where
   pub now : List ℕ
   pub inv : Invariant shape now s
   pub is_now : IsNow shape.block_bytes byte (block * shape.block_bytes) now
+  pub whole : HomeIsWhole shape.block_bytes s
 
 -- every block is right
 abbrev pub AllKept : Shape → (ℕ → ℕ) → (ℕ → Block) → Type 0
@@ -45,6 +48,7 @@ reset_inv shape bytes = record {
     served = λ x p. ⊎_elim (λ (g : false ≡ true). absurd (cc)) (λ (l : 0 < 0). absurd (omega arith)) p;
     no_probe = λ x y p. (refl, refl);
     waits = λ x is. absurd is;
+    room = λ acquire none. cc;
   };
   alone = λ x y n t. refl;
   home = ((λ x. refl), refl);
@@ -55,7 +59,8 @@ pub reset_kept : (shape : Shape) (image : List ℕ) → AllKept shape (slice_ind
 reset_kept shape image block =
     let from : ℕ = block * shape.block_bytes in
     let now : List ℕ = image_bytes image from shape.block_bytes in
-    record { now = now; inv = reset_inv shape now; is_now = image_now image shape.block_bytes from }
+    let is_now : IsNow shape.block_bytes (slice_index image) from now = image_now image shape.block_bytes from in
+    record { now = now; inv = reset_inv shape now; is_now = is_now; whole = (is_now.long, tt, tt) }
 
 -- a permitted event keeps every block right
 pub step_kept :
@@ -71,11 +76,13 @@ step_kept shape byte s e m kept block =
       now = now_after shape k.now e;
       inv = step shape k.now (s block) e may k.inv;
       is_now = event_now shape byte block k.now (s block) e may same k.is_now;
+      whole = step_whole shape.block_bytes shape k.now (s block) e k.is_now.long may.1 k.inv k.whole;
     })
     (λ q. record {
       now = k.now;
       inv = k.inv;
       is_now = other_now shape byte block k.now (s (block_of shape e)) e m (eqb-false block (block_of shape e) q) k.is_now;
+      whole = k.whole;
     })
 
 -- a run keeps every block right
@@ -126,6 +133,21 @@ newest_at shape image events block s k =
           (λ j l. k.is_now.each j (let long : length k.now ≡ shape.block_bytes = k.is_now.long in omega arith));
     }
 
+-- in a block that is right all bytes are a whole block
+pub whole_at : (shape : Shape) (byte : ℕ → ℕ) (block : ℕ) (s : Block) → Kept shape byte block s → IsWholeAt shape s
+whole_at shape byte block s k =
+    let i : Invariant shape k.now s = k.inv in
+    let size : ℕ = shape.block_bytes in
+    let long : length k.now ≡ size = k.is_now.long in
+    record {
+      held = λ x. copy_whole size k.now (s.client x).held long (i.local x).current;
+      on_c = λ x. let c : Client = s.client x in c_whole size k.now c.held c.wait c.recorded c.b c.c c.d long (i.local x).talk;
+      on_d = λ x. let c : Client = s.client x in d_whole size k.now c.held c.wait c.recorded c.b c.c c.d long (i.local x).talk;
+      home = k.whole.1;
+      outward = k.whole.2;
+      memory = k.whole.0;
+    }
+
 -- what holds at the end of a run
 pub end_kept :
     (shape : Shape) (image : List ℕ) (events : List Event) → IsRun shape image events
@@ -167,3 +189,8 @@ every_run_reads_last shape image events r = (
   (λ block. newest_at shape image events block (end_of shape image events block) (end_kept shape image events r block)),
   loads_last shape image events r,
 )
+
+-- and all bytes of each block are whole
+pub every_run_keeps_sizes : EveryRunKeepsSizes
+every_run_keeps_sizes shape image events r block =
+    whole_at shape (λ a. last image events a) block (end_of shape image events block) (end_kept shape image events r block)

@@ -1,9 +1,11 @@
 -- Each permitted event keeps what holds of a block.
-use Rattle.std.proofs.Common.{◌≡◌, ◌≢◌, ℕ, ◌-◌, ◌<◌, ◌≤◌, true, false, List, [], ◌∷◌, ◌++◌, drop, Option, Some, None, ◌⊎◌, inl, inr, ⊎_elim, sym, refl, ap, ◌∙◌, subst, arith, ◌%◌}
-use Rattle.tl_types.specs.Permission.{grow_from, prune_from, grant_perm}
+use Rattle.std.proofs.Common.{◌≡◌, ◌≢◌, ℕ, ◌-◌, ◌<◌, ◌≤◌, Bool, true, false, List, [], ◌∷◌, ◌++◌, drop, Option, Some, None, ◌⊎◌, inl, inr, ⊎_elim, sym, refl, ap, ◌∙◌, subst, arith, ◌%◌}
+use Rattle.tl_types.specs.declared.permission.Perm.{Perm}
+use Rattle.tl_types.specs.declared.permission.Grow.TheVariants.{NtoB, NtoT, BtoT}
+use Rattle.tl_types.specs.Permission.{rank, grow_from, prune_from, grant_perm}
 use Rattle.tl_types.specs.Message.{surrender, upward_to, upward_bytes}
 use Rattle.tl_types.specs.declared.message.Surrender.{Surrender}
-use Rattle.tl_types.specs.declared.permission.Perm.TheVariants.{None as p_None, Tip}
+use Rattle.tl_types.specs.declared.permission.Perm.TheVariants.{None as p_None, Branch, Tip}
 use Rattle.tl_types.specs.declared.permission.Grow.{Grow}
 use Rattle.tl_types.specs.declared.permission.Prune.{Prune}
 use Rattle.tl_types.specs.declared.permission.ProbeCap.{ProbeCap}
@@ -25,10 +27,11 @@ use Rattle.tl_protocol.specs.declared.home.Line.{Line}
 use Rattle.tl_protocol.specs.declared.home.Accepted.{Accepted}
 use Rattle.tl_protocol.specs.declared.home.Outward.{Outward}
 use Rattle.tl_protocol.specs.declared.home.Outward.TheVariants.{Quiet, Get, Data, Put, PutAck}
-use Rattle.tl_protocol.specs.Protocol.{Block, NoGrant, NoProbe, NobodyRecorded, RoomFor, with_client, May, MayOn, after, accepted_from, home_after, home_bytes, granted, grants, served, took_data, Idle}
+use Rattle.tl_protocol.specs.Protocol.{Block, NoGrant, NoProbe, NobodyRecorded, RoomFor, with_client, May, MayOn, after, accepted_from, home_after, home_bytes, is_alone, granted_cap, granted, grants, served, took_data, Idle}
 use Rattle.tl_protocol.specs.Copy.{perm_of, bytes_of, dirty_bytes, stored_in}
-use Rattle.tl_protocol.proofs.Invariant.{has_probe_ack, has_grant, IsData, Talk, ClientIs, IsServed, IsPending, IsThere, HasData, IsDirty, OutwardIs, HomeIs, Invariant}
-use Rattle.tl_protocol.proofs.Messages.{bytes_now, none_to_none, to_not_tip}
+use Rattle.tl_protocol.specs.Pending.{IsGrantPending, beside}
+use Rattle.tl_protocol.proofs.Invariant.{has_probe_ack, has_grant, IsData, Talk, ClientIs, IsServed, IsThere, HasData, IsDirty, OutwardIs, HomeIs, Invariant}
+use Rattle.tl_protocol.proofs.Messages.{bytes_now, none_to_none, to_le, to_not_tip}
 use Rattle.tl_protocol.proofs.Talk.{acked_talk}
 use Rattle.tl_protocol.specs.Client.{first_bytes, took_c_from, NoProbePending, NoGrantPending, released, answered, took_grant, sent_grant}
 use Rattle.tl_types.specs.Bytes.{overwrite}
@@ -68,7 +71,7 @@ store_step shape now s c offset bytes inside e holds =
       outside = put_outside shape.clients s.client c k inside holds.outside;
       local = put_local now later s.client c k mine
           (λ x n. passed_ok now later (s.client x) (holds.alone c x (λ q. n (sym q)) tip) (holds.local x));
-      service = put_service s.accepted s.client c k holds.service (λ p. p) (λ x p. holds.service.no_probe x c p) (holds.service.waits c);
+      service = put_service s.accepted s.client c k holds.service (λ p. p) (λ x p. holds.service.no_probe x c p) (holds.service.waits c) (omega arith);
       alone = put_alone s.client c k holds.alone (λ t. t) (λ n. n);
       home = store_home now later s.memory s.home s.outward s.client c k tip (inl tt) holds.home;
     }
@@ -154,10 +157,10 @@ pub accept_step :
 accept_step shape now s c grow rest inside e none holds =
     let k : Client = record (s.client c) { a = rest } in
     let ok = accepted_ok now (s.client c) grow rest (sym e) (holds.local c) in
-    let nobody : (x : ℕ) → IsPending (s.client x) → ⊥ =
+    let nobody : (x : ℕ) → IsGrantPending (s.client x) → ⊥ =
     λ x p. subst (λ (o : Option Accepted). IsServed o x) none (holds.service.served x p) in
-    let nobody_now : (x : ℕ) → IsPending (put s.client c k x) → ⊥ =
-    λ x. at_put (λ m. IsPending m → ⊥) s.client c k x (λ q. nobody c) (λ n. nobody x) in
+    let nobody_now : (x : ℕ) → IsGrantPending (put s.client c k x) → ⊥ =
+    λ x. at_put (λ m. IsGrantPending m → ⊥) s.client c k x (λ q. nobody c) (λ n. nobody x) in
     subst (λ (a : List Grow). Invariant shape now (accepted_from s c a)) (sym e) record {
       outside = put_outside shape.clients s.client c k inside holds.outside;
       local = put_local now now s.client c k ok.0 (λ x n. holds.local x);
@@ -166,6 +169,7 @@ accept_step shape now s c grow rest inside e none holds =
         no_probe = λ x y p. absurd (nobody_now x p);
         waits = λ x is. at_put (λ m. m.e ≡ 0 → (m.wait ≡ ForGrant) × (m.a ≡ [])) s.client c k x
             (λ q zero_acks. (ok.2, ok.1)) (λ n. absurd (n (sym is)));
+        room = λ acquire same p. absurd (nobody_now acquire.client p);
       };
       alone = put_alone s.client c k holds.alone (λ t. t) (λ n. n);
       home = put_home now s.memory s.home s.outward s.client c k (λ n. n) (λ d. d) holds.home;
@@ -204,7 +208,7 @@ still_dirty held c rest m e n (inr h) = absurd (n (subst (λ (u : List Upward). 
 pub took_step :
     (shape : Shape) (now : List ℕ) (s : Block) (c : ℕ) (m : Upward) (rest : List Upward) (k : Client) → c < shape.clients
     → m ∷ rest ≡ (s.client c).c → Invariant shape now s → ClientIs now k → k.recorded ≡ upward_to m
-    → (IsPending k → IsPending (s.client c)) → (NoProbePending (s.client c) → NoProbePending k)
+    → (IsGrantPending k → IsGrantPending (s.client c)) → (NoProbePending (s.client c) → NoProbePending k)
     → (IsServed s.accepted c → k.e ≡ 0 → (k.wait ≡ ForGrant) × (k.a ≡ []))
     → ((IsThere (upward_bytes m) → ⊥) → IsDirty (s.client c) → IsDirty k)
     → Invariant shape now (with_client (record s { home = home_after s.home (upward_bytes m) }) c k)
@@ -214,7 +218,8 @@ took_step shape now s c m rest k inside e holds mine to before quiet waits dirty
     record {
       outside = put_outside shape.clients s.client c k inside holds.outside;
       local = put_local now now s.client c k mine (λ x n. holds.local x);
-      service = put_service s.accepted s.client c k holds.service before (λ x p. quiet (holds.service.no_probe x c p)) waits;
+      service = put_service s.accepted s.client c k holds.service before (λ x p. quiet (holds.service.no_probe x c p)) waits
+          (omega (arith, ap rank to, ap rank first.0, to_le m));
       alone = put_alone s.client c k holds.alone (λ t. absurd (to_not_tip m (sym to ∙ t))) none;
       home = took_home now s.memory s.home (upward_bytes m) s.outward s.client c k first.1 none dirty holds.home;
     }
@@ -275,6 +280,39 @@ none_beside shape now s c ToT holds room t x n =
     (λ (g : shape.clients ≤ x). ap (λ (k : Client). k.recorded) (holds.outside x (λ inside. omega arith)))
     (cases_lt x shape.clients)
 
+-- toB is granted to an NtoB alone
+abbrev pub Fits : Grow → GrantCap → Type 0
+Fits grow ToT = Unit {0}
+Fits grow ToB = grow ≡ NtoB
+
+-- so it is with the permission that the definitions grant
+pub granted_fits : (grow : Grow) (alone : Bool) → Fits grow (granted_cap grow alone)
+granted_fits NtoB true = tt
+granted_fits NtoB false = refl
+granted_fits NtoT alone = tt
+granted_fits BtoT alone = tt
+
+-- a permission that is not Tip is at most Branch
+not_tip_le : (perm : Perm) → perm ≢ Tip → rank perm ≤ 1
+not_tip_le p_None n = omega arith
+not_tip_le Branch n = omega arith
+not_tip_le Tip n = absurd (n refl)
+
+-- the other records leave a Grant room
+room_beside :
+    (shape : Shape) (now : List ℕ) (s : Block) (c : ℕ) (grow : Grow) (cap : GrantCap) → Fits grow cap → Invariant shape now s
+    → RoomFor shape s c cap → (x : ℕ) → x ≢ c → rank (s.client x).recorded ≤ rank (beside grow)
+room_beside shape now s c grow ToT fits holds room x n =
+    omega (arith, ap rank (none_beside shape now s c ToT holds room refl x n))
+room_beside shape now s c grow ToB fits holds room x n =
+    subst (λ (g : Grow). rank (s.client x).recorded ≤ rank (beside g)) (sym fits)
+    (not_tip_le (s.client x).recorded (no_tip_beside shape now s c ToB holds room x n))
+
+-- home serves one Acquire
+served_acquire : (accepted : Option Accepted) (one other : Accepted) → accepted ≡ Some one → accepted ≡ Some other → one ≡ other
+served_acquire None one other e f = cc
+served_acquire (Some own) one other e f = cc
+
 -- home's line has the bytes last stored, where no client has others
 pub clean_home :
     (now memory : List ℕ) (home : Option Line) (line : Line) (outward : Outward) (client : ℕ → Client) → home ≡ Some line
@@ -288,9 +326,9 @@ clean_home now memory home line outward client e clean h =
 pub grant_step :
     (shape : Shape) (now : List ℕ) (s : Block) (c : ℕ) (acquire : Accepted) (cap : GrantCap) (line : Line) → c < shape.clients
     → s.accepted ≡ Some acquire → acquire.client ≡ c → RoomFor shape s c cap → s.home ≡ Some line
-    → NoProbe shape s → NoGrant shape s → Invariant shape now s
+    → Fits acquire.grow cap → NoProbe shape s → NoGrant shape s → Invariant shape now s
     → Invariant shape now (with_client s c (sent_grant (s.client c) cap (home_bytes s.home)))
-grant_step shape now s c acquire cap line inside acc is room e probe grant holds =
+grant_step shape now s c acquire cap line inside acc is room e fits probe grant holds =
     let old : Client = s.client c in
     let k : Client = sent_grant old cap (home_bytes s.home) in
     let probes : (x : ℕ) → NoProbePending (s.client x) = all_no_probe shape now s holds probe in
@@ -310,12 +348,17 @@ grant_step shape now s c acquire cap line inside acc is room e probe grant holds
           (sent_grant_ok now old cap (home_bytes s.home) waits (probes c) (grants_out c) (ap home_bytes e ∙ home.1) (holds.local c))
           (λ x n. holds.local x);
       service = record {
-        served = λ x. at_put (λ m. IsPending m → IsServed s.accepted x) s.client c k x
+        served = λ x. at_put (λ m. IsGrantPending m → IsServed s.accepted x) s.client c k x
             (λ q p. subst (λ (y : ℕ). IsServed s.accepted y) (sym q) serves)
             (λ n p. absurd (not_pending (s.client x) (grants_out x) p));
         no_probe = λ x y p. at_put NoProbePending s.client c k y (λ q. probes c) (λ n. probes y);
         waits = λ x at. at_put (λ m. m.e ≡ 0 → (m.wait ≡ ForGrant) × (m.a ≡ [])) s.client c k x
             (λ q. holds.service.waits c serves) (λ n. holds.service.waits x at);
+        room = λ other same p x apart. at_put (λ m. rank m.recorded ≤ rank (beside other.grow)) s.client c k x
+            (λ q. absurd (apart (q ∙ (sym is ∙ ap (λ (a : Accepted). a.client) (served_acquire s.accepted acquire other acc same)))))
+            (λ n. subst (λ (a : Accepted). rank (s.client x).recorded ≤ rank (beside a.grow))
+            (served_acquire s.accepted acquire other acc same)
+            (room_beside shape now s c acquire.grow cap fits holds room x n));
       };
       alone = λ x y apart. at_put (λ m. m.recorded ≡ Tip → (put s.client c k y).recorded ≡ p_None) s.client c k x
           (λ q t. at_put (λ m. m.recorded ≡ p_None) s.client c k y (λ f. absurd (apart (q ∙ sym f)))
@@ -333,11 +376,11 @@ take_grant_ack_step shape now s c inside some holds =
     let old : Client = s.client c in
     let k : Client = record old { e = old.e - 1 } in
     let few : old.e ≤ 1 = (holds.local c).few in
-    let mine : IsPending k → ⊥ = ⊎_elim
+    let mine : IsGrantPending k → ⊥ = ⊎_elim
     (λ (g : has_grant old.d ≡ true). let none : old.e ≡ 0 = (holds.local c).apart g in omega arith)
     (λ (p : 0 < old.e - 1). omega arith) in
-    let nobody : (x : ℕ) → IsPending (put s.client c k x) → ⊥ =
-    λ x. at_put (λ m. IsPending m → ⊥) s.client c k x (λ q. mine)
+    let nobody : (x : ℕ) → IsGrantPending (put s.client c k x) → ⊥ =
+    λ x. at_put (λ m. IsGrantPending m → ⊥) s.client c k x (λ q. mine)
     (λ n p. n (served_one s.accepted x c (holds.service.served x p) (holds.service.served c (inr some)))) in
     record {
       outside = put_outside shape.clients s.client c k inside holds.outside;
@@ -346,6 +389,7 @@ take_grant_ack_step shape now s c inside some holds =
         served = λ x p. nobody x p;
         no_probe = λ x y p. absurd (nobody x p);
         waits = λ x is. absurd is;
+        room = λ acquire none. cc;
       };
       alone = put_alone s.client c k holds.alone (λ t. t) (λ n. n);
       home = put_home now s.memory s.home s.outward s.client c k (λ n. n) (λ d. d) holds.home;
@@ -481,7 +525,8 @@ step_on shape now s (SendGrant c block) m holds =
     let acquire : Accepted = record { client = c; grow = may.0.0 } in
     let line : Line = may.1.0 in
     subst (λ (o : Option Accepted). Invariant shape now (grants shape s c o)) (sym may.0.1)
-    (grant_step shape now s c acquire (granted shape s acquire) line m.0 may.0.1 refl may.0.2 may.1.1 may.2 may.3 holds)
+    (grant_step shape now s c acquire (granted shape s acquire) line m.0 may.0.1 refl may.0.2 may.1.1
+    (granted_fits acquire.grow (is_alone shape.clients c s.client)) may.2 may.3 holds)
 step_on shape now s (TakeGrantAck c block) m holds = take_grant_ack_step shape now s c m.0 m.1 holds
 step_on shape now s (SendGet block) m holds =
     home_step shape now s s.memory s.home Get (get_home now s.memory s.home s.outward s.client m.1 m.2 holds.home) holds
