@@ -1,2 +1,3 @@
 pub mod Image
 pub mod CodeLaws
+pub mod Lanes
