@@ -1,5 +1,5 @@
 -- What a change of one client leaves of what holds of the whole block.
-use Rattle.std.proofs.Common.{◌≡◌, ◌≢◌, ℕ, ◌<◌, ◌≤◌, Bool, true, false, List, [], Option, Some, None, inl, inr, ⊎_elim, sym, refl, ◌∙◌, subst, arith, cond, ◌==◌, if◌then◌else◌, eqb-true}
+use Rattle.std.proofs.Common.{◌≡◌, ◌≢◌, ℕ, ◌<◌, ◌≤◌, Bool, true, false, List, [], Option, Some, None, inl, inr, ⊎_elim, sym, refl, ap, ◌∙◌, subst, arith, cond, ◌==◌, if◌then◌else◌, eqb-true}
 use Rattle.std.proofs.lemmas.Bool.{eqb-false, cases_lt}
 use Rattle.tl_types.specs.declared.permission.Perm.TheVariants.{None as p_None, Tip}
 use Rattle.tl_types.specs.declared.wait.Wait.TheVariants.{ForGrant}
@@ -10,7 +10,9 @@ use Rattle.tl_protocol.specs.declared.home.Accepted.{Accepted}
 use Rattle.tl_protocol.specs.declared.home.Outward.{Outward}
 use Rattle.tl_protocol.specs.Protocol.{Block, NoGrant, NoProbe, NobodyRecorded, with_client}
 use Rattle.tl_protocol.specs.Client.{fresh_client, NoProbePending, NoGrantPending}
-use Rattle.tl_protocol.proofs.Invariant.{ClientIs, IsServed, IsPending, Service, IsAlone, IsDirty, HomeIs, Invariant}
+use Rattle.tl_protocol.specs.Pending.{IsGrantPending, beside}
+use Rattle.tl_types.specs.Permission.{rank}
+use Rattle.tl_protocol.proofs.Invariant.{ClientIs, IsServed, Service, IsAlone, IsDirty, HomeIs, Invariant}
 
 -- ## One client of all
 
@@ -82,39 +84,49 @@ put_home now memory (Some line) outward client c k none dirty h = (
 -- what holds of the Acquire that home serves
 pub put_service :
     (accepted : Option Accepted) (client : ℕ → Client) (c : ℕ) (k : Client) → Service accepted client
-    → (IsPending k → IsPending (client c))
-    → ((x : ℕ) → IsPending (client x) → NoProbePending k)
+    → (IsGrantPending k → IsGrantPending (client c))
+    → ((x : ℕ) → IsGrantPending (client x) → NoProbePending k)
     → (IsServed accepted c → k.e ≡ 0 → (k.wait ≡ ForGrant) × (k.a ≡ []))
+    → rank k.recorded ≤ rank (client c).recorded
     → Service accepted (put client c k)
-put_service accepted client c k s before quiet waits = record {
-  served = λ x. at_put (λ m. IsPending m → IsServed accepted x) client c k x
+put_service accepted client c k s before quiet waits lower = record {
+  served = λ x. at_put (λ m. IsGrantPending m → IsServed accepted x) client c k x
       (λ e p. subst (λ (y : ℕ). IsServed accepted y) (sym e) (s.served c (before p))) (λ n p. s.served x p);
-  no_probe = λ x y. at_put (λ m. IsPending m → NoProbePending (put client c k y)) client c k x
+  no_probe = λ x y. at_put (λ m. IsGrantPending m → NoProbePending (put client c k y)) client c k x
       (λ e p. at_put NoProbePending client c k y (λ f. quiet c (before p)) (λ n. s.no_probe c y (before p)))
       (λ n p. at_put NoProbePending client c k y (λ f. quiet x p) (λ m. s.no_probe x y p));
   waits = λ x served. at_put (λ m. m.e ≡ 0 → (m.wait ≡ ForGrant) × (m.a ≡ [])) client c k x
       (λ e. waits (subst (λ (y : ℕ). IsServed accepted y) e served)) (λ n. s.waits x served);
+  room = λ acquire e. at_put
+      (λ m. IsGrantPending m → (x : ℕ) → x ≢ acquire.client → rank (put client c k x).recorded ≤ rank (beside acquire.grow))
+      client c k acquire.client
+      (λ same p x n. at_put (λ m. rank m.recorded ≤ rank (beside acquire.grow)) client c k x
+      (λ here. absurd (n (here ∙ sym same)))
+      (λ there. s.room acquire e (subst (λ (y : ℕ). IsGrantPending (client y)) (sym same) (before p)) x n))
+      (λ apart p x n. at_put (λ m. rank m.recorded ≤ rank (beside acquire.grow)) client c k x
+      (λ here. let most : rank (client c).recorded ≤ rank (beside acquire.grow) = s.room acquire e p c (λ q. n (here ∙ q)) in omega arith)
+      (λ there. s.room acquire e p x n));
 }
 
 -- a change of one client alone, that home's record of it and the Grants on their way outlive
 pub client_step :
     (shape : Shape) (now : List ℕ) (s : Block) (c : ℕ) (k : Client) → c < shape.clients → Invariant shape now s → ClientIs now k
     → k.recorded ≡ (s.client c).recorded
-    → (IsPending k → IsPending (s.client c))
-    → ((x : ℕ) → IsPending (s.client x) → NoProbePending k)
+    → (IsGrantPending k → IsGrantPending (s.client c))
+    → ((x : ℕ) → IsGrantPending (s.client x) → NoProbePending k)
     → (IsServed s.accepted c → k.e ≡ 0 → (k.wait ≡ ForGrant) × (k.a ≡ []))
     → (IsDirty (s.client c) → IsDirty k)
     → Invariant shape now (with_client s c k)
 client_step shape now s c k inside holds mine same before quiet waits dirty = record {
   outside = put_outside shape.clients s.client c k inside holds.outside;
   local = put_local now now s.client c k mine (λ x n. holds.local x);
-  service = put_service s.accepted s.client c k holds.service before quiet waits;
+  service = put_service s.accepted s.client c k holds.service before quiet waits (omega (arith, ap rank same));
   alone = put_alone s.client c k holds.alone (λ t. sym same ∙ t) (λ n. same ∙ n);
   home = put_home now s.memory s.home s.outward s.client c k (λ n. same ∙ n) dirty holds.home;
 }
 
 -- no Grant is pending at a client where none is on D and no GrantAck on E
-pub not_pending : (k : Client) → NoGrantPending k → IsPending k → ⊥
+pub not_pending : (k : Client) → NoGrantPending k → IsGrantPending k → ⊥
 not_pending k n (inl g) = let never : false ≡ true = sym n.0 ∙ g in cc
 not_pending k n (inr p) = let none : k.e ≡ 0 = n.1 in omega arith
 

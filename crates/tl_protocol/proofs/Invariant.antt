@@ -2,7 +2,7 @@
 -- `now` is the block's bytes as they were last stored.
 use Rattle.std.proofs.Common.{◌≡◌, ◌≢◌, ℕ, ◌<◌, ◌≤◌, Bool, true, false, List, [], ◌∷◌, Option, Some, None, ◌⊎◌}
 use Rattle.std.specs.List.{list_any}
-use Rattle.tl_types.specs.Permission.{grant_perm}
+use Rattle.tl_types.specs.Permission.{rank, grant_perm}
 use Rattle.tl_types.specs.Message.{upward_from, upward_to, upward_bytes, is_probe_ack, is_grant}
 use Rattle.tl_types.specs.declared.permission.Perm.{Perm}
 use Rattle.tl_types.specs.declared.permission.Perm.TheVariants.{None as p_None, Tip}
@@ -24,6 +24,7 @@ use Rattle.tl_protocol.specs.declared.home.Outward.TheVariants.{Quiet, Get, Data
 use Rattle.tl_protocol.specs.declared.shape.Shape.{Shape}
 use Rattle.tl_protocol.specs.Copy.{perm_of, dirty_bytes}
 use Rattle.tl_protocol.specs.Client.{fresh_client, NoProbePending}
+use Rattle.tl_protocol.specs.Pending.{IsGrantPending, beside}
 use Rattle.tl_protocol.specs.Protocol.{Block}
 
 -- ## A client, and the messages between it and home
@@ -108,16 +109,15 @@ abbrev pub IsServed : Option Accepted → ℕ → Type 0
 IsServed None x = ⊥
 IsServed (Some acquire) x = acquire.client ≡ x
 
--- a Grant is on its way to the client, or a GrantAck from it
-abbrev pub IsPending : Client → Type 0
-IsPending k = (has_grant k.d ≡ true) ⊎ (0 < k.e)
-
--- A pending Grant is the accepted Acquire's, and beside it no Probe is pending. The client whose Acquire is served waits for the
--- Grant until it has taken it, and asks for nothing more.
+-- A pending Grant is the accepted Acquire's, beside it no Probe is pending, and the other records leave it room. The client whose
+-- Acquire is served waits for the Grant until it has taken it, and asks for nothing more.
 pub record Service (accepted : Option Accepted) (client : ℕ → Client) : Type 0 where
-  pub served : (x : ℕ) → IsPending (client x) → IsServed accepted x
-  pub no_probe : (x y : ℕ) → IsPending (client x) → NoProbePending (client y)
+  pub served : (x : ℕ) → IsGrantPending (client x) → IsServed accepted x
+  pub no_probe : (x y : ℕ) → IsGrantPending (client x) → NoProbePending (client y)
   pub waits : (x : ℕ) → IsServed accepted x → (client x).e ≡ 0 → ((client x).wait ≡ ForGrant) × ((client x).a ≡ [])
+  pub room :
+      (acquire : Accepted) → accepted ≡ Some acquire → IsGrantPending (client acquire.client) → (x : ℕ) → x ≢ acquire.client
+      → rank (client x).recorded ≤ rank (beside acquire.grow)
 
 -- beside a record of Tip every other record is None
 abbrev pub IsAlone : (ℕ → Client) → Type 0

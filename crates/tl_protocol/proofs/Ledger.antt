@@ -27,6 +27,7 @@ use Rattle.tl_protocol.proofs.Invariant.{IsSent, Heard, Talk, ClientIs}
 use Rattle.tl_protocol.proofs.Messages.{release_not_none}
 use Rattle.tl_protocol.proofs.Coherent.{Kept, AllKept, end_kept}
 
+-- what counts as a copy
 abbrev weight : Perm → ℕ
 weight p = one_if (not (is_none p))
 
@@ -52,6 +53,7 @@ two_weight a_BtoB given e = ap weight e ∙ message_weight (Release given)
 two_weight a_BtoN given e = absurd (release_not_none given (sym e))
 two_weight a_NtoN given e = absurd (release_not_none given (sym e))
 
+-- what is recorded is what is held and what is given up on C
 heard_weight :
     (now : List ℕ) (held : CachedCopy) (wait : Wait) (recorded : Perm) (b : List ProbeCap) (c : List Upward)
     → Heard now held wait recorded b c → weight recorded ≡ weight (perm_of held) + one_if (gives_up c)
@@ -64,6 +66,7 @@ heard_weight now held wait recorded b (ProbeAck answer ∷ Release given ∷ [])
     omega (arith, ap weight t.2.0, ap weight t.3, two_weight answer given t.2.1)
 heard_weight now held wait recorded b (x ∷ rest) t = absurd t
 
+-- a Grant with data brings a copy, one without data none
 sent_weight :
     (now : List ℕ) (held : CachedCopy) (cap : GrantCap) (bytes : Option (List ℕ)) → IsSent bytes now held
     → weight (grant_perm cap) ≡ weight (perm_of held) + one_if (has_grant_data (Grant cap bytes ∷ []))
@@ -72,10 +75,12 @@ sent_weight now held ToT None s = omega (arith, ap (λ (k : CachedCopy). weight 
 sent_weight now held ToB (Some bytes) s = omega (arith, ap (λ (k : CachedCopy). weight (perm_of k)) s.0)
 sent_weight now held ToT (Some bytes) s = omega (arith, ap (λ (k : CachedCopy). weight (perm_of k)) s.0)
 
+-- with nothing on C nothing is given up
 none_given : (t : Bool) (c : List Upward) → c ≡ [] → one_if (t || gives_up c) ≡ one_if t
 none_given true c e = refl
 none_given false c e = ap (λ (u : List Upward). one_if (gives_up u)) e
 
+-- what is recorded is what is held and what is under way
 talk_weight :
     (now : List ℕ) (held : CachedCopy) (wait : Wait) (recorded : Perm) (b : List ProbeCap) (c : List Upward) (d : List Downward)
     → Talk now held wait recorded b c d → weight recorded ≡ weight (perm_of held) + one_if (has_grant_data d || gives_up c)
@@ -85,11 +90,13 @@ talk_weight now held wait recorded b c (Grant cap bytes ∷ []) t =
 talk_weight now held wait recorded b c (ReleaseAck ∷ []) t = omega (arith, ap weight t.2, none_given false c t.0)
 talk_weight now held wait recorded b c (x ∷ y ∷ rest) t = absurd t
 
+-- so it is for one client
 client_weight :
     (now : List ℕ) (k : Client) → ClientIs now k
     → one_if (is_recorded k) ≡ one_if (has_copy k) + one_if (is_under_way k)
 client_weight now k l = talk_weight now k.held k.wait k.recorded k.b k.c k.d l.talk
 
+-- for the first clients
 clients_weight :
     (now : List ℕ) (n : ℕ) (client : ℕ → Client) → ((x : ℕ) → ClientIs now (client x))
     → count_clients is_recorded n client ≡ count_clients has_copy n client + count_clients is_under_way n client
@@ -99,6 +106,7 @@ clients_weight now (suc n) client l =
     let rest = clients_weight now n client l in
     omega arith
 
+-- for all clients and these blocks
 pairs_weight :
     (shape : Shape) (byte : ℕ → ℕ) (s : ℕ → Block) (blocks : List ℕ) → AllKept shape byte s
     → count_pairs is_recorded shape s blocks
@@ -110,6 +118,7 @@ pairs_weight shape byte s (block ∷ rest) kept =
     let more = pairs_weight shape byte s rest kept in
     omega arith
 
+-- where C and D are empty nothing is under way
 silent_clients :
     (n : ℕ) (client : ℕ → Client) → ((x : ℕ) → x < n → ((client x).c ≡ []) × ((client x).d ≡ []))
     → count_clients is_under_way n client ≡ 0
@@ -122,6 +131,7 @@ silent_clients (suc n) client quiet =
     let rest = silent_clients n client (λ x l. quiet x (omega arith)) in
     omega arith
 
+-- so it is for all clients and these blocks
 silent_pairs : (shape : Shape) (s : ℕ → Block) (blocks : List ℕ) → IsSilent shape s blocks → count_pairs is_under_way shape s blocks ≡ 0
 silent_pairs shape s [] quiet = refl
 silent_pairs shape s (block ∷ rest) quiet =
@@ -129,11 +139,13 @@ silent_pairs shape s (block ∷ rest) quiet =
     let more = silent_pairs shape s rest quiet.1 in
     omega arith
 
+-- the ledger of blocks that are right
 ledger : (shape : Shape) (byte : ℕ → ℕ) (s : ℕ → Block) (blocks : List ℕ) → AllKept shape byte s → LedgerAddsUp shape s blocks
 ledger shape byte s blocks kept =
     let sum = pairs_weight shape byte s blocks kept in
     (sum, λ quiet. let none = silent_pairs shape s blocks quiet in omega arith)
 
+-- the ledger in the end of every run
 pub every_ledger_adds_up : EveryLedgerAddsUp
 every_ledger_adds_up shape image events blocks r =
     ledger shape (λ a. last image events a) (end_of shape image events) blocks (end_kept shape image events r)

@@ -6,7 +6,9 @@ pub mod Invariant
 pub mod Ledger
 pub mod Messages
 pub mod OneMemory
+pub mod Pending
 pub mod Runs
+pub mod Sizes
 pub mod Steps
 pub mod Talk
 pub mod Values

@@ -23,12 +23,14 @@ AccessIs shape byte (Load access) =
 AccessIs shape byte (Store access) = FitsBlock shape access.address access.bytes
 AccessIs shape byte e = Unit {0}
 
+-- each of these accesses lies in one block, and each load got the bytes last stored before it
 abbrev ReadFrom : Shape → (ℕ → ℕ) → List Event → Type 0
 ReadFrom shape byte [] = Unit {0}
 ReadFrom shape byte (e ∷ es) = AccessIs shape byte e × ReadFrom shape (λ a. byte_after e a (byte a)) es
 
 -- ## A run reads so
 
+-- an access that is permitted lies in one block, and a load got the newest bytes
 access_is : (shape : Shape) (byte : ℕ → ℕ) (s : ℕ → Block) (e : Event) → MayNext shape s e → AllKept shape byte s → AccessIs shape byte e
 access_is shape byte s (Load access) m kept =
     let address : ℕ = access.address in
@@ -43,6 +45,7 @@ access_is shape byte s (Load access) m kept =
 access_is shape byte s (Store access) m kept = m.1.1.0
 access_is shape byte s e m kept = tt
 
+-- so it is for a run
 run_reads :
     (shape : Shape) (byte : ℕ → ℕ) (s : ℕ → Block) (events : List Event) → AllKept shape byte s → IsRunFrom shape s events
     → ReadFrom shape byte events
@@ -54,6 +57,7 @@ run_reads shape byte s (e ∷ es) kept r = (
 
 -- ## Only loads and stores count
 
+-- the other events change no byte
 accesses_read : (shape : Shape) (byte : ℕ → ℕ) (events : List Event) → ReadFrom shape byte events → ReadFrom shape byte (accesses events)
 accesses_read shape byte [] r = tt
 accesses_read shape byte (Load access ∷ es) r = (r.0, accesses_read shape byte es r.1)
@@ -112,6 +116,7 @@ moved shape byte other (Load access) same is =
 moved shape byte other (Store access) same is = is
 moved shape byte other e same is = tt
 
+-- an access changes no byte outside its block
 left :
     (shape : Shape) (byte : ℕ → ℕ) (e : Event) (a x : ℕ) → AccessIs shape byte e → a / shape.block_bytes ≢ block_of shape e
     → byte_after e a x ≡ x
@@ -127,24 +132,28 @@ abbrev moved_on : Shape → (ℕ → ℕ) → (ℕ → ℕ → ℕ) → Event �
 moved_on shape bank_of banks e bank =
     cond (bank == bank_of (block_of shape e)) (λ a. byte_after e a (banks bank a)) (banks bank)
 
+-- the first event of a bank
 first_read :
     (shape : Shape) (byte : ℕ → ℕ) (e : Event) (es : List Event) (t : Bool) → t ≡ true → ReadFrom shape byte (cond t (e ∷ es) es)
     → AccessIs shape byte e
 first_read shape byte e es true q r = r.0
 first_read shape byte e es false q r = cc
 
+-- the events of a bank behind the first
 rest_read :
     (shape : Shape) (byte : ℕ → ℕ) (e : Event) (es : List Event) (t : Bool) → ReadFrom shape byte (cond t (e ∷ es) es)
     → ReadFrom shape (cond t (λ a. byte_after e a (byte a)) byte) es
 rest_read shape byte e es true r = r.1
 rest_read shape byte e es false r = r
 
+-- after an event a bank still knows the bytes of the addresses in it
 moved_agrees :
     (x : ℕ) (e : Event) (a y : ℕ) (other : ℕ → ℕ) (t : Bool) → other a ≡ y → (t ≡ false → byte_after e a y ≡ y)
     → cond t (λ (b : ℕ). byte_after e b (other b)) other a ≡ byte_after e a y
 moved_agrees x e a y other true same n = ap (byte_after e a) same
 moved_agrees x e a y other false same n = same ∙ sym (n refl)
 
+-- banks whose loads got the bytes last stored before them there, merged in any way
 merge_reads :
     (shape : Shape) (bank_of : ℕ → ℕ) (banks : ℕ → ℕ → ℕ) (byte : ℕ → ℕ) (merged : List Event)
     → Agrees shape bank_of banks byte → ((bank : ℕ) → ReadFrom shape (banks bank) (on_bank shape bank_of bank merged))
@@ -164,6 +173,7 @@ merge_reads shape bank_of banks byte (e ∷ es) agrees each =
 
 -- ## What each load got
 
+-- what a load in the middle got
 read_at :
     (shape : Shape) (byte : ℕ → ℕ) (before : List Event) (access : Access) (rest : List Event)
     → ReadFrom shape byte (before ++ Load access ∷ rest) → (i : ℕ) → i < length access.bytes
@@ -172,6 +182,7 @@ read_at shape byte [] access rest r i l = r.0.1 i l
 read_at shape byte (e ∷ es) access rest r i l =
     read_at shape (λ a. byte_after e a (byte a)) es access rest r.1 i l
 
+-- merged accesses of the runs of banks are one memory's
 pub every_merge_is_one_memory : EveryMergeIsOneMemory
 every_merge_is_one_memory shape image bank_of logs merged runs restricts before access rest e =
     let each : (bank : ℕ) → ReadFrom shape (slice_index image) (on_bank shape bank_of bank merged) =

@@ -14,11 +14,13 @@ use Rattle.tl_protocol.proofs.Steps.{now_after}
 
 -- ## A list with others written over it
 
+-- the three parts of it
 overwritten :
     (offset : ℕ) (bytes own : List ℕ)
     → overwrite offset bytes own ≡ take offset own ++ (bytes ++ drop (offset + length bytes) own)
 overwritten offset bytes own = append_assoc (take offset own) bytes (drop (offset + length bytes) own)
 
+-- it is as long as before
 pub overwrite_length :
     (offset : ℕ) (bytes own : List ℕ) → offset + length bytes ≤ length own → length (overwrite offset bytes own) ≡ length own
 overwrite_length offset bytes own h =
@@ -29,6 +31,7 @@ overwrite_length offset bytes own h =
     let d = length-drop (offset + length bytes) own in
     ap length (overwritten offset bytes own) ∙ omega arith
 
+-- below the offset it is as before
 pub overwrite_before :
     (offset : ℕ) (bytes own : List ℕ) (i : ℕ) → offset ≤ length own → i < offset
     → get_or (overwrite offset bytes own) i 0 ≡ get_or own i 0
@@ -38,6 +41,7 @@ overwrite_before offset bytes own i h l =
     ∙ (get_or_append_left (take offset own) (bytes ++ drop (offset + length bytes) own) 0 i (omega arith)
     ∙ get_or-take offset own i 0 l)
 
+-- at the offset it has the other bytes
 pub overwrite_in :
     (offset : ℕ) (bytes own : List ℕ) (i : ℕ) → offset ≤ length own → offset ≤ i → i < offset + length bytes
     → get_or (overwrite offset bytes own) i 0 ≡ get_or bytes (i - offset) 0
@@ -47,6 +51,7 @@ overwrite_in offset bytes own i h from to =
     (length-take-le offset own h) from
     ∙ get_or_append_left bytes (drop (offset + length bytes) own) 0 (i - offset) (omega arith))
 
+-- behind them it is as before
 pub overwrite_after :
     (offset : ℕ) (bytes own : List ℕ) (i : ℕ) → offset ≤ length own → offset + length bytes ≤ i
     → get_or (overwrite offset bytes own) i 0 ≡ get_or own i 0
@@ -60,6 +65,7 @@ overwrite_after offset bytes own i h from =
 
 -- ## A byte after a store
 
+-- a byte that the store covers
 pub byte_in :
     (access : Access) (address x : ℕ) → access.address ≤ address → address < access.address + length access.bytes
     → byte_after (Store access) address x ≡ slice_index access.bytes (address - access.address)
@@ -70,6 +76,7 @@ byte_in access address x lower upper =
     (and_from (nat_le from address) (nat_lt address (from + length bytes)) (le-leb from address lower)
     (lt-ltb address (from + length bytes) upper))
 
+-- a byte below the store
 pub byte_below : (access : Access) (address x : ℕ) → address < access.address → byte_after (Store access) address x ≡ x
 byte_below access address x lower =
     let from : ℕ = access.address in
@@ -77,6 +84,7 @@ byte_below access address x lower =
     ap (λ (t : Bool). cond t (slice_index bytes (address - from)) x)
     (and_left (nat_le from address) (nat_lt address (from + length bytes)) (lt-leb from address lower))
 
+-- a byte above the store
 pub byte_above :
     (access : Access) (address x : ℕ) → access.address + length access.bytes ≤ address
     → byte_after (Store access) address x ≡ x
@@ -93,10 +101,12 @@ pub record IsNow (size : ℕ) (byte : ℕ → ℕ) (from : ℕ) (now : List ℕ)
   pub long : length now ≡ size
   pub each : (i : ℕ) → i < size → get_or now i 0 ≡ byte (from + i)
 
+-- as many bytes of the image as were asked for
 pub image_long : (image : List ℕ) (from n : ℕ) → length (image_bytes image from n) ≡ n
 image_long image from zero = refl
 image_long image from (suc n) = ap suc (image_long image (from + 1) n)
 
+-- each of them
 pub image_each :
     (image : List ℕ) (from n i : ℕ) → i < n → get_or (image_bytes image from n) i 0 ≡ slice_index image (from + i)
 image_each image from zero i l = absurd (omega arith)
@@ -105,6 +115,7 @@ image_each image from (suc n) (suc i) l =
     let same : from + 1 + i ≡ from + suc i = omega arith in
     image_each image (from + 1) n i (omega arith) ∙ ap (slice_index image) same
 
+-- a block of the image
 pub image_now : (image : List ℕ) (size from : ℕ) → IsNow size (slice_index image) from (image_bytes image from size)
 image_now image size from = record { long = image_long image from size; each = image_each image from size }
 
@@ -190,6 +201,7 @@ read_each now bytes offset i reads l =
     ap (λ (u : List ℕ). get_or u i 0) (sym reads)
     ∙ (get_or-take (offset + length bytes - offset) (drop offset now) i 0 (omega arith) ∙ get_or-drop offset now i 0)
 
+-- a load of bytes that are the newest got them
 pub load_now :
     (shape : Shape) (byte : ℕ → ℕ) (address : ℕ) (bytes now : List ℕ) (i : ℕ) → FitsBlock shape address bytes
     → IsNow shape.block_bytes byte (address / shape.block_bytes * shape.block_bytes) now

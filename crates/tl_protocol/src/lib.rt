@@ -15,4 +15,4 @@ pub use event::{Access, Event};
 pub use home::{Accepted, Line, Outward};
 pub use queue::{AckCount, Queue};
 pub use shape::Shape;
-pub use theorem::{every_run, some_run};
+pub use theorem::{every_block, every_run, some_run};

@@ -3,7 +3,9 @@ ghost use Rattle.tl_protocol.specs.Coherent.{EveryRunKeepsCopies, EveryRunReadsL
 ghost use Rattle.tl_protocol.specs.Example.{EachKindIsARun};
 ghost use Rattle.tl_protocol.specs.Ledger.{EveryLedgerAddsUp};
 ghost use Rattle.tl_protocol.specs.OneMemory.{EveryMergeIsOneMemory};
+ghost use Rattle.tl_protocol.specs.Pending.{EveryAnswerIsWithin, EveryMessageLeadsDown, EveryRunKeepsMessages, EveryRunKeepsService};
 ghost use Rattle.tl_protocol.specs.Runs.{EveryMergeIsARun, RunsAreOfBlocks, RunsGrowByOne};
+ghost use Rattle.tl_protocol.specs.Sizes.{EveryRunKeepsSizes};
 
 /// Every run is coherent: at most one client may write a block and then no other may read it, every copy stands in the
 /// directory and at home, and every copy and every load has the bytes last stored.
@@ -15,6 +17,15 @@ pub fn every_run()
     ensures merges { EveryMergeIsARun }
     ensures ledger { EveryLedgerAddsUp }
     ensures memory { EveryMergeIsOneMemory }
+{}
+
+/// Every run keeps the bytes of each block whole, the messages of each client in order, and one Acquire served at a time.
+pub fn every_block()
+    ensures sizes { EveryRunKeepsSizes }
+    ensures messages { EveryRunKeepsMessages }
+    ensures service { EveryRunKeepsService }
+    ensures downward { EveryMessageLeadsDown }
+    ensures answers { EveryAnswerIsWithin }
 {}
 
 /// There is a run with each kind of event.
