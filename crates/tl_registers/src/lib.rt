@@ -7,6 +7,8 @@ mod laws;
 mod protocol;
 mod register;
 mod registers;
+#[cfg(test)]
+mod tests;
 mod victim_way;
 mod way;
 
