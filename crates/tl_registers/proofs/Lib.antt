@@ -1,4 +1,5 @@
 pub mod Held
 pub mod Lowest
+pub mod Order
 pub mod Pending
 pub mod Permitted

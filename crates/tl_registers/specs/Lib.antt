@@ -3,3 +3,4 @@ pub mod NextAction
 pub mod Pending
 pub mod Register
 pub mod Registers
+pub mod VictimWay

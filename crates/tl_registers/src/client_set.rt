@@ -37,7 +37,8 @@ impl ClientSet {
         requires { client < 16 }
         ensures { result ≡ slice_index_or self.now client false }
     {
-        self.members[client.index()]
+        let index = client.index();
+        self.members[index]
     }
 
     /// A client joins it.

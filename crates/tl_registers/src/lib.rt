@@ -7,6 +7,9 @@ mod laws;
 mod protocol;
 mod register;
 mod registers;
+#[cfg(test)]
+mod tests;
+mod victim_way;
 mod way;
 
 pub use client_set::ClientSet;
@@ -15,4 +18,5 @@ pub use laws::{every_action_is_permitted, pending_is_the_protocols};
 pub use protocol::Protocol;
 pub use register::{Register, Task};
 pub use registers::Registers;
+pub use victim_way::first_in_order_is_oldest;
 pub use way::Way;

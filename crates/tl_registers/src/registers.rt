@@ -71,7 +71,7 @@ impl Registers {
     pub fn is_full(&self) -> bool
         ensures { result ≡ (length self.now.open_registers == self.now.limit) }
     {
-        self.registers.len() == self.limit
+        self.len() == self.limit
     }
 
     /// Opens a register that serves an Acquire of the block `own` in a way, once the victim, where there is one, has left it.

@@ -1,0 +1,272 @@
+-- The order of ways that Grants touch gives the way whose block was granted longest ago.
+use Rattle.std.proofs.Common.{◌≡◌, ◌≢◌, ℕ, zero, suc, ◌+◌, ◌≤◌, ◌==◌, ◌&&◌, ◌||◌, not, Bool, true, false, List, [], ◌∷◌, ◌++◌, length, filter, Option, Some, None, if◌then◌else◌, refl, sym, ◌∙◌, ap, subst, arith, inl, inr, eqb-true, eq-eqb, set, length-set, get_or-set_other}
+use Rattle.std.specs.Prelude.{◌⊎◌}
+use Rattle.std.proofs.lemmas.Bool.{cases_eq}
+use Rattle.tl_protocol.specs.declared.event.Event.{Event}
+use Rattle.tl_protocol.specs.declared.event.Event.TheVariants.{SendGrant}
+use Rattle.tl_registers.specs.VictimWay.{grants_block, last_grant_from, last_grant, block_in, first_not_held, IsAmong, IsNoLater, EachBefore, FirstInOrderIsOldest, FreeSetIsInOrder, GrantKeepsOrder, OtherEventsKeepOrder, PlacingKeepsOrder, ClearingKeepsOrder}
+use Rattle.tl_registers.proofs.Pending.{bool-cases}
+
+-- ## The last Grant of a block
+
+last-append : (block n found : ℕ) (es : List Event) (e : Event)
+    → last_grant_from block n found (es ++ e ∷ [])
+    ≡ (if grants_block block e then n + length es + 1 else last_grant_from block n found es)
+last-append block n found [] e =
+    elim (grants_block block e) as (λ t. (if t then n + 1 else found) ≡ (if t then n + 0 + 1 else found)) [ true ↦ omega arith | false ↦ refl ]
+last-append block n found (x ∷ es) e =
+    let z : n + 1 + length es + 1 ≡ n + length (x ∷ es) + 1 = omega arith in
+    rw (last-append block (n + 1) (if grants_block block x then n + 1 else found) es e, z) refl
+
+-- one event more is the last Grant of its block, and leaves that of the others
+last_grant-append : (block : ℕ) (log : List Event) (e : Event)
+    → last_grant block (log ++ e ∷ []) ≡ (if grants_block block e then length log + 1 else last_grant block log)
+last_grant-append block log e =
+    let z : 0 + length log + 1 ≡ length log + 1 = omega arith in
+    last-append block 0 0 log e ∙ rw z refl
+
+found-one : (t : Bool) (n found : ℕ) → found ≤ n → (if t then n + 1 else found) ≤ n + 1
+found-one true n found l = omega arith
+found-one false n found l = omega arith
+
+found-inside : (block n found : ℕ) (log : List Event) → found ≤ n → last_grant_from block n found log ≤ n + length log
+found-inside block n found [] l = omega arith
+found-inside block n found (e ∷ es) l =
+    let k = found-inside block (n + 1) (if grants_block block e then n + 1 else found) es (found-one (grants_block block e) n found l) in
+    omega (arith, k)
+
+-- no Grant stands past the end of the log
+last_grant-inside : (block : ℕ) (log : List Event) → last_grant block log ≤ length log
+last_grant-inside block log = omega (arith, found-inside block 0 0 log (omega arith))
+
+-- an event that grants not this block leaves its last Grant
+last_grant-same : (block : ℕ) (log : List Event) (e : Event) → grants_block block e ≡ false
+    → last_grant block (log ++ e ∷ []) ≡ last_grant block log
+last_grant-same block log e n = last_grant-append block log e ∙ rw n refl
+
+-- ## What is among the ways
+
+neq-of : (x w : ℕ) → (x == w) ≡ false → x ≢ w
+neq-of x w e = λ q. let t = eq-eqb x w q in cc
+
+neqb-of : (x w : ℕ) → x ≢ w → (x == w) ≡ false
+neqb-of x w ne = elim (bool-cases (x == w)) [ inl q ↦ absurd (ne (eqb-true x w q)) | inr q ↦ q ]
+
+abbrev without : ℕ → List ℕ → List ℕ
+without w order = filter (λ v. not (v == w)) order
+
+among-without : (w v : ℕ) (order : List ℕ) → IsAmong v order → v ≢ w → IsAmong v (without w order)
+among-without w v [] m ne = m
+among-without w v (x ∷ rest) m ne =
+    elim (bool-cases (x == w)) [
+      | inl e ↦ rw e (elim m [ inl q ↦ absurd (ne (q ∙ eqb-true x w e)) | inr q ↦ among-without w v rest q ne ])
+      | inr e ↦ rw e (elim m [ inl q ↦ inl q | inr q ↦ inr (among-without w v rest q ne) ])
+    ]
+
+without-among : (w v : ℕ) (order : List ℕ) → IsAmong v (without w order) → IsAmong v order × (v ≢ w)
+without-among w v [] m = absurd m
+without-among w v (x ∷ rest) m =
+    elim (bool-cases (x == w)) [
+      | inl e ↦ let m2 : IsAmong v (without w rest) = (rw e at m) in let k = without-among w v rest m2 in (inr k.0, k.1)
+      | inr e ↦
+          let m2 : IsAmong v (x ∷ without w rest) = (rw e at m) in
+          elim m2 [
+            | inl q ↦ (inl q, λ z. neq-of x w e (sym q ∙ z))
+            | inr q ↦ let k = without-among w v rest q in (inr k.0, k.1)
+          ]
+    ]
+
+among-end : (v w : ℕ) (xs : List ℕ) → IsAmong v (xs ++ w ∷ []) → IsAmong v xs ⊎ (v ≡ w)
+among-end v w [] m = elim m [ inl q ↦ inr q | inr q ↦ absurd q ]
+among-end v w (x ∷ rest) m =
+    elim m [ inl q ↦ inl (inl q) | inr q ↦ elim (among-end v w rest q) [ inl z ↦ inl (inr z) | inr z ↦ inr z ] ]
+
+end-among : (v w : ℕ) (xs : List ℕ) → IsAmong v xs ⊎ (v ≡ w) → IsAmong v (xs ++ w ∷ [])
+end-among v w [] m = elim m [ inl q ↦ absurd q | inr q ↦ inl q ]
+end-among v w (x ∷ rest) m =
+    elim m [ inl q ↦ elim q [ inl z ↦ inl z | inr z ↦ inr (end-among v w rest (inl z)) ] | inr q ↦ inr (end-among v w rest (inr q)) ]
+
+-- ## What holds of each and all that come after it
+
+-- what holds of a relation between these ways holds of another that follows from it
+before-follows : (R Q : ℕ → ℕ → Type 0) (xs : List ℕ) → ((w v : ℕ) → IsAmong w xs → IsAmong v xs → R w v → Q w v)
+    → EachBefore R xs → EachBefore Q xs
+before-follows R Q [] f h = tt
+before-follows R Q (x ∷ rest) f h = (
+  λ v m. f x v (inl refl) (inr m) (h.0 v m),
+  before-follows R Q rest (λ w v m n. f w v (inr m) (inr n)) h.1,
+)
+
+before-without : (R : ℕ → ℕ → Type 0) (w : ℕ) (xs : List ℕ) → EachBefore R xs → EachBefore R (without w xs)
+before-without R w [] h = tt
+before-without R w (x ∷ rest) h =
+    elim (bool-cases (x == w)) [
+      | inl e ↦ rw e (before-without R w rest h.1)
+      | inr e ↦ rw e (λ v m. h.0 v (without-among w v rest m).0, before-without R w rest h.1)
+    ]
+
+before-end : (R : ℕ → ℕ → Type 0) (w : ℕ) (xs : List ℕ) → EachBefore R xs → ((v : ℕ) → IsAmong v xs → R v w)
+    → EachBefore R (xs ++ w ∷ [])
+before-end R w [] h last = (λ v m. absurd m, tt)
+before-end R w (x ∷ rest) h last = (
+  λ v m. elim (among-end v w rest m) [
+    | inl q ↦ h.0 v q
+    | inr q ↦ let P : ℕ → Type 0 = λ y. R x y in subst P (sym q) (last x (inl refl))
+  ],
+  before-end R w rest h.1 (λ v m. last v (inr m)),
+)
+
+-- ## The first way that no register holds
+
+first-of : (R : ℕ → ℕ → Type 0) (held : ℕ → Bool) (order : List ℕ) (w : ℕ) → EachBefore R order
+    → first_not_held held order ≡ Some w
+    → IsAmong w order × (held w ≡ false) × ((v : ℕ) → IsAmong v order → held v ≡ false → (v ≡ w) ⊎ R w v)
+first-of R held [] w r h = cc
+first-of R held (x ∷ rest) w r h =
+    elim (bool-cases (held x)) [
+      | inl e ↦
+          let h2 : first_not_held held rest ≡ Some w = (rw e at h) in
+          let k = first-of R held rest w r.1 h2 in
+          (inr k.0, k.1, λ v. elim [ inl m ↦ λ n. let bad : true ≡ false = sym e ∙ (ap held (sym m) ∙ n) in cc | inr m ↦ λ n. k.2 v m n ])
+      | inr e ↦
+          let h2 : Some x ≡ Some w = (rw e at h) in
+          let is : x ≡ w = cc in (
+            inl (sym is),
+            ap held (sym is) ∙ e,
+            λ v. elim [ inl m ↦ λ n. inl (m ∙ is) | inr m ↦ λ n. inr (subst (λ (y : ℕ). R y v) is (r.0 v m)) ],
+          )
+    ]
+
+pub first-in-order-is-oldest : FirstInOrderIsOldest
+first-in-order-is-oldest slots held filling log order w ordered holds h =
+    let k = first-of (IsNoLater slots filling log) held order w ordered.rises h in
+    let full : (v : ℕ) → held v ≡ false → filling v ≡ false =
+    λ v n. elim (bool-cases (filling v)) [ inl m ↦ let bad = holds v m in cc | inr m ↦ m ] in
+    record {
+      inside = ordered.only w k.0;
+      not_held = k.1;
+      oldest = λ v block other l n here there.
+          elim (k.2 v (ordered.all v l) n) [
+            | inl e ↦
+                let both : Some block ≡ Some other = sym here ∙ (ap (block_in slots) (sym e) ∙ there) in
+                let same : block ≡ other = cc in
+                let q : last_grant block log ≡ last_grant other log = ap (λ b. last_grant b log) same in
+                omega (arith, q)
+            | inr r ↦ r block other (full w k.1) (full v n) here there
+          ];
+    }
+
+-- ## What keeps the order
+
+free-rises : (slots : List (Option ℕ)) (filling : ℕ → Bool) (log : List Event) (order : List ℕ)
+    → ((w : ℕ) → block_in slots w ≡ None) → EachBefore (IsNoLater slots filling log) order
+free-rises slots filling log [] free = tt
+free-rises slots filling log (w ∷ rest) free =
+    (λ v m block other f g here there. let none = free w in cc, free-rises slots filling log rest free)
+
+pub free-set-is-in-order : FreeSetIsInOrder
+free-set-is-in-order slots filling log order free all only =
+    record { rises = free-rises slots filling log order free; all = all; only = only }
+
+pub other-events-keep-order : OtherEventsKeepOrder
+other-events-keep-order slots filling log order e ordered other = record {
+  rises = before-follows (IsNoLater slots filling log) (IsNoLater slots filling (log ++ e ∷ [])) order
+      (λ w v m n r block later f g here there.
+      let p = last_grant-same block log e (other w block here) in
+      let q = last_grant-same later log e (other v later there) in
+      omega (arith, p, q, r block later f g here there))
+      ordered.rises;
+  all = ordered.all;
+  only = ordered.only;
+}
+
+pub grant-keeps-order : GrantKeepsOrder
+grant-keeps-order slots filling log order w block c ordered l is once =
+    let e = SendGrant c block in
+    let later : ℕ → Bool = λ v. filling v && not (v == w) in
+    let before = IsNoLater slots filling log in
+    let after = IsNoLater slots later (log ++ e ∷ []) in
+    let not-this : (v b : ℕ) → v ≢ w → block_in slots v ≡ Some b → grants_block b e ≡ false =
+    λ v b ne at. neqb-of block b (λ q. ne (once w v is (at ∙ ap Some (sym q)))) in
+    let was : (v : ℕ) → v ≢ w → later v ≡ false → filling v ≡ false =
+    λ v ne f. let nv = neqb-of v w ne in elim (bool-cases (filling v)) [ inr q ↦ q | inl q ↦ let bad : later v ≡ true = rw (q, nv) refl in cc ] in
+    let granted : last_grant block (log ++ e ∷ []) ≡ length log + 1 =
+    let t : (block == block) ≡ true = eq-eqb block block refl in last_grant-append block log e ∙ rw t refl in
+    record {
+      rises =
+          before-end after w (without w order)
+          (before-follows before after (without w order)
+          (λ u v m n r b d f g here there.
+          let mu = (without-among w u order m).1 in
+          let nv = (without-among w v order n).1 in
+          let p = last_grant-same b log e (not-this u b mu here) in
+          let q = last_grant-same d log e (not-this v d nv there) in
+          omega (arith, p, q, r b d (was u mu f) (was v nv g) here there))
+          (before-without before w order ordered.rises))
+          (λ v m b d f g here there.
+          let ne = (without-among w v order m).1 in
+          let p = last_grant-same b log e (not-this v b ne here) in
+          let in_log = last_grant-inside b log in
+          let both : Some block ≡ Some d = sym is ∙ there in
+          let same : block ≡ d = cc in
+          let q : last_grant d (log ++ e ∷ []) ≡ last_grant block (log ++ e ∷ []) = ap (λ y. last_grant y (log ++ e ∷ [])) (sym same) in
+          omega (arith, p, q, in_log, granted));
+      all = λ v m. elim (cases_eq v w) [
+        | inl q ↦ end-among v w (without w order) (inr q)
+        | inr q ↦ end-among v w (without w order) (inl (among-without w v order (ordered.all v m) q))
+      ];
+      only = λ v m. elim (among-end v w (without w order) m) [
+        | inl q ↦ ordered.only v (without-among w v order q).0
+        | inr q ↦ omega (arith, q)
+      ];
+    }
+
+-- ## What stands in a way after a change
+
+block_in-other : (slots : List (Option ℕ)) (w v : ℕ) (x : Option ℕ) → v ≢ w → block_in (set slots w x) v ≡ block_in slots v
+block_in-other slots w v x ne = get_or-set_other slots w v x None ne
+
+block_in-cleared : (slots : List (Option ℕ)) (w : ℕ) → block_in (set slots w None) w ≡ None
+block_in-cleared [] w = refl
+block_in-cleared (x ∷ slots) zero = refl
+block_in-cleared (x ∷ slots) (suc w) = block_in-cleared slots w
+
+or-true : (a : Bool) → (a || true) ≡ true
+or-true true = refl
+or-true false = refl
+
+pub placing-keeps-order : PlacingKeepsOrder
+placing-keeps-order slots filling log order w block ordered =
+    let later : ℕ → Bool = λ v. filling v || (v == w) in
+    let long : length (set slots w (Some block)) ≡ length slots = simp length-set in
+    let was : (v : ℕ) → later v ≡ false → (v ≢ w) × (filling v ≡ false) =
+    λ v f. (
+      λ q. let t = eq-eqb v w q in let bad : later v ≡ true = rw t (or-true (filling v)) in cc,
+      elim (bool-cases (filling v)) [ inr q ↦ q | inl q ↦ let bad : later v ≡ true = rw q refl in cc ],
+    ) in
+    record {
+      rises = before-follows (IsNoLater slots filling log) (IsNoLater (set slots w (Some block)) later log) order
+          (λ u v m n r b d f g here there.
+          let fu = was u f in
+          let gv = was v g in
+          r b d fu.1 gv.1 (sym (block_in-other slots w u (Some block) fu.0) ∙ here) (sym (block_in-other slots w v (Some block) gv.0) ∙ there))
+          ordered.rises;
+      all = λ v m. ordered.all v (omega (arith, long));
+      only = λ v m. omega (arith, long, ordered.only v m);
+    }
+
+pub clearing-keeps-order : ClearingKeepsOrder
+clearing-keeps-order slots filling log order w ordered =
+    let long : length (set slots w None) ≡ length slots = simp length-set in
+    let other : (v b : ℕ) → block_in (set slots w None) v ≡ Some b → block_in slots v ≡ Some b =
+    λ v b h. elim (cases_eq v w) [
+      | inl q ↦ let none : block_in (set slots w None) v ≡ None = ap (block_in (set slots w None)) q ∙ block_in-cleared slots w in cc
+      | inr q ↦ sym (block_in-other slots w v None q) ∙ h
+    ] in
+    record {
+      rises = before-follows (IsNoLater slots filling log) (IsNoLater (set slots w None) filling log) order
+          (λ u v m n r b d f g here there. r b d f g (other u b here) (other v d there))
+          ordered.rises;
+      all = λ v m. ordered.all v (omega (arith, long));
+      only = λ v m. omega (arith, long, ordered.only v m);
+    }
