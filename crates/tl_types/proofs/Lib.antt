@@ -1,3 +1,4 @@
 pub mod Image
 pub mod CodeLaws
+pub mod Counts
 pub mod Lanes

@@ -1,6 +1,7 @@
 pub mod Bytes
 pub mod Channel
 pub mod Codes
+pub mod Count
 pub mod Lane
 pub mod Message
 pub mod Permission

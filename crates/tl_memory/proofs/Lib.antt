@@ -1,0 +1,2 @@
+pub mod BeatLaws
+pub mod BlockLaws
