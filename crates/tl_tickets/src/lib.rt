@@ -15,3 +15,6 @@ pub use ends::{Receiver, Ringer, Sender};
 pub use error::{Full, Missing};
 pub use inbox::{Inbox, Pass};
 pub use sent::Sent;
+
+#[cfg(test)]
+mod tests;
