@@ -73,6 +73,18 @@ fn settle_three(
     Some(inbox.settle(passes))
 }
 
+// Settles an inbox with all senders' passes and the receiver's.
+fn settle_all(
+    inbox: Inbox,
+    mut passes: Vec<Pass>,
+    receiver: Pass,
+) -> Result<Result<u64, Missing>, AllocError>
+    requires { All (IsPassOf inbox) passes.items × IsPassOf inbox receiver }
+{
+    passes.push(receiver)?;
+    Ok(inbox.settle(passes))
+}
+
 // Puts this many tickets of one client, each again until there is room.
 fn put_all<R: Wait>(rt: &R, mut sender: Sender<'_>, client: u32, count: u64) -> Pass
     ensures { IsSenderOf sender.entry.inbox result }
@@ -90,17 +102,18 @@ fn put_all<R: Wait>(rt: &R, mut sender: Sender<'_>, client: u32, count: u64) -> 
     sender.into_pass()
 }
 
-// Each sender puts this many tickets in a thread of its own, as the client of its number.
+// Each sender puts this many tickets in a thread of its own, as the client of its number, and then the bell is rung.
 fn put_each<R: Threads + Wait + Sync>(
     rt: &R,
     inbox: &Inbox,
+    mut done: Ringer<'_>,
     senders: Vec<Pass>,
     count: u64,
 ) -> Result<Vec<Pass>, AllocError>
     requires { All (IsSenderOf inbox.now) senders.items }
     ensures { IfOk result (λ v. All (IsPassOf inbox.now) v.items) }
 {
-    thread::map_vec(
+    let passes = thread::map_vec(
         rt,
         senders,
         &|pass| -> Pass
@@ -110,30 +123,42 @@ fn put_each<R: Threads + Wait + Sync>(
             let client = u32::try_from(pass.number()).unwrap_or(0);
             put_all(rt, Sender::new(inbox, pass), client, count)
         },
-    )
+    );
+    done.ring();
+    passes
 }
 
-// Takes this many tickets.
+// Takes tickets until the bell was rung and nothing waits.
 fn take_all<R: Wait>(
     rt: &R,
     mut receiver: Receiver<'_>,
+    mut done: Ringer<'_>,
     mut tickets: Vec<Ticket>,
-    count: usize,
 ) -> (Pass, Vec<Ticket>)
     ensures { IsReceiverOf receiver.entry.inbox result.0 }
 {
     for _ in rt.forever() {
-        if tickets.len() >= count {
-            break;
-        }
+        let is_done = done.heard() > 0;
         match receiver.take(rt) {
             Some(taken) => {
                 let _ = tickets.push(taken);
             }
+            None if is_done => break,
             None => thread::yield_now(),
         }
     }
     (receiver.into_pass(), tickets)
+}
+
+// A bell with two seats.
+fn open_bell(alloc: Global) -> Result<(Bell, Seat, Seat), AllocError>
+    ensures { IfOk result (λ made. IsSeatOf made.0 made.1 × IsSeatOf made.0 made.2) }
+{
+    let (bell, mut seats) = Bell::new(alloc, 2)?;
+    let (Some(second), Some(first)) = (seats.pop(), seats.pop()) else {
+        unreachable!()
+    };
+    Ok((bell, first, second))
 }
 
 #[test]
@@ -188,28 +213,52 @@ fn a_pass_is_missing(rt: HostRuntime) -> Result<(), Fail> {
     Ok(())
 }
 
+// The senders put and the receiver takes, beside each other: the passes, and what was taken.
+fn exchange<R: Threads + Wait + Sync>(
+    rt: &R,
+    inbox: &Inbox,
+    receiver: Pass,
+    senders: Vec<Pass>,
+    bell: &Bell,
+    heard: Seat,
+    rung: Seat,
+    tickets: Vec<Ticket>,
+) -> (Result<Vec<Pass>, AllocError>, (Pass, Vec<Ticket>))
+    requires receiver { IsReceiverOf inbox.now receiver }
+    requires senders { All (IsSenderOf inbox.now) senders.items }
+    requires seats { IsSeatOf bell.now heard × IsSeatOf bell.now rung }
+    ensures senders { IfOk result.0 (λ v. All (IsPassOf inbox.now) v.items) }
+    ensures receiver { IsPassOf inbox.now result.1.0 }
+{
+    thread::join(
+        rt,
+        move || -> Result<Vec<Pass>, AllocError>
+            requires { All (IsSenderOf inbox.now) senders.items × IsSeatOf bell.now rung }
+            ensures { IfOk result (λ v. All (IsPassOf inbox.entry.now) v.items) }
+        { put_each(rt, inbox, Ringer::new(bell, rung), senders, 1000) },
+        move || -> (Pass, Vec<Ticket>)
+            requires { IsReceiverOf inbox.now receiver × IsSeatOf bell.now heard }
+            ensures { IsPassOf inbox.entry.now result.0 }
+        {
+            let (receiver, heard) = (Receiver::new(inbox, receiver), Ringer::new(bell, heard));
+            take_all(rt, receiver, heard, tickets)
+        },
+    )
+}
+
 #[test]
 fn four_senders_in_threads(rt: HostRuntime) -> Result<(), Fail> {
     let Ok((inbox, receiver, senders)) = open(rt.alloc(), 16, 4) else {
         panic!(rt; "no memory");
     };
-    let shared = &inbox;
-    let runtime = &rt;
+    let Ok((bell, heard, rung)) = open_bell(rt.alloc()) else {
+        panic!(rt; "no memory");
+    };
     let tickets = Vec::with_capacity(rt.alloc(), 4000)?;
-    let ((receiver, tickets), senders) = thread::join(
-        runtime,
-        move || -> (Pass, Vec<Ticket>)
-            requires { IsReceiverOf shared.now receiver }
-            ensures { IsPassOf shared.entry.now result.0 }
-        { take_all(runtime, Receiver::new(shared, receiver), tickets, 4000) },
-        move || -> Result<Vec<Pass>, AllocError>
-            requires { All (IsSenderOf shared.now) senders.items }
-            ensures { IfOk result (λ v. All (IsPassOf shared.entry.now) v.items) }
-        { put_each(runtime, shared, senders, 1000) },
+    let (senders, (receiver, tickets)) = exchange(
+        &rt, &inbox, receiver, senders, &bell, heard, rung, tickets,
     );
-    let mut passes = senders?;
-    passes.push(receiver)?;
-    assert_eq!(rt; inbox.settle(passes), Ok(0));
+    assert_eq!(rt; settle_all(inbox, senders?, receiver)?, Ok(0));
     assert_eq!(rt; tickets.len(), 4000);
     for client in 1..5u32 {
         let mut next = 0u64;
@@ -229,11 +278,14 @@ fn sixty_four_senders(rt: HostRuntime) -> Result<(), Fail> {
     let Ok((inbox, receiver, senders)) = open(rt.alloc(), 4096, 64) else {
         panic!(rt; "no memory");
     };
+    let Ok((bell, first, second)) = open_bell(rt.alloc()) else {
+        panic!(rt; "no memory");
+    };
+    let (heard, rung) = (Ringer::new(&bell, first), Ringer::new(&bell, second));
     let tickets = Vec::with_capacity(rt.alloc(), 64)?;
-    let mut passes = put_each(&rt, &inbox, senders, 1)?;
-    let (receiver, tickets) = take_all(&rt, Receiver::new(&inbox, receiver), tickets, 64);
-    passes.push(receiver)?;
-    assert_eq!(rt; inbox.settle(passes), Ok(0));
+    let passes = put_each(&rt, &inbox, rung, senders, 1)?;
+    let (receiver, tickets) = take_all(&rt, Receiver::new(&inbox, receiver), heard, tickets);
+    assert_eq!(rt; settle_all(inbox, passes, receiver)?, Ok(0));
     for client in 1..65u32 {
         let own = tickets.iter().filter(|t| **t == ticket(client, 0)).count();
         assert_eq!(rt; own, 1);
@@ -243,17 +295,15 @@ fn sixty_four_senders(rt: HostRuntime) -> Result<(), Fail> {
 
 #[test]
 fn a_bell_is_heard_from_both_seats(rt: HostRuntime) -> Result<(), Fail> {
-    let Ok((bell, mut seats)) = Bell::new(rt.alloc(), 2) else {
+    let Ok((bell, mut first, mut second)) = open_bell(rt.alloc()) else {
         panic!(rt; "no memory");
-    };
-    let (Some(mut second), Some(mut first)) = (seats.pop(), seats.pop()) else {
-        panic!(rt; "too few seats");
     };
     assert!(rt; bell.ring(&mut first) && bell.ring(&mut first) && bell.ring(&mut first));
     assert_eq!(rt; bell.heard(&mut second), 3);
     assert!(rt; bell.ring(&mut second));
     assert_eq!(rt; bell.heard(&mut second), 4);
     assert_eq!(rt; bell.heard(&mut first), 4);
+    let mut seats = Vec::new(rt.alloc());
     seats.push(second)?;
     seats.push(first)?;
     assert_eq!(rt; bell.total(seats), Ok(4));
@@ -262,17 +312,18 @@ fn a_bell_is_heard_from_both_seats(rt: HostRuntime) -> Result<(), Fail> {
 
 #[test]
 fn a_seat_is_missing(rt: HostRuntime) -> Result<(), Fail> {
-    let Ok((bell, mut seats)) = Bell::new(rt.alloc(), 2) else {
+    let Ok((bell, first, second)) = open_bell(rt.alloc()) else {
         panic!(rt; "no memory");
     };
-    let kept = seats.pop();
+    let mut seats = Vec::new(rt.alloc());
+    seats.push(second)?;
     assert_eq!(rt; bell.total(seats), Err(Missing));
-    drop(kept);
+    drop(first);
     Ok(())
 }
 
 // A bell and its seats.
-fn open_bell(alloc: Global, seats: usize) -> Result<(Bell, Vec<Seat>), AllocError>
+fn open_seats(alloc: Global, seats: usize) -> Result<(Bell, Vec<Seat>), AllocError>
     requires { (0 < seats) × (seats ≤ 64) }
     ensures { IfOk result (λ made. All (IsSeatOf made.0) made.1.items) }
 {
@@ -293,7 +344,7 @@ fn ring_often(mut ringer: Ringer<'_>, times: u64) -> Seat
 
 #[test]
 fn sixty_four_seats_ring_in_threads(rt: HostRuntime) -> Result<(), Fail> {
-    let Ok((bell, seats)) = open_bell(rt.alloc(), 64) else {
+    let Ok((bell, seats)) = open_seats(rt.alloc(), 64) else {
         panic!(rt; "no memory");
     };
     let shared = &bell;
@@ -306,5 +357,17 @@ fn sixty_four_seats_ring_in_threads(rt: HostRuntime) -> Result<(), Fail> {
         { ring_often(Ringer::new(shared, seat), 1000) },
     )?;
     assert_eq!(rt; bell.total(seats), Ok(64_000));
+    Ok(())
+}
+
+// Where one request for memory is refused, the call that made it says so, and the next one makes what it is asked.
+#[test]
+fn memory_is_refused_once(rt: HostRuntime) -> Result<(), Fail> {
+    for _ in 0..2 {
+        let (first, second) = (open(rt.alloc(), 2, 3), open(rt.alloc(), 2, 3));
+        assert!(rt; first.is_ok() || second.is_ok());
+        let (first, second) = (open_seats(rt.alloc(), 3), open_seats(rt.alloc(), 3));
+        assert!(rt; first.is_ok() || second.is_ok());
+    }
     Ok(())
 }
