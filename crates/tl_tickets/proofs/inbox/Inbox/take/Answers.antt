@@ -18,5 +18,5 @@ returns-clause-taken g c =
       x.sender,
       h.rule.0,
       subst (λ n. x.sender ≤ n) made h.rule.1,
-      (λ i. pass_with (h.queue.0 i) pass.senders pass.number (h.rule.2 i)) ∙ ap (λ p. after_take p x.sender x.ticket) c.pass.view_is,
+      ◌∙◌ {b = after_take (pass_view pass) x.sender x.ticket} (λ i. pass_with (h.queue.0 i) pass.senders pass.number (h.rule.2 i)) (ap (λ p. after_take p x.sender x.ticket) c.pass.view_is),
     )
