@@ -14,6 +14,7 @@ use Rattle.tl_tickets.specs.Ringing.{tally, fewer, one_seat, both_tallies, gathe
 use Rattle.tl_tickets.proofs.Each.{Each-weaker, Each-append, Each-left, Each-right, All-from_each, Each-from_all}
 
 module _ {X : Type 0} where
+  -- the sum, after a change of one element
   sum_set : (f : X → ℕ) (xs : List X) (i : ℕ) (x y : X) → get_elem? xs i ≡ some x → sum_by f (set xs i y) + f x ≡ sum_by f xs + f y
   sum_set f [] i x y e = absurd (some-ne-none x (sym e))
   sum_set f (z ∷ zs) zero x y e =
@@ -25,16 +26,19 @@ module _ {X : Type 0} where
       let b = sum_by-cons f z zs in
       let c = sum_set f zs i x y e in omega arith
 
+  -- each element, after a change of one
   Each-set : (P : X → Type 0) (xs : List X) (i : ℕ) (y : X) → P y → Each P xs → Each P (set xs i y)
   Each-set P [] i y h each = tt
   Each-set P (x ∷ xs) zero y h each = (h, each.1)
   Each-set P (x ∷ xs) (suc i) y h each = (each.0, Each-set P xs i y h each.1)
 
+  -- what holds of each holds of the one at a place
   Each-at : (P : X → Type 0) (xs : List X) (i : ℕ) (x : X) → get_elem? xs i ≡ some x → Each P xs → P x
   Each-at P [] i x e each = absurd (some-ne-none x (sym e))
   Each-at P (z ∷ zs) zero x e each = subst P (some-injective z x e) each.0
   Each-at P (z ∷ zs) (suc i) x e each = Each-at P zs i x e each.1
 
+  -- one summand is within the sum
   sum_at : (f : X → ℕ) (xs : List X) (i : ℕ) (x : X) → get_elem? xs i ≡ some x → f x ≤ sum_by f xs
   sum_at f [] i x e = absurd (some-ne-none x (sym e))
   sum_at f (z ∷ zs) zero x e = let a = sum_by-cons f z zs in let b = ap f (some-injective z x e) in omega arith
@@ -52,6 +56,7 @@ Bound v = v.rung ≤ most_rings * v.parts
 abbrev Below : ℕ → Tally → Type 0
 Below n v = v.seen ≤ n
 
+-- all seats together rang within their parts
 all_bounded : (vs : List Tally) → Each Bound vs → all_rung vs ≤ most_rings * sum_by parts vs
 all_bounded [] h = omega arith
 all_bounded (v ∷ vs) h =
@@ -76,9 +81,11 @@ others_bounded (z ∷ zs) (suc i) v e h =
     let c = others_bounded zs i v e h.1 in
     let d = h.0 in omega arith
 
+-- a new bell keeps the rule
 pub opens : (n : ℕ) → n ≤ 64 → CountsRings n (opening (0 ∷ []) [] (tally n 0 0))
 opens n few = record { word = refl; parts = omega arith; bound = (omega arith, tt); seen = (omega arith, tt); few = few }
 
+-- a ring keeps it
 pub rings : (n slots id : ℕ) (me : Me (Unit {0}) Tally) → me.0.parts ≡ 1 → me.0.rung < most_rings → Allows (CountsRings n) slots id me 0 (λ k. (k + 1) % 2 ^ 64) (λ found after. RungOnce me after)
 rings n slots id me one short s rule len at small =
     let v = me.0 in
@@ -104,6 +111,7 @@ rings n slots id me one short s rule len at small =
       refl,
     )
 
+-- a look keeps it, and finds no less than the seat had seen and rung
 pub hears : (n slots id : ℕ) (me : Me (Unit {0}) Tally) → Allows (CountsRings n) slots id me 0 (λ k. k) (Hears me)
 hears n slots id me s rule len at small =
     let v = me.0 in
@@ -129,6 +137,7 @@ hears n slots id me s rule len at small =
       (omega arith, omega arith, refl),
     )
 
+-- a look with all seats finds what they rang
 pub hears_all : (n slots id : ℕ) (me : Me (Unit {0}) Tally) → me.0.parts ≡ n → Allows (CountsRings n) slots id me 0 (λ k. k) (HearsAll me)
 hears_all n slots id me all s rule len at small =
     let v = me.0 in
@@ -153,6 +162,7 @@ hears_all n slots id me all s rule len at small =
       (omega arith, omega arith, refl),
     )
 
+-- a new seat keeps it
 pub splits : (n id : ℕ) (v : Tally) → v.rung ≡ 0 → 0 < v.parts → Splits (CountsRings n) id v (fewer v) one_seat
 splits n id v silent some_parts s rule at =
     let w = fewer v in
@@ -173,6 +183,7 @@ splits n id v silent some_parts s rule at =
       few = rule.few;
     }
 
+-- two seats joined keep it
 pub joins : (n id : ℕ) (v : Tally) (other : ℕ) (w : Tally) → Joins (CountsRings n) id v other w (both_tallies v w) (tally 0 0 0)
 joins n id v other w s rule at apart at' =
     let x = both_tallies v w in
@@ -198,14 +209,17 @@ joins n id v other w s rule at apart at' =
       few = rule.few;
     }
 
+-- all seats together have their number of parts
 gathered_parts : (ss : List SeatView) → (gathered_tallies ss).parts ≡ length ss
 gathered_parts [] = refl
 gathered_parts (s ∷ ss) = let a = gathered_parts ss in omega arith
 
+-- they rang what each rang
 gathered_rung : (ss : List SeatView) → (gathered_tallies ss).rung ≡ rings_of ss
 gathered_rung [] = refl
 gathered_rung (s ∷ ss) = let a = gathered_rung ss in let b = sum_by-cons (λ (t : SeatView). t.rung) s ss in omega arith
 
+-- none has seen more than all
 gathered_seen : (ss : List SeatView) → Each (λ (s : SeatView). s.seen ≤ (gathered_tallies ss).seen) ss
 gathered_seen [] = tt
 gathered_seen (s ∷ ss) = (omega arith, Each-weaker (λ (t : SeatView). t.seen ≤ (gathered_tallies ss).seen) (λ (t : SeatView). t.seen ≤ (gathered_tallies (s ∷ ss)).seen) (λ t h. omega arith) ss (gathered_seen ss))

@@ -3,6 +3,7 @@ use Rattle.std.proofs.Common.{◌≡◌, ◌≢◌, ℕ, ◌<◌, ◌≤◌, ◌
 use Rattle.tl_tickets.specs.declared.sent.Sent.{Sent}
 use Rattle.tl_tickets.specs.Inbox.{tickets_of, AreFrom}
 
+-- a sender's tickets in two lists, one after the other
 pub tickets_of-append : (s : ℕ) (xs ys : List Sent) → tickets_of s (xs ++ ys) ≡ tickets_of s xs ++ tickets_of s ys
 tickets_of-append s [] ys = refl
 tickets_of-append s (x ∷ xs) ys =
@@ -12,9 +13,11 @@ tickets_of-append s (x ∷ xs) ys =
       | false ↦ more
     ]
 
+-- a ticket of the sender is its own
 pub own_ticket : (s : ℕ) (x : Sent) → x.sender ≡ s → tickets_of s (x ∷ []) ≡ x.ticket ∷ []
 own_ticket s x e = ap (λ b. cond b (x.ticket ∷ []) []) (eq-eqb x.sender s e)
 
+-- a ticket of another is not
 pub other_ticket : (s : ℕ) (x : Sent) → x.sender ≢ s → tickets_of s (x ∷ []) ≡ []
 other_ticket s x n = ap (λ b. cond b (x.ticket ∷ []) []) (ne_eqb x.sender s n)
 

@@ -27,10 +27,12 @@ waits_own taken waiting p t old =
     ap (λ l. l ++ t ∷ []) old ∙ append_assoc (tickets_of p.sender taken) (tickets_of p.sender waiting) (t ∷ [])
     ∙ ap (λ l. tickets_of p.sender taken ++ l) (ap (λ l. tickets_of p.sender waiting ++ l) (sym (own_ticket p.sender x refl)) ∙ sym (tickets_of-append p.sender waiting (x ∷ [])))
 
+-- one more ticket of another sender waits
 waits_other : (taken waiting : List Sent) (p : Put) (x : Sent) → x.sender ≢ p.sender → Agrees taken waiting p → Agrees taken (waiting ++ x ∷ []) p
 waits_other taken waiting p x apart old =
     old ∙ ap (λ l. tickets_of p.sender taken ++ l) (sym (append-nil (tickets_of p.sender waiting)) ∙ ap (λ l. tickets_of p.sender waiting ++ l) (sym (other_ticket p.sender x apart)) ∙ sym (tickets_of-append p.sender waiting (x ∷ [])))
 
+-- a push keeps the rule
 pub pushes : (n pass s : ℕ) (ts : List Ticket) (t : Ticket) → n ≤ 4096 → Pushes Delivers n pass (sender s ts) (sent s t) (Puts (sender s ts) (sent s t))
 pushes n pass s ts t small items views room rule at =
     let x = sent s t in
@@ -64,6 +66,7 @@ moves taken items x p old =
     let s = p.sender in
     old ∙ ap (λ l. tickets_of s taken ++ l) (tickets_of-append s (x ∷ []) items) ∙ sym (append_assoc (tickets_of s taken) (tickets_of s (x ∷ [])) (tickets_of s items)) ∙ ap (λ l. l ++ tickets_of s items) (sym (tickets_of-append s taken (x ∷ [])))
 
+-- a pop keeps the rule
 pub pops : (pass : ℕ) (v : Known) → v.takes ≡ true → v.puts ≡ [] → Pops Delivers pass v (Takes v)
 pops pass v takes none x items views rule at =
     let w : Known = record v { taken = v.taken ++ x ∷ [] } in
@@ -101,16 +104,19 @@ learns pass v items views rule at =
       λ takes. ((mine.1 takes).2, rule.room, subst (λ n. AreFrom n (rule.taken ++ items)) (sym (mine.1 takes).1) rule.senders),
     )
 
--- what is known with a sender's pass, and with the receiver's
+-- what a sender's pass knows
 pub sender_known : (p : PassView) (v : Known) → known p ≡ v → 0 < p.number → v ≡ sender p.number p.put
 sender_known p v is some_number = sym is ∙ ap (λ b. cond b (receiver p.senders p.taken) (sender p.number p.put)) (ne_eqb p.number 0 (λ e. absurd (omega arith)))
 
+-- what the receiver's pass knows
 pub receiver_known : (p : PassView) (v : Known) → known p ≡ v → p.number ≡ 0 → v ≡ receiver p.senders p.taken
 receiver_known p v is zero_number = sym is ∙ ap (λ b. cond b (receiver p.senders p.taken) (sender p.number p.put)) (eq-eqb p.number 0 zero_number)
 
+-- a push with a sender's pass keeps the rule
 pub sender_pushes : (n pass : ℕ) (p : PassView) (v : Known) (t : Ticket) → known p ≡ v → 0 < p.number → n ≤ 4096 → Pushes Delivers n pass v (sent p.number t) (Puts v (sent p.number t))
 sender_pushes n pass p v t is some_number small = subst (λ u. Pushes Delivers n pass u (sent p.number t) (Puts u (sent p.number t))) (sym (sender_known p v is some_number)) (pushes n pass p.number p.put t small)
 
+-- a pop with the receiver's pass keeps the rule
 pub receiver_pops : (pass : ℕ) (p : PassView) (v : Known) → known p ≡ v → p.number ≡ 0 → Pops Delivers pass v (Takes v)
 receiver_pops pass p v is zero_number = subst (λ u. Pops Delivers pass u (Takes u)) (sym (receiver_known p v is zero_number)) (pops pass (receiver p.senders p.taken) refl refl)
 
@@ -121,6 +127,7 @@ was_full n inbox p v is some_number capacity held =
     let account = subst (λ (u : Known). Each (Agrees shown.0 held.0) u.puts) (sender_known p v is some_number) shown.1 in
     (shown.0, held.0, held.1 ∙ sym capacity, account.0)
 
+-- where the inbox was empty, nothing waited of what was put
 pub was_empty : (inbox : InboxView) (p : PassView) (v : Known) → known p ≡ v → p.number ≡ 0 → p.senders ≡ inbox.senders → Held 0 (Shows v) → WasEmpty inbox p
 was_empty inbox p v is zero_number same held =
     let shown = held.2 in
@@ -128,16 +135,19 @@ was_empty inbox p v is zero_number same held =
     let fact = shown.2 (ap (λ u. u.takes) v_is) in
     (held.0, held.1, subst (λ (y : ℕ × List Sent). AreFrom y.0 (y.1 ++ held.0)) (λ i. ((ap (λ u. u.made) v_is ∙ same) i, (sym fact.0 ∙ ap (λ u. u.taken) v_is) i)) fact.2)
 
+-- an element of a longer list is an old one or the last
 at_end : (l : List Known) (a b : Known) (j : ℕ) → get_elem? (l ++ a ∷ []) j ≡ some b → (get_elem? l j ≡ some b) ⊎ ((j ≡ length l) × (a ≡ b))
 at_end [] a b zero e = inr (refl, some-injective a b e)
 at_end [] a b (suc j) e = absurd (some-ne-none b (sym e))
 at_end (x ∷ xs) a b zero e = inl e
 at_end (x ∷ xs) a b (suc j) e = ⊎_elim inl (λ t. inr (ap suc t.0, t.1)) (at_end xs a b j e)
 
+-- a list of one has that one
 only : (a b : Known) (j : ℕ) → get_elem? (a ∷ []) j ≡ some b → (j ≡ 0) × (a ≡ b)
 only a b zero e = (refl, some-injective a b e)
 only a b (suc j) e = absurd (some-ne-none b (sym e))
 
+-- a new queue keeps the rule
 pub begins : Delivers [] (receiver 0 [] ∷ [])
 begins = record {
   owner = λ _. 0;
@@ -155,9 +165,11 @@ begins = record {
 pub at_number : (f : ℕ → ℕ) (n a s : ℕ) → s ≡ n → cond (s == n) a (f s) ≡ a
 at_number f n a s e = ap (λ b. cond b a (f s)) (eq-eqb s n e)
 
+-- the same value elsewhere
 pub else_number : (f : ℕ → ℕ) (n a s : ℕ) → s ≢ n → cond (s == n) a (f s) ≡ f s
 else_number f n a s e = ap (λ b. cond b a (f s)) (ne_eqb s n e)
 
+-- a new sender's pass keeps the rule
 pub forks : (pass : ℕ) (v : Known) → v.takes ≡ true → v.puts ≡ [] → Forks Delivers pass v (with_sender v) (new_sender v)
 forks pass v takes none items views rule at =
     let mine = (rule.fits pass v at).1 takes in
@@ -188,11 +200,13 @@ forks pass v takes none items views rule at =
       fits = λ j u e. ⊎_elim (old j u) (λ (is : (j ≡ length vs) × (right ≡ u)). subst (λ (y : ℕ × Known). Fits y.0 y.1) (λ i. (sym is.0 i, is.1 i)) fresh) (at_end vs right u j e);
     }
 
+-- of two passes one takes at most, and it knows what was taken
 takes_together : (b c : Bool) (m n made : ℕ) (ts us taken : List Sent) (A : Type 0) → (b ≡ true → A × (m ≡ made) × (ts ≡ taken)) → (c ≡ true → A × (n ≡ made) × (us ≡ taken))
     → (b || c) ≡ true → A × (cond b m n ≡ made) × (cond b ts us ≡ taken)
 takes_together true c m n made ts us taken A f g h = f refl
 takes_together false c m n made ts us taken A f g h = g h
 
+-- two passes joined keep the rule
 pub merges : (pass : ℕ) (v : Known) (other : ℕ) (w : Known) → Merges Delivers pass v other w (together v w) nothing
 merges pass v other w items views rule at apart at' =
     let both : Known = together v w in

@@ -13,20 +13,25 @@ use Rattle.tl_tickets.specs.Delivery.{put_by, receiver, sender, known, gathered,
 use Rattle.tl_tickets.proofs.Each.{Each-weaker, Each-left, Each-right, All-from_each, Each-from_all}
 use Rattle.tl_tickets.proofs.Filters.{tickets_of-append}
 
+-- how often a number is there
 abbrev numbered : ℕ → List PassView → ℕ
 numbered k ps = count_by (λ (p : PassView). p.number == k) ps
 
+-- a pass counts for its own number
 numbered_here : (k : ℕ) (p : PassView) (ps : List PassView) → p.number ≡ k → numbered k (p ∷ ps) ≡ 1 + numbered k ps
 numbered_here k p ps e = sum_by-cons (λ (q : PassView). cond (q.number == k) 1 0) p ps ∙ ap (λ b. cond b 1 0 + numbered k ps) (eq-eqb p.number k e)
 
+-- and for no other
 numbered_else : (k : ℕ) (p : PassView) (ps : List PassView) → p.number ≢ k → numbered k (p ∷ ps) ≡ numbered k ps
 numbered_else k p ps n =
     let step = sum_by-cons (λ (q : PassView). cond (q.number == k) 1 0) p ps ∙ ap (λ b. cond b 1 0 + numbered k ps) (ne_eqb p.number k n) in
     let s : numbered k (p ∷ ps) ≡ 0 + numbered k ps = step in omega arith
 
+-- what the receiver's pass knows
 is_receiver : (p : PassView) → p.number ≡ 0 → known p ≡ receiver p.senders p.taken
 is_receiver p e = ap (λ b. cond b (receiver p.senders p.taken) (sender p.number p.put)) (eq-eqb p.number 0 e)
 
+-- what a sender's pass knows
 is_sender : (p : PassView) → p.number ≢ 0 → known p ≡ sender p.number p.put
 is_sender p n = ap (λ b. cond b (receiver p.senders p.taken) (sender p.number p.put)) (ne_eqb p.number 0 n)
 
@@ -34,11 +39,13 @@ is_sender p n = ap (λ b. cond b (receiver p.senders p.taken) (sender p.number p
 abbrev joined : Bool → Known → Known → Known
 joined b v w = record { takes = b || w.takes; made = cond b v.made w.made; taken = cond b v.taken w.taken; puts = w.puts ++ v.puts }
 
+-- passes without the receiver's: what they know together
 record NoTaker (ps : List PassView) : Type 0 where
   idle : (gathered ps).takes ≡ false
   others : Each (λ (p : PassView). p.number ≢ 0) ps
   count : sum_by taken_count ps ≡ 0
 
+-- so it is where no pass has the receiver's number
 no_taker : (ps : List PassView) → numbered 0 ps ≡ 0 → NoTaker ps
 no_taker [] none = record { idle = refl; others = tt; count = refl }
 no_taker (p ∷ ps) none = dite (ℕ_discrete p.number 0)
@@ -54,12 +61,14 @@ no_taker (p ∷ ps) none = dite (ℕ_discrete p.number 0)
       count = omega arith;
     })
 
+-- passes with the receiver's among them: what they know together
 record OneTaker (senders : ℕ) (ps : List PassView) : Type 0 where
   takes : (gathered ps).takes ≡ true
   made : (gathered ps).made ≡ senders
   count : sum_by taken_count ps ≡ length (gathered ps).taken
   same : Each (λ (p : PassView). p.number ≡ 0 → p.taken ≡ (gathered ps).taken) ps
 
+-- so it is where one pass has the receiver's number
 one_taker : (senders : ℕ) (ps : List PassView) → Each (λ (p : PassView). p.senders ≡ senders) ps → numbered 0 ps ≡ 1 → OneTaker senders ps
 one_taker senders [] all one = absurd (omega arith)
 one_taker senders (p ∷ ps) all one = dite (ℕ_discrete p.number 0)
@@ -103,6 +112,7 @@ each_sender Q (p ∷ ps) h = (
 abbrev share : List Sent → PassView → ℕ
 share xs p = cond (p.number == 0) 0 (length (tickets_of p.number xs))
 
+-- of no tickets no sender has any
 no_shares : (ps : List PassView) → sum_by (share []) ps ≡ 0
 no_shares [] = refl
 no_shares (p ∷ ps) =
@@ -110,6 +120,7 @@ no_shares (p ∷ ps) =
     let c = sum_by-cons (share []) p ps in
     let r = no_shares ps in omega arith
 
+-- one more ticket is one more of its sender
 one_more : (x : Sent) (xs : List Sent) (p : PassView) → 0 < x.sender → share (x ∷ xs) p ≡ cond (p.number == x.sender) 1 0 + share xs p
 one_more x xs p some_number =
     let t = tickets_of p.number xs in
@@ -124,6 +135,7 @@ one_more x xs p some_number =
     let r : cond (p.number == x.sender) 1 0 + share xs p ≡ 0 + share xs p = ap (λ b. cond b 1 0 + share xs p) (ne_eqb p.number x.sender else) in
     omega arith)
 
+-- and one more for all passes, as often as that sender is there
 more_shares : (x : Sent) (xs : List Sent) (ps : List PassView) → 0 < x.sender → sum_by (share (x ∷ xs)) ps ≡ numbered x.sender ps + sum_by (share xs) ps
 more_shares x xs [] some_number = refl
 more_shares x xs (p ∷ ps) some_number =
@@ -141,6 +153,7 @@ all_shares senders ps (x ∷ xs) once from =
     let b = once x.sender from.0.1 in
     let c = all_shares senders ps xs once from.1 in omega arith
 
+-- where the accounts are right, as many were put as there are tickets
 puts_are_shares : (xs : List Sent) (ps : List PassView) → Each (λ (p : PassView). 0 < p.number → p.put ≡ tickets_of p.number xs) ps → sum_by put_count ps ≡ sum_by (share xs) ps
 puts_are_shares xs [] h = refl
 puts_are_shares xs (p ∷ ps) h =
@@ -151,6 +164,7 @@ puts_are_shares xs (p ∷ ps) h =
     (λ else. ap (λ l. cond (p.number == 0) 0 (length l)) (h.0 (omega arith))) in
     let r = puts_are_shares xs ps h.1 in omega arith
 
+-- with all passes together, each once, every sender's account with the receiver is right
 pub settles : (inbox : InboxView) (ps : List PassView) (v : Known) (total : ℕ) → v ≡ gathered ps → All (IsPassOf inbox) ps → IsEachOnce inbox.senders ps → IsTotal total ps → total < 2 ^ 64
     → (waiting : List Sent) × Shows v waiting → Settles inbox.senders ps total
 settles inbox ps v total is all once balance small moment =

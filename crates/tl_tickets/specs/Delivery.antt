@@ -1,4 +1,4 @@
--- The rule of an inbox's queue: what was taken of each sender, followed by what waits of it, is what it put.
+-- The rule of an inbox's queue: what was taken of each sender, followed by what waits of it, is what it put. This is the project's own.
 use Rattle.std.specs.Prelude.{◌≡◌, ℕ, ◌+◌, ◌<◌, ◌≤◌, ◌==◌, ◌%◌, ◌^◌, true, false, ◌||◌, cond, List, [], ◌∷◌, ◌++◌, length, map}
 use Rattle.std.specs.List.{sum_by}
 use Rattle.tl_tickets.specs.Lists.{Each}
@@ -11,6 +11,7 @@ use Rattle.tl_tickets.specs.declared.sent.Put.{Put}
 use Rattle.tl_tickets.specs.declared.sent.Known.{Known}
 use Rattle.tl_tickets.specs.Inbox.{PassView, tickets_of, AreFrom}
 
+-- what the sender s put
 abbrev pub put_by : ℕ → List Ticket → Put
 put_by s ts = record { sender = s; tickets = ts }
 
@@ -18,9 +19,11 @@ put_by s ts = record { sender = s; tickets = ts }
 abbrev pub receiver : ℕ → List Sent → Known
 receiver made taken = record { takes = true; made = made; taken = taken; puts = [] }
 
+-- what a sender knows: what it put
 abbrev pub sender : ℕ → List Ticket → Known
 sender s ts = record { takes = false; made = 0; taken = []; puts = put_by s ts ∷ [] }
 
+-- what a pass knows that was joined to another
 abbrev pub nothing : Known
 nothing = record { takes = false; made = 0; taken = []; puts = [] }
 
@@ -28,10 +31,11 @@ nothing = record { takes = false; made = 0; taken = []; puts = [] }
 abbrev pub known : PassView → Known
 known pass = cond (pass.number == 0) (receiver pass.senders pass.taken) (sender pass.number pass.put)
 
--- the same and one more sender; that sender
+-- the same, and one more sender
 abbrev pub with_sender : Known → Known
 with_sender v = record v { made = v.made + 1 }
 
+-- what the new sender knows
 abbrev pub new_sender : Known → Known
 new_sender v = sender (v.made + 1) []
 
@@ -61,6 +65,7 @@ FitsPuts owner made taken waiting pass v = Each (λ (p : Put). (owner p.sender �
 abbrev pub FitsTaker : ℕ → ℕ → List Sent → ℕ → Known → Type 0
 FitsTaker taker made taken pass v = v.takes ≡ true → (taker ≡ pass) × (v.made ≡ made) × (v.taken ≡ taken)
 
+-- the rule: each put is known with one pass, one pass takes, and every account is right. At most 4,096 tickets wait
 pub record Delivers (waiting : List Sent) (views : List Known) : Type 0 where
   pub owner : ℕ → ℕ
   pub taker : ℕ
@@ -100,10 +105,11 @@ pass_with table senders number v = record { table = table; senders = senders; nu
 abbrev pub IsBalance : ℕ → PassView → Type 0
 IsBalance balance pass = (balance + length pass.taken) % 2 ^ 64 ≡ length pass.put % 2 ^ 64
 
--- how many tickets were put with a sender's pass, and how many were taken with the receiver's
+-- how many tickets were put with a sender's pass
 abbrev pub put_count : PassView → ℕ
 put_count pass = cond (pass.number == 0) 0 (length pass.put)
 
+-- how many tickets were taken with the receiver's pass
 abbrev pub taken_count : PassView → ℕ
 taken_count pass = cond (pass.number == 0) (length pass.taken) 0
 

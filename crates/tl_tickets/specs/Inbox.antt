@@ -1,4 +1,4 @@
--- An inbox and its passes, as their callers see them.
+-- An inbox and its passes, as their callers see them. This is the project's own: TileLink leaves open how a receiver learns of a message.
 use Rattle.std.specs.Prelude.{◌≡◌, ℕ, zero, suc, ◌+◌, ◌<◌, ◌≤◌, ◌==◌, cond, List, [], ◌∷◌, ◌++◌, length, count_by}
 use Rattle.std.specs.List.{All}
 use Rattle.tl_tickets.specs.Lists.{Each}
@@ -36,6 +36,7 @@ IsReceiverOf inbox pass = IsPassOf inbox pass × (pass.number ≡ 0)
 abbrev pub IsSamePass : PassView → PassView → Type 0
 IsSamePass old new = (new.table ≡ old.table) × (new.senders ≡ old.senders) × (new.number ≡ old.number)
 
+-- a ticket of the sender s
 abbrev pub sent : ℕ → Ticket → Sent
 sent s t = record { sender = s; ticket = t }
 

@@ -10,10 +10,11 @@ use Rattle.tl_tickets.specs.Bell.{SeatView, most_rings}
 abbrev pub tally : ℕ → ℕ → ℕ → Tally
 tally parts rung seen = record { parts = parts; rung = rung; seen = seen }
 
--- a seat is made: what is left, and the new one
+-- what is left of a seat once another was made from it
 abbrev pub fewer : Tally → Tally
 fewer v = record v { parts = v.parts - 1 }
 
+-- a new seat
 abbrev pub one_seat : Tally
 one_seat = tally 1 0 0
 
@@ -25,7 +26,7 @@ both_tallies v w = tally (v.parts + w.parts) (v.rung + w.rung) (max v.seen w.see
 abbrev pub all_rung : List Tally → ℕ
 all_rung views = sum_by (λ (v : Tally). v.rung) views
 
--- the word is the sum of what all seats rang, no seat rang more than 2 ^ 40 times, and no seat has seen more than the word
+-- the rule: the word is the sum of what all seats rang, no seat rang more than 2 ^ 40 times, and no seat has seen more than the word
 pub record CountsRings (seats : ℕ) (s : State (Unit {0}) Tally) : Type 0 where
   pub word : s.words ≡ all_rung s.views ∷ []
   pub parts : sum_by (λ (v : Tally). v.parts) s.views ≡ seats

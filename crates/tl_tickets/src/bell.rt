@@ -1,4 +1,4 @@
-//! A bell that threads ring and hear without waiting: one word, and a seat for each tally.
+//! A bell that threads ring and hear without waiting: one word, and a seat for each thread.
 ghost use Rattle.std.specs.Prelude.{◌≡◌, ◌==◌, ◌+◌, ◌*◌, ◌<◌, ◌≤◌, ◌↔◌, ℕ, [], length, count_by, IfOk, IsTrue, MatchBool, MatchResult};
 ghost use Rattle.std.specs.List.{All};
 ghost use Rattle.tl_tickets.specs.Bell.{IsSeatOf, IsSameSeat, most_rings, after_ring, after_hearing, IsEachSeatOnce, rings_of, fresh_seats};
@@ -18,7 +18,7 @@ type Word = Table<(), Tally, usize, Ringing, Global>;
 
 type Place = atomic_table::Seat<(), Tally>;
 
-/// A count that its seats raise and read.
+/// A count that its seats raise and read, without waiting and without memory.
 #[derive(Drop)]
 pub struct Bell {
     word: Word,
@@ -36,7 +36,7 @@ impl Model for Bell {
     ghost invariant = { λ b. (b.word.shared.table_id.words ≡ 1) × (b.word.shared.key ≡ b.seats) × (0 < b.seats) × (b.seats ≤ 64) };
 }
 
-/// One tally's right to ring and hear.
+/// One thread's right to ring a bell and to hear it.
 #[derive(Drop)]
 pub struct Seat {
     place: Place,
@@ -105,7 +105,7 @@ fn gather(word: &Word, mut seats: Vec<Seat>) -> (Place, u64)
 }
 
 impl Bell {
-    /// A bell, and its seats.
+    /// A bell with 1 to 64 seats, and the seats in order. The error is want of memory.
     pub fn new(alloc: Global, seats: usize) -> Result<(Bell, Vec<Seat>), AllocError>
         requires { (0 < seats) × (seats ≤ 64) }
         ensures { IfOk result (λ made. (made.0.seats ≡ seats) × (made.1.items ≡ fresh_seats made.0 seats)) }
@@ -142,7 +142,7 @@ impl Bell {
         true
     }
 
-    /// How often the bell was rung, at one moment of the call.
+    /// How often the bell was rung by all seats, at one moment of the call.
     pub fn heard(&self, seat: &mut Seat) -> u64
         requires { IsSeatOf self.now seat.old }
         ensures seat { IsSameSeat seat.old seat.new }
@@ -153,7 +153,8 @@ impl Bell {
         self.word.shared.load::<Hear>(&mut seat.place, 0)
     }
 
-    /// How often all seats rang, once they are back. `Missing` where not each seat is there once.
+    /// How often all seats rang, once they are back. `Missing` where not each seat is there once. The bell and the seats are
+    /// used up either way.
     pub fn total(self, seats: Vec<Seat>) -> Result<u64, Missing>
         requires { All (IsSeatOf self) seats.items }
         ensures { MatchResult result (λ total. IsEachSeatOnce self.seats seats.items × (total ≡ rings_of seats.items) × All (λ s. s.seen ≤ total) seats.items) (λ _. ¬ IsEachSeatOnce self.seats seats.items) }

@@ -18,7 +18,7 @@ type Queue = RuledArrayQueue<Sent, Known, Delivery>;
 
 type QueuePass = crossbeam_queue::Pass<Sent, Known>;
 
-/// A bounded inbox for many senders and one receiver.
+/// A bounded inbox for 1 to 64 senders and one receiver.
 #[derive(Drop)]
 pub struct Inbox {
     queue: Queue,
@@ -124,7 +124,8 @@ fn gather(queue: &Queue, mut passes: Vec<Pass>) -> (QueuePass, u64)
 }
 
 impl Inbox {
-    /// An inbox with room for this many tickets, and the passes: first the receiver's, then each sender's.
+    /// An inbox with room for this many tickets, 1 to 4,096, and the passes: first the receiver's, then each sender's. The error is
+    /// want of memory.
     pub fn new(
         alloc: Global,
         capacity: usize,
@@ -144,7 +145,8 @@ impl Inbox {
         Ok((Inbox { queue, senders }, passes))
     }
 
-    /// Puts a ticket, or hands it back where the inbox was full at that step.
+    /// Puts a ticket behind those that wait, or hands it back where the inbox was full at that step. It takes no memory, and waits
+    /// for no room: only for a step of another thread that is under way.
     pub fn put<R: Wait>(&self, rt: &R, pass: &mut Pass, ticket: Ticket) -> Result<(), Full>
         requires { IsSenderOf self.now pass.old }
         ensures pass { IsSamePass pass.old pass.new }
@@ -163,7 +165,8 @@ impl Inbox {
         }
     }
 
-    /// Takes the ticket that waited longest. `None` only where nothing waited at one moment of the call.
+    /// Takes the ticket that waited longest. `None` only where nothing waited at one moment of the call. It takes no memory, and
+    /// waits only for a step of another thread that is under way.
     pub fn take<R: Wait>(&self, rt: &R, pass: &mut Pass) -> Option<Ticket>
         requires { IsReceiverOf self.now pass.old }
         ensures pass { IsSamePass pass.old pass.new }
@@ -174,7 +177,8 @@ impl Inbox {
         Some(sent.ticket)
     }
 
-    /// How many tickets wait, once all passes are back. `Missing` where not each pass is there once.
+    /// How many tickets wait, once all passes are back. `Missing` where not each pass is there once. The inbox and the passes are
+    /// used up either way.
     pub fn settle(self, passes: Vec<Pass>) -> Result<u64, Missing>
         requires { All (IsPassOf self) passes.items }
         ensures { MatchResult result (λ waiting. IsEachOnce self.senders passes.items × Settles self.senders passes.items waiting) (λ _. ¬ IsEachOnce self.senders passes.items) }

@@ -1,4 +1,4 @@
-//! What a seat at a bell knows.
+//! What the seats of a bell know.
 
 // How many seats stand together here, how often they rang, and the most that they have seen. No value of it is made.
 pub struct Tally {
