@@ -1,0 +1,6 @@
+pub mod Lists
+pub mod Inbox
+pub mod Delivery
+pub mod Bell
+pub mod Ringing
+pub mod Ends

@@ -1,0 +1,20 @@
+//! Inboxes, by which many threads hand tickets to one receiver, and bells, which threads ring and hear without waiting.
+#![tactic(auto)]
+
+mod bell;
+mod delivery;
+mod ends;
+mod error;
+mod inbox;
+mod ringing;
+mod sent;
+mod tally;
+
+pub use bell::{Bell, Seat};
+pub use ends::{Receiver, Ringer, Sender};
+pub use error::{Full, Missing};
+pub use inbox::{Inbox, Pass};
+pub use sent::Sent;
+
+#[cfg(test)]
+mod tests;
