@@ -1,10 +1,8 @@
 -- What a run of a script answers, as long as it stands on the plainest bank (this project's own).
 use Rattle.std.specs.Prelude.{◌≡◌, ◌≤◌, ◌≢◌, ℕ, pos, unsigned_abs, List, [], ◌∷◌, map, length, Option, Some, None, Vec, if◌then◌else◌, ◌==◌, not, nat_lt}
 use Rattle.std.specs.declared.alloc.Global.{Global}
-use Rattle.tl_map.specs.declared.numbers.GeometryError.{GeometryError}
 use Rattle.tl_map.specs.declared.numbers.GeometryError.TheVariants.{Clients, Banks, MemoryBlocks}
 use Rattle.tl_map.specs.declared.numbers.GeometryNumbers.{GeometryNumbers}
-use Rattle.tl_map.specs.Refusals.{refusal_of}
 use Rattle.tl_protocol.specs.Ledger.{count_clients, has_copy, is_recorded}
 use Rattle.tl_protocol.specs.declared.shape.Shape.{Shape}
 use Rattle.tl_report.specs.declared.report.Answered.{Answered}
@@ -34,24 +32,19 @@ commands_in (commands ∷ others) = commands.items
 
 -- Until there are banks and threads a run has one client, one bank and one block of memory.
 pub record IsSupported (script : Script) : Type 0 where
-  pub lawful : refusal_of script.numbers ≡ None
   pub one_client : script.numbers.clients ≡ pos 1
   pub one_bank : script.numbers.banks ≡ pos 1
   pub one_block : script.numbers.memory_blocks ≡ pos 1
   pub few : length (commands_in script.commands.items) ≤ 4096
 
 -- what stands against a run of a script, if anything: the first of these in order
-abbrev pub limit_with : Script → Option GeometryError → Option ScriptError
-limit_with script (Some cause) = Some (script_error.Geometry cause)
-limit_with script None =
+abbrev pub limit_of : Script → Option ScriptError
+limit_of script =
     if not (unsigned_abs script.numbers.clients == 1) then Some (script_error.Geometry Clients)
     else if not (unsigned_abs script.numbers.banks == 1) then Some (script_error.Geometry Banks)
     else if not (unsigned_abs script.numbers.memory_blocks == 1) then Some (script_error.Geometry MemoryBlocks)
     else if nat_lt 4096 (length (commands_in script.commands.items)) then Some script_error.TooMany
     else None
-
-abbrev pub limit_of : Script → Option ScriptError
-limit_of script = limit_with script (refusal_of script.numbers)
 
 -- how many copies the clients have, and how many home has recorded, of block 0
 abbrev pub line_of : PlainState → BankLine

@@ -13,13 +13,13 @@ use tl_script::{Script, ScriptError};
 use tl_types::{BlockNo, ClientId};
 use tl_words::Command;
 
-/// Whether a script can be run as long as there is one bank without threads: else its numbers make no geometry, or name more than
-/// one client (20), bank (21) or block of memory (27), or there are more than 4,096 commands.
+/// Whether a script can be run as long as there is one bank without threads. Its numbers may name one client (else cause 20), one
+/// bank (21) and one block of memory (27), and it may have 4,096 commands.
 pub fn supported(script: &Script) -> Result<(), ScriptError>
     ensures ok { OnOk result (IsSupported script.now) }
     ensures refused { IfErr result (λ e. limit_of script.now ≡ Some e) }
 {
-    let geometry = Geometry::new(script.numbers).map_err(ScriptError::Geometry)?;
+    let geometry = script.geometry();
     if geometry.clients() != 1 {
         return Err(ScriptError::Geometry(GeometryError::Clients));
     }
@@ -79,9 +79,7 @@ pub fn run(alloc: Global, script: &Script) -> Result<Report, RunError>
     requires { IsSupported script.now }
     ensures { IfOk result (Reports script.now) }
 {
-    let Ok(geometry) = Geometry::new(script.numbers) else {
-        unreachable!()
-    };
+    let geometry = script.geometry();
     let mut bank = PlainBank::new(alloc, shape_of(geometry), &script.image)?;
     let commands = commands_of(script);
     let mut answers = Vec::with_capacity(alloc, commands.len())?;

@@ -54,6 +54,14 @@ fn write_all<W: Write>(output: &mut W, text: &str) -> io::Result<()>
     output.flush()
 }
 
+/// Writes the line of a fault, where that can be written, and answers its status.
+fn show<E: Write>(faults: &mut E, fault: &Fault) -> u8
+    ensures { result ≡ status_of fault.now }
+{
+    let _ = writeln!(faults, "{fault}");
+    fault.status()
+}
+
 /// Writes the whole answer to `output`, or one line to `faults` that says what stopped the job, and answers the status: 0 where
 /// all was written, else that of the fault. A failing `faults` does not change it.
 pub fn answer<R: Read + Drop, W: Write, E: Write>(
@@ -69,15 +77,13 @@ pub fn answer<R: Read + Drop, W: Write, E: Write>(
     ensures nothing { result ≢ 0 → result ≢ 5 → W.contents output.new ≡ W.contents output.old }
     ensures usage { IfErr job (λ e. result ≡ status_of (fault_of_job e)) }
 {
-    let fault = match text(alloc, job, file) {
+    match text(alloc, job, file) {
         Ok(text) => match write_all(output, &text) {
-            Ok(()) => return 0,
-            Err(_) => Fault::File,
+            Ok(()) => 0,
+            Err(_) => show(faults, &Fault::File),
         },
-        Err(fault) => fault,
-    };
-    let _ = writeln!(faults, "{fault}");
-    fault.status()
+        Err(fault) => show(faults, &fault),
+    }
 }
 
 #[cfg(test)]

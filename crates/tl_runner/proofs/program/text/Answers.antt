@@ -14,8 +14,11 @@ known_read (Some all) bytes script same read = ap read_of (sym same) ∙ read
 pub returns-clause-answer : goal.returns-clause-answer
 returns-clause-answer g c =
     let known : IfSome (g.R.Read.remaining c.in_ok-reader.reader) (λ all. c.deref.result.now ≡ all) =
-        rw c.deref.ensures.value c.in_ok-bytes.ensures in
-    let read : read_of c.deref.result.now ≡ Ok (value_of c.in_ok-script.script) = c.in_ok-script.ensures in
-    (c.in_ok-script.script, c.in_ok-report.report,
-    rw c.in_ok-reader.ensures.ok_part (known_read _ c.deref.result.now (value_of c.in_ok-script.script) known read),
-    c.in_ok-report.ensures, c.in_ok-text.ensures)
+    rw c.deref.ensures.value c.in_ok-bytes.ensures in
+    let read : read_of c.deref.result.now ≡ Ok (value_of c.in_ok-script.script) = c.in_ok-script.ensures in (
+      c.in_ok-script.script,
+      c.in_ok-report.report,
+      rw c.in_ok-reader.ensures.ok_part (known_read _ c.deref.result.now (value_of c.in_ok-script.script) known read),
+      c.in_ok-report.ensures,
+      c.in_ok-text.ensures,
+    )
