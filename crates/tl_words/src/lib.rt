@@ -12,7 +12,9 @@ mod words;
 pub use command::Command;
 pub use error::ParseError;
 pub use hex::{Address, Hex};
-pub use laws::numbers_are_printed;
+pub use laws::{
+    addresses_are_read_back, bytes_are_read_back, numbers_are_printed, tickets_are_read_back,
+};
 pub use step::{BlockCall, Step, TicketCall};
 pub use words::parse_bytes;
 
