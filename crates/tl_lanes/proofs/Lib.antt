@@ -1,3 +1,5 @@
+pub mod Cells
+pub mod Delivery
 pub mod Events
 pub mod Lists
 pub mod Logs

@@ -1,3 +1,4 @@
+pub mod Delivery
 pub mod Lanes
 pub mod Lawful
 pub mod Lists

@@ -1,4 +1,5 @@
 //! How each event moves the messages between clients and home, and what holds of logs that take them in order.
+ghost use Rattle.tl_lanes.specs.Delivery.{EveryMessageIsDeliveredInOrder};
 ghost use Rattle.tl_lanes.specs.Lawful.{EmptyIsLawful, FirstHeadsItsList, LanesGrowByOne, LawfulGrowsByOne, MessagesFitTheirChannels};
 ghost use Rattle.tl_lanes.specs.Lists.{EveryEventIsOfOneClient, EveryEventMovesItsLists, EverySuchEventLeavesHome};
 
@@ -18,4 +19,9 @@ pub fn every_lawful_log()
     ensures lanes { LanesGrowByOne }
     ensures first { FirstHeadsItsList }
     ensures kinds { MessagesFitTheirChannels }
+{}
+
+/// Each message on a channel is taken once, and in the order of sending.
+pub fn every_message()
+    ensures { EveryMessageIsDeliveredInOrder }
 {}

@@ -3,4 +3,4 @@
 
 mod laws;
 
-pub use laws::{every_event, every_lawful_log};
+pub use laws::{every_event, every_lawful_log, every_message};

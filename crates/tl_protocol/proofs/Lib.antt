@@ -7,6 +7,7 @@ pub mod Ledger
 pub mod Messages
 pub mod OneMemory
 pub mod Pending
+pub mod Probes
 pub mod Runs
 pub mod Sizes
 pub mod Steps

@@ -7,6 +7,7 @@ pub mod Home
 pub mod Ledger
 pub mod OneMemory
 pub mod Pending
+pub mod Probes
 pub mod Protocol
 pub mod Queue
 pub mod Runs

@@ -7,6 +7,8 @@ mod event;
 mod home;
 mod queue;
 mod shape;
+#[cfg(test)]
+mod tests;
 mod theorem;
 
 pub use client::Client;
