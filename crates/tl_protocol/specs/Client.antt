@@ -1,5 +1,5 @@
 -- A client on one block: what is pending at it, what it may do, and what that leaves (TileLink 1.8, section 9).
-use Rattle.std.specs.Prelude.{◌≡◌, ◌≢◌, ℕ, ◌+◌, ◌-◌, Bool, true, false, List, [], ◌∷◌, ◌++◌, drop, Option, Some, None}
+use Rattle.std.specs.Prelude.{◌≡◌, ◌≢◌, ℕ, ◌+◌, ◌-◌, false, List, [], ◌∷◌, ◌++◌, drop, Option, Some, None}
 use Rattle.std.specs.List.{list_any}
 use Rattle.tl_protocol.specs.Queue.{HasFirst}
 use Rattle.tl_types.specs.Permission.{grow_from, prune_from, prune_to, probe_perm, grant_perm}

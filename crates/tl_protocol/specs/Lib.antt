@@ -1,11 +1,13 @@
 pub mod Access
 pub mod Client
 pub mod Coherent
-pub mod Example
 pub mod Copy
+pub mod Example
+pub mod Home
 pub mod Ledger
 pub mod OneMemory
-pub mod Home
+pub mod Pending
 pub mod Protocol
 pub mod Queue
 pub mod Runs
+pub mod Sizes

@@ -19,13 +19,21 @@ use tl_types::{
 /// A client, the permission that home records for it, and the messages between them, oldest first.
 #[derive(Drop)]
 pub struct Client {
+    /// Its copy.
     pub held: CachedCopy,
+    /// The answer that it waits for.
     pub wait: Wait,
+    /// The permission that home records for it.
     pub recorded: Perm,
+    /// Acquires, from the client.
     pub a: Queue<Grow>,
+    /// Probes, to the client.
     pub b: Queue<ProbeCap>,
+    /// Answers to Probes, and Releases, from the client.
     pub c: Queue<Upward>,
+    /// Grants and ReleaseAcks, to the client.
     pub d: Queue<Downward>,
+    /// GrantAcks, from the client.
     pub e: AckCount,
 }
 
@@ -46,6 +54,7 @@ impl Client {
         }
     }
 
+    /// Whether it may load these bytes: it has a copy with them, and they lie in one block.
     pub fn may_load(&self, shape: Shape, access: &Access) -> bool
         requires { (0 < shape.block_bytes) × (shape.block_bytes ≤ 64) }
         ensures { IsTrue result ↔ MayLoad shape self.now access.now }
@@ -56,6 +65,7 @@ impl Client {
                 .reads_as(access.address % shape.block_bytes, &access.bytes)
     }
 
+    /// Whether it may store: its copy is at Tip, and the bytes lie in one block.
     pub fn may_store(&self, shape: Shape, access: &Access) -> bool
         requires { (0 < shape.block_bytes) × (shape.block_bytes ≤ 64) }
         ensures { IsTrue result ↔ MayStore shape self.now access.now }
@@ -63,54 +73,63 @@ impl Client {
         access.fits_block(shape) && self.held.perm() == Perm::Tip
     }
 
+    /// Whether a GrantAck is on its way to home.
     pub fn may_take_grant_ack(&self) -> bool
         ensures { IsTrue result ↔ (0 < self.now.e) }
     {
         !self.e.is_empty()
     }
 
+    /// Whether it may ask for more: it waits for nothing, and its copy has the permission that `grow` starts from.
     pub fn may_send_acquire(&self, grow: Grow) -> bool
         ensures { IsTrue result ↔ MaySendAcquire self.now grow }
     {
         self.wait == Wait::Nothing && self.held.perm() == grow.from()
     }
 
+    /// Whether it may give up: it waits for nothing, and its copy has the permission that `prune` starts from.
     pub fn may_send_release(&self, prune: Prune) -> bool
         ensures { IsTrue result ↔ MaySendRelease self.now prune }
     {
         self.wait == Wait::Nothing && self.held.perm() == prune.from()
     }
 
+    /// Whether it may answer a Probe: there is one, and no Release of its own waits for the answer.
     pub fn may_answer_probe(&self) -> bool
         ensures { IsTrue result ↔ MayAnswerProbe self.now }
     {
         self.b.has_first() && self.wait != Wait::ForReleaseAck
     }
 
+    /// Whether the first message on D is a Grant.
     pub fn may_take_grant(&self) -> bool
         ensures { IsTrue result ↔ MayTakeGrant self.now }
     {
         matches!(self.d.as_slice(), [Downward::Grant(_, _), ..])
     }
 
+    /// Whether the first message on D is a ReleaseAck.
     pub fn may_take_release_ack(&self) -> bool
         ensures { IsTrue result ↔ MayTakeReleaseAck self.now }
     {
         matches!(self.d.as_slice(), [Downward::ReleaseAck, ..])
     }
 
+    /// Whether an Acquire is on A.
     pub fn may_take_a(&self) -> bool
         ensures { IsTrue result ↔ MayTakeA self.now }
     {
         self.a.has_first()
     }
 
+    /// Whether a message is on C.
     pub fn may_take_c(&self) -> bool
         ensures { IsTrue result ↔ MayTakeC self.now }
     {
         self.c.has_first()
     }
 
+    /// Whether an answer to a Probe is on C.
     fn has_probe_ack(&self) -> bool
         ensures { result ≡ list_any is_probe_ack self.now.c }
     {
@@ -120,24 +139,28 @@ impl Client {
             .any(|message| message.is_probe_ack())
     }
 
+    /// Whether a Grant is on D.
     fn has_grant(&self) -> bool
         ensures { result ≡ list_any is_grant self.now.d }
     {
         self.d.as_slice().iter().any(|message| message.is_grant())
     }
 
+    /// Whether no Probe is pending: none on its way, and no answer to one.
     pub fn has_no_probe(&self) -> bool
         ensures { IsTrue result ↔ NoProbePending self.now }
     {
         self.b.is_empty() && !self.has_probe_ack()
     }
 
+    /// Whether no Grant is pending: none on its way, and no GrantAck of one.
     pub fn has_no_grant(&self) -> bool
         ensures { IsTrue result ↔ NoGrantPending self.now }
     {
         self.e.is_empty() && !self.has_grant()
     }
 
+    /// Writes the bytes of a store over its copy, from `offset` of the block on.
     pub fn store(&mut self, offset: usize, access: &AccessBytes)
         requires { offset + length access.now ≤ 64 }
         ensures { self.new ≡ stored self.old offset access.now }
@@ -145,6 +168,7 @@ impl Client {
         self.held.store(offset, access);
     }
 
+    /// Sends an Acquire, and waits for its Grant. Out of memory leaves it as it was.
     pub fn send_acquire(&mut self, grow: Grow) -> Result<(), AllocError>
         ensures ok { OnOk result (self.new ≡ sent_acquire self.old grow) }
         ensures err { OnErr result (self.new ≡ self.old) }
@@ -154,6 +178,8 @@ impl Client {
         Ok(())
     }
 
+    /// Sends a Release with the bytes of a dirty copy, keeps what `prune` leaves and waits for the ReleaseAck. Out of memory leaves it
+    /// as it was.
     pub fn send_release(&mut self, prune: Prune) -> Result<(), AllocError>
         ensures ok { OnOk result (self.new ≡ released self.old prune) }
         ensures err { OnErr result (self.new ≡ self.old) }
@@ -165,7 +191,8 @@ impl Client {
         Ok(())
     }
 
-    /// Answers the first Probe, where there is one.
+    /// Answers the first Probe, where there is one: gives the bytes of a dirty copy, and keeps what the Probe leaves. Out of memory
+    /// leaves it as it was.
     pub fn answer_probe(&mut self) -> Result<(), AllocError>
         ensures ok { OnOk result (self.new ≡ answered self.old self.old.b) }
         ensures err { OnErr result (self.new ≡ self.old) }
@@ -180,7 +207,7 @@ impl Client {
         Ok(())
     }
 
-    /// Takes the Grant at the front of D, and sends its GrantAck.
+    /// Takes the Grant at the front of D, and sends its GrantAck. Out of memory leaves it as it was.
     pub fn take_grant(&mut self) -> Result<(), AllocError>
         requires { MayTakeGrant self.old }
         ensures ok { OnOk result (self.new ≡ took_grant self.old self.old.d) }
@@ -195,6 +222,7 @@ impl Client {
         Ok(())
     }
 
+    /// Takes the ReleaseAck at the front of D, and waits for nothing then.
     pub fn take_release_ack(&mut self)
         ensures { self.new ≡ took_release_ack self.old }
     {
@@ -202,6 +230,7 @@ impl Client {
         self.wait = Wait::Nothing;
     }
 
+    /// Sends a Probe to the client. Out of memory leaves it as it was.
     pub fn send_probe(&mut self, cap: ProbeCap) -> Result<(), AllocError>
         ensures ok { OnOk result (self.new ≡ sent_probe self.old cap) }
         ensures err { OnErr result (self.new ≡ self.old) }
@@ -209,7 +238,8 @@ impl Client {
         self.b.push(cap)
     }
 
-    /// Takes the first message of C for home, and answers a Release. Gives the bytes that the message carries.
+    /// Takes the first message of C for home, records what it leaves, and answers a Release. Gives the bytes that the message carries.
+    /// Out of memory leaves it as it was.
     pub fn take_c(&mut self) -> Result<Option<BlockBytes>, AllocError>
         requires { MayTakeC self.old }
         ensures ok { OnOk result (self.new ≡ took_c_from self.old self.old.c) }
@@ -228,13 +258,15 @@ impl Client {
         }
     }
 
+    /// Takes a GrantAck for home.
     pub fn take_grant_ack(&mut self)
         ensures { self.new ≡ took_grant_ack self.old }
     {
         self.e.remove();
     }
 
-    /// Sends a Grant, with home's bytes where home records nothing of the client.
+    /// Sends a Grant and records what it gives, with home's bytes where home recorded nothing of the client. Out of memory leaves it
+    /// as it was.
     pub fn send_grant(&mut self, cap: GrantCap, home: &BlockBytes) -> Result<(), AllocError>
         ensures ok { OnOk result (self.new ≡ sent_grant self.old cap home.now) }
         ensures err { OnErr result (self.new ≡ self.old) }

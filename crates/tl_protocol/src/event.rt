@@ -1,3 +1,4 @@
+//! The steps of clients, home and the memory.
 ghost use Rattle.std.specs.Prelude.{◌≡◌, ◌↔◌, ◌<◌, ◌≤◌, IsTrue};
 ghost use Rattle.tl_protocol.specs.Access.{FitsBlock};
 ghost use Rattle.tl_protocol.specs.Protocol.{block_of};
@@ -32,23 +33,41 @@ impl Access {
 /// One step of a client, of home or of the memory.
 #[derive(Drop)]
 pub enum Event {
+    /// A client reads bytes of its copy.
     Load(Access),
+    /// A client writes bytes of its copy.
     Store(Access),
+    /// A client asks for more.
     SendAcquire(ClientId, BlockNo, Grow),
+    /// A client gives up.
     SendRelease(ClientId, BlockNo, Prune),
+    /// A client answers its first Probe.
     AnswerProbe(ClientId, BlockNo),
+    /// A client takes its Grant, and acknowledges it.
     TakeGrant(ClientId, BlockNo),
+    /// A client takes the answer to its Release.
     TakeReleaseAck(ClientId, BlockNo),
+    /// Home takes an Acquire, which it serves from then on.
     AcceptAcquire(ClientId, BlockNo),
+    /// Home asks a client to give up.
     SendProbe(ClientId, BlockNo, ProbeCap),
+    /// Home takes a client's first message of C, and answers a Release.
     TakeC(ClientId, BlockNo),
+    /// Home grants the Acquire that it serves.
     SendGrant(ClientId, BlockNo),
+    /// Home takes the acknowledgement of a Grant, and serves nobody then.
     TakeGrantAck(ClientId, BlockNo),
+    /// Home asks the memory for the block.
     SendGet(BlockNo),
+    /// The memory answers.
     Serve(BlockNo),
+    /// Home takes the bytes that it asked for.
     TakeData(BlockNo),
+    /// Home gives up its clean copy.
     Drop(BlockNo),
+    /// Home writes its dirty copy back, and gives it up.
     SendPut(BlockNo),
+    /// Home takes the memory's acknowledgement.
     TakePutAck(BlockNo),
 }
 

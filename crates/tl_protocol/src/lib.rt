@@ -7,6 +7,7 @@ mod event;
 mod home;
 mod queue;
 mod shape;
+mod theorem;
 
 pub use client::Client;
 pub use copy::CachedCopy;
@@ -14,3 +15,4 @@ pub use event::{Access, Event};
 pub use home::{Accepted, Line, Outward};
 pub use queue::{AckCount, Queue};
 pub use shape::Shape;
+pub use theorem::{every_block, every_run, some_run};

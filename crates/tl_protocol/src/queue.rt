@@ -21,6 +21,7 @@ impl<T> Model for Queue<T> {
 }
 
 impl<T: Drop> Queue<T> {
+    /// An empty list.
     pub fn new(alloc: Global) -> Queue<T>
         ensures { result ≡ [] }
     {
@@ -29,6 +30,7 @@ impl<T: Drop> Queue<T> {
         }
     }
 
+    /// A message joins the end. Out of memory leaves the list as it was.
     pub fn push(&mut self, item: T) -> Result<(), AllocError>
         ensures ok { OnOk result (self.new ≡ self.old ++ item ∷ []) }
         ensures err { OnErr result (self.new ≡ self.old) }
@@ -37,6 +39,7 @@ impl<T: Drop> Queue<T> {
         Ok(())
     }
 
+    /// The first message leaves, where there is one.
     pub fn pop_front(&mut self) -> Option<T>
         ensures { MatchOption result ((self.old ≡ []) × (self.new ≡ [])) (λ item. self.old ≡ item ∷ self.new) }
     {
@@ -47,18 +50,21 @@ impl<T: Drop> Queue<T> {
         }
     }
 
+    /// Whether there is none.
     pub fn is_empty(&self) -> bool
         ensures { IsTrue result ↔ (self.now ≡ []) }
     {
         self.items.is_empty()
     }
 
+    /// Whether there is a first message.
     pub fn has_first(&self) -> bool
         ensures { IsTrue result ↔ HasFirst self.now }
     {
         !self.as_slice().is_empty()
     }
 
+    /// All messages, oldest first.
     pub fn as_slice(&self) -> &[T]
         ensures { result.now ≡ self.now }
     {
@@ -81,6 +87,7 @@ impl Model for AckCount {
 }
 
 impl AckCount {
+    /// No acknowledgement.
     pub fn new(alloc: Global) -> AckCount
         ensures { result ≡ 0 }
     {
@@ -89,6 +96,7 @@ impl AckCount {
         }
     }
 
+    /// One more. Out of memory leaves the count as it was.
     pub fn add(&mut self) -> Result<(), AllocError>
         ensures ok { OnOk result (self.new ≡ self.old + 1) }
         ensures err { OnErr result (self.new ≡ self.old) }
@@ -97,12 +105,14 @@ impl AckCount {
         Ok(())
     }
 
+    /// One less, where there is one.
     pub fn remove(&mut self)
         ensures { self.new ≡ self.old - 1 }
     {
         self.acks.pop();
     }
 
+    /// Whether there is none.
     pub fn is_empty(&self) -> bool
         ensures { IsTrue result ↔ (self.now ≡ 0) }
     {

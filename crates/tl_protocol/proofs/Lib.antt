@@ -1,0 +1,14 @@
+pub mod Blocks
+pub mod Clients
+pub mod Coherent
+pub mod Example
+pub mod Invariant
+pub mod Ledger
+pub mod Messages
+pub mod OneMemory
+pub mod Pending
+pub mod Runs
+pub mod Sizes
+pub mod Steps
+pub mod Talk
+pub mod Values
