@@ -1,0 +1,9 @@
+//! The ways of the cache: which block lies where, whom home records with which permission, which way is taken next, and
+//! the bytes of each way.
+#![tactic(auto)]
+
+mod entry;
+mod way;
+
+pub use entry::Entry;
+pub use way::Way;
