@@ -1,1 +1,3 @@
 pub mod Lines
+pub mod Orders
+pub mod Rows

@@ -3,6 +3,7 @@
 #![tactic(auto)]
 
 mod entry;
+mod row;
 mod way;
 
 pub use entry::Entry;
