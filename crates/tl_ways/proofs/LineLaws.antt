@@ -80,10 +80,10 @@ cleared : (branches client other : ℕ) → branches < 2 ^ 16 → client < 16 �
     → bit_at (bit_and branches (bit_not w16 (1 * 2 ^ client % 2 ^ bits w16))) other ≡ bit_at branches other
 cleared branches client other small known apart =
     elim (cases_lt other 16) [
-        | inl below ↦ bit_at_clear_other w16 branches client known other below apart
-        | inr past ↦
-            let less = and_le_l branches (bit_not w16 (1 * 2 ^ client % 2 ^ bits w16)) in
-            bit_at_above _ 16 other (omega (arith, less)) past ∙ sym (bit_at_above branches 16 other small past)
+      | inl below ↦ bit_at_clear_other w16 branches client known other below apart
+      | inr past ↦
+          let less = and_le_l branches (bit_not w16 (1 * 2 ^ client % 2 ^ bits w16)) in
+          bit_at_above _ 16 other (omega (arith, less)) past ∙ sym (bit_at_above branches 16 other small past)
     ]
 
 -- what is recorded for a client and for the others
@@ -92,12 +92,12 @@ answer : (perm : Perm) (line line' : Line) (client : ℕ) → perm_of line' clie
     → (other : ℕ) → perm_of line' other ≡ (if other == client then perm else perm_of line other)
 answer perm line line' client own others other =
     elim (cases_eq other client) [
-        | inl same ↦
-            let test : (other == client) ≡ true = grind (arith, nat_tests) in
-            rw (test, same) own
-        | inr apart ↦
-            let test : (other == client) ≡ false = grind (arith, nat_tests) in
-            rw test (others other apart)
+      | inl same ↦
+          let test : (other == client) ≡ true = grind (arith, nat_tests) in
+          rw (test, same) own
+      | inr apart ↦
+          let test : (other == client) ≡ false = grind (arith, nat_tests) in
+          rw test (others other apart)
     ]
 
 -- beside a new owner no other has a permission
@@ -111,31 +111,31 @@ pub perm_of-tip : (line : Line) (client : ℕ) → ((other : ℕ) → other ≢ 
     → perm_of (record line { owner = Some client; branches = 0 }) other ≡ (if other == client then Tip else perm_of line other)
 perm_of-tip line client none =
     answer Tip line (record line { owner = Some client; branches = 0 }) client (perm_of-owner _ client refl)
-        (λ other apart. beside line client other apart ∙ sym (none other apart))
+    (λ other apart. beside line client other apart ∙ sym (none other apart))
 
 -- Branch for a client beside which none has Tip
 pub perm_of-branch : (line : Line) (client : ℕ) → client < 16 → ((other : ℕ) → other ≢ client → perm_of line other ≢ Tip) → (other : ℕ)
     → perm_of (record line { owner = None; branches = bit_or line.branches (1 * 2 ^ client % 2 ^ bits w16) }) other
-        ≡ (if other == client then Branch else perm_of line other)
+    ≡ (if other == client then Branch else perm_of line other)
 perm_of-branch line client known none =
     answer Branch line _ client (perm_of-bit _ client (λ no. cc) ∙ ap (perm_by false) (bit_at_set_same w16 line.branches client known))
-        (λ other apart.
-            perm_of-bit _ other (λ no. cc)
-                ∙ ap (perm_by false) (bit_at_set_other w16 line.branches client known other apart)
-                ∙ sym (perm_of-bit line other (λ owner. none other apart (perm_of-owner line other owner))))
+    (λ other apart.
+    perm_of-bit _ other (λ no. cc)
+    ∙ ap (perm_by false) (bit_at_set_other w16 line.branches client known other apart)
+    ∙ sym (perm_of-bit line other (λ owner. none other apart (perm_of-owner line other owner))))
 
 -- no permission for the owner
 pub perm_of-ended : (line : Line) (client : ℕ) → IsDirectory line → client < 16 → line.owner ≡ Some client → (other : ℕ)
     → perm_of (record line { owner = None; branches = bit_and line.branches (bit_not w16 (1 * 2 ^ client % 2 ^ bits w16)) }) other
-        ≡ (if other == client then NoAccess else perm_of line other)
+    ≡ (if other == client then NoAccess else perm_of line other)
 perm_of-ended line client kept known owner =
     answer NoAccess line _ client (perm_of-bit _ client (λ no. cc) ∙ ap (perm_by false) (bit_at_clear_same w16 line.branches client known))
-        (λ other apart.
-            let none : line.branches ≡ 0 = rw owner at kept.alone in
-            let zero : bit_at line.branches other ≡ 0 = rw none (bit_at-zero other) in
-            perm_of-bit _ other (λ no. cc)
-                ∙ ap (perm_by false) (cleared line.branches client other kept.branches known apart ∙ zero)
-                ∙ sym (perm_of-beside line client other kept owner apart))
+    (λ other apart.
+    let none : line.branches ≡ 0 = rw owner at kept.alone in
+    let zero : bit_at line.branches other ≡ 0 = rw none (bit_at-zero other) in
+    perm_of-bit _ other (λ no. cc)
+    ∙ ap (perm_by false) (cleared line.branches client other kept.branches known apart ∙ zero)
+    ∙ sym (perm_of-beside line client other kept owner apart))
 
 -- an entry with another mask of the same bit
 same_bit : (line : Line) (branches client : ℕ) → bit_at branches client ≡ bit_at line.branches client
@@ -146,7 +146,7 @@ same_bit line branches client bit = ap (perm_by (is_owner line.owner client)) bi
 -- no permission for another client
 pub perm_of-cleared : (line : Line) (client : ℕ) → IsDirectory line → client < 16 → (line.owner ≡ Some client → ⊥) → (other : ℕ)
     → perm_of (record line { branches = bit_and line.branches (bit_not w16 (1 * 2 ^ client % 2 ^ bits w16)) }) other
-        ≡ (if other == client then NoAccess else perm_of line other)
+    ≡ (if other == client then NoAccess else perm_of line other)
 perm_of-cleared line client kept known no_owner =
     answer NoAccess line _ client (perm_of-bit _ client no_owner ∙ ap (perm_by false) (bit_at_clear_same w16 line.branches client known))
-        (λ other apart. same_bit line _ other (cleared line.branches client other kept.branches known apart))
+    (λ other apart. same_bit line _ other (cleared line.branches client other kept.branches known apart))

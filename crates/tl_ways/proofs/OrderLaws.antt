@@ -22,23 +22,23 @@ among-either way last [] (inl same) = inl same
 among-either way last [] (inr none) = absurd none
 among-either way last (x ∷ xs) (inl same) = inr (inl same)
 among-either way last (x ∷ xs) (inr among) =
-    elim (among-either way last xs among) [ | inl same ↦ inl same | inr rest ↦ inr (inr rest) ]
+    elim (among-either way last xs among) [ inl same ↦ inl same | inr rest ↦ inr (inr rest) ]
 
 -- the numbers below n are those that rise to it
 pub among-rising : (n way : ℕ) → way < n → IsAmong way (rising n)
 among-rising zero way below = absurd (omega arith)
 among-rising (suc n) way below =
     elim (cases_eq way n) [
-        | inl same ↦ rw same (among-end n (rising n))
-        | inr other ↦ among-front way n (rising n) (among-rising n way (grind (arith, other)))
+      | inl same ↦ rw same (among-end n (rising n))
+      | inr other ↦ among-front way n (rising n) (among-rising n way (grind (arith, other)))
     ]
 
 pub rising-only : (n way : ℕ) → IsAmong way (rising n) → way < n
 rising-only zero way none = absurd none
 rising-only (suc n) way among =
     elim (among-either way n (rising n) among) [
-        | inl same ↦ omega arith
-        | inr rest ↦ let below = rising-only n way rest in omega arith
+      | inl same ↦ omega arith
+      | inr rest ↦ let below = rising-only n way rest in omega arith
     ]
 
 pub length-rising : (n : ℕ) → length (rising n) ≡ n
@@ -63,12 +63,12 @@ pub without-append : (way : ℕ) (xs ys : List ℕ) → without way (xs ++ ys) �
 without-append way [] ys = refl
 without-append way (x ∷ xs) ys =
     elim (cases_eq x way) [
-        | inl same ↦
-            without-same way x (xs ++ ys) same ∙ without-append way xs ys
-                ∙ ap (λ (zs : List ℕ). zs ++ without way ys) (sym (without-same way x xs same))
-        | inr other ↦
-            without-other way x (xs ++ ys) other ∙ ap (λ (zs : List ℕ). x ∷ zs) (without-append way xs ys)
-                ∙ ap (λ (zs : List ℕ). zs ++ without way ys) (sym (without-other way x xs other))
+      | inl same ↦
+          without-same way x (xs ++ ys) same ∙ without-append way xs ys
+          ∙ ap (λ (zs : List ℕ). zs ++ without way ys) (sym (without-same way x xs same))
+      | inr other ↦
+          without-other way x (xs ++ ys) other ∙ ap (λ (zs : List ℕ). x ∷ zs) (without-append way xs ys)
+          ∙ ap (λ (zs : List ℕ). zs ++ without way ys) (sym (without-other way x xs other))
     ]
 
 -- no longer than before
@@ -77,8 +77,8 @@ length-without way [] = omega arith
 length-without way (x ∷ xs) =
     let rest = length-without way xs in
     elim (cases_eq x way) [
-        | inl same ↦ rw (without-same way x xs same) (omega (arith, rest))
-        | inr other ↦ rw (without-other way x xs other) (omega (arith, rest))
+      | inl same ↦ rw (without-same way x xs same) (omega (arith, rest))
+      | inr other ↦ rw (without-other way x xs other) (omega (arith, rest))
     ]
 
 -- shorter where the way was there
@@ -90,8 +90,8 @@ length-without-among way (x ∷ xs) (inl same) =
 length-without-among way (x ∷ xs) (inr among) =
     let rest = length-without-among way xs among in
     elim (cases_eq x way) [
-        | inl same ↦ rw (without-same way x xs same) (omega (arith, rest))
-        | inr other ↦ rw (without-other way x xs other) (omega (arith, rest))
+      | inl same ↦ rw (without-same way x xs same) (omega (arith, rest))
+      | inr other ↦ rw (without-other way x xs other) (omega (arith, rest))
     ]
 
 -- another way stays
@@ -101,8 +101,8 @@ among-without way other (x ∷ xs) apart (inl same) =
     rw (without-other way x xs (λ is. apart (same ∙ is))) (inl same)
 among-without way other (x ∷ xs) apart (inr among) =
     elim (cases_eq x way) [
-        | inl same ↦ rw (without-same way x xs same) (among-without way other xs apart among)
-        | inr differ ↦ rw (without-other way x xs differ) (inr (among-without way other xs apart among))
+      | inl same ↦ rw (without-same way x xs same) (among-without way other xs apart among)
+      | inr differ ↦ rw (without-other way x xs differ) (inr (among-without way other xs apart among))
     ]
 
 kept : (way other x : ℕ) (xs : List ℕ) → ((among : IsAmong other (without way xs)) → IsAmong other xs)
@@ -115,24 +115,24 @@ without-among : (way other : ℕ) (xs : List ℕ) → IsAmong other (without way
 without-among way other [] none = none
 without-among way other (x ∷ xs) among =
     elim (cases_eq x way) [
-        | inl same ↦ inr (without-among way other xs (rw (without-same way x xs same) at among))
-        | inr differ ↦ kept way other x xs (without-among way other xs) (rw (without-other way x xs differ) at among)
+      | inl same ↦ inr (without-among way other xs (rw (without-same way x xs same) at among))
+      | inr differ ↦ kept way other x xs (without-among way other xs) (rw (without-other way x xs differ) at among)
     ]
 
 -- after a touch the order has each way that it had
 pub among-touched : (way other : ℕ) (order : List ℕ) → IsAmong other order → IsAmong other (touched way order)
 among-touched way other order among =
     elim (cases_eq other way) [
-        | inl same ↦ rw same (among-end way (without way order))
-        | inr apart ↦ among-front other way (without way order) (among-without way other order apart among)
+      | inl same ↦ rw same (among-end way (without way order))
+      | inr apart ↦ among-front other way (without way order) (among-without way other order apart among)
     ]
 
 -- and no other
 pub touched-only : (way other : ℕ) (order : List ℕ) → IsAmong way order → IsAmong other (touched way order) → IsAmong other order
 touched-only way other order there among =
     elim (among-either other way (without way order) among) [
-        | inl same ↦ rw same there
-        | inr rest ↦ without-among way other order rest
+      | inl same ↦ rw same there
+      | inr rest ↦ without-among way other order rest
     ]
 
 -- and no more
@@ -148,8 +148,8 @@ pub lowest-found : (test : ℕ → Bool) (i n : ℕ) → i < n → lowest test i
 lowest-found test i zero below none passes = absurd (omega arith)
 lowest-found test i (suc n) below none passes =
     elim (cases_eq i n) [
-        | inl same ↦ rw (← same) (rw (none, passes) refl)
-        | inr other ↦ rw (lowest-found test i n (grind (arith, other)) none passes) refl
+      | inl same ↦ rw (← same) (rw (none, passes) refl)
+      | inr other ↦ rw (lowest-found test i n (grind (arith, other)) none passes) refl
     ]
 
 -- one number more that does not pass
@@ -173,8 +173,8 @@ pub found-among : (test : ℕ → Bool) (xs : List ℕ) (way : ℕ) → find tes
 found-among test [] way found = absurd (cc)
 found-among test (x ∷ xs) way found =
     elim (head-found (test x) x way (find test xs) found) [
-        | inl same ↦ inl (sym same)
-        | inr rest ↦ inr (found-among test xs way rest)
+      | inl same ↦ inl (sym same)
+      | inr rest ↦ inr (found-among test xs way rest)
     ]
 
 -- where nothing is found, all fail
@@ -204,7 +204,6 @@ pub touch_step : (way x i : ℕ) (xs order : List ℕ) → i < length xs → x �
 touch_step way x i xs order inside is so_far =
     let longer : take (i + 1) xs ≡ take i xs ++ x ∷ [] = rw is ((take_at_read xs i x inside).1) in
     rw (longer, without-append way (take i xs) (x ∷ []), so_far) refl
-
 
 -- all of a list
 pub take-all : (xs : List ℕ) (i : ℕ) → length xs ≤ i → take i xs ≡ xs

@@ -33,19 +33,19 @@ pub IsRow-with_line : (row : Row) (way : ℕ) (line : Option Line) → IsRow row
 IsRow-with_line row way line kept inside alone = record {
   distinct = λ tag v w first second.
       elim (cases_eq v way) [
-          | inl v_is ↦ elim (cases_eq w way) [
-              | inl w_is ↦ v_is ∙ sym w_is
-              | inr w_not ↦
-                  absurd (alone tag w (sym (tag_in-same row way line inside) ∙ (rw v_is at first)) w_not
-                      (sym (tag_in-other row way w line w_not) ∙ second))
-          ]
-          | inr v_not ↦ elim (cases_eq w way) [
-              | inl w_is ↦
-                  absurd (alone tag v (sym (tag_in-same row way line inside) ∙ (rw w_is at second)) v_not
-                      (sym (tag_in-other row way v line v_not) ∙ first))
-              | inr w_not ↦
-                  kept.distinct tag v w (sym (tag_in-other row way v line v_not) ∙ first) (sym (tag_in-other row way w line w_not) ∙ second)
-          ]
+        | inl v_is ↦ elim (cases_eq w way) [
+          | inl w_is ↦ v_is ∙ sym w_is
+          | inr w_not ↦
+              absurd (alone tag w (sym (tag_in-same row way line inside) ∙ (rw v_is at first)) w_not
+              (sym (tag_in-other row way w line w_not) ∙ second))
+        ]
+        | inr v_not ↦ elim (cases_eq w way) [
+          | inl w_is ↦
+              absurd (alone tag v (sym (tag_in-same row way line inside) ∙ (rw w_is at second)) v_not
+              (sym (tag_in-other row way v line v_not) ∙ first))
+          | inr w_not ↦
+              kept.distinct tag v w (sym (tag_in-other row way v line v_not) ∙ first) (sym (tag_in-other row way w line w_not) ∙ second)
+        ]
       ];
   all = λ other below. kept.all other (rw (length-set row.lines way line) at below);
   only = λ other among. rw (length-set row.lines way line) (kept.only other among);

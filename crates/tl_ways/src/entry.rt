@@ -82,7 +82,11 @@ impl Entry {
         if number >= Entry::CLIENTS {
             return Perm::None;
         }
-        if self.branches >> number & 1 == 1 { Perm::Branch } else { Perm::None }
+        if self.branches >> number & 1 == 1 {
+            Perm::Branch
+        } else {
+            Perm::None
+        }
     }
 
     /// Records a permission for a client. Beside Tip no other client may have any permission.
@@ -113,3 +117,6 @@ impl Entry {
         }
     }
 }
+
+#[cfg(test)]
+mod tests;

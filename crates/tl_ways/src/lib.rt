@@ -4,7 +4,11 @@
 
 mod entry;
 mod row;
+mod store;
 mod way;
+mod ways;
 
 pub use entry::Entry;
+pub use store::BankedStore;
 pub use way::Way;
+pub use ways::Ways;

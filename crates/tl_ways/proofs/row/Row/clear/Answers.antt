@@ -10,5 +10,5 @@ invariant_of-self c =
     let whole = refill-whole c.self.inside.entries.items (slice_set c.self.inside.entries.items c.args.way None) (length-set _ _ _) in
     let inside : c.args.way < length c.self.inside.entries.items = rw (← c.self.view_is) at c.requires in
     rw (c.deref_mut.ensures.value, c.index.ensures, whole)
-        (IsRow-with_line (record { lines = c.self.inside.entries.items; order = c.self.inside.order.items }) c.args.way None c.self.invariant inside
-            (λ tag other is apart held. cc))
+    (IsRow-with_line (record { lines = c.self.inside.entries.items; order = c.self.inside.order.items }) c.args.way None c.self.invariant inside
+    (λ tag other is apart held. cc))

@@ -11,5 +11,5 @@ invariant_of-self c =
     let whole = refill-whole c.self.inside.entries.items (slice_set c.self.inside.entries.items c.args.way (Some c.args.entry)) (length-set _ _ _) in
     let inside : c.args.way < length c.self.inside.entries.items = rw (← c.self.view_is) at c.requires.inside in
     rw (c.deref_mut.ensures.value, c.index.ensures, whole)
-        (IsRow-with_line (record { lines = c.self.inside.entries.items; order = c.self.inside.order.items }) c.args.way (Some c.args.entry) c.self.invariant inside
-            (λ tag other is apart held. c.requires.alone other apart (subst (λ (r : Row). tag_in r other ≡ Some c.args.entry.tag) c.self.view_is (held ∙ sym is))))
+    (IsRow-with_line (record { lines = c.self.inside.entries.items; order = c.self.inside.order.items }) c.args.way (Some c.args.entry) c.self.invariant inside
+    (λ tag other is apart held. c.requires.alone other apart (subst (λ (r : Row). tag_in r other ≡ Some c.args.entry.tag) c.self.view_is (held ∙ sym is))))
