@@ -1,5 +1,5 @@
 -- The ways of one set (this project's own).
-use Rattle.std.specs.Prelude.{◌≡◌, ℕ, ◌<◌, ◌≤◌, Bool, true, false, List, [], length, Option, None, Some, slice_index_or, is_none}
+use Rattle.std.specs.Prelude.{◌≡◌, ℕ, ◌<◌, ◌≤◌, List, length, Option, None, Some, slice_index_or, is_none}
 use Rattle.tl_ways.specs.Lines.{Line}
 use Rattle.tl_ways.specs.Orders.{IsAmong, chosen}
 

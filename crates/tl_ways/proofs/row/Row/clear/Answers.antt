@@ -1,6 +1,5 @@
-use Rattle.std.proofs.Common.{◌≡◌, ◌<◌, length, sym, ◌∙◌}
-use Rattle.std.specs.Prelude.{None, Some, slice_set}
-use Rattle.std.specs.List.{refill}
+use Rattle.std.proofs.Common.{◌<◌, length}
+use Rattle.std.specs.Prelude.{None, slice_set}
 use Rattle.std.proofs.lemmas.List.{length-set}
 use Rattle.tl_ways.proofs.RowLaws.{refill-whole, IsRow-with_line}
 use Rattle.tl_ways.proofs.row.Row.clear.Goals as goal

@@ -1,4 +1,4 @@
-use Rattle.std.proofs.Common.{◌≡◌, ◌≢◌, ℕ, ◌<◌}
+use Rattle.std.proofs.Common.{◌≢◌, ℕ, ◌<◌}
 use Rattle.std.specs.Prelude.{Some}
 use Rattle.tl_ways.specs.Rows.{tag_in}
 use Rattle.tl_ways.proofs.row.Row.find.Given as goal

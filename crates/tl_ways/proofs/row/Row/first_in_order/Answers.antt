@@ -1,5 +1,5 @@
-use Rattle.std.proofs.Common.{rules, ◌≡◌, ℕ, ◌<◌, Bool, true, false, length, ap, sym, ◌∙◌, subst}
-use Rattle.std.specs.Prelude.{not, find, None, IsTrue}
+use Rattle.std.proofs.Common.{rules, ◌≡◌, ◌<◌, true, length, ap, sym, ◌∙◌, subst}
+use Rattle.std.specs.Prelude.{not, find, None}
 use Rattle.tl_ways.specs.Orders.{is_busy, IsAmong}
 use Rattle.tl_ways.specs.Rows.{Row}
 use Rattle.tl_ways.proofs.OrderLaws.{find-first, among-at, none-found, take-all, not-false}

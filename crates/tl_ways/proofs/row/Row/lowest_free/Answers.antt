@@ -1,6 +1,6 @@
-use Rattle.std.proofs.Common.{rules, ◌≡◌, ℕ, ◌<◌, Bool, true, false, length, ap, sym, arith}
-use Rattle.std.specs.Prelude.{not, ◌&&◌, is_none, None}
-use Rattle.tl_ways.specs.Orders.{is_busy, lowest}
+use Rattle.std.proofs.Common.{rules, ◌≡◌, ◌<◌, true, length, sym, arith}
+use Rattle.std.specs.Prelude.{not, ◌&&◌, is_none}
+use Rattle.tl_ways.specs.Orders.{is_busy}
 use Rattle.tl_ways.specs.Rows.{line_in}
 use Rattle.tl_ways.proofs.OrderLaws.{lowest-found}
 use Rattle.tl_ways.proofs.row.Row.lowest_free.Goals as goal

@@ -1,4 +1,4 @@
-use Rattle.std.proofs.Common.{rules, ◌≡◌, ◌≤◌, length, ap, ◌∙◌, arith}
+use Rattle.std.proofs.Common.{◌≡◌, ap, ◌∙◌, arith}
 use Rattle.tl_ways.specs.Orders.{rising}
 use Rattle.tl_ways.proofs.RowLaws.{IsRow-empty}
 use Rattle.tl_ways.proofs.row.Row.new.Goals as goal

@@ -1,7 +1,6 @@
 use Rattle.std.proofs.Common.{◌≡◌, ◌<◌, length, sym, ◌∙◌, subst}
 use Rattle.tl_ways.specs.Rows.{Row, tag_in}
-use Rattle.std.specs.Prelude.{None, Some, slice_set}
-use Rattle.std.specs.List.{refill}
+use Rattle.std.specs.Prelude.{Some, slice_set}
 use Rattle.std.proofs.lemmas.List.{length-set}
 use Rattle.tl_ways.proofs.RowLaws.{refill-whole, IsRow-with_line}
 use Rattle.tl_ways.proofs.row.Row.place.Goals as goal

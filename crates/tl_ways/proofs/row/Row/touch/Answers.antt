@@ -1,6 +1,6 @@
-use Rattle.std.proofs.Common.{rules, ◌≡◌, ℕ, ◌+◌, ◌<◌, ◌≤◌, List, [], ◌∷◌, ◌++◌, length, take, ap, sym, subst, lit<, arith}
+use Rattle.std.proofs.Common.{rules, ◌≡◌, ◌<◌, [], length, sym, subst, lit<, arith}
 use Rattle.std.proofs.lemmas.Grind.{common_steps}
-use Rattle.tl_ways.specs.Orders.{without, touched, IsAmong}
+use Rattle.tl_ways.specs.Orders.{without}
 use Rattle.tl_ways.specs.Rows.{Row}
 use Rattle.tl_ways.proofs.OrderLaws.{touch_step, without-same, without-other, length-without-among, take-all}
 use Rattle.tl_ways.proofs.RowLaws.{IsRow-touched}

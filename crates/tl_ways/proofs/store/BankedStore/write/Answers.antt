@@ -1,5 +1,5 @@
-use Rattle.std.proofs.Common.{◌≡◌, ℕ, ◌<◌, subst, sym}
-use Rattle.tl_ways.specs.Stores.{Store, bytes_at}
+use Rattle.std.proofs.Common.{◌<◌, subst, sym}
+use Rattle.tl_ways.specs.Stores.{Store}
 use Rattle.tl_ways.proofs.StoreLaws.{bytes_at-with_bytes}
 use Rattle.tl_ways.proofs.store.BankedStore.write.Goals as goal
 

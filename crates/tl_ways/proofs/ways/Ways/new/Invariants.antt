@@ -1,4 +1,4 @@
-use Rattle.std.proofs.Common.{◌≡◌, ℕ, ◌<◌, ◌≤◌, length, get_or}
+use Rattle.std.proofs.Common.{◌≡◌, ℕ, ◌<◌, length, get_or}
 use Rattle.tl_ways.specs.Orders.{rising}
 use Rattle.tl_ways.specs.Rows.{IsEmpty}
 use Rattle.tl_ways.specs.Tables.{no_row}
