@@ -1,0 +1,4 @@
+pub mod LineLaws
+pub mod OrderLaws
+pub mod RowLaws
+pub mod StoreLaws

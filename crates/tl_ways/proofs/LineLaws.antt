@@ -1,0 +1,152 @@
+-- Laws of the directory's entries.
+use Rattle.std.proofs.Common.{◌≡◌, ◌≢◌, ℕ, ◌*◌, ◌%◌, ◌/◌, ◌^◌, ◌<◌, ◌≤◌, Bool, true, false, refl, ap, sym, ◌∙◌, arith, w16, bit_and, bit_or, inl, inr}
+use Rattle.std.specs.Prelude.{Option, None, Some, ◌==◌, if◌then◌else◌}
+use Rattle.std.specs.Int.{bit_at, bit_not}
+use Rattle.std.proofs.lemmas.Nat.{and_le_l}
+use mir.Val.{bits}
+use Rattle.std.proofs.lemmas.Bool.{cases_eq, cases_lt}
+use Rattle.std.proofs.lemmas.Bool.Decides.{nat_tests}
+use Rattle.std.proofs.lemmas.Nat.Bits.{bit_at-zero, shr_and_one, bit_at_above, bit_at-lt, bit_at_set_same, bit_at_set_other, bit_at_clear_same, bit_at_clear_other}
+use Rattle.tl_types.specs.declared.permission.Perm.{Perm}
+use Rattle.tl_types.specs.declared.permission.Perm.TheVariants.{None as NoAccess, Branch, Tip}
+use Rattle.tl_ways.specs.Lines.{Line, IsDirectory, is_owner, perm_by, perm_of}
+
+-- the owner passes the test, and no other does
+is_owner-same : (client : ℕ) → is_owner (Some client) client ≡ true
+is_owner-same client = grind (arith, nat_tests)
+
+is_owner-other : (owner client : ℕ) → client ≢ owner → is_owner (Some owner) client ≡ false
+is_owner-other owner client other = grind (arith, nat_tests, other)
+
+is_owner-none : (owner : Option ℕ) (client : ℕ) → (owner ≡ Some client → ⊥) → is_owner owner client ≡ false
+is_owner-none None client other = refl
+is_owner-none (Some owner) client other =
+    is_owner-other owner client (λ same. other (ap (λ (n : ℕ). Some n) (sym same)))
+
+-- with no permission recorded no client has one
+pub perm_of-new : (tag : ℕ) (dirty : Bool) (client : ℕ)
+    → perm_of (record { tag = tag; dirty = dirty; owner = None; branches = 0 }) client ≡ NoAccess
+unfolding perm_of
+perm_of-new tag dirty client = rw (bit_at-zero client) refl
+
+-- whether home's copy is dirty says nothing of permissions
+pub perm_of-dirty : (line : Line) (dirty : Bool) (client : ℕ) → perm_of (record line { dirty = dirty }) client ≡ perm_of line client
+unfolding perm_of
+perm_of-dirty line dirty client = refl
+
+-- the owner has Tip
+pub perm_of-owner : (line : Line) (client : ℕ) → line.owner ≡ Some client → perm_of line client ≡ Tip
+unfolding perm_of
+perm_of-owner line client owner = rw (owner, is_owner-same client) refl
+
+-- beside an owner no other has a permission
+pub perm_of-beside : (line : Line) (owner client : ℕ) → IsDirectory line → line.owner ≡ Some owner → client ≢ owner
+    → perm_of line client ≡ NoAccess
+unfolding perm_of
+perm_of-beside line owner client kept is other =
+    let none : line.branches ≡ 0 = rw is at kept.alone in
+    rw (is, is_owner-other owner client other, none, bit_at-zero client) refl
+
+-- a client that is not the owner has Branch or nothing
+pub perm_of-bit : (line : Line) (client : ℕ) → (line.owner ≡ Some client → ⊥)
+    → perm_of line client ≡ perm_by false (bit_at line.branches client)
+unfolding perm_of
+perm_of-bit line client other = ap (λ owns. perm_by owns (bit_at line.branches client)) (is_owner-none line.owner client other)
+
+-- a client past the mask has nothing
+pub perm_of-past : (line : Line) (client : ℕ) → IsDirectory line → 16 ≤ client → (line.owner ≡ Some client → ⊥)
+    → perm_of line client ≡ NoAccess
+perm_of-past line client kept past other =
+    perm_of-bit line client other ∙ ap (perm_by false) (bit_at_above line.branches 16 client kept.branches past)
+
+-- a bit that is not 1
+zero_bit : (bit : ℕ) → bit < 2 → (bit ≡ 1 → ⊥) → bit ≡ 0
+zero_bit bit small other = grind (arith, other)
+
+-- the test of a bit
+pub bit_set : (branches client : ℕ) → bit_and (branches / 2 ^ client) 1 ≡ 1 → bit_at branches client ≡ 1
+bit_set branches client test = sym (shr_and_one branches client) ∙ test
+
+pub bit_clear : (branches client : ℕ) → (bit_and (branches / 2 ^ client) 1 ≡ 1 → ⊥) → bit_at branches client ≡ 0
+bit_clear branches client test =
+    let not_one : bit_at branches client ≡ 1 → ⊥ = λ one. test (shr_and_one branches client ∙ one) in
+    let small = bit_at-lt branches client in
+    zero_bit (bit_at branches client) small not_one
+
+-- ## Recording a permission
+
+-- a mask without a client's bit keeps the others
+cleared : (branches client other : ℕ) → branches < 2 ^ 16 → client < 16 → other ≢ client
+    → bit_at (bit_and branches (bit_not w16 (1 * 2 ^ client % 2 ^ bits w16))) other ≡ bit_at branches other
+cleared branches client other small known apart =
+    elim (cases_lt other 16) [
+      | inl below ↦ bit_at_clear_other w16 branches client known other below apart
+      | inr past ↦
+          let less = and_le_l branches (bit_not w16 (1 * 2 ^ client % 2 ^ bits w16)) in
+          bit_at_above _ 16 other (omega (arith, less)) past ∙ sym (bit_at_above branches 16 other small past)
+    ]
+
+-- what is recorded for a client and for the others
+answer : (perm : Perm) (line line' : Line) (client : ℕ) → perm_of line' client ≡ perm
+    → ((other : ℕ) → other ≢ client → perm_of line' other ≡ perm_of line other)
+    → (other : ℕ) → perm_of line' other ≡ (if other == client then perm else perm_of line other)
+answer perm line line' client own others other =
+    elim (cases_eq other client) [
+      | inl same ↦
+          let test : (other == client) ≡ true = grind (arith, nat_tests) in
+          rw (test, same) own
+      | inr apart ↦
+          let test : (other == client) ≡ false = grind (arith, nat_tests) in
+          rw test (others other apart)
+    ]
+
+-- beside a new owner no other has a permission
+beside : (line : Line) (client other : ℕ) → other ≢ client
+    → perm_of (record line { owner = Some client; branches = 0 }) other ≡ NoAccess
+unfolding perm_of
+beside line client other apart = rw (is_owner-other client other apart, bit_at-zero other) refl
+
+-- Tip for a client beside which none has a permission
+pub perm_of-tip : (line : Line) (client : ℕ) → ((other : ℕ) → other ≢ client → perm_of line other ≡ NoAccess) → (other : ℕ)
+    → perm_of (record line { owner = Some client; branches = 0 }) other ≡ (if other == client then Tip else perm_of line other)
+perm_of-tip line client none =
+    answer Tip line (record line { owner = Some client; branches = 0 }) client (perm_of-owner _ client refl)
+    (λ other apart. beside line client other apart ∙ sym (none other apart))
+
+-- Branch for a client beside which none has Tip
+pub perm_of-branch : (line : Line) (client : ℕ) → client < 16 → ((other : ℕ) → other ≢ client → perm_of line other ≢ Tip) → (other : ℕ)
+    → perm_of (record line { owner = None; branches = bit_or line.branches (1 * 2 ^ client % 2 ^ bits w16) }) other
+    ≡ (if other == client then Branch else perm_of line other)
+perm_of-branch line client known none =
+    answer Branch line _ client (perm_of-bit _ client (λ no. cc) ∙ ap (perm_by false) (bit_at_set_same w16 line.branches client known))
+    (λ other apart.
+    perm_of-bit _ other (λ no. cc)
+    ∙ ap (perm_by false) (bit_at_set_other w16 line.branches client known other apart)
+    ∙ sym (perm_of-bit line other (λ owner. none other apart (perm_of-owner line other owner))))
+
+-- no permission for the owner
+pub perm_of-ended : (line : Line) (client : ℕ) → IsDirectory line → client < 16 → line.owner ≡ Some client → (other : ℕ)
+    → perm_of (record line { owner = None; branches = bit_and line.branches (bit_not w16 (1 * 2 ^ client % 2 ^ bits w16)) }) other
+    ≡ (if other == client then NoAccess else perm_of line other)
+perm_of-ended line client kept known owner =
+    answer NoAccess line _ client (perm_of-bit _ client (λ no. cc) ∙ ap (perm_by false) (bit_at_clear_same w16 line.branches client known))
+    (λ other apart.
+    let none : line.branches ≡ 0 = rw owner at kept.alone in
+    let zero : bit_at line.branches other ≡ 0 = rw none (bit_at-zero other) in
+    perm_of-bit _ other (λ no. cc)
+    ∙ ap (perm_by false) (cleared line.branches client other kept.branches known apart ∙ zero)
+    ∙ sym (perm_of-beside line client other kept owner apart))
+
+-- an entry with another mask of the same bit
+same_bit : (line : Line) (branches client : ℕ) → bit_at branches client ≡ bit_at line.branches client
+    → perm_of (record line { branches = branches }) client ≡ perm_of line client
+unfolding perm_of
+same_bit line branches client bit = ap (perm_by (is_owner line.owner client)) bit
+
+-- no permission for another client
+pub perm_of-cleared : (line : Line) (client : ℕ) → IsDirectory line → client < 16 → (line.owner ≡ Some client → ⊥) → (other : ℕ)
+    → perm_of (record line { branches = bit_and line.branches (bit_not w16 (1 * 2 ^ client % 2 ^ bits w16)) }) other
+    ≡ (if other == client then NoAccess else perm_of line other)
+perm_of-cleared line client kept known no_owner =
+    answer NoAccess line _ client (perm_of-bit _ client no_owner ∙ ap (perm_by false) (bit_at_clear_same w16 line.branches client known))
+    (λ other apart. same_bit line _ other (cleared line.branches client other kept.branches known apart))

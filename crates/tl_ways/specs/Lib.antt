@@ -1,0 +1,5 @@
+pub mod Lines
+pub mod Orders
+pub mod Rows
+pub mod Tables
+pub mod Stores

@@ -1,0 +1,32 @@
+-- What home records of a block that it holds: its tag, whether home's copy is dirty, and a permission for each client
+-- (TileLink 1.8, section 9; how it is kept is this project's own).
+use Rattle.std.specs.Prelude.{◌≡◌, ℕ, ◌^◌, ◌<◌, ◌==◌, Bool, false, Option, None, Some, IfSome, if◌then◌else◌}
+use Rattle.std.specs.Int.{bit_at}
+use Rattle.tl_types.specs.declared.permission.Perm.{Perm}
+use Rattle.tl_types.specs.declared.permission.Perm.TheVariants.{None as NoAccess, Branch, Tip}
+
+-- an entry of the directory: `owner` has Tip, and client c has Branch where bit c of `branches` is set
+pub record Line : Type 0 where
+  pub tag : ℕ
+  pub dirty : Bool
+  pub owner : Option ℕ
+  pub branches : ℕ
+
+-- the owner is this client
+abbrev pub is_owner : Option ℕ → ℕ → Bool
+is_owner None client = false
+is_owner (Some owner) client = owner == client
+
+-- the permission of one who is the owner or not, and whose bit is set or not
+abbrev pub perm_by : Bool → ℕ → Perm
+perm_by owns bit = if owns then Tip else if bit == 1 then Branch else NoAccess
+
+-- the permission that home records for a client
+unfoldable pub perm_of : Line → ℕ → Perm
+perm_of line client = perm_by (is_owner line.owner client) (bit_at line.branches client)
+
+-- an owner is alone, and only the clients below 16 have a permission
+pub record IsDirectory (line : Line) : Type 0 where
+  pub alone : IfSome line.owner (λ owner. line.branches ≡ 0)
+  pub owner : IfSome line.owner (λ owner. owner < 16)
+  pub branches : line.branches < 2 ^ 16

@@ -1,0 +1,122 @@
+//! An entry of the directory: what home records of one block that it holds.
+ghost use Rattle.std.specs.Prelude.{◌≡◌, ◌≢◌, ℕ, ◌<◌, ◌==◌, if◌then◌else◌};
+ghost use Rattle.tl_types.specs.declared.permission.Perm.TheVariants.{None as NoAccess, Branch, Tip};
+ghost use Rattle.tl_ways.specs.Lines.{perm_of};
+
+use std::marker::Model;
+use tl_map::Tag;
+use tl_types::{ClientId, Perm};
+
+/// What home records of one block: its tag, whether home's copy is dirty, and a permission for each client.
+#[derive(Clone, Debug)]
+pub struct Entry {
+    tag: Tag,
+    dirty: bool,
+    owner: Option<ClientId>,
+    branches: u16,
+}
+
+impl Model for Entry {
+    ghost use Rattle.tl_ways.specs.Lines.{Line, IsDirectory};
+
+    ghost Value = { Line };
+
+    ghost view = { λ e. record { tag = e.tag; dirty = e.dirty; owner = e.owner; branches = e.branches } };
+
+    ghost invariant = { λ e. IsDirectory (record { tag = e.tag; dirty = e.dirty; owner = e.owner; branches = e.branches }) };
+
+    ghost inverse = { λ e. record { tag = e.tag; dirty = e.dirty; owner = e.owner; branches = e.branches } };
+}
+
+impl Copy for Entry {}
+
+impl Entry {
+    /// How many clients an entry can record: the bits of its mask.
+    pub const CLIENTS: u32 = 16;
+
+    /// An entry that records no permission.
+    pub fn new(tag: Tag, dirty: bool) -> Entry
+        ensures tag { result.tag ≡ tag }
+        ensures dirty { result.dirty ≡ dirty }
+        ensures perms { (client : ℕ) → perm_of result client ≡ NoAccess }
+    {
+        Entry {
+            tag,
+            dirty,
+            owner: None,
+            branches: 0,
+        }
+    }
+
+    /// The tag of its block.
+    pub fn tag(self) -> Tag
+        ensures { result ≡ self.tag }
+    {
+        self.tag
+    }
+
+    /// Whether home's copy differs from memory's.
+    pub fn is_dirty(self) -> bool
+        ensures { result ≡ self.dirty }
+    {
+        self.dirty
+    }
+
+    /// Makes home's copy dirty or clean.
+    pub fn set_dirty(&mut self, dirty: bool)
+        ensures dirty { self.new ≡ record self.old { dirty = dirty } }
+        ensures perms { (client : ℕ) → perm_of self.new client ≡ perm_of self.old client }
+    {
+        self.dirty = dirty;
+    }
+
+    /// The permission that home records for a client. Where one has Tip, no other has any.
+    pub fn perm(self, client: ClientId) -> Perm
+        ensures is { result ≡ perm_of self client }
+        ensures alone { result ≡ Tip → (other : ℕ) → other ≢ client → perm_of self other ≡ NoAccess }
+    {
+        let number = client.number();
+        if self.owner == Some(client) {
+            return Perm::Tip;
+        }
+        if number >= Entry::CLIENTS {
+            return Perm::None;
+        }
+        if self.branches >> number & 1 == 1 {
+            Perm::Branch
+        } else {
+            Perm::None
+        }
+    }
+
+    /// Records a permission for a client. Beside Tip no other client may have any permission.
+    pub fn set(&mut self, client: ClientId, perm: Perm)
+        requires known { client < 16 }
+        requires tip { perm ≡ Tip → (other : ℕ) → other ≢ client → perm_of self.old other ≡ NoAccess }
+        requires branch { perm ≡ Branch → (other : ℕ) → other ≢ client → perm_of self.old other ≢ Tip }
+        ensures tag { self.new.tag ≡ self.old.tag }
+        ensures dirty { self.new.dirty ≡ self.old.dirty }
+        ensures perms { (other : ℕ) → perm_of self.new other ≡ (if other == client then perm else perm_of self.old other) }
+    {
+        let bit = 1u16 << client.number();
+        match perm {
+            Perm::None => {
+                if self.owner == Some(client) {
+                    self.owner = None;
+                }
+                self.branches &= !bit;
+            }
+            Perm::Branch => {
+                self.owner = None;
+                self.branches |= bit;
+            }
+            Perm::Tip => {
+                self.owner = Some(client);
+                self.branches = 0;
+            }
+        }
+    }
+}
+
+#[cfg(test)]
+mod tests;
