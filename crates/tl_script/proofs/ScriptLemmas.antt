@@ -1,6 +1,9 @@
 -- What a document that is read says of its values.
-use Rattle.std.proofs.Common.{◌≡◌, ℕ, ◌+◌, ◌-◌, ◌*◌, ◌≤◌, Bool, true, false, nat_lt, cond, List, [], ◌∷◌, ◌++◌, length, replicate, Option, Some, None, Result, Ok, Err, Vec, Global, refl, sym, subst, ◌∙◌, arith, length-append}
-use Rattle.std.proofs.lemmas.Bool.{ltb-false}
+use Rattle.std.proofs.Common.{◌≡◌, ℕ, zero, suc, map, ◌+◌, ◌-◌, ◌*◌, ◌≤◌, Bool, true, false, nat_lt, cond, List, [], ◌∷◌, ◌++◌, length, replicate, Option, Some, None, Result, Ok, Err, Vec, Global, refl, sym, subst, ◌∙◌, arith, length-append}
+use Rattle.std.proofs.lemmas.Bool.{and_from, ltb-false}
+use Rattle.std.proofs.lemmas.List.Folds.{list_all-append}
+use Rattle.std.specs.List.{list_all}
+use Rattle.tl_words.specs.Command.{command_of}
 use Rattle.std.proofs.lemmas.List.{length-replicate, length-map}
 use Rattle.std.specs.Prelude.{unsigned_abs, ◌||◌}
 use Rattle.toml.specs.Data.{Data, Members, get_member}
@@ -16,7 +19,7 @@ use Rattle.tl_script.specs.Key.{name_of}
 use Rattle.tl_script.specs.Each.{◌>>=◌, each}
 use Rattle.tl_script.specs.Numbers.{unsigned_of, unless_refused, geometry_of}
 use Rattle.tl_script.specs.Image.{bytes_in, image_in, image_of}
-use Rattle.tl_script.specs.Commands.{client_at, commands, commands_of}
+use Rattle.tl_script.specs.Commands.{fits, all_fit, if_fits, command_at, client_at, commands, commands_of}
 use Rattle.tl_script.specs.Script.{are_too_many, counted_of}
 
 -- ## The geometry
@@ -94,6 +97,60 @@ each_client_of g lists steps cs h =
     let few = ltb-false g.clients (length lists) (first_false _ _ _ p.0) in
     padded g.clients (length lists) (each (client_at g) 0 lists) cs (λ ys e. one_each (client_at g) 0 lists ys e) few p.1
 
+-- ## What fits
+
+fits_if : (fit : Bool) (d c : Command) (e : ScriptError) → cond fit (Ok d) (Err e) ≡ Ok c → (fit ≡ true) × (d ≡ c)
+fits_if true d c e h = (refl, cc)
+fits_if false d c e h = cc
+
+command_fits_in : (g : Numbers) (client index : ℕ) (read : Option Command) (c : Command) → if_fits g client index read ≡ Ok c → fits g c ≡ true
+command_fits_in g client index None c h = cc
+command_fits_in g client index (Some d) c h =
+    let p = fits_if (fits g d) d c (error.Command client index) h in
+    let P : Command → Type 0 = λ x. fits g x ≡ true in
+    subst P p.1 p.0
+
+command_fits : (g : Numbers) (client index : ℕ) (text : List ℕ) (c : Command) → command_at g client index text ≡ Ok c → fits g c ≡ true
+unfolding command_at
+command_fits g client index text c h = command_fits_in g client index (command_of text) c h
+
+taken : {B : Type 0} (p : B → Bool) (first : Result B ScriptError) (others : Result (List B) ScriptError) (ys : List B) → (first >>= λ y. others >>= λ rest. Ok (y ∷ rest)) ≡ Ok ys
+    → ((y : B) → first ≡ Ok y → p y ≡ true) → ((rest : List B) → others ≡ Ok rest → list_all p rest ≡ true) → list_all p ys ≡ true
+taken p (Err e) others ys h one more = cc
+taken p (Ok y) (Err e) ys h one more = cc
+taken {B} p (Ok y) (Ok rest) ys h one more =
+    let whole : y ∷ rest ≡ ys = cc in
+    let P : List B → Type 0 = λ zs. list_all p zs ≡ true in
+    subst P whole (and_from (p y) (list_all p rest) (one y refl) (more rest refl))
+
+-- what holds of each value that is read holds of all
+each_has : {A B : Type 0} (p : B → Bool) (f : ℕ → A → Result B ScriptError) → ((i : ℕ) (x : A) (y : B) → f i x ≡ Ok y → p y ≡ true) → (i : ℕ) (xs : List A) (ys : List B) → each f i xs ≡ Ok ys → list_all p ys ≡ true
+each_has p f holds i [] ys h =
+    let none : [] ≡ ys = cc in
+    rw (← none) refl
+each_has p f holds i (x ∷ xs) ys h = taken p (f i x) (each f (i + 1) xs) ys h (λ y e. holds i x y e) (λ rest e. each_has p f holds (i + 1) xs rest e)
+
+client_fits : (g : Numbers) (client : ℕ) (texts : List (List ℕ)) (cs : List Command) → client_at g client texts ≡ Ok cs → list_all (fits g) cs ≡ true
+unfolding client_at
+client_fits g client texts cs h = each_has (fits g) (command_at g client) (λ i text c e. command_fits g client i text c e) 0 texts cs h
+
+empty_fit : (g : Numbers) (n : ℕ) → all_fit g (replicate n []) ≡ true
+empty_fit g zero = refl
+empty_fit g (suc n) = empty_fit g n
+
+padded_fit : (g : Numbers) (n : List (List Command) → ℕ) (read : Result (List (List Command)) ScriptError) (cs : List (List Command)) → ((ys : List (List Command)) → read ≡ Ok ys → all_fit g ys ≡ true)
+    → (read >>= λ ys. Ok (ys ++ replicate (n ys) [])) ≡ Ok cs → all_fit g cs ≡ true
+padded_fit g n (Err e) cs h done = cc
+padded_fit g n (Ok ys) cs h done =
+    let whole : ys ++ replicate (n ys) [] ≡ cs = cc in
+    rw (← whole, list_all-append) (and_from _ _ (h ys refl) (empty_fit g (n ys)))
+
+all_fit_of : (g : Numbers) (lists : List (List (List ℕ))) (steps : List (List ℕ)) (cs : List (List Command)) → counted_of g lists steps ≡ Ok cs → all_fit g cs ≡ true
+unfolding counted_of commands_of
+all_fit_of g lists steps cs h =
+    let p = counted (are_too_many g.clients lists steps) (commands_of g lists) cs error.TooMany h in
+    padded_fit g (λ ys. g.clients - length ys) (each (client_at g) 0 lists) cs (λ ys e. each_has (λ commands. list_all (fits g) commands) (client_at g) (λ client texts c e. client_fits g client texts c e) 0 lists ys e) p.1
+
 -- ## By the numbers of the script
 
 -- an image that is read is no longer than the memory
@@ -108,3 +165,9 @@ each_client n g lists steps vs made read =
     let P : Numbers → Type 0 = λ m. length vs ≡ m.clients in
     let same : length (commands vs) ≡ length vs = simp length-map in
     subst P (sym (made_of n g made).1) (sym same ∙ each_client_of g lists steps (commands vs) read)
+
+-- commands that are read fit
+pub placed : (n : GeometryNumbers) (g : Numbers) (lists : List (List (List ℕ))) (steps : List (List ℕ)) (vs : List (Vec Command Global)) → geometry_of n ≡ Ok g → counted_of g lists steps ≡ Ok (commands vs) → all_fit (unsigned_of n) (map (λ v. v.items) vs) ≡ true
+placed n g lists steps vs made read =
+    let P : Numbers → Type 0 = λ m. all_fit m (commands vs) ≡ true in
+    subst P (sym (made_of n g made).1) (all_fit_of g lists steps (commands vs) read)

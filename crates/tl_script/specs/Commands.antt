@@ -1,6 +1,7 @@
 -- The commands of a script (this project's own format).
 use Rattle.std.specs.Prelude.{ℕ, ◌-◌, nat_lt, Bool, List, [], ◌++◌, length, map, replicate, Option, Some, None, Result, Ok, Err, Vec, if◌then◌else◌}
 use Rattle.std.specs.Borrow.{Bor}
+use Rattle.std.specs.List.{list_all}
 use Rattle.std.specs.declared.alloc.Global.{Global}
 use Rattle.toml.specs.Data.{Data, Members, as_array, get_member}
 use Rattle.tl_map.specs.Numbers.{Numbers}
@@ -48,6 +49,10 @@ abbrev pub fits : Numbers → Command → Bool
 fits geometry (Load address len) = has_bytes geometry address len
 fits geometry (Store address bytes) = has_bytes geometry address (length bytes)
 fits geometry (Drop address) = has_bytes geometry address 1
+
+-- every command of every client fits
+abbrev pub all_fit : Numbers → List (List Command) → Bool
+all_fit geometry lists = list_all (λ commands. list_all (fits geometry) commands) lists
 
 -- the command, where it is in the grammar and fits
 abbrev pub if_fits : Numbers → ℕ → ℕ → Option Command → Result Command ScriptError

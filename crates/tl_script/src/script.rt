@@ -1,7 +1,9 @@
 //! A script.
 
-ghost use Rattle.std.specs.Prelude.{◌≡◌, ◌*◌, ◌≤◌, None, length, unsigned_abs, vec_len};
+ghost use Rattle.std.specs.Prelude.{◌≡◌, ◌*◌, ◌≤◌, None, length, map, true, unsigned_abs};
 ghost use Rattle.tl_map.specs.Refusals.{refusal_of, numbers_of};
+ghost use Rattle.tl_script.specs.Commands.{all_fit};
+ghost use Rattle.tl_script.specs.Numbers.{unsigned_of};
 
 use tl_map::{Geometry, GeometryNumbers};
 use tl_words::{Command, Step};
@@ -26,6 +28,8 @@ pub struct Script {
     pub ghost inside: { length image.items ≤ unsigned_abs numbers.memory_blocks * unsigned_abs numbers.block_bytes },
     // Each client has its list of commands.
     pub ghost each_client: { length commands.items ≡ unsigned_abs numbers.clients },
+    // The bytes of each command lie in the memory and in one block.
+    pub ghost placed: { all_fit (unsigned_of numbers) (map (λ v. v.items) commands.items) ≡ true },
 }
 
 impl Script {
@@ -34,6 +38,7 @@ impl Script {
         ensures numbers { numbers_of result ≡ self.now.numbers }
         ensures image { length self.now.image.items ≤ result.memory_blocks * result.block_bytes }
         ensures clients { length self.now.commands.items ≡ result.clients }
+        ensures commands { all_fit result (map (λ v. v.items) self.now.commands.items) ≡ true }
     {
         match Geometry::new(self.numbers) {
             Ok(geometry) => geometry,

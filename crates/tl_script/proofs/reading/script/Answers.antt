@@ -1,4 +1,4 @@
-use Rattle.tl_script.proofs.ScriptLemmas.{made_of, inside, each_client}
+use Rattle.tl_script.proofs.ScriptLemmas.{made_of, inside, each_client, placed}
 use Rattle.tl_script.proofs.reading.script.Goals as goal
 
 pub invariant_of-result : goal.invariant_of-result
@@ -6,4 +6,5 @@ invariant_of-result c = record {
   lawful = (made_of c.in_ok-numbers.numbers c.in_ok-geometry.geometry c.in_ok-geometry.ensures).0;
   inside = inside c.in_ok-numbers.numbers c.in_ok-geometry.geometry _ c.in_ok-image.image.items c.in_ok-geometry.ensures c.in_ok-image.ensures;
   each_client = each_client c.in_ok-numbers.numbers c.in_ok-geometry.geometry _ _ c.in_ok-commands.commands.items c.in_ok-geometry.ensures c.in_ok-commands.ensures;
+  placed = placed c.in_ok-numbers.numbers c.in_ok-geometry.geometry _ _ c.in_ok-commands.commands.items c.in_ok-geometry.ensures c.in_ok-commands.ensures;
 }
