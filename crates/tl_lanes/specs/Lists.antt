@@ -1,8 +1,12 @@
 -- The lists of a block between a client and home, and how each event moves them (TileLink 1.8, section 9).
-use Rattle.std.specs.Prelude.{◌≡◌, ◌≢◌, ℕ, Bool, true, false, List, [], ◌∷◌, ◌++◌, drop, map, replicate, Option, Some, None, if◌then◌else◌}
+use Rattle.std.specs.Prelude.{◌≡◌, ◌≢◌, ℕ, ◌<◌, Bool, true, false, List, [], ◌∷◌, ◌++◌, drop, map, replicate, Option, Some, None, if◌then◌else◌}
 use Rattle.tl_types.specs.Lane.{is_here}
 use Rattle.tl_types.specs.declared.channel.Channel.{Channel}
 use Rattle.tl_types.specs.declared.channel.Channel.TheVariants.{A, B, C, D, E}
+use Rattle.tl_types.specs.declared.permission.Grow.{Grow}
+use Rattle.tl_types.specs.declared.permission.ProbeCap.{ProbeCap}
+use Rattle.tl_types.specs.declared.message.Upward.{Upward}
+use Rattle.tl_types.specs.declared.message.Downward.{Downward}
 use Rattle.tl_types.specs.declared.message.Body.{Body}
 use Rattle.tl_types.specs.declared.message.Body.TheVariants.{AcquireBlock, ProbeBlock, Upward as b_Upward, Downward as b_Downward, GrantAck}
 use Rattle.tl_protocol.specs.declared.client.Client.{Client}
@@ -38,6 +42,27 @@ pub record ListsFollow (shape : Shape) (s : Block) (e : Event) : Type 0 where
 
 abbrev pub EveryEventMovesItsLists : Type 0
 EveryEventMovesItsLists = (shape : Shape) (s : Block) (e : Event) → May shape s e → ListsFollow shape s e
+
+-- ## What the first of a list says
+
+-- A list that begins with a body is of a client that has it first: so the body is of the channel's kind, and may be taken.
+pub record FirstIsFirst (k : Client) : Type 0 where
+  pub on_a :
+      (body : Body) (rest : List Body) → list_in k A ≡ body ∷ rest
+      → (grow : Grow) × (more : List Grow) × (body ≡ AcquireBlock grow) × (k.a ≡ grow ∷ more)
+  pub on_b :
+      (body : Body) (rest : List Body) → list_in k B ≡ body ∷ rest
+      → (cap : ProbeCap) × (more : List ProbeCap) × (body ≡ ProbeBlock cap) × (k.b ≡ cap ∷ more)
+  pub on_c :
+      (body : Body) (rest : List Body) → list_in k C ≡ body ∷ rest
+      → (message : Upward) × (more : List Upward) × (body ≡ b_Upward message) × (k.c ≡ message ∷ more)
+  pub on_d :
+      (body : Body) (rest : List Body) → list_in k D ≡ body ∷ rest
+      → (message : Downward) × (more : List Downward) × (body ≡ b_Downward message) × (k.d ≡ message ∷ more)
+  pub on_e : (body : Body) (rest : List Body) → list_in k E ≡ body ∷ rest → (body ≡ GrantAck) × (0 < k.e)
+
+abbrev pub EveryFirstIsFirst : Type 0
+EveryFirstIsFirst = (k : Client) → FirstIsFirst k
 
 -- ## What an event leaves as it was
 

@@ -1,7 +1,7 @@
 //! How each event moves the messages between clients and home, and what holds of logs that take them in order.
 ghost use Rattle.tl_lanes.specs.Delivery.{EveryMessageIsDeliveredInOrder};
 ghost use Rattle.tl_lanes.specs.Lawful.{EmptyIsLawful, FirstHeadsItsList, LanesGrowByOne, LawfulGrowsByOne, MessagesFitTheirChannels};
-ghost use Rattle.tl_lanes.specs.Lists.{EveryEventIsOfOneClient, EveryEventMovesItsLists, EverySuchEventLeavesHome};
+ghost use Rattle.tl_lanes.specs.Lists.{EveryEventIsOfOneClient, EveryEventMovesItsLists, EveryFirstIsFirst, EverySuchEventLeavesHome};
 
 /// Each permitted event takes the front of one list of its client and sends to the end of one, and leaves the other clients;
 /// where it is not home's or the memory's, it leaves these too.
@@ -19,6 +19,7 @@ pub fn every_lawful_log()
     ensures lanes { LanesGrowByOne }
     ensures first { FirstHeadsItsList }
     ensures kinds { MessagesFitTheirChannels }
+    ensures begins { EveryFirstIsFirst }
 {}
 
 /// Each message on a channel is taken once, and in the order of sending.

@@ -66,12 +66,12 @@ reset_kept shape image block =
 pub step_kept :
     (shape : Shape) (byte : ℕ → ℕ) (s : ℕ → Block) (e : Event) → MayNext shape s e → AllKept shape byte s
     → AllKept shape (λ a. byte_after e a (byte a)) (after_next shape s e)
-step_kept shape byte s e m kept block =
+step_kept shape byte s e permitted kept block =
     let k : Kept shape byte block (s block) = kept block in
     cond_at (λ (t : Block). Kept shape (λ a. byte_after e a (byte a)) block t) (block == block_of shape e)
     (after shape (s block) e) (s block)
     (λ q. let same : block ≡ block_of shape e = eqb-true block (block_of shape e) q in
-    let may : May shape (s block) e = subst (λ (b : ℕ). May shape (s b) e) (sym same) m in
+    let may : May shape (s block) e = subst (λ (b : ℕ). May shape (s b) e) (sym same) permitted in
     record {
       now = now_after shape k.now e;
       inv = step shape k.now (s block) e may k.inv;
@@ -81,7 +81,7 @@ step_kept shape byte s e m kept block =
     (λ q. record {
       now = k.now;
       inv = k.inv;
-      is_now = other_now shape byte block k.now (s (block_of shape e)) e m (eqb-false block (block_of shape e) q) k.is_now;
+      is_now = other_now shape byte block k.now (s (block_of shape e)) e permitted (eqb-false block (block_of shape e) q) k.is_now;
       whole = k.whole;
     })
 
@@ -89,17 +89,17 @@ step_kept shape byte s e m kept block =
 pub run_kept :
     (shape : Shape) (byte : ℕ → ℕ) (s : ℕ → Block) (events : List Event) → AllKept shape byte s → IsRunFrom shape s events
     → AllKept shape (λ a. last_from (byte a) events a) (end_from shape s events)
-run_kept shape byte s [] kept r = kept
-run_kept shape byte s (e ∷ es) kept r =
-    run_kept shape (λ a. byte_after e a (byte a)) (after_next shape s e) es (step_kept shape byte s e r.0 kept) r.1
+run_kept shape byte s [] kept run = kept
+run_kept shape byte s (e ∷ es) kept run =
+    run_kept shape (λ a. byte_after e a (byte a)) (after_next shape s e) es (step_kept shape byte s e run.0 kept) run.1
 
 -- ## What that says of a block
 
 -- a client holds nothing where home records None
 pub none_held : (now : List ℕ) (k : Client) → ClientIs now k → k.recorded ≡ p_None → perm_of k.held ≡ p_None
-none_held now k l e =
+none_held now k holds e =
     rank_none (perm_of k.held)
-    (omega (arith, ap rank e, held_talk now k.held k.wait k.recorded k.b k.c k.d l.talk))
+    (omega (arith, ap rank e, held_talk now k.held k.wait k.recorded k.b k.c k.d holds.talk))
 
 -- home has a copy of a block of which somebody is recorded
 pub home_there :
@@ -111,13 +111,13 @@ home_there now memory (Some line) outward client x n h = (line, refl)
 -- in a block that is right one writes or several read, and home knows it
 pub kept_at : (shape : Shape) (byte : ℕ → ℕ) (block : ℕ) (s : Block) → Kept shape byte block s → IsKeptAt s
 kept_at shape byte block s k =
-    let i : Invariant shape k.now s = k.inv in
+    let holds : Invariant shape k.now s = k.inv in
     record {
-      alone = λ x y n t. none_held k.now (s.client y) (i.local y)
-          (i.alone x y n (tip_is k.now (s.client x) t (i.local x)).1);
-      recorded = λ x. let c : Client = s.client x in held_talk k.now c.held c.wait c.recorded c.b c.c c.d (i.local x).talk;
+      alone = λ x y n t. none_held k.now (s.client y) (holds.local y)
+          (holds.alone x y n (tip_is k.now (s.client x) t (holds.local x)).1);
+      recorded = λ x. let c : Client = s.client x in held_talk k.now c.held c.wait c.recorded c.b c.c c.d (holds.local x).talk;
       at_home = λ x n. home_there k.now s.memory s.home s.outward s.client x
-          (λ e. n (none_held k.now (s.client x) (i.local x) e)) i.home;
+          (λ e. n (none_held k.now (s.client x) (holds.local x) e)) holds.home;
     }
 
 -- in a block that is right every copy has the bytes last stored
@@ -125,24 +125,24 @@ pub newest_at :
     (shape : Shape) (image : List ℕ) (events : List Event) (block : ℕ) (s : Block)
     → Kept shape (λ a. last image events a) block s → IsNewestAt shape image events block s
 newest_at shape image events block s k =
-    let i : Invariant shape k.now s = k.inv in
+    let holds : Invariant shape k.now s = k.inv in
     record {
-      sized = λ x n. ap length (bytes_now k.now (s.client x).held n (i.local x).current) ∙ k.is_now.long;
+      sized = λ x n. ap length (bytes_now k.now (s.client x).held n (holds.local x).current) ∙ k.is_now.long;
       newest = λ x n. subst (λ (bytes : List ℕ). AreLast image events (block * shape.block_bytes) bytes)
-          (sym (bytes_now k.now (s.client x).held n (i.local x).current))
+          (sym (bytes_now k.now (s.client x).held n (holds.local x).current))
           (λ j l. k.is_now.each j (let long : length k.now ≡ shape.block_bytes = k.is_now.long in omega arith));
     }
 
 -- in a block that is right all bytes are a whole block
 pub whole_at : (shape : Shape) (byte : ℕ → ℕ) (block : ℕ) (s : Block) → Kept shape byte block s → IsWholeAt shape s
 whole_at shape byte block s k =
-    let i : Invariant shape k.now s = k.inv in
+    let holds : Invariant shape k.now s = k.inv in
     let size : ℕ = shape.block_bytes in
     let long : length k.now ≡ size = k.is_now.long in
     record {
-      held = λ x. copy_whole size k.now (s.client x).held long (i.local x).current;
-      on_c = λ x. let c : Client = s.client x in c_whole size k.now c.held c.wait c.recorded c.b c.c c.d long (i.local x).talk;
-      on_d = λ x. let c : Client = s.client x in d_whole size k.now c.held c.wait c.recorded c.b c.c c.d long (i.local x).talk;
+      held = λ x. copy_whole size k.now (s.client x).held long (holds.local x).current;
+      on_c = λ x. let c : Client = s.client x in c_whole size k.now c.held c.wait c.recorded c.b c.c c.d long (holds.local x).talk;
+      on_d = λ x. let c : Client = s.client x in d_whole size k.now c.held c.wait c.recorded c.b c.c c.d long (holds.local x).talk;
       home = k.whole.1;
       outward = k.whole.2;
       memory = k.whole.0;
@@ -152,45 +152,45 @@ whole_at shape byte block s k =
 pub end_kept :
     (shape : Shape) (image : List ℕ) (events : List Event) → IsRun shape image events
     → AllKept shape (λ a. last image events a) (end_of shape image events)
-end_kept shape image events r =
-    run_kept shape (slice_index image) (at_reset shape image) events (reset_kept shape image) r
+end_kept shape image events run =
+    run_kept shape (slice_index image) (at_reset shape image) events (reset_kept shape image) run
 
 -- a load in the end of a run got the bytes last stored
 pub load_last :
     (shape : Shape) (image : List ℕ) (before : List Event) (access : Access)
     → IsRun shape image before → MayNext shape (end_of shape image before) (Load access)
     → AreLast image before access.address access.bytes
-load_last shape image before access r m i l =
+load_last shape image before access run may_next i l =
     let address : ℕ = access.address in
     let block : ℕ = address / shape.block_bytes in
     let s : Block = end_of shape image before block in
     let k : Kept shape (λ a. last image before a) block s =
-    run_kept shape (slice_index image) (at_reset shape image) before (reset_kept shape image) r block in
-    let may = m.1.1 in
+    run_kept shape (slice_index image) (at_reset shape image) before (reset_kept shape image) run block in
+    let may = may_next.1.1 in
     load_now shape (λ a. last image before a) address access.bytes k.now i may.0 k.is_now
     (subst (λ (own : List ℕ). ReadsAs own (address % shape.block_bytes) access.bytes)
     (bytes_now k.now (s.client access.client).held may.1 ((k.inv).local access.client).current) may.2) l
 
 -- each load of a run got them
 pub loads_last : (shape : Shape) (image : List ℕ) (events : List Event) → IsRun shape image events → LoadsLast image events
-loads_last shape image events r before access rest e =
+loads_last shape image events run before access rest e =
     let both = run_split shape (at_reset shape image) before (Load access ∷ rest)
-    (subst (λ (es : List Event). IsRun shape image es) e r) in
+    (subst (λ (es : List Event). IsRun shape image es) e run) in
     load_last shape image before access both.0 both.1.0
 
 -- so it is in the end of every run
 pub every_run_keeps_copies : EveryRunKeepsCopies
-every_run_keeps_copies shape image events r block =
-    kept_at shape (λ a. last image events a) block (end_of shape image events block) (end_kept shape image events r block)
+every_run_keeps_copies shape image events run block =
+    kept_at shape (λ a. last image events a) block (end_of shape image events block) (end_kept shape image events run block)
 
 -- and with the bytes of copies and loads
 pub every_run_reads_last : EveryRunReadsLast
-every_run_reads_last shape image events r = (
-  (λ block. newest_at shape image events block (end_of shape image events block) (end_kept shape image events r block)),
-  loads_last shape image events r,
+every_run_reads_last shape image events run = (
+  (λ block. newest_at shape image events block (end_of shape image events block) (end_kept shape image events run block)),
+  loads_last shape image events run,
 )
 
 -- and all bytes of each block are whole
 pub every_run_keeps_sizes : EveryRunKeepsSizes
-every_run_keeps_sizes shape image events r block =
-    whole_at shape (λ a. last image events a) block (end_of shape image events block) (end_kept shape image events r block)
+every_run_keeps_sizes shape image events run block =
+    whole_at shape (λ a. last image events a) block (end_of shape image events block) (end_kept shape image events run block)

@@ -32,7 +32,7 @@ abbrev weight : Perm → ℕ
 weight p = one_if (not (is_none p))
 
 -- one message counts just where it gives a copy up
-message_weight : (m : Upward) → weight (upward_from m) ≡ weight (upward_to m) + one_if (gives_up (m ∷ []))
+message_weight : (message : Upward) → weight (upward_from message) ≡ weight (upward_to message) + one_if (gives_up (message ∷ []))
 message_weight (ProbeAck (a_TtoB bytes)) = refl
 message_weight (ProbeAck (a_TtoN bytes)) = refl
 message_weight (ProbeAck a_BtoB) = refl
@@ -57,26 +57,26 @@ two_weight a_NtoN given e = absurd (release_not_none given (sym e))
 heard_weight :
     (now : List ℕ) (held : CachedCopy) (wait : Wait) (recorded : Perm) (b : List ProbeCap) (c : List Upward)
     → Heard now held wait recorded b c → weight recorded ≡ weight (perm_of held) + one_if (gives_up c)
-heard_weight now held wait recorded b [] t = omega (arith, ap weight t.1)
-heard_weight now held wait recorded b (ProbeAck answer ∷ []) t =
-    omega (arith, ap weight t.2.0, ap weight t.2.1, message_weight (ProbeAck answer))
-heard_weight now held wait recorded b (Release given ∷ []) t =
-    omega (arith, ap weight t.1.0, ap weight t.1.1, message_weight (Release given))
-heard_weight now held wait recorded b (ProbeAck answer ∷ Release given ∷ []) t =
-    omega (arith, ap weight t.2.0, ap weight t.3, two_weight answer given t.2.1)
-heard_weight now held wait recorded b (x ∷ rest) t = absurd t
+heard_weight now held wait recorded b [] talk = omega (arith, ap weight talk.1)
+heard_weight now held wait recorded b (ProbeAck answer ∷ []) talk =
+    omega (arith, ap weight talk.2.0, ap weight talk.2.1, message_weight (ProbeAck answer))
+heard_weight now held wait recorded b (Release given ∷ []) talk =
+    omega (arith, ap weight talk.1.0, ap weight talk.1.1, message_weight (Release given))
+heard_weight now held wait recorded b (ProbeAck answer ∷ Release given ∷ []) talk =
+    omega (arith, ap weight talk.2.0, ap weight talk.3, two_weight answer given talk.2.1)
+heard_weight now held wait recorded b (x ∷ rest) talk = absurd talk
 
 -- a Grant with data brings a copy, one without data none
 sent_weight :
     (now : List ℕ) (held : CachedCopy) (cap : GrantCap) (bytes : Option (List ℕ)) → IsSent bytes now held
     → weight (grant_perm cap) ≡ weight (perm_of held) + one_if (has_grant_data (Grant cap bytes ∷ []))
-sent_weight now held ToB None s = omega (arith, ap (λ (k : CachedCopy). weight (perm_of k)) s)
-sent_weight now held ToT None s = omega (arith, ap (λ (k : CachedCopy). weight (perm_of k)) s)
-sent_weight now held ToB (Some bytes) s = omega (arith, ap (λ (k : CachedCopy). weight (perm_of k)) s.0)
-sent_weight now held ToT (Some bytes) s = omega (arith, ap (λ (k : CachedCopy). weight (perm_of k)) s.0)
+sent_weight now held ToB None sent = omega (arith, ap (λ (k : CachedCopy). weight (perm_of k)) sent)
+sent_weight now held ToT None sent = omega (arith, ap (λ (k : CachedCopy). weight (perm_of k)) sent)
+sent_weight now held ToB (Some bytes) sent = omega (arith, ap (λ (k : CachedCopy). weight (perm_of k)) sent.0)
+sent_weight now held ToT (Some bytes) sent = omega (arith, ap (λ (k : CachedCopy). weight (perm_of k)) sent.0)
 
 -- with nothing on C nothing is given up
-none_given : (t : Bool) (c : List Upward) → c ≡ [] → one_if (t || gives_up c) ≡ one_if t
+none_given : (other : Bool) (c : List Upward) → c ≡ [] → one_if (other || gives_up c) ≡ one_if other
 none_given true c e = refl
 none_given false c e = ap (λ (u : List Upward). one_if (gives_up u)) e
 
@@ -84,26 +84,26 @@ none_given false c e = ap (λ (u : List Upward). one_if (gives_up u)) e
 talk_weight :
     (now : List ℕ) (held : CachedCopy) (wait : Wait) (recorded : Perm) (b : List ProbeCap) (c : List Upward) (d : List Downward)
     → Talk now held wait recorded b c d → weight recorded ≡ weight (perm_of held) + one_if (has_grant_data d || gives_up c)
-talk_weight now held wait recorded b c [] t = heard_weight now held wait recorded b c t
-talk_weight now held wait recorded b c (Grant cap bytes ∷ []) t =
-    omega (arith, ap weight t.3, sent_weight now held cap bytes t.4, none_given (has_grant_data (Grant cap bytes ∷ [])) c t.0)
-talk_weight now held wait recorded b c (ReleaseAck ∷ []) t = omega (arith, ap weight t.2, none_given false c t.0)
-talk_weight now held wait recorded b c (x ∷ y ∷ rest) t = absurd t
+talk_weight now held wait recorded b c [] talk = heard_weight now held wait recorded b c talk
+talk_weight now held wait recorded b c (Grant cap bytes ∷ []) talk =
+    omega (arith, ap weight talk.3, sent_weight now held cap bytes talk.4, none_given (has_grant_data (Grant cap bytes ∷ [])) c talk.0)
+talk_weight now held wait recorded b c (ReleaseAck ∷ []) talk = omega (arith, ap weight talk.2, none_given false c talk.0)
+talk_weight now held wait recorded b c (x ∷ y ∷ rest) talk = absurd talk
 
 -- so it is for one client
 client_weight :
     (now : List ℕ) (k : Client) → ClientIs now k
     → one_if (is_recorded k) ≡ one_if (has_copy k) + one_if (is_under_way k)
-client_weight now k l = talk_weight now k.held k.wait k.recorded k.b k.c k.d l.talk
+client_weight now k holds = talk_weight now k.held k.wait k.recorded k.b k.c k.d holds.talk
 
 -- for the first clients
 clients_weight :
     (now : List ℕ) (n : ℕ) (client : ℕ → Client) → ((x : ℕ) → ClientIs now (client x))
     → count_clients is_recorded n client ≡ count_clients has_copy n client + count_clients is_under_way n client
-clients_weight now zero client l = refl
-clients_weight now (suc n) client l =
-    let first = client_weight now (client n) (l n) in
-    let rest = clients_weight now n client l in
+clients_weight now zero client holds = refl
+clients_weight now (suc n) client holds =
+    let first = client_weight now (client n) (holds n) in
+    let rest = clients_weight now n client holds in
     omega arith
 
 -- for all clients and these blocks

@@ -32,27 +32,27 @@ ReadFrom shape byte (e ∷ es) = AccessIs shape byte e × ReadFrom shape (λ a. 
 
 -- an access that is permitted lies in one block, and a load got the newest bytes
 access_is : (shape : Shape) (byte : ℕ → ℕ) (s : ℕ → Block) (e : Event) → MayNext shape s e → AllKept shape byte s → AccessIs shape byte e
-access_is shape byte s (Load access) m kept =
+access_is shape byte s (Load access) permitted kept =
     let address : ℕ = access.address in
     let block : ℕ = address / shape.block_bytes in
     let k : Kept shape byte block (s block) = kept block in
-    let may = m.1.1 in (
+    let may = permitted.1.1 in (
       may.0,
       λ i l. load_now shape byte address access.bytes k.now i may.0 k.is_now
           (subst (λ (own : List ℕ). ReadsAs own (address % shape.block_bytes) access.bytes)
           (bytes_now k.now ((s block).client access.client).held may.1 ((k.inv).local access.client).current) may.2) l,
     )
-access_is shape byte s (Store access) m kept = m.1.1.0
-access_is shape byte s e m kept = tt
+access_is shape byte s (Store access) permitted kept = permitted.1.1.0
+access_is shape byte s e permitted kept = tt
 
 -- so it is for a run
 run_reads :
     (shape : Shape) (byte : ℕ → ℕ) (s : ℕ → Block) (events : List Event) → AllKept shape byte s → IsRunFrom shape s events
     → ReadFrom shape byte events
-run_reads shape byte s [] kept r = tt
-run_reads shape byte s (e ∷ es) kept r = (
-  access_is shape byte s e r.0 kept,
-  run_reads shape (λ a. byte_after e a (byte a)) (after_next shape s e) es (step_kept shape byte s e r.0 kept) r.1,
+run_reads shape byte s [] kept run = tt
+run_reads shape byte s (e ∷ es) kept run = (
+  access_is shape byte s e run.0 kept,
+  run_reads shape (λ a. byte_after e a (byte a)) (after_next shape s e) es (step_kept shape byte s e run.0 kept) run.1,
 )
 
 -- ## Only loads and stores count

@@ -199,41 +199,41 @@ took_home now memory (Some line) (Some bytes) outward client c k sent none dirty
 
 -- a message without data leaves the bytes that home has not got yet where they are
 pub still_dirty :
-    (held : CachedCopy) (c rest : List Upward) (m : Upward) → m ∷ rest ≡ c → (IsThere (upward_bytes m) → ⊥)
+    (held : CachedCopy) (c rest : List Upward) (message : Upward) → message ∷ rest ≡ c → (IsThere (upward_bytes message) → ⊥)
     → IsThere (dirty_bytes held) ⊎ HasData c → IsThere (dirty_bytes held) ⊎ HasData rest
-still_dirty held c rest m e n (inl d) = inl d
-still_dirty held c rest m e n (inr h) = absurd (n (subst (λ (u : List Upward). HasData u) (sym e) h))
+still_dirty held c rest message e n (inl d) = inl d
+still_dirty held c rest message e n (inr h) = absurd (n (subst (λ (u : List Upward). HasData u) (sym e) h))
 
 -- home takes the first message of C, whichever it is
 pub took_step :
-    (shape : Shape) (now : List ℕ) (s : Block) (c : ℕ) (m : Upward) (rest : List Upward) (k : Client) → c < shape.clients
-    → m ∷ rest ≡ (s.client c).c → Invariant shape now s → ClientIs now k → k.recorded ≡ upward_to m
+    (shape : Shape) (now : List ℕ) (s : Block) (c : ℕ) (message : Upward) (rest : List Upward) (k : Client) → c < shape.clients
+    → message ∷ rest ≡ (s.client c).c → Invariant shape now s → ClientIs now k → k.recorded ≡ upward_to message
     → (IsGrantPending k → IsGrantPending (s.client c)) → (NoProbePending (s.client c) → NoProbePending k)
     → (IsServed s.accepted c → k.e ≡ 0 → (k.wait ≡ ForGrant) × (k.a ≡ []))
-    → ((IsThere (upward_bytes m) → ⊥) → IsDirty (s.client c) → IsDirty k)
-    → Invariant shape now (with_client (record s { home = home_after s.home (upward_bytes m) }) c k)
-took_step shape now s c m rest k inside e holds mine to before quiet waits dirty =
-    let first = first_is now (s.client c) m rest e (holds.local c) in
-    let none : (s.client c).recorded ≡ p_None → k.recorded ≡ p_None = λ n. to ∙ none_to_none m (sym first.0 ∙ n) in
+    → ((IsThere (upward_bytes message) → ⊥) → IsDirty (s.client c) → IsDirty k)
+    → Invariant shape now (with_client (record s { home = home_after s.home (upward_bytes message) }) c k)
+took_step shape now s c message rest k inside e holds mine to before quiet waits dirty =
+    let first = first_is now (s.client c) message rest e (holds.local c) in
+    let none : (s.client c).recorded ≡ p_None → k.recorded ≡ p_None = λ n. to ∙ none_to_none message (sym first.0 ∙ n) in
     record {
       outside = put_outside shape.clients s.client c k inside holds.outside;
       local = put_local now now s.client c k mine (λ x n. holds.local x);
       service = put_service s.accepted s.client c k holds.service before (λ x p. quiet (holds.service.no_probe x c p)) waits
-          (omega (arith, ap rank to, ap rank first.0, to_le m));
-      alone = put_alone s.client c k holds.alone (λ t. absurd (to_not_tip m (sym to ∙ t))) none;
-      home = took_home now s.memory s.home (upward_bytes m) s.outward s.client c k first.1 none dirty holds.home;
+          (omega (arith, ap rank to, ap rank first.0, to_le message));
+      alone = put_alone s.client c k holds.alone (λ t. absurd (to_not_tip message (sym to ∙ t))) none;
+      home = took_home now s.memory s.home (upward_bytes message) s.outward s.client c k first.1 none dirty holds.home;
     }
 
 -- where no answer to a Probe is on C, none is behind the first message
-pub no_ack_rest : (m : Upward) (rest : List Upward) → has_probe_ack (m ∷ rest) ≡ false → has_probe_ack rest ≡ false
+pub no_ack_rest : (message : Upward) (rest : List Upward) → has_probe_ack (message ∷ rest) ≡ false → has_probe_ack rest ≡ false
 no_ack_rest (ProbeAck answer) rest e = cc
 no_ack_rest (Release given) rest e = e
 
 -- a message that home takes brings no Probe
 pub quiet_rest :
-    (b : List ProbeCap) (c rest : List Upward) (m : Upward) → m ∷ rest ≡ c → (b ≡ []) × (has_probe_ack c ≡ false)
+    (b : List ProbeCap) (c rest : List Upward) (message : Upward) → message ∷ rest ≡ c → (b ≡ []) × (has_probe_ack c ≡ false)
     → (b ≡ []) × (has_probe_ack rest ≡ false)
-quiet_rest b c rest m e quiet = (quiet.0, no_ack_rest m rest (ap has_probe_ack e ∙ quiet.1))
+quiet_rest b c rest message e quiet = (quiet.0, no_ack_rest message rest (ap has_probe_ack e ∙ quiet.1))
 
 -- what home leaves where these are the messages on C
 abbrev pub took_by : Block → ℕ → List Upward → Block
@@ -241,23 +241,23 @@ took_by s c u = with_client (record s { home = home_after s.home (first_bytes u)
 
 -- home takes the first message of C, and answers a Release
 pub take_c_step :
-    (shape : Shape) (now : List ℕ) (s : Block) (c : ℕ) (m : Upward) (rest : List Upward) → c < shape.clients
-    → m ∷ rest ≡ (s.client c).c → Invariant shape now s → Invariant shape now (took_by s c (m ∷ rest))
+    (shape : Shape) (now : List ℕ) (s : Block) (c : ℕ) (message : Upward) (rest : List Upward) → c < shape.clients
+    → message ∷ rest ≡ (s.client c).c → Invariant shape now s → Invariant shape now (took_by s c (message ∷ rest))
 take_c_step shape now s c (ProbeAck answer) rest inside e holds =
     let old : Client = s.client c in
-    let m : Upward = ProbeAck answer in
-    took_step shape now s c m rest (record old { recorded = upward_to (ProbeAck answer); c = rest }) inside e holds
+    let message : Upward = ProbeAck answer in
+    took_step shape now s c message rest (record old { recorded = upward_to (ProbeAck answer); c = rest }) inside e holds
     (took_probe_ack_ok now old answer rest e (holds.local c)) refl (λ p. p)
-    (quiet_rest old.b old.c rest m e) (holds.service.waits c) (still_dirty old.held old.c rest m e)
+    (quiet_rest old.b old.c rest message e) (holds.service.waits c) (still_dirty old.held old.c rest message e)
 take_c_step shape now s c (Release given) rest inside e holds =
     let old : Client = s.client c in
-    let m : Upward = Release given in
-    let first = first_is now old m rest e (holds.local c) in
-    took_step shape now s c m rest (record old { recorded = upward_to (Release given); c = rest; d = old.d ++ ReleaseAck ∷ [] }) inside e holds
+    let message : Upward = Release given in
+    let first = first_is now old message rest e (holds.local c) in
+    took_step shape now s c message rest (record old { recorded = upward_to (Release given); c = rest; d = old.d ++ ReleaseAck ∷ [] }) inside e holds
     (took_release_ok now old given rest e (holds.local c)) refl
     (⊎_elim (λ (g : has_grant (old.d ++ ReleaseAck ∷ []) ≡ true). let never : false ≡ true = sym (no_grant_after old.d first.2) ∙ g in cc)
     (λ (p : 0 < old.e). inr p))
-    (quiet_rest old.b old.c rest m e) (holds.service.waits c) (still_dirty old.held old.c rest m e)
+    (quiet_rest old.b old.c rest message e) (holds.service.waits c) (still_dirty old.held old.c rest message e)
 
 -- nobody else may have Tip where a Grant is sent
 pub no_tip_beside :
@@ -507,39 +507,39 @@ put_step shape now s line e idle holds =
 pub step_on :
     (shape : Shape) (now : List ℕ) (s : Block) (e : Event) → MayOn shape s e → Invariant shape now s
     → Invariant shape (now_after shape now e) (after shape s e)
-step_on shape now s (Load access) m holds = holds
-step_on shape now s (Store access) m holds =
-    store_step shape now s access.client (access.address % shape.block_bytes) access.bytes m.0 m.1.1 holds
-step_on shape now s (SendAcquire c block grow) m holds = acquire_step shape now s c grow m.0 m.1.0 m.1.1 holds
-step_on shape now s (SendRelease c block prune) m holds = release_step shape now s c prune m.0 m.1.0 m.1.1 holds
-step_on shape now s (AnswerProbe c block) m holds = answer_step shape now s c m.1.0.0 m.1.0.1 m.0 m.1.0.2 m.1.1 holds
-step_on shape now s (TakeGrant c block) m holds = take_grant_step shape now s c m.1.0 m.1.1 m.1.2 m.0 m.1.3 holds
-step_on shape now s (TakeReleaseAck c block) m holds = take_release_ack_step shape now s c m.1.0 m.0 m.1.1 holds
-step_on shape now s (AcceptAcquire c block) m holds = accept_step shape now s c m.1.0 m.1.1 m.0 m.1.2 m.2 holds
-step_on shape now s (SendProbe c block cap) m holds = probe_step shape now s c cap m.0 m.1.1 m.1.2 holds
-step_on shape now s (TakeC c block) m holds =
-    subst (λ (u : List Upward). Invariant shape now (took_by s c u)) (sym m.1.2)
-    (take_c_step shape now s c m.1.0 m.1.1 m.0 (sym m.1.2) holds)
-step_on shape now s (SendGrant c block) m holds =
-    let may = m.1 in
-    let acquire : Accepted = record { client = c; grow = may.0.0 } in
-    let line : Line = may.1.0 in
-    subst (λ (o : Option Accepted). Invariant shape now (grants shape s c o)) (sym may.0.1)
-    (grant_step shape now s c acquire (granted shape s acquire) line m.0 may.0.1 refl may.0.2 may.1.1
-    (granted_fits acquire.grow (is_alone shape.clients c s.client)) may.2 may.3 holds)
-step_on shape now s (TakeGrantAck c block) m holds = take_grant_ack_step shape now s c m.0 m.1 holds
-step_on shape now s (SendGet block) m holds =
-    home_step shape now s s.memory s.home Get (get_home now s.memory s.home s.outward s.client m.1 m.2 holds.home) holds
-step_on shape now s (Serve block) m holds = serve_step shape now s s.outward refl holds
-step_on shape now s (TakeData block) m holds = take_data_step shape now s s.outward refl holds
-step_on shape now s (Drop block) m holds = drop_step shape now s m.0.0 m.0.1 m.0.2 m.1 holds
-step_on shape now s (SendPut block) m holds = put_step shape now s m.0.0 m.0.1 m.1 holds
-step_on shape now s (TakePutAck block) m holds =
+step_on shape now s (Load access) may holds = holds
+step_on shape now s (Store access) may holds =
+    store_step shape now s access.client (access.address % shape.block_bytes) access.bytes may.0 may.1.1 holds
+step_on shape now s (SendAcquire c block grow) may holds = acquire_step shape now s c grow may.0 may.1.0 may.1.1 holds
+step_on shape now s (SendRelease c block prune) may holds = release_step shape now s c prune may.0 may.1.0 may.1.1 holds
+step_on shape now s (AnswerProbe c block) may holds = answer_step shape now s c may.1.0.0 may.1.0.1 may.0 may.1.0.2 may.1.1 holds
+step_on shape now s (TakeGrant c block) may holds = take_grant_step shape now s c may.1.0 may.1.1 may.1.2 may.0 may.1.3 holds
+step_on shape now s (TakeReleaseAck c block) may holds = take_release_ack_step shape now s c may.1.0 may.0 may.1.1 holds
+step_on shape now s (AcceptAcquire c block) may holds = accept_step shape now s c may.1.0 may.1.1 may.0 may.1.2 may.2 holds
+step_on shape now s (SendProbe c block cap) may holds = probe_step shape now s c cap may.0 may.1.1 may.1.2 holds
+step_on shape now s (TakeC c block) may holds =
+    subst (λ (u : List Upward). Invariant shape now (took_by s c u)) (sym may.1.2)
+    (take_c_step shape now s c may.1.0 may.1.1 may.0 (sym may.1.2) holds)
+step_on shape now s (SendGrant c block) may holds =
+    let permitted = may.1 in
+    let acquire : Accepted = record { client = c; grow = permitted.0.0 } in
+    let line : Line = permitted.1.0 in
+    subst (λ (o : Option Accepted). Invariant shape now (grants shape s c o)) (sym permitted.0.1)
+    (grant_step shape now s c acquire (granted shape s acquire) line may.0 permitted.0.1 refl permitted.0.2 permitted.1.1
+    (granted_fits acquire.grow (is_alone shape.clients c s.client)) permitted.2 permitted.3 holds)
+step_on shape now s (TakeGrantAck c block) may holds = take_grant_ack_step shape now s c may.0 may.1 holds
+step_on shape now s (SendGet block) may holds =
+    home_step shape now s s.memory s.home Get (get_home now s.memory s.home s.outward s.client may.1 may.2 holds.home) holds
+step_on shape now s (Serve block) may holds = serve_step shape now s s.outward refl holds
+step_on shape now s (TakeData block) may holds = take_data_step shape now s s.outward refl holds
+step_on shape now s (Drop block) may holds = drop_step shape now s may.0.0 may.0.1 may.0.2 may.1 holds
+step_on shape now s (SendPut block) may holds = put_step shape now s may.0.0 may.0.1 may.1 holds
+step_on shape now s (TakePutAck block) may holds =
     home_step shape now s s.memory s.home Quiet
-    (settled_home now s.memory s.home s.client (subst (λ (o : Outward). HomeIs now s.memory s.home o s.client) m holds.home)) holds
+    (settled_home now s.memory s.home s.client (subst (λ (o : Outward). HomeIs now s.memory s.home o s.client) may holds.home)) holds
 
 -- an event that is permitted
 pub step :
     (shape : Shape) (now : List ℕ) (s : Block) (e : Event) → May shape s e → Invariant shape now s
     → Invariant shape (now_after shape now e) (after shape s e)
-step shape now s e m holds = step_on shape now s e m.1 holds
+step shape now s e may holds = step_on shape now s e may.1 holds

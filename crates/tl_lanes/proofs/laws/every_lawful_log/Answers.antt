@@ -1,4 +1,5 @@
 use Rattle.tl_lanes.proofs.Logs.{empty_is_lawful, lawful_grows_by_one, lanes_grow_by_one, first_heads_its_list, messages_fit_their_channels}
+use Rattle.tl_lanes.proofs.First.{every_first_is_first}
 use Rattle.tl_lanes.proofs.laws.every_lawful_log.Goals as goal
 
 pub returns-clause-empty : goal.returns-clause-empty
@@ -15,3 +16,6 @@ returns-clause-first c = first_heads_its_list
 
 pub returns-clause-kinds : goal.returns-clause-kinds
 returns-clause-kinds c = messages_fit_their_channels
+
+pub returns-clause-begins : goal.returns-clause-begins
+returns-clause-begins c = every_first_is_first
