@@ -67,7 +67,7 @@ client-keeps s c k one = record {
   brings_none = λ q h. h;
 }
 
-nothing-keeps : (s : Block) → Keeps s s
+pub nothing-keeps : (s : Block) → Keeps s s
 nothing-keeps s = record {
   accepted = refl;
   probes = λ x. same-probes (s.client x) (s.client x) refl refl refl;

@@ -1,3 +1,4 @@
+pub mod Agreement
 pub mod Blocks
 pub mod Held
 pub mod Lowest

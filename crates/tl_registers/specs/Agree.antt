@@ -7,7 +7,7 @@ use Rattle.tl_protocol.specs.declared.home.Outward.TheVariants.{Quiet}
 use Rattle.tl_protocol.specs.declared.shape.Shape.{Shape}
 use Rattle.tl_protocol.specs.Pending.{IsOrderly, IsServiceAt}
 use Rattle.tl_protocol.specs.Protocol.{Block}
-use Rattle.tl_protocol.specs.Runs.{MayNext, after_next}
+use Rattle.tl_protocol.specs.Runs.{MayNext, after_next, at_reset, IsRun, end_of}
 use Rattle.tl_registers.specs.declared.register.Register.{Register}
 use Rattle.tl_registers.specs.Fit.{Fits, NobodyIsProbed}
 use Rattle.tl_registers.specs.Register.{works_on}
@@ -58,7 +58,12 @@ EventsLeaveRegisters =
     (shape : Shape) (states : ℕ → Block) (registers : List Register) (e : Event) → LeavesRegisters e → IsSteady shape states
     → Agree shape states registers → MayNext shape states e → Agree shape (after_next shape states e) registers
 
--- With no register and nothing under way all agree.
-abbrev pub NoRegisterAgrees : Type 0
-NoRegisterAgrees =
-    (shape : Shape) (states : ℕ → Block) → ((block : ℕ) → IsAtRest shape (states block)) → Agree shape states []
+-- At reset, with no register, all agree.
+abbrev pub AgreeAtReset : Type 0
+AgreeAtReset = (shape : Shape) (image : List ℕ) → Agree shape (at_reset shape image) []
+
+-- Every run is steady.
+abbrev pub EveryRunIsSteady : Type 0
+EveryRunIsSteady =
+    (shape : Shape) (image : List ℕ) (events : List Event) → IsRun shape image events
+    → IsSteady shape (end_of shape image events)

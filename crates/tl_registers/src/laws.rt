@@ -1,5 +1,5 @@
 //! What ties the register's rule to the protocol.
-ghost use Rattle.tl_registers.specs.Agree.{EventsLeaveRegisters, NoRegisterAgrees};
+ghost use Rattle.tl_registers.specs.Agree.{AgreeAtReset, EveryRunIsSteady, EventsLeaveRegisters};
 ghost use Rattle.tl_registers.specs.Fit.{EveryActionIsPermitted};
 ghost use Rattle.tl_registers.specs.Pending.{PendingIsTheProtocols};
 
@@ -12,4 +12,12 @@ pub fn pending_is_the_protocols()
 /// the state.
 pub fn every_action_is_permitted()
     ensures { EveryActionIsPermitted }
+{}
+
+/// The open registers and the protocol's state agree: at reset, and after each event that no register carries out, opens for
+/// or closes at.
+pub fn registers_agree()
+    ensures at_reset { AgreeAtReset }
+    ensures steady { EveryRunIsSteady }
+    ensures events { EventsLeaveRegisters }
 {}
