@@ -29,7 +29,7 @@ use Rattle.tl_protocol.proofs.Pending.{every_message_leads_down}
 use Rattle.tl_registers.specs.Agree.{LeavesRegisters}
 use Rattle.tl_registers.specs.Fit.{IsPutting, IsGetting}
 use Rattle.tl_registers.proofs.Pending.{bool-cases}
-use Rattle.tl_registers.proofs.Probes.{KeepsProbes, same-probes, released-probes, answered-probes, took_grant-probes, took_c-probes}
+use Rattle.tl_registers.proofs.Probes.{KeepsProbes, same-probes, released-probes, answered-probes, took_grant-probes, took_c-probes, fewer-grants}
 
 -- What such an event does to a block: no Acquire is accepted or done with, the Probes of each client are kept, and home and what
 -- is outward change only as a register that works on the block can bear.
@@ -53,7 +53,7 @@ put-probes s c k one x =
           let P = λ (y : ℕ). KeepsProbes (s.client y) k in
           let here : KeepsProbes (s.client x) k = subst P (sym (eqb-true x c e)) one in
           rw e here
-      | inr e ↦ rw e (same-probes (s.client x) (s.client x) refl refl refl)
+      | inr e ↦ rw e (same-probes (s.client x) (s.client x) refl refl refl (λ h. h))
     ]
 
 client-keeps : (s : Block) (c : ℕ) (k : Client) → KeepsProbes (s.client c) k → Keeps s (with_client s c k)
@@ -70,7 +70,7 @@ client-keeps s c k one = record {
 pub nothing-keeps : (s : Block) → Keeps s s
 nothing-keeps s = record {
   accepted = refl;
-  probes = λ x. same-probes (s.client x) (s.client x) refl refl refl;
+  probes = λ x. same-probes (s.client x) (s.client x) refl refl refl (λ h. h);
   putting = λ h. h;
   getting = λ h. h;
   quiet = λ h. h;
@@ -153,7 +153,7 @@ serve-keeps : (s : Block) (out : Outward) → s.outward ≡ out → Keeps s (ser
 serve-keeps s Quiet is = nothing-keeps s
 serve-keeps s Get is = record {
   accepted = refl;
-  probes = λ x. same-probes (s.client x) (s.client x) refl refl refl;
+  probes = λ x. same-probes (s.client x) (s.client x) refl refl refl (λ h. h);
   putting = λ h. absurd (rw is at h);
   getting = λ h. tt;
   quiet = λ h. let bad : Get ≡ Quiet = sym is ∙ h in cc;
@@ -163,7 +163,7 @@ serve-keeps s Get is = record {
 serve-keeps s (Data bytes) is = nothing-keeps s
 serve-keeps s (Put bytes) is = record {
   accepted = refl;
-  probes = λ x. same-probes (s.client x) (s.client x) refl refl refl;
+  probes = λ x. same-probes (s.client x) (s.client x) refl refl refl (λ h. h);
   putting = λ h. tt;
   getting = λ h. absurd (rw is at h);
   quiet = λ h. let bad : Put bytes ≡ Quiet = sym is ∙ h in cc;
@@ -177,7 +177,7 @@ take_data-keeps s Quiet is = nothing-keeps s
 take_data-keeps s Get is = nothing-keeps s
 take_data-keeps s (Data bytes) is = record {
   accepted = refl;
-  probes = λ x. same-probes (s.client x) (s.client x) refl refl refl;
+  probes = λ x. same-probes (s.client x) (s.client x) refl refl refl (λ h. h);
   putting = λ h. tt;
   getting = λ h. tt;
   quiet = λ h. refl;
@@ -193,15 +193,15 @@ pub event-keeps : (shape : Shape) (s : Block) (e : Event) → LeavesRegisters e 
     → ((x : ℕ) → IsOrderly (s.client x)) → Keeps s (after shape s e)
 event-keeps shape s (Load access) leaves kept orderly = nothing-keeps s
 event-keeps shape s (Store access) leaves kept orderly =
-    client-keeps s access.client _ (same-probes (s.client access.client) _ refl refl refl)
+    client-keeps s access.client _ (same-probes (s.client access.client) _ refl refl refl (λ h. h))
 event-keeps shape s (SendAcquire c block grow) leaves kept orderly =
-    client-keeps s c _ (same-probes (s.client c) _ refl refl refl)
+    client-keeps s c _ (same-probes (s.client c) _ refl refl refl (λ h. h))
 event-keeps shape s (SendRelease c block prune) leaves kept orderly = client-keeps s c _ (released-probes (s.client c) prune)
 event-keeps shape s (AnswerProbe c block) leaves kept orderly =
     client-keeps s c _ (answered-probes (s.client c) (s.client c).b refl)
-event-keeps shape s (TakeGrant c block) leaves kept orderly = client-keeps s c _ (took_grant-probes (s.client c) (s.client c).d)
+event-keeps shape s (TakeGrant c block) leaves kept orderly = client-keeps s c _ (took_grant-probes (s.client c) (s.client c).d refl)
 event-keeps shape s (TakeReleaseAck c block) leaves kept orderly =
-    client-keeps s c _ (same-probes (s.client c) _ refl refl refl)
+    client-keeps s c _ (same-probes (s.client c) _ refl refl refl (fewer-grants (s.client c).d (s.client c).e))
 event-keeps shape s (TakeC c block) leaves kept orderly = take_c-keeps shape s c kept (orderly c)
 event-keeps shape s (Serve block) leaves kept orderly = serve-keeps s s.outward refl
 event-keeps shape s (TakeData block) leaves kept orderly = take_data-keeps s s.outward refl

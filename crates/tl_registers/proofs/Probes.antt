@@ -1,7 +1,7 @@
 -- What each step of a client leaves of the Probes that a register sent it.
-use Rattle.std.proofs.Common.{◌≡◌, ◌≢◌, ℕ, zero, suc, ◌+◌, ◌-◌, ◌<◌, ◌≤◌, ◌||◌, Bool, true, false, List, [], ◌∷◌, ◌++◌, drop, Option, Some, None, refl, sym, ◌∙◌, ap, subst, arith}
+use Rattle.std.proofs.Common.{◌≡◌, ◌≢◌, ℕ, zero, suc, ◌+◌, ◌-◌, ◌<◌, ◌≤◌, ◌||◌, ◌==◌, not, Bool, true, false, List, [], ◌∷◌, ◌++◌, drop, Option, Some, None, refl, sym, ◌∙◌, ap, subst, arith}
 use Rattle.std.specs.List.{list_any}
-use Rattle.tl_types.specs.Message.{probe_answer, upward_to, is_probe_ack}
+use Rattle.tl_types.specs.Message.{probe_answer, upward_to, is_probe_ack, is_grant}
 use Rattle.tl_types.specs.Permission.{rank, probe_perm}
 use Rattle.tl_types.specs.declared.message.Downward.{Downward}
 use Rattle.tl_types.specs.declared.message.Downward.TheVariants.{Grant, ReleaseAck}
@@ -18,17 +18,18 @@ use Rattle.tl_protocol.specs.Copy.{perm_of, dirty_bytes}
 use Rattle.tl_protocol.specs.declared.client.Client.{Client}
 use Rattle.tl_protocol.proofs.Pending.{every_answer_is_within}
 use Rattle.tl_registers.specs.Fit.{Ask, Answer, ProbeFits}
-use Rattle.tl_registers.specs.Pending.{has_first, is_probed}
+use Rattle.tl_registers.specs.Pending.{has_first, is_probed, is_granted}
 use Rattle.tl_registers.specs.Register.{is_above}
 
--- What a step of a client does to its Probes: it keeps those that fit, and brings none up.
+-- What a step of a client does to what is pending at it: it keeps the Probes that fit, and brings no Probe and no Grant up.
 pub record KeepsProbes (k later : Client) : Type 0 where
   pub keeps : (cap : ProbeCap) (probed other : Bool) → ProbeFits k cap probed other → ProbeFits later cap probed other
   pub brings_none : is_probed k ≡ false → is_probed later ≡ false
+  pub grants_none : is_granted k ≡ false → is_granted later ≡ false
 
 -- ## The messages on C
 
-or-true : (t : Bool) → (t || true) ≡ true
+pub or-true : (t : Bool) → (t || true) ≡ true
 or-true true = refl
 or-true false = refl
 
@@ -49,6 +50,17 @@ more-answers : (cap : ProbeCap) (c : List Upward) (m : Upward) → Answer cap (m
 more-answers cap [] m one h = one
 more-answers cap (ProbeAck answer ∷ rest) m one h = (h.0, more-answers cap rest m one h.1)
 more-answers cap (Release given ∷ rest) m one h = more-answers cap rest m one h
+
+any-ack : (d : List Downward) → list_any is_grant (d ++ ReleaseAck ∷ []) ≡ list_any is_grant d
+any-ack [] = refl
+any-ack (message ∷ rest) = ap (λ t. is_grant message || t) (any-ack rest)
+
+-- the first of these messages leaves no Grant that was not there
+pub fewer-grants : (d : List Downward) (e : ℕ) → (list_any is_grant d || not (e == 0)) ≡ false
+    → (list_any is_grant (drop 1 d) || not (e == 0)) ≡ false
+fewer-grants [] e h = h
+fewer-grants (Grant cap bytes ∷ rest) e h = cc
+fewer-grants (ReleaseAck ∷ rest) e h = h
 
 -- ## Permissions
 
@@ -74,8 +86,9 @@ falls Tip q ToN l h = cc
 -- ## The steps
 
 -- a step that leaves B, C and the record leaves the Probes
-pub same-probes : (k later : Client) → later.b ≡ k.b → later.c ≡ k.c → later.recorded ≡ k.recorded → KeepsProbes k later
-same-probes k later b c recorded =
+pub same-probes : (k later : Client) → later.b ≡ k.b → later.c ≡ k.c → later.recorded ≡ k.recorded
+    → (is_granted k ≡ false → is_granted later ≡ false) → KeepsProbes k later
+same-probes k later b c recorded granted =
     let same : is_probed later ≡ is_probed k = rw (b, c) refl in
     record {
       keeps = λ cap probed other f. record {
@@ -85,6 +98,7 @@ same-probes k later b c recorded =
         answered = λ o p h. ap (λ (q : Perm). is_above q cap) recorded ∙ f.answered o p (sym same ∙ h);
       };
       brings_none = λ h. same ∙ h;
+      grants_none = granted;
     }
 
 -- a Release joins C
@@ -100,11 +114,12 @@ released-probes k prune =
         answered = λ o p h. f.answered o p (sym same ∙ h);
       };
       brings_none = λ h. same ∙ h;
+      grants_none = λ h. h;
     }
 
 -- a Probe is answered within its cap
 pub answered-probes : (k : Client) (b : List ProbeCap) → k.b ≡ b → KeepsProbes k (answered_client k b)
-answered-probes k [] is = same-probes k k refl refl refl
+answered-probes k [] is = same-probes k k refl refl refl (λ h. h)
 answered-probes k (first ∷ rest) is =
     let later = answered_client k (first ∷ rest) in
     let was : is_probed k ≡ true = rw is refl in
@@ -121,18 +136,20 @@ answered-probes k (first ∷ rest) is =
             answered = λ o p h. let bad : true ≡ false = sym now ∙ h in cc;
           };
       brings_none = λ h. let bad : true ≡ false = sym was ∙ h in cc;
+      grants_none = λ h. h;
     }
 
 -- a Grant is taken
-pub took_grant-probes : (k : Client) (d : List Downward) → KeepsProbes k (took_grant k d)
-took_grant-probes k [] = same-probes k k refl refl refl
-took_grant-probes k (ReleaseAck ∷ rest) = same-probes k k refl refl refl
-took_grant-probes k (Grant cap bytes ∷ rest) = same-probes k (took_grant k (Grant cap bytes ∷ rest)) refl refl refl
+pub took_grant-probes : (k : Client) (d : List Downward) → k.d ≡ d → KeepsProbes k (took_grant k d)
+took_grant-probes k [] is = same-probes k k refl refl refl (λ h. h)
+took_grant-probes k (ReleaseAck ∷ rest) is = same-probes k k refl refl refl (λ h. h)
+took_grant-probes k (Grant cap bytes ∷ rest) is = same-probes k (took_grant k (Grant cap bytes ∷ rest)) refl refl refl
+    (λ h. let was : is_granted k ≡ true = rw is refl in let bad : true ≡ false = sym was ∙ h in cc)
 
 -- home takes the first message of C, which does not lead upward
 pub took_c-probes : (k : Client) (c : List Upward) → k.c ≡ c
     → ((m : Upward) (rest : List Upward) → c ≡ m ∷ rest → rank (upward_to m) ≤ rank k.recorded) → KeepsProbes k (took_c_from k c)
-took_c-probes k [] is down = same-probes k k refl refl refl
+took_c-probes k [] is down = same-probes k k refl refl refl (λ h. h)
 took_c-probes k (ProbeAck answer ∷ rest) is down =
     let was : is_probed k ≡ true = rw is (or-true (has_first k.b)) in
     record {
@@ -145,6 +162,7 @@ took_c-probes k (ProbeAck answer ∷ rest) is down =
             answered = λ o p h. within (upward_to (ProbeAck answer)) cap answers.0;
           };
       brings_none = λ h. let bad : true ≡ false = sym was ∙ h in cc;
+      grants_none = λ h. h;
     }
 took_c-probes k (Release given ∷ rest) is down =
     let later = took_c_from k (Release given ∷ rest) in
@@ -157,4 +175,5 @@ took_c-probes k (Release given ∷ rest) is down =
         answered = λ o p h. falls k.recorded (upward_to (Release given)) cap (down (Release given) rest refl) (f.answered o p (sym same ∙ h));
       };
       brings_none = λ h. same ∙ h;
+      grants_none = λ h. ap (λ t. t || not (k.e == 0)) (any-ack k.d) ∙ h;
     }

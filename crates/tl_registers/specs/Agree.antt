@@ -56,7 +56,7 @@ LeavesRegisters e = Unit {0}
 abbrev pub EventsLeaveRegisters : Type 0
 EventsLeaveRegisters =
     (shape : Shape) (states : ℕ → Block) (registers : List Register) (e : Event) → LeavesRegisters e → IsSteady shape states
-    → Agree shape states registers → MayNext shape states e → Agree shape (after_next shape states e) registers
+    → Agree shape states registers → Agree shape (after_next shape states e) registers
 
 -- At reset, with no register, all agree.
 abbrev pub AgreeAtReset : Type 0

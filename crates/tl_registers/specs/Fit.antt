@@ -22,7 +22,7 @@ use Rattle.tl_registers.specs.declared.register.Register.{Register}
 use Rattle.tl_registers.specs.declared.register.Task.{Task}
 use Rattle.tl_registers.specs.declared.register.Task.TheVariants.{Acquire, Replace, Evict}
 use Rattle.tl_registers.specs.NextAction.{next_due, probes_before}
-use Rattle.tl_registers.specs.Pending.{is_probed}
+use Rattle.tl_registers.specs.Pending.{is_probed, grant_pending}
 use Rattle.tl_registers.specs.Register.{IsKnown, has_probed, is_above, is_other}
 
 -- the event that an action of a register is
@@ -94,6 +94,8 @@ pub record IsServed (shape : Shape) (s : Block) (r : Register) (acquire : Accept
   pub accepted : s.accepted ≡ Some acquire
   pub probes : ProbesFit shape s.client r (Some acquire.client) (probes_before acquire.grow)
   pub getting : IsGetting s.outward
+  -- while its Grant is pending nothing is under way to the memory
+  pub done : grant_pending shape s ≡ true → s.outward ≡ Quiet
 
 -- A block waits until the victim has left its way: home lacks it, and asks the memory for nothing yet.
 pub record Awaits (s : Block) : Type 0 where
