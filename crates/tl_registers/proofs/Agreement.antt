@@ -13,7 +13,7 @@ use Rattle.tl_protocol.proofs.Pending.{every_run_keeps_messages, every_run_keeps
 use Rattle.tl_registers.specs.declared.register.Register.{Register}
 use Rattle.tl_registers.specs.declared.register.Task.{Task}
 use Rattle.tl_registers.specs.declared.register.Task.TheVariants.{Acquire, Replace, Evict}
-use Rattle.tl_registers.specs.Agree.{IsAtRest, EachFits, Agree, IsSteady, LeavesRegisters, EventsLeaveRegisters, AgreeAtReset, EveryRunIsSteady}
+use Rattle.tl_registers.specs.Agree.{IsAtRest, Each, Agree, IsSteady, LeavesRegisters, EventsLeaveRegisters, AgreeAtReset, EveryRunIsSteady}
 use Rattle.tl_registers.specs.Fit.{ProbesFit, NobodyIsProbed, Leaves, IsServed, Awaits, TaskFits, Fits}
 use Rattle.tl_registers.specs.NextAction.{probes_before}
 use Rattle.tl_registers.specs.Register.{has_probed, is_other, works_on, is_block, victim_in}
@@ -31,7 +31,7 @@ probes-kept shape s later r asking cap k h = λ x l. (k.probes x).keeps cap (has
 nobody-kept : (shape : Shape) (s later : Block) → Keeps s later → NobodyIsProbed shape s.client → NobodyIsProbed shape later.client
 nobody-kept shape s later k h = λ x l. (k.probes x).brings_none (h x l)
 
-leaves-kept : (shape : Shape) (s later : Block) (r : Register) → Keeps s later → Leaves shape s r → Leaves shape later r
+pub leaves-kept : (shape : Shape) (s later : Block) (r : Register) → Keeps s later → Leaves shape s r → Leaves shape later r
 leaves-kept shape s later r k h = record {
   probes = probes-kept shape s later r None ToN k h.probes;
   not_accepted = k.accepted ∙ h.not_accepted;
@@ -52,7 +52,7 @@ was-pending shape s later k pending =
           cc
     ]
 
-served-kept : (shape : Shape) (s later : Block) (r : Register) (acquire : Accepted) → Keeps s later → IsServed shape s r acquire
+pub served-kept : (shape : Shape) (s later : Block) (r : Register) (acquire : Accepted) → Keeps s later → IsServed shape s r acquire
     → IsServed shape later r acquire
 served-kept shape s later r acquire k h = record {
   inside = h.inside;
@@ -62,10 +62,10 @@ served-kept shape s later r acquire k h = record {
   done = λ pending. k.quiet (h.done (was-pending shape s later k pending));
 }
 
-awaits-kept : (s later : Block) → Keeps s later → Awaits s → Awaits later
+pub awaits-kept : (s later : Block) → Keeps s later → Awaits s → Awaits later
 awaits-kept s later k h = record { lacks = k.brings_none h.quiet h.lacks; quiet = k.quiet h.quiet }
 
-rest-kept : (shape : Shape) (s later : Block) → Keeps s later → IsAtRest shape s → IsAtRest shape later
+pub rest-kept : (shape : Shape) (s later : Block) → Keeps s later → IsAtRest shape s → IsAtRest shape later
 rest-kept shape s later k h = record {
   not_accepted = k.accepted ∙ h.not_accepted;
   unprobed = nobody-kept shape s later k h.unprobed;
@@ -78,13 +78,13 @@ rest-kept shape s later k h = record {
 abbrev pub KeepsFor : (ℕ → Block) → (ℕ → Block) → Register → Type 0
 KeepsFor states later r = (block : ℕ) → works_on r block ≡ true → Keeps (states block) (later block)
 
-abbrev WorksOn : Register → Task → ℕ → Type 0
+abbrev pub WorksOn : Register → Task → ℕ → Type 0
 WorksOn r task block = (r.own == block) || is_block block (victim_in r.own task) ≡ true
 
-on-own : (r : Register) (task : Task) → WorksOn r task r.own
+pub on-own : (r : Register) (task : Task) → WorksOn r task r.own
 on-own r task = rw (eq-eqb r.own r.own refl) refl
 
-on-victim : (r : Register) (acquire : Accepted) (victim : ℕ) → WorksOn r (Replace acquire victim) victim
+pub on-victim : (r : Register) (acquire : Accepted) (victim : ℕ) → WorksOn r (Replace acquire victim) victim
 on-victim r acquire victim = rw (eq-eqb victim victim refl) (or-true (r.own == victim))
 
 task-kept : (shape : Shape) (states later : ℕ → Block) (r : Register) (task : Task)
@@ -107,7 +107,7 @@ fits-kept shape states later r k h =
     record { known = h.known; places = h.places; task = task-kept shape states later r r.task k h.task }
 
 each-kept : (shape : Shape) (states later : ℕ → Block) (registers : List Register)
-    → ((block : ℕ) → Keeps (states block) (later block)) → EachFits shape states registers → EachFits shape later registers
+    → ((block : ℕ) → Keeps (states block) (later block)) → Each (Fits shape states) registers → Each (Fits shape later) registers
 each-kept shape states later [] k h = tt
 each-kept shape states later (r ∷ rest) k h =
     (fits-kept shape states later r (λ block on. k block) h.0, each-kept shape states later rest k h.1)

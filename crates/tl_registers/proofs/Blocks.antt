@@ -46,7 +46,7 @@ pub record Keeps (s later : Block) : Type 0 where
 -- ## A client's step
 
 -- what a step of one client keeps, the others keep too
-put-probes : (s : Block) (c : ℕ) (k : Client) → KeepsProbes (s.client c) k → (x : ℕ) → KeepsProbes (s.client x) ((with_client s c k).client x)
+pub put-probes : (s : Block) (c : ℕ) (k : Client) → KeepsProbes (s.client c) k → (x : ℕ) → KeepsProbes (s.client x) ((with_client s c k).client x)
 put-probes s c k one x =
     elim (bool-cases (x == c)) [
       | inl e ↦

@@ -2,7 +2,9 @@ pub mod Agreement
 pub mod Blocks
 pub mod Held
 pub mod Lowest
+pub mod Opening
 pub mod Order
 pub mod Pending
 pub mod Permitted
 pub mod Probes
+pub mod Tables

@@ -1,5 +1,5 @@
 -- When all open registers of a bank agree with the protocol's state (this project's own).
-use Rattle.std.specs.Prelude.{◌≡◌, ℕ, ◌<◌, ◌≤◌, Bool, true, false, List, [], ◌∷◌, ◌++◌, Option, Some, None}
+use Rattle.std.specs.Prelude.{◌≡◌, ◌≢◌, ℕ, ◌<◌, ◌≤◌, Bool, true, false, List, [], ◌∷◌, ◌++◌, Option, Some, None}
 use Rattle.tl_protocol.specs.declared.client.Client.{Client}
 use Rattle.tl_protocol.specs.declared.event.Event.{Event}
 use Rattle.tl_protocol.specs.declared.event.Event.TheVariants.{Load, Store, SendAcquire, SendRelease, AnswerProbe, TakeGrant, TakeReleaseAck, AcceptAcquire, SendProbe, TakeC, SendGrant, TakeGrantAck, SendGet, Serve, TakeData, Drop, SendPut, TakePutAck}
@@ -8,10 +8,16 @@ use Rattle.tl_protocol.specs.declared.shape.Shape.{Shape}
 use Rattle.tl_protocol.specs.Pending.{IsOrderly, IsServiceAt}
 use Rattle.tl_protocol.specs.Protocol.{Block}
 use Rattle.tl_protocol.specs.Runs.{MayNext, after_next, at_reset, IsRun, end_of}
+use Rattle.tl_types.specs.declared.permission.Grow.{Grow}
+use Rattle.tl_registers.specs.declared.due.Due.{Due}
+use Rattle.tl_registers.specs.declared.due.Due.TheVariants.{Probe, Grant, Get, Put, Drop as d_Drop}
 use Rattle.tl_registers.specs.declared.register.Register.{Register}
-use Rattle.tl_registers.specs.Fit.{Fits, NobodyIsProbed}
-use Rattle.tl_registers.specs.Register.{works_on}
-use Rattle.tl_registers.specs.Registers.{is_busy}
+use Rattle.tl_registers.specs.declared.register.Task.TheVariants.{Evict}
+use Rattle.tl_registers.specs.declared.way.Way.{Way}
+use Rattle.tl_registers.specs.Fit.{Fits, NobodyIsProbed, event_of}
+use Rattle.tl_registers.specs.NextAction.{next_due}
+use Rattle.tl_registers.specs.Register.{works_on, opened, acquire_task}
+use Rattle.tl_registers.specs.Registers.{is_busy, register_of, noted, ended, closed}
 
 -- A block on which nothing is under way that a register must know of.
 pub record IsAtRest (shape : Shape) (s : Block) : Type 0 where
@@ -19,9 +25,9 @@ pub record IsAtRest (shape : Shape) (s : Block) : Type 0 where
   pub unprobed : NobodyIsProbed shape s.client
   pub quiet : s.outward ≡ Quiet
 
-abbrev pub EachFits : Shape → (ℕ → Block) → List Register → Type 0
-EachFits shape states [] = Unit {0}
-EachFits shape states (r ∷ rest) = Fits shape states r × EachFits shape states rest
+abbrev pub Each : (Register → Type 0) → List Register → Type 0
+Each P [] = Unit {0}
+Each P (r ∷ rest) = P r × Each P rest
 
 -- no two registers work on one block
 abbrev pub AreApart : List Register → Type 0
@@ -30,7 +36,7 @@ AreApart (r ∷ rest) = ((block : ℕ) → works_on r block ≡ true → is_busy
 
 -- The open registers and the state agree.
 pub record Agree (shape : Shape) (states : ℕ → Block) (registers : List Register) : Type 0 where
-  pub fits : EachFits shape states registers
+  pub fits : Each (Fits shape states) registers
   pub at_rest : (block : ℕ) → is_busy block registers ≡ false → IsAtRest shape (states block)
   pub apart : AreApart registers
 
@@ -67,3 +73,59 @@ abbrev pub EveryRunIsSteady : Type 0
 EveryRunIsSteady =
     (shape : Shape) (image : List ℕ) (events : List Event) → IsRun shape image events
     → IsSteady shape (end_of shape image events)
+
+-- ## What a register carries out
+
+-- the registers after an action of the register of a block
+abbrev pub after_due : ℕ → Due → List Register → List Register
+after_due own (Probe c block cap) registers = noted own c registers
+after_due own (Grant c) registers = registers
+after_due own Get registers = registers
+after_due own (Put block) registers = registers
+after_due own (d_Drop block) registers = ended block registers
+
+-- The action of a register, carried out, keeps the agreement.
+abbrev pub ActionsKeepAgreement : Type 0
+ActionsKeepAgreement =
+    (shape : Shape) (states : ℕ → Block) (registers : List Register) (r : Register) (due : Due) → IsSteady shape states
+    → Agree shape states registers → register_of r.own registers ≡ Some r → next_due shape states r ≡ Some due
+    → Agree shape (after_next shape states (event_of r.own due)) (after_due r.own due registers)
+
+-- ## Registers open and close
+
+-- home lacks the own block, and the victim is another block of the memory, on which no register works
+abbrev pub IsFreeVictim : Shape → (ℕ → Block) → List Register → ℕ → Option ℕ → Type 0
+IsFreeVictim shape states registers own None = Unit {0}
+IsFreeVictim shape states registers own (Some victim) =
+    (victim < shape.blocks) × (victim ≢ own) × (is_busy victim registers ≡ false) × ((states own).home ≡ None)
+
+-- A register that opens for an accepted Acquire, of a block and a victim that no register works on, keeps the agreement.
+abbrev pub AcceptingKeepsAgreement : Type 0
+AcceptingKeepsAgreement =
+    (shape : Shape) (states : ℕ → Block) (registers : List Register) (c own : ℕ) (grow : Grow) (rest : List Grow) (way : Way)
+    (victim : Option ℕ) → IsSteady shape states → Agree shape states registers → shape.clients ≤ 16
+    → MayNext shape states (AcceptAcquire c own) → ((states own).client c).a ≡ grow ∷ rest → is_busy own registers ≡ false
+    → IsFreeVictim shape states registers own victim
+    → Agree shape (after_next shape states (AcceptAcquire c own))
+    (registers ++ opened own way (acquire_task (record { client = c; grow = grow }) victim) ∷ [])
+
+-- An evict register that opens for a block that no register works on keeps it.
+abbrev pub EvictingKeepsAgreement : Type 0
+EvictingKeepsAgreement =
+    (shape : Shape) (states : ℕ → Block) (registers : List Register) (own : ℕ) (way : Way) → IsSteady shape states
+    → Agree shape states registers → shape.clients ≤ 16 → own < shape.blocks → is_busy own registers ≡ false
+    → Agree shape states (registers ++ opened own way Evict ∷ [])
+
+-- A register that closes when its GrantAck is taken keeps it.
+abbrev pub ClosingKeepsAgreement : Type 0
+ClosingKeepsAgreement =
+    (shape : Shape) (states : ℕ → Block) (registers : List Register) (c own : ℕ) → IsSteady shape states
+    → Agree shape states registers → MayNext shape states (TakeGrantAck c own)
+    → Agree shape (after_next shape states (TakeGrantAck c own)) (closed own registers)
+
+-- A victim that ends when its Put's acknowledgement is taken keeps it.
+abbrev pub EndingKeepsAgreement : Type 0
+EndingKeepsAgreement =
+    (shape : Shape) (states : ℕ → Block) (registers : List Register) (victim : ℕ) → IsSteady shape states
+    → Agree shape states registers → MayNext shape states (TakePutAck victim)
+    → Agree shape (after_next shape states (TakePutAck victim)) (ended victim registers)
