@@ -59,7 +59,7 @@ served-kept shape s later r acquire k h = record {
   accepted = k.accepted ∙ h.accepted;
   probes = probes-kept shape s later r (Some acquire.client) (probes_before acquire.grow) k h.probes;
   getting = k.getting h.getting;
-  done = λ pending. k.quiet (h.done (was-pending shape s later k pending));
+  held = λ pending. let line = h.held (was-pending shape s later k pending) in k.holds line.0 line.1;
 }
 
 pub awaits-kept : (s later : Block) → Keeps s later → Awaits s → Awaits later

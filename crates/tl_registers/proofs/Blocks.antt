@@ -42,6 +42,7 @@ pub record Keeps (s later : Block) : Type 0 where
   -- home gets a copy only by data from the memory, and never loses one
   pub lacks : later.home ≡ None → s.home ≡ None
   pub brings_none : s.outward ≡ Quiet → s.home ≡ None → later.home ≡ None
+  pub holds : (line : Line) → s.home ≡ Some line → (now : Line) × (later.home ≡ Some now)
 
 -- ## A client's step
 
@@ -65,6 +66,7 @@ client-keeps s c k one = record {
   quiet = λ h. h;
   lacks = λ h. h;
   brings_none = λ q h. h;
+  holds = λ line h. (line, h);
 }
 
 pub nothing-keeps : (s : Block) → Keeps s s
@@ -76,6 +78,7 @@ nothing-keeps s = record {
   quiet = λ h. h;
   lacks = λ h. h;
   brings_none = λ q h. h;
+  holds = λ line h. (line, h);
 }
 
 -- ## Home takes a message of C
@@ -134,6 +137,11 @@ no-home : (home : Option Line) (bytes : Option (List ℕ)) → home_after home b
 no-home home None h = h
 no-home home (Some bytes) h = cc
 
+after-data : (home : Option Line) (bytes : Option (List ℕ)) (line : Line) → home ≡ Some line
+    → (now : Line) × (home_after home bytes ≡ Some now)
+after-data home None line h = (line, h)
+after-data home (Some bytes) line h = (record { bytes = bytes; dirty = true }, refl)
+
 take_c-keeps : (shape : Shape) (s : Block) (c : ℕ) → IsServiceAt shape s → IsOrderly (s.client c) → Keeps s (took_c s c)
 take_c-keeps shape s c kept orderly =
     let messages = (s.client c).c in
@@ -145,6 +153,7 @@ take_c-keeps shape s c kept orderly =
       quiet = λ h. h;
       lacks = λ h. no-home s.home (first_bytes messages) h;
       brings_none = λ q none. ap (home_after s.home) (no-data shape s c messages kept orderly refl none) ∙ none;
+      holds = λ line h. after-data s.home (first_bytes messages) line h;
     }
 
 -- ## The memory answers, and home takes its data
@@ -159,6 +168,7 @@ serve-keeps s Get is = record {
   quiet = λ h. let bad : Get ≡ Quiet = sym is ∙ h in cc;
   lacks = λ h. h;
   brings_none = λ q h. h;
+  holds = λ line h. (line, h);
 }
 serve-keeps s (Data bytes) is = nothing-keeps s
 serve-keeps s (Put bytes) is = record {
@@ -169,6 +179,7 @@ serve-keeps s (Put bytes) is = record {
   quiet = λ h. let bad : Put bytes ≡ Quiet = sym is ∙ h in cc;
   lacks = λ h. h;
   brings_none = λ q h. h;
+  holds = λ line h. (line, h);
 }
 serve-keeps s PutAck is = nothing-keeps s
 
@@ -183,6 +194,7 @@ take_data-keeps s (Data bytes) is = record {
   quiet = λ h. refl;
   lacks = λ h. cc;
   brings_none = λ q h. let bad : Data bytes ≡ Quiet = sym is ∙ q in cc;
+  holds = λ line h. (_, refl);
 }
 take_data-keeps s (Put bytes) is = nothing-keeps s
 take_data-keeps s PutAck is = nothing-keeps s

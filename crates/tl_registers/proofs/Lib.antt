@@ -1,5 +1,6 @@
 pub mod Agreement
 pub mod Blocks
+pub mod Closing
 pub mod Held
 pub mod Lowest
 pub mod Opening

@@ -8,6 +8,7 @@ use Rattle.tl_types.specs.declared.message.Upward.TheVariants.{ProbeAck, Release
 use Rattle.tl_types.specs.declared.permission.Grow.{Grow}
 use Rattle.tl_types.specs.declared.permission.ProbeCap.{ProbeCap}
 use Rattle.tl_types.specs.declared.permission.ProbeCap.TheVariants.{ToN}
+use Rattle.tl_protocol.specs.Pending.{IsServiceAt}
 use Rattle.tl_protocol.specs.Protocol.{Block, block_of, after, accepted_from, with_client}
 use Rattle.tl_protocol.specs.Runs.{MayNext, after_next}
 use Rattle.tl_protocol.specs.declared.client.Client.{Client}
@@ -24,12 +25,12 @@ use Rattle.tl_registers.specs.declared.way.Way.{Way}
 use Rattle.tl_registers.specs.Agree.{IsAtRest, Each, Agree, IsSteady, IsFreeVictim, EvictingKeepsAgreement, AcceptingKeepsAgreement}
 use Rattle.tl_registers.specs.Fit.{Ask, Answer, ProbeFits, ProbesFit, NobodyIsProbed, IsPutting, IsGetting, Leaves, IsServed, Awaits, TaskFits, Fits}
 use Rattle.tl_registers.specs.NextAction.{probes_before}
-use Rattle.tl_registers.specs.Pending.{has_first, is_probed}
+use Rattle.tl_registers.specs.Pending.{has_first, is_probed, is_granted, grant_pending}
 use Rattle.tl_registers.specs.Register.{opened, acquire_task, victim_in, has_probed, is_other, is_block, works_on, IsBelow}
 use Rattle.tl_registers.specs.Registers.{is_busy}
 use Rattle.tl_registers.proofs.Agreement.{KeepsFor, fits-kept}
 use Rattle.tl_registers.proofs.Blocks.{Keeps, nothing-keeps, put-probes}
-use Rattle.tl_registers.proofs.Pending.{bool-cases, or-false, or-else}
+use Rattle.tl_registers.proofs.Pending.{bool-cases, or-false, or-else, any_below-none, free-grant}
 use Rattle.tl_registers.proofs.Probes.{same-probes}
 use Rattle.tl_registers.proofs.Tables.{each-follows, each-both, each-end, busy-end, apart-end}
 
@@ -139,15 +140,21 @@ accepted-block s c grow rest =
     with_client (record s { accepted = Some (record { client = c; grow = grow }) }) c (record (s.client c) { a = rest })
 
 served-fresh : (shape : Shape) (s : Block) (r : Register) (c : ℕ) (grow : Grow) (rest : List Grow)
-    → ((x : ℕ) → has_probed r x ≡ false) → c < shape.clients → IsAtRest shape s
+    → ((x : ℕ) → has_probed r x ≡ false) → c < shape.clients → IsServiceAt shape s → IsAtRest shape s
     → IsServed shape (accepted-block s c grow rest) r (record { client = c; grow = grow })
-served-fresh shape s r c grow rest none inside free = record {
+served-fresh shape s r c grow rest none inside kept free = record {
   inside = inside;
   accepted = refl;
   probes = fresh-probes shape (accepted-block s c grow rest).client r (Some c) (probes_before grow) none
       (λ x l. (put-probes s c (record (s.client c) { a = rest }) (same-probes (s.client c) _ refl refl refl (λ h. h)) x).brings_none (free.unprobed x l));
   getting = getting-quiet s.outward free.quiet;
-  done = λ h. free.quiet;
+  held = λ h.
+      let later = accepted-block s c grow rest in
+      let ungranted : grant_pending shape later ≡ false =
+      any_below-none (λ x. is_granted (later.client x)) shape.clients
+      (λ x l. (put-probes s c (record (s.client c) { a = rest }) (same-probes (s.client c) _ refl refl refl (λ h. h)) x).grants_none (free-grant (s.client x) (kept.no_grant free.not_accepted x))) in
+      let bad : true ≡ false = sym h ∙ ungranted in
+      cc;
 }
 
 acquire-works : (own block : ℕ) (way : Way) (acquire : Accepted) (victim : Option ℕ)
@@ -182,20 +189,20 @@ free-of shape states registers own block (Some victim) free out which =
     ]
 
 acquire-fits : (shape : Shape) (states later : ℕ → Block) (registers : List Register) (c own : ℕ) (grow : Grow) (rest : List Grow)
-    (way : Way) (victim : Option ℕ) → Agree shape states registers → shape.clients ≤ 16 → own < shape.blocks → c < shape.clients
+    (way : Way) (victim : Option ℕ) → IsSteady shape states → Agree shape states registers → shape.clients ≤ 16 → own < shape.blocks → c < shape.clients
     → is_busy own registers ≡ false → IsFreeVictim shape states registers own victim
     → later own ≡ accepted-block (states own) c grow rest → ((block : ℕ) → block ≢ own → later block ≡ states block)
     → Fits shape later (opened own way (acquire_task (record { client = c; grow = grow }) victim))
-acquire-fits shape states later registers c own grow rest way None agree few known inside free out is same =
+acquire-fits shape states later registers c own grow rest way None steady agree few known inside free out is same =
     let acquire : Accepted = record { client = c; grow = grow } in
     let r = opened own way (Acquire acquire) in
     let P = λ (s : Block). IsServed shape s r acquire in
     record {
       known = (known, tt);
       places = few;
-      task = subst P (sym is) (served-fresh shape (states own) r c grow rest (nobody 16) inside (agree.at_rest own free));
+      task = subst P (sym is) (served-fresh shape (states own) r c grow rest (nobody 16) inside (steady.service own) (agree.at_rest own free));
     }
-acquire-fits shape states later registers c own grow rest way (Some victim) agree few known inside free out is same =
+acquire-fits shape states later registers c own grow rest way (Some victim) steady agree few known inside free out is same =
     let acquire : Accepted = record { client = c; grow = grow } in
     let r = opened own way (Replace acquire victim) in
     let P = λ (s : Block). IsServed shape s r acquire in
@@ -206,7 +213,7 @@ acquire-fits shape states later registers c own grow rest way (Some victim) agre
       known = (known, out.0);
       places = few;
       task = (
-        subst P (sym is) (served-fresh shape (states own) r c grow rest (nobody 16) inside (agree.at_rest own free)),
+        subst P (sym is) (served-fresh shape (states own) r c grow rest (nobody 16) inside (steady.service own) (agree.at_rest own free)),
         subst Q (sym is) (record { lacks = out.3; quiet = quiet }),
         subst R (sym (same victim out.1)) (leaves-fresh shape (states victim) r (nobody 16) (agree.at_rest victim out.2)),
       );
@@ -225,7 +232,7 @@ accepting-keeps-agreement shape states registers c own grow rest way victim stea
       fits = each-end (Fits shape later) registers r
           (each-both (λ q. works_on q own ≡ false) (Fits shape states) (Fits shape later) registers
           (λ q away fits. fits-elsewhere shape states e q away fits) (each-free own registers free) agree.fits)
-          (acquire-fits shape states later registers c own grow rest way victim agree few may.0 may.1.0 free out now same);
+          (acquire-fits shape states later registers c own grow rest way victim steady agree few may.0 may.1.0 free out now same);
       at_rest = λ block none.
           let both = busy-end block registers r none in
           let ne : block ≢ own = λ q. let bad : true ≡ false = sym (own-works own way (acquire_task acquire victim)) ∙ (ap (works_on r) (sym q) ∙ both.1) in cc in

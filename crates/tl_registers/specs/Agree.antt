@@ -76,20 +76,24 @@ EveryRunIsSteady =
 
 -- ## What a register carries out
 
--- the registers after an action of the register of a block
-abbrev pub after_due : ℕ → Due → List Register → List Register
-after_due own (Probe c block cap) registers = noted own c registers
-after_due own (Grant c) registers = registers
-after_due own Get registers = registers
-after_due own (Put block) registers = registers
-after_due own (d_Drop block) registers = ended block registers
+-- A Grant that is permitted keeps the agreement.
+abbrev pub GrantingKeepsAgreement : Type 0
+GrantingKeepsAgreement =
+    (shape : Shape) (states : ℕ → Block) (registers : List Register) (c own : ℕ) → Agree shape states registers
+    → MayNext shape states (SendGrant c own) → Agree shape (after_next shape states (SendGrant c own)) registers
 
--- The action of a register, carried out, keeps the agreement.
-abbrev pub ActionsKeepAgreement : Type 0
-ActionsKeepAgreement =
-    (shape : Shape) (states : ℕ → Block) (registers : List Register) (r : Register) (due : Due) → IsSteady shape states
-    → Agree shape states registers → register_of r.own registers ≡ Some r → next_due shape states r ≡ Some due
-    → Agree shape (after_next shape states (event_of r.own due)) (after_due r.own due registers)
+-- A Put of a block that a register works on keeps it.
+abbrev pub PuttingKeepsAgreement : Type 0
+PuttingKeepsAgreement =
+    (shape : Shape) (states : ℕ → Block) (registers : List Register) (block : ℕ) → Agree shape states registers
+    → MayNext shape states (SendPut block) → is_busy block registers ≡ true
+    → Agree shape (after_next shape states (SendPut block)) registers
+
+-- A drop keeps it, which ends the victim.
+abbrev pub DroppingKeepsAgreement : Type 0
+DroppingKeepsAgreement =
+    (shape : Shape) (states : ℕ → Block) (registers : List Register) (block : ℕ) → Agree shape states registers
+    → MayNext shape states (Drop block) → Agree shape (after_next shape states (Drop block)) (ended block registers)
 
 -- ## Registers open and close
 

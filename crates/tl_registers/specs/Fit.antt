@@ -10,6 +10,7 @@ use Rattle.tl_protocol.specs.declared.client.Client.{Client}
 use Rattle.tl_protocol.specs.declared.event.Event.{Event}
 use Rattle.tl_protocol.specs.declared.event.Event.TheVariants.{SendProbe, SendGrant, SendGet, Drop as e_Drop, SendPut}
 use Rattle.tl_protocol.specs.declared.home.Accepted.{Accepted}
+use Rattle.tl_protocol.specs.declared.home.Line.{Line}
 use Rattle.tl_protocol.specs.declared.home.Outward.{Outward}
 use Rattle.tl_protocol.specs.declared.home.Outward.TheVariants.{Quiet, Get as o_Get, Data, Put as o_Put, PutAck}
 use Rattle.tl_protocol.specs.declared.shape.Shape.{Shape}
@@ -94,8 +95,8 @@ pub record IsServed (shape : Shape) (s : Block) (r : Register) (acquire : Accept
   pub accepted : s.accepted ≡ Some acquire
   pub probes : ProbesFit shape s.client r (Some acquire.client) (probes_before acquire.grow)
   pub getting : IsGetting s.outward
-  -- while its Grant is pending nothing is under way to the memory
-  pub done : grant_pending shape s ≡ true → s.outward ≡ Quiet
+  -- while its Grant is pending home holds it
+  pub held : grant_pending shape s ≡ true → (line : Line) × (s.home ≡ Some line)
 
 -- A block waits until the victim has left its way: home lacks it, and asks the memory for nothing yet.
 pub record Awaits (s : Block) : Type 0 where
