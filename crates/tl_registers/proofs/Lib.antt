@@ -1,5 +1,11 @@
+pub mod Agreement
+pub mod Blocks
+pub mod Closing
 pub mod Held
 pub mod Lowest
+pub mod Opening
 pub mod Order
 pub mod Pending
 pub mod Permitted
+pub mod Probes
+pub mod Tables

@@ -1,5 +1,5 @@
 -- What a register does next is permitted.
-use Rattle.std.proofs.Common.{◌≡◌, ◌≢◌, ℕ, zero, suc, ◌<◌, ◌==◌, ◌&&◌, ◌||◌, not, Bool, true, false, List, [], ◌∷◌, Option, Some, None, if◌then◌else◌, refl, sym, ◌∙◌, ap, subst, arith, inl, inr, eqb-true}
+use Rattle.std.proofs.Common.{◌≡◌, ◌≤◌, eq-eqb, ◌≢◌, ℕ, zero, suc, ◌<◌, ◌==◌, ◌&&◌, ◌||◌, not, Bool, true, false, List, [], ◌∷◌, Option, Some, None, if◌then◌else◌, refl, sym, ◌∙◌, ap, subst, arith, inl, inr, eqb-true}
 use Rattle.std.specs.Prelude.{◌⊎◌}
 use Rattle.std.proofs.lemmas.Bool.{cases_eq}
 use Rattle.tl_types.specs.Permission.{rank, probe_perm}
@@ -15,6 +15,7 @@ use Rattle.tl_protocol.specs.declared.home.Accepted.{Accepted}
 use Rattle.tl_protocol.specs.declared.home.Line.{Line}
 use Rattle.tl_protocol.specs.declared.shape.Shape.{Shape}
 use Rattle.tl_protocol.specs.Client.{NoProbePending}
+use Rattle.tl_protocol.specs.Pending.{IsGrantPending, beside, IsServiceAt}
 use Rattle.tl_protocol.specs.Protocol.{Block, NoGrant, Idle, RoomFor, is_none, is_alone, granted, granted_cap, MayOn, block_of}
 use Rattle.tl_registers.specs.declared.due.Due.{Due}
 use Rattle.tl_registers.specs.declared.due.Due.TheVariants.{Probe, Grant, Get, Put, Drop}
@@ -25,7 +26,7 @@ use Rattle.tl_registers.specs.Fit.{event_of, ProbesFit, Leaves, IsServed, TaskFi
 use Rattle.tl_registers.specs.NextAction.{Case, passes, waits, acts, first, probes, probe_victim, await_probes, give_up, await_put, probes_before, fetch, probe_others, grant, serve, cases}
 use Rattle.tl_registers.specs.Pending.{is_probed, probe_pending, grant_pending, is_quiet}
 use Rattle.tl_registers.specs.Register.{has_probed, is_above, is_other, must_probe, or_this, lowest, victim_in, IsBelow}
-use Rattle.tl_registers.proofs.Pending.{bool-cases, any_below-false, probe-free, no-probe, no-grant, quiet-is}
+use Rattle.tl_registers.proofs.Pending.{bool-cases, any_below-false, probe-free, no-probe, no-grant, grant-none, some-granted, or-else, quiet-is}
 
 and-true : (a b : Bool) → (a && b) ≡ true → (a ≡ true) × (b ≡ true)
 and-true true b h = (refl, h)
@@ -97,7 +98,7 @@ to-probe r s asking cap x h =
     (one.0, two.0, not-true (has_probed r x) two.1)
 
 -- once nobody is to be probed and no Probe is pending, no other client has more than the cap
-settled : (shape : Shape) (s : Block) (r : Register) (asking : Option ℕ) (cap : ProbeCap) → ProbesFit shape s r asking cap
+settled : (shape : Shape) (s : Block) (r : Register) (asking : Option ℕ) (cap : ProbeCap) → ProbesFit shape s.client r asking cap
     → lowest (must_probe r s asking cap) shape.clients ≡ None → probe_pending shape s ≡ false
     → (x : ℕ) → x < shape.clients → is_other asking x ≡ true → is_above (s.client x).recorded cap ≡ false
 settled shape s r asking cap fits none quiet x l other =
@@ -106,20 +107,20 @@ settled shape s r asking cap fits none quiet x l other =
     elim (bool-cases (is_above (s.client x).recorded cap)) [
       | inr e ↦ e
       | inl e ↦ elim (bool-cases (has_probed r x)) [
-        | inl h ↦ fits.answered x l other h q
+        | inl h ↦ (fits x l).answered other h q
         | inr h ↦ let bad : must_probe r s asking cap x ≡ true = rw (other, e, h) refl in cc
       ]
     ]
 
 -- the Probe to the lowest client is permitted
 may-probe : (shape : Shape) (s : Block) (r : Register) (asking : Option ℕ) (cap : ProbeCap) (c : ℕ)
-    → ProbesFit shape s r asking cap → lowest (must_probe r s asking cap) shape.clients ≡ Some c → grant_pending shape s ≡ false
+    → ProbesFit shape s.client r asking cap → lowest (must_probe r s asking cap) shape.clients ≡ Some c → grant_pending shape s ≡ false
     → (c < shape.clients) × ((rank (probe_perm cap) < rank (s.client c).recorded) × NoProbePending (s.client c) × NoGrant shape s)
 may-probe shape s r asking cap c fits h free =
     let at = lowest-some (must_probe r s asking cap) shape.clients c h in
     let why = to-probe r s asking cap c at.1 in
     let clear : is_probed (s.client c) ≡ false =
-    elim (bool-cases (is_probed (s.client c))) [ inr e ↦ e | inl e ↦ let bad = fits.sent c at.0 e in cc ] in
+    elim (bool-cases (is_probed (s.client c))) [ inr e ↦ e | inl e ↦ let bad = (fits c at.0).sent e in cc ] in
     (at.0, (above (s.client c).recorded cap why.1, probe-free (s.client c) clear, no-grant shape s free))
 
 -- ## The first case that applies
@@ -152,28 +153,32 @@ given-up shape s own block line false due home dirty idle e =
     let P : Due → Type 0 = IsPermitted shape s own block in
     subst P e (refl, ((line, home, dirty), idle))
 
+-- with no Acquire accepted no Grant is pending
+nobody-granted : (shape : Shape) (s : Block) → IsServiceAt shape s → s.accepted ≡ None → grant_pending shape s ≡ false
+nobody-granted shape s kept free = grant-none shape s (λ x l. kept.no_grant free x)
+
 -- a block that is gone from home waits for the Put's acknowledgement
 gone : (pending : Bool) (due : Due) → first ((if pending then waits else passes) ∷ passes ∷ waits ∷ []) ≡ Some due → ⊥
 gone true due h = cc
 gone false due h = cc
 
 away-may : (shape : Shape) (s : Block) (r : Register) (own block : ℕ) (home : Option Line) (due : Due)
-    → s.home ≡ home → Leaves shape s r
+    → s.home ≡ home → IsServiceAt shape s → Leaves shape s r
     → first (probe_victim shape r block s home ∷ await_probes shape s ∷ give_up block home ∷ await_put ∷ []) ≡ Some due
     → IsPermitted shape s own block due
-away-may shape s r own block None due is fits h = absurd (gone (probe_pending shape s) due h)
-away-may shape s r own block (Some line) due is fits h =
+away-may shape s r own block None due is kept fits h = absurd (gone (probe_pending shape s) due h)
+away-may shape s r own block (Some line) due is kept fits h =
     let P : Due → Type 0 = IsPermitted shape s own block in
     elim (probes-first (lowest (must_probe r s None ToN) shape.clients) block ToN (probe_pending shape s)
     (acts (if line.dirty then Put block else Drop block) ∷ await_put ∷ []) due h) [
-      | inl k ↦ subst P (sym k.2) (refl, may-probe shape s r None ToN k.0 fits.probes k.1 fits.no_grant)
+      | inl k ↦ subst P (sym k.2) (refl, may-probe shape s r None ToN k.0 fits.probes k.1 (nobody-granted shape s kept fits.not_accepted))
       | inr k ↦
           let idle : Idle shape s = record {
             nobody = λ x l. none-below (s.client x).recorded (settled shape s r None ToN fits.probes k.0 k.1 x l refl);
             no_probe = no-probe shape s k.1;
-            no_grant = no-grant shape s fits.no_grant;
+            no_grant = λ x l. kept.no_grant fits.not_accepted x;
             not_accepted = fits.not_accepted;
-            quiet = fits.quiet line is;
+            quiet = kept.quiet line is;
           } in
           given-up shape s own block line line.dirty due is refl idle (let e = k.2 in cc)
     ]
@@ -187,10 +192,6 @@ none-is : (p : Perm) → is_none p ≡ true → p ≡ p_None
 none-is p_None h = refl
 none-is Branch h = cc
 none-is Tip h = cc
-
-or-else : (a b : Bool) → (a || b) ≡ true → a ≡ false → b ≡ true
-or-else true b h e = cc
-or-else false b h e = h
 
 -- where a client is alone, every other one is recorded None
 alone-is : (n c : ℕ) (client : ℕ → Client) (x : ℕ) → is_alone n c client ≡ true → x < n → x ≢ c → (client x).recorded ≡ p_None
@@ -230,6 +231,35 @@ room shape s c NtoB h own = room-toB shape s c h (own refl) (is_alone shape.clie
 room shape s c NtoT h own = room-toT shape s c h
 room shape s c BtoT h own = room-toT shape s c h
 
+not-above : (p : Perm) (grow : Grow) → rank p ≤ rank (beside grow) → is_above p (probes_before grow) ≡ false
+not-above p_None NtoB l = refl
+not-above p_None NtoT l = refl
+not-above p_None BtoT l = refl
+not-above Branch NtoB l = refl
+not-above Branch NtoT l = absurd (omega arith)
+not-above Branch BtoT l = absurd (omega arith)
+not-above Tip NtoB l = absurd (omega arith)
+not-above Tip NtoT l = absurd (omega arith)
+not-above Tip BtoT l = absurd (omega arith)
+
+other-than : (c x : ℕ) → is_other (Some c) x ≡ true → x ≢ c
+other-than c x h = λ e. let t = eq-eqb x c e in cc
+
+-- beside a pending Grant no other client has more than it leaves room for
+no-room-to-probe : (shape : Shape) (s : Block) (acquire : Accepted) (x : ℕ) → IsServiceAt shape s → s.accepted ≡ Some acquire
+    → grant_pending shape s ≡ true → is_other (Some acquire.client) x ≡ true
+    → is_above (s.client x).recorded (probes_before acquire.grow) ≡ true → grant_pending shape s ≡ false
+no-room-to-probe shape s acquire x kept is pending other above =
+    let y = some-granted shape s pending in
+    let whose = kept.served y.0 y.1 in
+    let same : Some whose.0 ≡ Some acquire = sym whose.1 ∙ is in
+    let one : whose.0 ≡ acquire = cc in
+    let here : acquire.client ≡ y.0 = ap (λ (a : Accepted). a.client) (sym one) ∙ whose.2 in
+    let P : ℕ → Type 0 = λ z. IsGrantPending (s.client z) in
+    let few = kept.room acquire is (subst P (sym here) y.1) x (other-than acquire.client x other) in
+    let bad = not-above (s.client x).recorded acquire.grow few in
+    cc
+
 fetched : (t : Bool) (later : List Case) (due : Due)
     → first ((if t then acts Get else waits) ∷ later) ≡ Some due → (t ≡ true) × (Get ≡ due)
 fetched true later due h = (refl, cc)
@@ -241,14 +271,14 @@ granting true c due h = cc
 granting false c due h = (refl, cc)
 
 serve-may : (shape : Shape) (s : Block) (r : Register) (acquire : Accepted) (home : Option Line) (due : Due)
-    → s.home ≡ home → IsServed shape s r acquire
+    → s.home ≡ home → IsServiceAt shape s → IsServed shape s r acquire
     → first (fetch s home ∷ probe_others shape r acquire s ∷ await_probes shape s ∷ grant shape acquire s ∷ []) ≡ Some due
     → IsPermitted shape s r.own r.own due
-serve-may shape s r acquire None due is fits h =
+serve-may shape s r acquire None due is kept fits h =
     let P : Due → Type 0 = IsPermitted shape s r.own r.own in
     let k = fetched (is_quiet s.outward) (probe_others shape r acquire s ∷ await_probes shape s ∷ grant shape acquire s ∷ []) due h in
     subst P k.1 (refl, ((acquire, fits.accepted), is, quiet-is s.outward k.0))
-serve-may shape s r acquire (Some line) due is fits h =
+serve-may shape s r acquire (Some line) due is kept fits h =
     let P : Due → Type 0 = IsPermitted shape s r.own r.own in
     let c = acquire.client in
     let cap = probes_before acquire.grow in
@@ -257,13 +287,13 @@ serve-may shape s r acquire (Some line) due is fits h =
           let at = lowest-some (must_probe r s (Some c) cap) shape.clients k.0 k.1 in
           let why = to-probe r s (Some c) cap k.0 at.1 in
           let free : grant_pending shape s ≡ false =
-          elim (bool-cases (grant_pending shape s)) [ inr e ↦ e | inl e ↦ let bad = fits.room e k.0 at.0 why.0 in let more = why.1 in cc ] in
+          elim (bool-cases (grant_pending shape s)) [ inr e ↦ e | inl e ↦ no-room-to-probe shape s acquire k.0 kept fits.accepted e why.0 why.1 ] in
           subst P (sym k.2) (refl, may-probe shape s r (Some c) cap k.0 fits.probes k.1 free)
       | inr k ↦
           let free = granting (grant_pending shape s) c due k.2 in
           let others = settled shape s r (Some c) cap fits.probes k.0 k.1 in
-          let here : is_probed (s.client c) ≡ false = any_below-false (λ x. is_probed (s.client x)) shape.clients c k.1 fits.inside in
-          let own : acquire.grow ≡ NtoB → (s.client c).recorded ≢ Tip = λ e. fits.from_none e here in
+          let settled_here = kept.settled acquire fits.accepted (no-grant shape s free.0 c fits.inside) (no-probe shape s k.1 c fits.inside) in
+          let own : acquire.grow ≡ NtoB → (s.client c).recorded ≢ Tip = λ e. settled_here.3 in
           subst P free.1
           (refl, (fits.inside, ((acquire.grow, fits.accepted, room shape s c acquire.grow others own), (line, is), no-probe shape s k.1, no-grant shape s free.0)))
     ]
@@ -286,19 +316,19 @@ IsDone shape states own due =
     (block : ℕ) × (block < shape.blocks) × IsPermitted shape (states block) own block due
 
 task-may : (shape : Shape) (states : ℕ → Block) (r : Register) (task : Task) (due : Due)
-    → r.own < shape.blocks → IsBelow shape.blocks (victim_in r.own task) → TaskFits shape states r task
+    → ((block : ℕ) → IsServiceAt shape (states block)) → r.own < shape.blocks → IsBelow shape.blocks (victim_in r.own task) → TaskFits shape states r task
     → first (cases shape states r task) ≡ Some due → IsDone shape states r.own due
-task-may shape states r (Acquire acquire) due own victim fits h =
-    (r.own, own, serve-may shape (states r.own) r acquire (states r.own).home due refl fits h)
-task-may shape states r (Replace acquire block) due own victim fits h =
+task-may shape states r (Acquire acquire) due kept own victim fits h =
+    (r.own, own, serve-may shape (states r.own) r acquire (states r.own).home due refl (kept r.own) fits h)
+task-may shape states r (Replace acquire block) due kept own victim fits h =
     let s = states block in
     let e = away-first (probe_victim shape r block s s.home) (await_probes shape s) (give_up block s.home) await_put (serve shape r acquire (states r.own)) refl in
-    (block, victim, away-may shape s r r.own block s.home due refl fits.1 (sym e ∙ h))
-task-may shape states r Evict due own victim fits h =
-    (r.own, own, away-may shape (states r.own) r r.own r.own (states r.own).home due refl fits h)
+    (block, victim, away-may shape s r r.own block s.home due refl (kept block) fits.2 (sym e ∙ h))
+task-may shape states r Evict due kept own victim fits h =
+    (r.own, own, away-may shape (states r.own) r r.own r.own (states r.own).home due refl (kept r.own) fits h)
 
 pub every-action-is-permitted : EveryActionIsPermitted
-every-action-is-permitted shape states r due fits h =
-    let k = task-may shape states r r.task due fits.known.0 fits.known.1 fits.task h in
+every-action-is-permitted shape states r due kept fits h =
+    let k = task-may shape states r r.task due kept fits.known.0 fits.known.1 fits.task h in
     let P : ℕ → Type 0 = λ b. (b < shape.blocks) × MayOn shape (states b) (event_of r.own due) in
     subst P (sym k.2.0) (k.1, k.2.1)

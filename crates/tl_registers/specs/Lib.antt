@@ -1,3 +1,4 @@
+pub mod Agree
 pub mod Fit
 pub mod NextAction
 pub mod Pending

@@ -14,7 +14,7 @@ mod way;
 
 pub use client_set::ClientSet;
 pub use due::Due;
-pub use laws::{every_action_is_permitted, pending_is_the_protocols};
+pub use laws::{every_action_is_permitted, pending_is_the_protocols, registers_agree};
 pub use protocol::Protocol;
 pub use register::{Register, Task};
 pub use registers::Registers;
