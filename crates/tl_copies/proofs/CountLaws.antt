@@ -4,7 +4,7 @@ use Rattle.std.specs.List.{find, AllByRecursion}
 use Rattle.std.proofs.lemmas.List.Sums.{sum_by-cons}
 use Rattle.std.proofs.lemmas.Bool.Decides.{nat_tests}
 use Rattle.tl_types.specs.Count.{count_below}
-use Rattle.tl_types.proofs.Counts.{count_below-same, count_below-none, count_below-one_more}
+use Rattle.tl_types.proofs.Counts.{count_below-same, count_below-none, count_below-change}
 use Rattle.tl_copies.specs.declared.held.Held.{Held}
 use Rattle.tl_copies.specs.declared.table.Entry.{Entry}
 use Rattle.tl_copies.specs.Held.{is_copy, has_copy}
@@ -26,11 +26,12 @@ count_below-found test n (e ∷ rest) none a =
     let gone : test (found e.block rest) ≡ false = ap test a.1 ∙ none in
     let agree : (k : ℕ) → k ≢ e.block → test (found k (e ∷ rest)) ≡ test (found k rest) = λ k d. rw (differs e.block k d) refl in
     let here : test (found e.block (e ∷ rest)) ≡ test (Some e.held) = rw (same e.block) refl in
-    let one : count_below (λ b. test (found b (e ∷ rest))) n
-    ≡ count_below (λ b. test (found b rest)) n + (if test (found e.block (e ∷ rest)) then 1 else 0) =
-    count_below-one_more (λ b. test (found b (e ∷ rest))) (λ b. test (found b rest)) n e.block a.0 gone agree in
+    let one : count_below (λ b. test (found b (e ∷ rest))) n + one_if (test (found e.block rest))
+    ≡ count_below (λ b. test (found b rest)) n + one_if (test (found e.block (e ∷ rest))) =
+    count_below-change (λ b. test (found b (e ∷ rest))) (λ b. test (found b rest)) n e.block a.0 agree in
+    let none_there : one_if (test (found e.block rest)) ≡ one_if false = ap one_if gone in
     let more : one_if (test (found e.block (e ∷ rest))) ≡ one_if (test (Some e.held)) = ap one_if here in
-    omega (arith, one, more, count_below-found test n rest none a.2, sum_by-cons (λ (x : Entry). if test (Some x.held) then 1 else 0) e rest)
+    omega (arith, one, none_there, more, count_below-found test n rest none a.2, sum_by-cons (λ (x : Entry). if test (Some x.held) then 1 else 0) e rest)
 
 count_by-all : (es : List Entry) → count_by (λ (e : Entry). true) es ≡ length es
 count_by-all [] = refl

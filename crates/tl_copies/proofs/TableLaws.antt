@@ -70,70 +70,10 @@ order_in-set bank limit n tables client old new f h o b x = by_test (x == client
 
 -- ## What a client's table is in all tables
 
--- a client's table is sound
-pub row_sound : (limit n : ℕ) (tables : List (List Entry)) (at : ℕ) (old : List Entry) → All (λ t. IsTable limit n t) tables → at < length tables
-    → old ≡ slice_index_or tables at old → IsTable limit n old
-row_sound limit n tables at old all h o = subst (λ (t : List Entry). IsTable limit n t) (sym o) (all at old h)
-
 -- what is said where it succeeds leads on there
 pub on_ok : {T E P Q : Type 0} (r : Result T E) → (P → Q) → OnOk r P → OnOk r Q
 on_ok (Ok x) f p = f p
 on_ok (Err e) f p = p
-
--- how a client's table stands in the tables, as the code has it: m is what contracts see
-pub record IsRow (m : Tables) (bank limit n : ℕ) (tables : List (List Entry)) (at client : ℕ) (old : List Entry) : Type 0 where
-  pub view : tables_of bank limit n tables ≡ m
-  pub at_client : at ≡ client
-  pub inside : client < clients_of m
-  pub row : old ≡ slice_index_or tables at old
-  pub sound : All (λ t. IsTable limit n t) tables
-
-row_inside : (m : Tables) (bank limit n : ℕ) (tables : List (List Entry)) (at client : ℕ) (old : List Entry) → IsRow m bank limit n tables at client old
-    → at < length tables
-unfolding clients_of
-row_inside m bank limit n tables at client old r =
-    let here : client < length tables = subst (λ (v : Tables). client < clients_of v) (sym r.view) r.inside in
-    omega (arith, r.at_client)
-
-table_sound : (m : Tables) (bank limit n : ℕ) (tables : List (List Entry)) (at client : ℕ) (old : List Entry) → IsRow m bank limit n tables at client old
-    → IsTable limit n old
-table_sound m bank limit n tables at client old r =
-    row_sound limit n tables at old r.sound (row_inside m bank limit n tables at client old r) r.row
-
-table_is : (m : Tables) (bank limit n : ℕ) (tables : List (List Entry)) (at client : ℕ) (old : List Entry) → IsRow m bank limit n tables at client old
-    → slice_index_or tables at [] ≡ old
-table_is m bank limit n tables at client old r = table_at tables at old (row_inside m bank limit n tables at client old r) r.row
-
--- what a client holds is what its table has
-pub held_at-row : (m : Tables) (bank limit n : ℕ) (tables : List (List Entry)) (at client : ℕ) (old : List Entry) → IsRow m bank limit n tables at client old
-    → (b : ℕ) → held_at m client b ≡ found b old
-unfolding held_at
-held_at-row m bank limit n tables at client old r b =
-    rw (← r.view, ← r.at_client, table_is m bank limit n tables at client old r) refl
-
--- ## A copy kept
-
-pub held_at-kept : (m : Tables) (bank limit n : ℕ) (tables : List (List Entry)) (at client block : ℕ) (old new : List Entry) (held : Held)
-    → IsRow m bank limit n tables at client old → new ≡ kept block held old
-    → (x y : ℕ)
-    → held_at (tables_of bank limit n (slice_set tables at new)) x y
-    ≡ (if is_cell client block x y then Some held else held_at m x y)
-held_at-kept m bank limit n tables at client block old new held r e x y =
-    rw (← r.view, ← r.at_client)
-    (held_at-set bank limit n tables at block old new (Some held) (row_inside m bank limit n tables at client old r)
-    (table_is m bank limit n tables at client old r)
-    (λ b. rw e (found-kept n block held old (table_sound m bank limit n tables at client old r).apart b)) x y)
-
-pub order_in-kept : (m : Tables) (bank limit n : ℕ) (tables : List (List Entry)) (at client block : ℕ) (old new : List Entry) (held : Held)
-    → IsRow m bank limit n tables at client old → new ≡ kept block held old
-    → (x : ℕ)
-    → order_in (tables_of bank limit n (slice_set tables at new)) x
-    ≡ (if x == client then order_after (is_granted (held_at m client block) held) block (order_in m x) else order_in m x)
-order_in-kept m bank limit n tables at client block old new held r e x =
-    rw (held_at-row m bank limit n tables at client old r block, ← r.view, ← r.at_client)
-    (order_in-set bank limit n tables at old new (order_after (is_granted (found block old) held) block)
-    (row_inside m bank limit n tables at client old r) (table_is m bank limit n tables at client old r)
-    (rw e (order-kept block held old)) x)
 
 at_most : (a b : ℕ) → (b ≤ a → ⊥) → a < b
 at_most a b h =
@@ -143,58 +83,107 @@ at_most a b h =
       | inr (inr more) ↦ absurd (h (omega arith))
     ]
 
-kept_sound : {T E : Type 0} (result : Result T E) (limit n block : ℕ) (held : Held) (old new : List Entry) → OnOk result (new ≡ kept block held old)
-    → OnErr result (new ≡ old) → (IsErr result ↔ ((found block old ≡ None) × (limit ≤ length old))) → IsTable limit n old → block < n → IsTable limit n new
+-- a table is full where nothing was kept for want of room
+abbrev IsFull : ℕ → ℕ → List Entry → Type 0
+IsFull limit block old = (found block old ≡ None) × (limit ≤ length old)
+
+kept_sound : {T E : Type 0} (result : Result T E) (limit n block : ℕ) (held : Held) (old new : List Entry)
+    → OnOk result (new ≡ kept block held old) → OnErr result (new ≡ old) → (IsErr result ↔ IsFull limit block old)
+    → IsTable limit n old → block < n → IsTable limit n new
 kept_sound (Ok x) limit n block held old new e u f t l =
     rw e (IsTable-kept limit n block held old t l (λ none. at_most (length old) limit (λ full. let no = f.1 (none, full) in cc)))
 kept_sound (Err x) limit n block held old new e u f t l = rw u t
 
--- all tables stay sound
-pub sound-kept : {T E : Type 0} (result : Result T E) (m : Tables) (bank limit n : ℕ) (tables : List (List Entry)) (at client block : ℕ) (held : Held) (old new : List Entry)
-    → IsRow m bank limit n tables at client old → OnOk result (new ≡ kept block held old)
-    → OnErr result (new ≡ old) → (IsErr result ↔ ((found block old ≡ None) × (limit ≤ length old))) → block < n
-    → All (λ t. IsTable limit n t) (slice_set tables at new)
-sound-kept result m bank limit n tables at client block held old new r e u f l =
-    All-set (λ t. IsTable limit n t) tables at new
-    (kept_sound result limit n block held old new e u f (table_sound m bank limit n tables at client old r) l) r.sound
+-- a client's table among the tables, as the code has it; m is what contracts see of them
+pub record IsRow (m : Tables) (bank limit n : ℕ) (tables : List (List Entry)) (at client : ℕ) (old : List Entry) : Type 0 where
+  pub view : tables_of bank limit n tables ≡ m
+  pub at_client : at ≡ client
+  pub inside : client < clients_of m
+  pub row : old ≡ slice_index_or tables at old
+  pub sound : All (λ t. IsTable limit n t) tables
 
--- full is what contracts call full
-pub full-is : (m : Tables) (bank limit n : ℕ) (tables : List (List Entry)) (at client block : ℕ) (old : List Entry) (Refused : Type 0)
-    → IsRow m bank limit n tables at client old → (Refused ↔ ((found block old ≡ None) × (limit ≤ length old)))
-    → Refused ↔ ((held_at m client block ≡ None) × (m.limit ≤ entries m client))
-full-is m bank limit n tables at client block old Refused r f =
-    let held : held_at m client block ≡ found block old = held_at-row m bank limit n tables at client old r block in
-    let sound : IsTable m.limit m.blocks old = rw (← r.view) (table_sound m bank limit n tables at client old r) in
-    let count : entries m client ≡ length old = entries-table m client old (held_at-row m bank limit n tables at client old r) sound in
-    let most : limit ≡ m.limit = ap (λ (v : Tables). v.limit) r.view in
-    rw (held, count, ← most) f
+module _ {m : Tables} {bank limit n : ℕ} {tables : List (List Entry)} {at client : ℕ} {old : List Entry}
+    (r : IsRow m bank limit n tables at client old) where
+  at_inside : at < length tables
+  unfolding clients_of
+  at_inside =
+      let here : client < length tables = subst (λ (v : Tables). client < clients_of v) (sym r.view) r.inside in
+      omega (arith, r.at_client)
 
--- ## An entry taken out
+  table_is : slice_index_or tables at [] ≡ old
+  table_is = table_at tables at old at_inside r.row
 
-pub held_at-without : (m : Tables) (bank limit n : ℕ) (tables : List (List Entry)) (at client block : ℕ) (old new : List Entry)
-    → IsRow m bank limit n tables at client old → new ≡ without block old
-    → (x y : ℕ)
-    → held_at (tables_of bank limit n (slice_set tables at new)) x y
-    ≡ (if is_cell client block x y then None else held_at m x y)
-held_at-without m bank limit n tables at client block old new r e x y =
-    rw (← r.view, ← r.at_client)
-    (held_at-set bank limit n tables at block old new None (row_inside m bank limit n tables at client old r)
-    (table_is m bank limit n tables at client old r)
-    (λ b. rw e (found-without n block old (table_sound m bank limit n tables at client old r).apart b)) x y)
+  table_sound : IsTable limit n old
+  table_sound = subst (λ (t : List Entry). IsTable limit n t) (sym r.row) (r.sound at old at_inside)
 
-pub order_in-without : (m : Tables) (bank limit n : ℕ) (tables : List (List Entry)) (at client block : ℕ) (old new : List Entry)
-    → IsRow m bank limit n tables at client old → new ≡ without block old
-    → (x : ℕ)
-    → order_in (tables_of bank limit n (slice_set tables at new)) x
-    ≡ (if x == client then order_without block (order_in m x) else order_in m x)
-order_in-without m bank limit n tables at client block old new r e x =
-    rw (← r.view, ← r.at_client)
-    (order_in-set bank limit n tables at old new (order_without block)
-    (row_inside m bank limit n tables at client old r) (table_is m bank limit n tables at client old r)
-    (rw e (order-without block old)) x)
+  -- what a client holds is what its table has
+  held_at-row : (b : ℕ) → held_at m client b ≡ found b old
+  unfolding held_at
+  held_at-row b = rw (← r.view, ← r.at_client, table_is) refl
 
-pub sound-without : (m : Tables) (bank limit n : ℕ) (tables : List (List Entry)) (at client block : ℕ) (old new : List Entry)
-    → IsRow m bank limit n tables at client old → new ≡ without block old → All (λ t. IsTable limit n t) (slice_set tables at new)
-sound-without m bank limit n tables at client block old new r e =
-    All-set (λ t. IsTable limit n t) tables at new
-    (rw e (IsTable-without limit n block old (table_sound m bank limit n tables at client old r))) r.sound
+  -- ## A copy kept
+
+  pub held_at-kept : (block : ℕ) (held : Held) (new : List Entry) → new ≡ kept block held old
+      → (x y : ℕ)
+      → held_at (tables_of bank limit n (slice_set tables at new)) x y
+      ≡ (if is_cell client block x y then Some held else held_at m x y)
+  held_at-kept block held new e x y =
+      rw (← r.view, ← r.at_client)
+      (held_at-set bank limit n tables at block old new (Some held) at_inside table_is
+      (λ b. rw e (found-kept n block held old table_sound.apart b)) x y)
+
+  pub order_in-kept : (block : ℕ) (held : Held) (new : List Entry) → new ≡ kept block held old
+      → (x : ℕ)
+      → order_in (tables_of bank limit n (slice_set tables at new)) x
+      ≡ (if x == client then order_after (is_granted (held_at m client block) held) block (order_in m x) else order_in m x)
+  order_in-kept block held new e x =
+      rw (held_at-row block, ← r.view, ← r.at_client)
+      (order_in-set bank limit n tables at old new (order_after (is_granted (found block old) held) block) at_inside table_is
+      (rw e (order-kept block held old)) x)
+
+  -- all tables stay sound
+  pub sound-kept : {T E : Type 0} (result : Result T E) (block : ℕ) (held : Held) (new : List Entry)
+      → OnOk result (new ≡ kept block held old) → OnErr result (new ≡ old) → (IsErr result ↔ IsFull limit block old) → block < m.blocks
+      → All (λ t. IsTable limit n t) (slice_set tables at new)
+  sound-kept result block held new e u f l =
+      let inside : block < n = subst (λ (v : Tables). block < v.blocks) (sym r.view) l in
+      All-set (λ t. IsTable limit n t) tables at new (kept_sound result limit n block held old new e u f table_sound inside) r.sound
+
+  -- full is what contracts call full
+  pub full-is : (block : ℕ) (Refused : Type 0) → (Refused ↔ IsFull limit block old)
+      → Refused ↔ ((held_at m client block ≡ None) × (m.limit ≤ entries m client))
+  full-is block Refused f =
+      let held : held_at m client block ≡ found block old = held_at-row block in
+      let sound : IsTable m.limit m.blocks old = rw (← r.view) table_sound in
+      let count : entries m client ≡ length old = entries-table m client old held_at-row sound in
+      let most : limit ≡ m.limit = ap (λ (v : Tables). v.limit) r.view in
+      rw (held, count, ← most) f
+
+  -- ## An entry taken out
+
+  pub held_at-without : (block : ℕ) (new : List Entry) → new ≡ without block old
+      → (x y : ℕ)
+      → held_at (tables_of bank limit n (slice_set tables at new)) x y
+      ≡ (if is_cell client block x y then None else held_at m x y)
+  held_at-without block new e x y =
+      rw (← r.view, ← r.at_client)
+      (held_at-set bank limit n tables at block old new None at_inside table_is
+      (λ b. rw e (found-without n block old table_sound.apart b)) x y)
+
+  pub order_in-without : (block : ℕ) (new : List Entry) → new ≡ without block old
+      → (x : ℕ)
+      → order_in (tables_of bank limit n (slice_set tables at new)) x
+      ≡ (if x == client then order_without block (order_in m x) else order_in m x)
+  order_in-without block new e x =
+      rw (← r.view, ← r.at_client)
+      (order_in-set bank limit n tables at old new (order_without block) at_inside table_is (rw e (order-without block old)) x)
+
+  pub sound-without : (block : ℕ) (new : List Entry) → new ≡ without block old → All (λ t. IsTable limit n t) (slice_set tables at new)
+  sound-without block new e =
+      All-set (λ t. IsTable limit n t) tables at new (rw e (IsTable-without limit n block old table_sound)) r.sound
+
+-- the parts of it, as a call has them
+pub row_of : {m : Tables} {bank limit n : ℕ} {tables : List (List Entry)} {at client : ℕ} {old : List Entry} → tables_of bank limit n tables ≡ m
+    → at ≡ client → client < clients_of m → old ≡ slice_index_or tables at old → All (λ t. IsTable limit n t) tables
+    → IsRow m bank limit n tables at client old
+row_of v a i o s = record { view = v; at_client = a; inside = i; row = o; sound = s }
