@@ -42,7 +42,8 @@ pub entries-found : (n : ℕ) (es : List Entry) → AreApart n es → count_belo
 entries-found n es a = count_below-found (λ o. is_some o) n es refl a ∙ count_by-all es
 
 -- as many blocks have a copy as entries are copies
-pub copies-found : (n : ℕ) (es : List Entry) → AreApart n es → count_below (λ b. has_copy (found b es)) n ≡ count_by (λ (e : Entry). is_copy e.held) es
+pub copies-found : (n : ℕ) (es : List Entry) → AreApart n es
+    → count_below (λ b. has_copy (found b es)) n ≡ count_by (λ (e : Entry). is_copy e.held) es
 copies-found n es a = count_below-found has_copy n es refl a
 
 at_most_one : (v : Bool) → (if v then 1 else 0) ≤ 1
@@ -83,17 +84,20 @@ all_of : {X : Type 0} (P : X → Type 0) (xs : List X) → ((x : X) → P x) →
 all_of P [] h = tt
 all_of P (x ∷ rest) h = (h x, all_of P rest h)
 
-pub entries-table : (v : Tables) (client : ℕ) (table : List Entry) → ((b : ℕ) → held_at v client b ≡ found b table) → IsTable v.limit v.blocks table
+pub entries-table : (v : Tables) (client : ℕ) (table : List Entry) → ((b : ℕ) → held_at v client b ≡ found b table)
+    → IsTable v.limit v.blocks table
     → entries v client ≡ length table
 entries-table v client table h t =
     count_below-same (λ b. is_some (held_at v client b)) (λ b. is_some (found b table)) v.blocks (λ b l. ap is_some (h b)) ∙ entries-found v.blocks table t.apart
 
-pub copies-table : (v : Tables) (client : ℕ) (table : List Entry) → ((b : ℕ) → held_at v client b ≡ found b table) → IsTable v.limit v.blocks table
+pub copies-table : (v : Tables) (client : ℕ) (table : List Entry) → ((b : ℕ) → held_at v client b ≡ found b table)
+    → IsTable v.limit v.blocks table
     → copies v client ≡ count_by (λ (e : Entry). is_copy e.held) table
 copies-table v client table h t =
     count_below-same (λ b. has_copy (held_at v client b)) (λ b. has_copy (found b table)) v.blocks (λ b l. ap has_copy (h b)) ∙ copies-found v.blocks table t.apart
 
-pub oldest-table : (v : Tables) (client : ℕ) (table : List Entry) → ((b : ℕ) → held_at v client b ≡ found b table) → order_in v client ≡ blocks table
+pub oldest-table : (v : Tables) (client : ℕ) (table : List Entry) → ((b : ℕ) → held_at v client b ≡ found b table)
+    → order_in v client ≡ blocks table
     → IsTable v.limit v.blocks table → find (λ b. has_copy (held_at v client b)) (order_in v client) ≡ oldest_in table
 oldest-table v client table h o t =
     ap (λ (xs : List ℕ). find (λ b. has_copy (held_at v client b)) xs) o

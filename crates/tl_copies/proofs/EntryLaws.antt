@@ -13,7 +13,8 @@ abbrev pub entry : ℕ → Held → Entry
 entry block held = record { block = block; held = held }
 
 -- a block that is not found is not that of the first entry, and not found in the rest
-pub not_first : (here : Bool) (held : Held) (rest : Option Held) → (if here then Some held else rest) ≡ None → (here ≡ false) × (rest ≡ None)
+pub not_first : (here : Bool) (held : Held) (rest : Option Held) → (if here then Some held else rest) ≡ None
+    → (here ≡ false) × (rest ≡ None)
 not_first true held rest h = cc
 not_first false held rest h = (refl, h)
 
@@ -35,7 +36,8 @@ found-append_here x (e ∷ rest) n =
     let p = not_first (e.block == x.block) e.held (found x.block rest) n in
     rw (p.0) (found-append_here x rest p.1)
 
-pub AreApart-append : (n : ℕ) (x : Entry) (es : List Entry) → AreApart n es → found x.block es ≡ None → x.block < n → AreApart n (es ++ x ∷ [])
+pub AreApart-append : (n : ℕ) (x : Entry) (es : List Entry) → AreApart n es → found x.block es ≡ None → x.block < n
+    → AreApart n (es ++ x ∷ [])
 AreApart-append n x [] a f l = (l, refl, tt)
 AreApart-append n x (e ∷ rest) a f l =
     let p = not_first (e.block == x.block) e.held (found x.block rest) f in
@@ -94,21 +96,24 @@ pub length-without : (block : ℕ) (es : List Entry) → length (without block e
 length-without block [] = omega arith
 length-without block (e ∷ rest) = out_shorter (e.block == block) block e rest (length-without block rest)
 
-out_one : (here : Bool) (block : ℕ) (e : Entry) (rest : List Entry) (old : Held) → (if here then Some e.held else found block rest) ≡ Some old
+out_one : (here : Bool) (block : ℕ) (e : Entry) (rest : List Entry) (old : Held)
+    → (if here then Some e.held else found block rest) ≡ Some old
     → (found block rest ≡ Some old → length (without block rest) + 1 ≡ length rest)
     → length (if here then rest else e ∷ without block rest) + 1 ≡ length (e ∷ rest)
 out_one true block e rest old f ih = omega arith
 out_one false block e rest old f ih = omega (arith, ih f)
 
 -- one entry less where there was one
-pub length-without_found : (block : ℕ) (es : List Entry) (old : Held) → found block es ≡ Some old → length (without block es) + 1 ≡ length es
+pub length-without_found : (block : ℕ) (es : List Entry) (old : Held) → found block es ≡ Some old
+    → length (without block es) + 1 ≡ length es
 length-without_found block [] old f = cc
 length-without_found block (e ∷ rest) old f =
     out_one (e.block == block) block e rest old f (length-without_found block rest old)
 
 -- ## An entry changed
 
-new_other : (here : Bool) (block b : ℕ) (held : Held) (e : Entry) (rest : List Entry) → (e.block == block) ≡ here → (block == b) ≡ false
+new_other : (here : Bool) (block b : ℕ) (held : Held) (e : Entry) (rest : List Entry) → (e.block == block) ≡ here
+    → (block == b) ≡ false
     → found b (replaced block held rest) ≡ found b rest
     → found b (if here then entry block held ∷ rest else e ∷ replaced block held rest) ≡ (if e.block == b then Some e.held else found b rest)
 new_other true block b held e rest h o ih =
@@ -116,7 +121,8 @@ new_other true block b held e rest h o ih =
     rw (o, other) refl
 new_other false block b held e rest h o ih = rw ih refl
 
-pub found-replaced_other : (block b : ℕ) (held : Held) (es : List Entry) → (block == b) ≡ false → found b (replaced block held es) ≡ found b es
+pub found-replaced_other : (block b : ℕ) (held : Held) (es : List Entry) → (block == b) ≡ false
+    → found b (replaced block held es) ≡ found b es
 found-replaced_other block b held [] o = refl
 found-replaced_other block b held (e ∷ rest) o =
     new_other (e.block == block) block b held e rest refl o (found-replaced_other block b held rest o)
@@ -128,25 +134,30 @@ new_here : (here : Bool) (block : ℕ) (held old : Held) (e : Entry) (rest : Lis
 new_here true block held old e rest h f ih = rw (same block) refl
 new_here false block held old e rest h f ih = rw h (ih f)
 
-pub found-replaced_here : (block : ℕ) (held old : Held) (es : List Entry) → found block es ≡ Some old → found block (replaced block held es) ≡ Some held
+pub found-replaced_here : (block : ℕ) (held old : Held) (es : List Entry) → found block es ≡ Some old
+    → found block (replaced block held es) ≡ Some held
 found-replaced_here block held old [] f = cc
 found-replaced_here block held old (e ∷ rest) f =
     new_here (e.block == block) block held old e rest refl f (found-replaced_here block held old rest)
 
-new_none : (here : Bool) (block b : ℕ) (held : Held) (e : Entry) (rest : List Entry) → (e.block == block) ≡ here → (e.block == b) ≡ false → found b rest ≡ None
-    → found b (replaced block held rest) ≡ None → found b (if here then entry block held ∷ rest else e ∷ replaced block held rest) ≡ None
+new_none : (here : Bool) (block b : ℕ) (held : Held) (e : Entry) (rest : List Entry) → (e.block == block) ≡ here
+    → (e.block == b) ≡ false → found b rest ≡ None
+    → found b (replaced block held rest) ≡ None
+    → found b (if here then entry block held ∷ rest else e ∷ replaced block held rest) ≡ None
 new_none true block b held e rest h o n ih =
     let other : (block == b) ≡ false = rw (← eqb-true e.block block h) o in
     rw other n
 new_none false block b held e rest h o n ih = rw o ih
 
-pub found-replaced_none : (block b : ℕ) (held : Held) (es : List Entry) → found b es ≡ None → found b (replaced block held es) ≡ None
+pub found-replaced_none : (block b : ℕ) (held : Held) (es : List Entry) → found b es ≡ None
+    → found b (replaced block held es) ≡ None
 found-replaced_none block b held [] n = refl
 found-replaced_none block b held (e ∷ rest) n =
     let p = not_first (e.block == b) e.held (found b rest) n in
     new_none (e.block == block) block b held e rest refl p.0 p.1 (found-replaced_none block b held rest p.1)
 
-new_apart : (here : Bool) (n block : ℕ) (held : Held) (e : Entry) (rest : List Entry) → (e.block == block) ≡ here → AreApart n (e ∷ rest)
+new_apart : (here : Bool) (n block : ℕ) (held : Held) (e : Entry) (rest : List Entry) → (e.block == block) ≡ here
+    → AreApart n (e ∷ rest)
     → AreApart n (replaced block held rest) → AreApart n (if here then entry block held ∷ rest else e ∷ replaced block held rest)
 new_apart true n block held e rest h a ih =
     let is : e.block ≡ block = eqb-true e.block block h in
@@ -158,7 +169,8 @@ AreApart-replaced n block held [] a = tt
 AreApart-replaced n block held (e ∷ rest) a =
     new_apart (e.block == block) n block held e rest refl a (AreApart-replaced n block held rest a.2)
 
-new_length : (here : Bool) (block : ℕ) (held : Held) (e : Entry) (rest : List Entry) → length (replaced block held rest) ≡ length rest
+new_length : (here : Bool) (block : ℕ) (held : Held) (e : Entry) (rest : List Entry)
+    → length (replaced block held rest) ≡ length rest
     → length (if here then entry block held ∷ rest else e ∷ replaced block held rest) ≡ length (e ∷ rest)
 new_length true block held e rest ih = omega arith
 new_length false block held e rest ih = omega arith
@@ -169,7 +181,8 @@ length-replaced block held (e ∷ rest) = new_length (e.block == block) block he
 
 -- ## A copy kept
 
-kept_is : (granted : Bool) (n block b : ℕ) (held : Held) (es : List Entry) → is_granted (found block es) held ≡ granted → AreApart n es → (b == block) ≡ true
+kept_is : (granted : Bool) (n block b : ℕ) (held : Held) (es : List Entry) → is_granted (found block es) held ≡ granted
+    → AreApart n es → (b == block) ≡ true
     → found b (if granted then without block es ++ entry block held ∷ [] else replaced block held es) ≡ Some held
 kept_is true n block b held es g a h =
     rw (eqb-true b block h) (found-append_here (entry block held) (without block es) (found-without_here n block es a))
@@ -200,7 +213,8 @@ kept_apart true n block held es a l =
     AreApart-append n (entry block held) (without block es) (AreApart-without n block es a) (found-without_here n block es a) l
 kept_apart false n block held es a l = AreApart-replaced n block held es a
 
-kept_length : (granted : Bool) (limit block : ℕ) (held : Held) (es : List Entry) (old : Option Held) → found block es ≡ old → length es ≤ limit
+kept_length : (granted : Bool) (limit block : ℕ) (held : Held) (es : List Entry) (old : Option Held) → found block es ≡ old
+    → length es ≤ limit
     → (old ≡ None → length es < limit)
     → length (if granted then without block es ++ entry block held ∷ [] else replaced block held es) ≤ limit
 kept_length true limit block held es None f l r =
@@ -210,7 +224,8 @@ kept_length true limit block held es (Some old) f l r =
 kept_length false limit block held es old f l r = omega (arith, length-replaced block held es)
 
 -- a table stays one where it has room for a new entry
-pub IsTable-kept : (limit n block : ℕ) (held : Held) (es : List Entry) → IsTable limit n es → block < n → (found block es ≡ None → length es < limit)
+pub IsTable-kept : (limit n block : ℕ) (held : Held) (es : List Entry) → IsTable limit n es → block < n
+    → (found block es ≡ None → length es < limit)
     → IsTable limit n (kept block held es)
 IsTable-kept limit n block held es t l r = record {
   short = kept_length (is_granted (found block es) held) limit block held es (found block es) refl t.short r;
@@ -224,7 +239,8 @@ IsTable-without limit n block es t = record {
 }
 
 -- nothing else changes where an entry is taken out
-pub found-without : (n block : ℕ) (es : List Entry) → AreApart n es → (b : ℕ) → found b (without block es) ≡ (if b == block then None else found b es)
+pub found-without : (n block : ℕ) (es : List Entry) → AreApart n es → (b : ℕ)
+    → found b (without block es) ≡ (if b == block then None else found b es)
 found-without n block es a b = by_test (b == block) refl
   where
     by_test : (here : Bool) → (b == block) ≡ here → found b (without block es) ≡ (if here then None else found b es)
@@ -237,7 +253,8 @@ found-without n block es a b = by_test (b == block) refl
 abbrev pub blocks : List Entry → List ℕ
 blocks es = map (λ (e : Entry). e.block) es
 
-out_order : (here : Bool) (block : ℕ) (e : Entry) (rest : List Entry) → blocks (without block rest) ≡ order_without block (blocks rest)
+out_order : (here : Bool) (block : ℕ) (e : Entry) (rest : List Entry)
+    → blocks (without block rest) ≡ order_without block (blocks rest)
     → blocks (if here then rest else e ∷ without block rest) ≡ (if here then blocks rest else e.block ∷ order_without block (blocks rest))
 out_order true block e rest ih = refl
 out_order false block e rest ih = rw ih refl
@@ -246,7 +263,8 @@ pub order-without : (block : ℕ) (es : List Entry) → blocks (without block es
 order-without block [] = refl
 order-without block (e ∷ rest) = out_order (e.block == block) block e rest (order-without block rest)
 
-new_order : (here : Bool) (block : ℕ) (held : Held) (e : Entry) (rest : List Entry) → (e.block == block) ≡ here → blocks (replaced block held rest) ≡ blocks rest
+new_order : (here : Bool) (block : ℕ) (held : Held) (e : Entry) (rest : List Entry) → (e.block == block) ≡ here
+    → blocks (replaced block held rest) ≡ blocks rest
     → blocks (if here then entry block held ∷ rest else e ∷ replaced block held rest) ≡ blocks (e ∷ rest)
 new_order true block held e rest h ih = ap (λ b. b ∷ blocks rest) (sym (eqb-true e.block block h))
 new_order false block held e rest h ih = rw ih refl

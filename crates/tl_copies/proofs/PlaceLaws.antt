@@ -25,7 +25,8 @@ head_differs : (block : ℕ) (e : Entry) (rest : List Entry) (i : ℕ) → IsPla
 head_differs block e rest i p = differs e.block block (p.first 0 e (omega arith))
 
 -- what stands at the place is what the table has of the block
-pub found-place : (block : ℕ) (es : List Entry) (place : ℕ) (d : Entry) → IsPlace block es place → found block es ≡ Some (slice_index_or es place d).held
+pub found-place : (block : ℕ) (es : List Entry) (place : ℕ) (d : Entry) → IsPlace block es place
+    → found block es ≡ Some (slice_index_or es place d).held
 found-place block [] place d p = absurd (omega (arith, p.inside))
 found-place block (e ∷ rest) zero d p =
     let is : (e.block == block) ≡ true = eq-eqb e.block block (p.here d) in
@@ -42,7 +43,8 @@ remove-place block (e ∷ rest) (suc i) p =
     rw (head_differs block e rest i p) (ap (λ (es : List Entry). e ∷ es) (remove-place block rest i (tail_place block e rest i p)))
 
 -- changing the entry at the place
-pub set-place : (block : ℕ) (held : Held) (es : List Entry) (place : ℕ) → IsPlace block es place → slice_set es place (entry block held) ≡ replaced block held es
+pub set-place : (block : ℕ) (held : Held) (es : List Entry) (place : ℕ) → IsPlace block es place
+    → slice_set es place (entry block held) ≡ replaced block held es
 set-place block held [] place p = absurd (omega (arith, p.inside))
 set-place block held (e ∷ rest) zero p =
     let is : (e.block == block) ≡ true = eq-eqb e.block block (p.here e) in
@@ -55,7 +57,8 @@ pub without-none : (block : ℕ) (es : List Entry) → found block es ≡ None �
 without-none block [] n = refl
 without-none block (e ∷ rest) n = by_test (e.block == block) n (without-none block rest)
   where
-    by_test : (here : Bool) → (if here then Some e.held else found block rest) ≡ None → (found block rest ≡ None → without block rest ≡ rest)
+    by_test : (here : Bool) → (if here then Some e.held else found block rest) ≡ None
+        → (found block rest ≡ None → without block rest ≡ rest)
         → (if here then rest else e ∷ without block rest) ≡ e ∷ rest
     by_test true h ih = cc
     by_test false h ih = ap (λ (es : List Entry). e ∷ es) (ih h)
@@ -63,7 +66,8 @@ without-none block (e ∷ rest) n = by_test (e.block == block) n (without-none b
 -- ## What is kept, as the code does it
 
 -- a new entry goes last
-pub kept-new : (block : ℕ) (held : Held) (es : List Entry) → found block es ≡ None → kept block held es ≡ es ++ entry block held ∷ []
+pub kept-new : (block : ℕ) (held : Held) (es : List Entry) → found block es ≡ None
+    → kept block held es ≡ es ++ entry block held ∷ []
 kept-new block held es n = rw n (ap (λ (zs : List Entry). zs ++ entry block held ∷ []) (without-none block es n))
 
 granted_is : (block : ℕ) (held : Held) (es : List Entry) (place : ℕ) (old : Entry) (renewed : Bool) → IsPlace block es place
@@ -74,18 +78,21 @@ granted_is block held es place old renewed p o r =
 
 -- so does an entry whose Grant came
 pub kept-granted : (block : ℕ) (held : Held) (es : List Entry) (place : ℕ) (old : Entry) → IsPlace block es place
-    → old ≡ slice_index_or es place old → is_renewed old.held held ≡ true → kept block held es ≡ remove es place ++ entry block held ∷ []
+    → old ≡ slice_index_or es place old → is_renewed old.held held ≡ true
+    → kept block held es ≡ remove es place ++ entry block held ∷ []
 kept-granted block held es place old p o r =
     rw (granted_is block held es place old true p o r) (ap (λ (zs : List Entry). zs ++ entry block held ∷ []) (sym (remove-place block es place p)))
 
 -- any other stays in its place
 pub kept-same : (block : ℕ) (held : Held) (es : List Entry) (place : ℕ) (old : Entry) → IsPlace block es place
-    → old ≡ slice_index_or es place old → is_renewed old.held held ≡ false → kept block held es ≡ slice_set es place (entry block held)
+    → old ≡ slice_index_or es place old → is_renewed old.held held ≡ false
+    → kept block held es ≡ slice_set es place (entry block held)
 kept-same block held es place old p o r =
     rw (granted_is block held es place old false p o r) (sym (set-place block held es place p))
 
 -- the same, as a write through the slice leaves it
-pub kept-written : (block : ℕ) (held : Held) (es items shown : List Entry) (place : ℕ) (old : Entry) → items ≡ es → shown ≡ items → IsPlace block es place
+pub kept-written : (block : ℕ) (held : Held) (es items shown : List Entry) (place : ℕ) (old : Entry) → items ≡ es
+    → shown ≡ items → IsPlace block es place
     → old ≡ slice_index_or es place old → is_renewed old.held held ≡ false
     → refill (length items) items (slice_set shown place (entry block held)) ≡ kept block held es
 kept-written block held es items shown place old v s p o r =

@@ -16,17 +16,20 @@ use Rattle.tl_copies.proofs.CountLaws.{entries-table}
 abbrev pub tables_of : ℕ → ℕ → ℕ → List (List Entry) → Tables
 tables_of bank limit n tables = record { bank = bank; limit = limit; blocks = n; tables = tables }
 
-any_default : (tables : List (List Entry)) (i : ℕ) (d u : List Entry) → i < length tables → slice_index_or tables i d ≡ slice_index_or tables i u
+any_default : (tables : List (List Entry)) (i : ℕ) (d u : List Entry) → i < length tables
+    → slice_index_or tables i d ≡ slice_index_or tables i u
 any_default [] i d u h = absurd (omega arith)
 any_default (t ∷ rest) zero d u h = refl
 any_default (t ∷ rest) (suc i) d u h = any_default rest i d u (omega arith)
 
 -- the table of a client
-pub table_at : (tables : List (List Entry)) (client : ℕ) (table : List Entry) → client < length tables → table ≡ slice_index_or tables client table
+pub table_at : (tables : List (List Entry)) (client : ℕ) (table : List Entry) → client < length tables
+    → table ≡ slice_index_or tables client table
     → slice_index_or tables client [] ≡ table
 table_at tables client table h e = sym (e ∙ any_default tables client table [] h)
 
-set_at : {X : Type 0} (f : List Entry → X) (tables : List (List Entry)) (client x : ℕ) (new : List Entry) (here : Bool) → client < length tables → (x == client) ≡ here
+set_at : {X : Type 0} (f : List Entry → X) (tables : List (List Entry)) (client x : ℕ) (new : List Entry) (here : Bool)
+    → client < length tables → (x == client) ≡ here
     → f (slice_index_or (slice_set tables client new) x []) ≡ (if here then f new else f (slice_index_or tables x []))
 set_at f tables client x new true h e = rw (eqb-true x client e, get_or-set_same tables client new [] h) refl
 set_at f tables client x new false h e =
@@ -143,7 +146,8 @@ module _ {m : Tables} {bank limit n : ℕ} {tables : List (List Entry)} {at clie
 
   -- all tables stay sound
   pub sound-kept : {T E : Type 0} (result : Result T E) (block : ℕ) (held : Held) (new : List Entry)
-      → OnOk result (new ≡ kept block held old) → OnErr result (new ≡ old) → (IsErr result ↔ IsFull limit block old) → block < m.blocks
+      → OnOk result (new ≡ kept block held old) → OnErr result (new ≡ old) → (IsErr result ↔ IsFull limit block old)
+      → block < m.blocks
       → All (λ t. IsTable limit n t) (slice_set tables at new)
   sound-kept result block held new e u f l =
       let inside : block < n = subst (λ (v : Tables). block < v.blocks) (sym r.view) l in
@@ -178,12 +182,14 @@ module _ {m : Tables} {bank limit n : ℕ} {tables : List (List Entry)} {at clie
       rw (← r.view, ← r.at_client)
       (order_in-set bank limit n tables at old new (order_without block) at_inside table_is (rw e (order-without block old)) x)
 
-  pub sound-without : (block : ℕ) (new : List Entry) → new ≡ without block old → All (λ t. IsTable limit n t) (slice_set tables at new)
+  pub sound-without : (block : ℕ) (new : List Entry) → new ≡ without block old
+      → All (λ t. IsTable limit n t) (slice_set tables at new)
   sound-without block new e =
       All-set (λ t. IsTable limit n t) tables at new (rw e (IsTable-without limit n block old table_sound)) r.sound
 
 -- the parts of it, as a call has them
-pub row_of : {m : Tables} {bank limit n : ℕ} {tables : List (List Entry)} {at client : ℕ} {old : List Entry} → tables_of bank limit n tables ≡ m
+pub row_of : {m : Tables} {bank limit n : ℕ} {tables : List (List Entry)} {at client : ℕ} {old : List Entry}
+    → tables_of bank limit n tables ≡ m
     → at ≡ client → client < clients_of m → old ≡ slice_index_or tables at old → All (λ t. IsTable limit n t) tables
     → IsRow m bank limit n tables at client old
 row_of v a i o s = record { view = v; at_client = a; inside = i; row = o; sound = s }

@@ -28,7 +28,7 @@ count_below-change p q (suc n) at h same =
           rw (below, here) (omega arith)
       | inr other ↦
           let before : count_below p n + (if q at then 1 else 0) ≡ count_below q n + (if p at then 1 else 0) =
-              count_below-change p q n at (omega arith) same in
+          count_below-change p q n at (omega arith) same in
           let agree : p n ≡ q n = same n other in
           rw agree (omega arith)
     ]
