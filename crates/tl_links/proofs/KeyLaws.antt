@@ -22,7 +22,8 @@ flipped : (a b : ℕ) → a ≢ b → b ≢ a
 flipped a b d = λ e. d (sym e)
 
 -- keys other than the one that changed keep their messages
-same_order : (old new : Slab Message) (key : ℕ) (slot : Option Message) (keys : List ℕ) → Updates old new key slot → NotAmong key keys
+same_order : (old new : Slab Message) (key : ℕ) (slot : Option Message) (keys : List ℕ) → Updates old new key slot
+    → NotAmong key keys
     → in_order new keys ≡ in_order old keys
 same_order old new key slot [] u d = refl
 same_order old new key slot (x ∷ rest) u d =
@@ -30,7 +31,8 @@ same_order old new key slot (x ∷ rest) u d =
     rw (here, same_order old new key slot rest u d.1) refl
 
 -- and stay keys
-same_keys : (old new : Slab Message) (key : ℕ) (slot : Option Message) (keys : List ℕ) → Updates old new key slot → NotAmong key keys
+same_keys : (old new : Slab Message) (key : ℕ) (slot : Option Message) (keys : List ℕ) → Updates old new key slot
+    → NotAmong key keys
     → AreKeys old keys → AreKeys new keys
 same_keys old new key slot [] u d k = tt
 same_keys old new key slot (x ∷ rest) u d k =
@@ -40,7 +42,8 @@ one_more_other : (x key : ℕ) (keys : List ℕ) → NotAmong x keys → x ≢ k
 one_more_other x key [] d e = (e, tt)
 one_more_other x key (y ∷ rest) d e = (d.0, one_more_other x key rest d.1 e)
 
-one_more_key : (slab : Slab Message) (key : ℕ) (keys : List ℕ) → AreKeys slab keys → NotAmong key keys → ContainsKey slab key → AreKeys slab (keys ++ key ∷ [])
+one_more_key : (slab : Slab Message) (key : ℕ) (keys : List ℕ) → AreKeys slab keys → NotAmong key keys → ContainsKey slab key
+    → AreKeys slab (keys ++ key ∷ [])
 one_more_key slab key [] k d c = (c, tt, tt)
 one_more_key slab key (x ∷ rest) k d c =
     (k.0, one_more_other x key rest k.1 (flipped key x d.0), one_more_key slab key rest k.2 d.1 c)
@@ -53,13 +56,15 @@ AreKeys-append old new key message keys k n u =
     one_more_key new key keys (same_keys old new key (Some message) keys u apart k) apart (rw u.changed refl)
 
 pub in_order-append : (old new : Slab Message) (key : ℕ) (message : Message) (keys : List ℕ)
-    → AreKeys old keys → get old key ≡ None → Updates old new key (Some message) → in_order new (keys ++ key ∷ []) ≡ in_order old keys ++ message ∷ []
+    → AreKeys old keys → get old key ≡ None → Updates old new key (Some message)
+    → in_order new (keys ++ key ∷ []) ≡ in_order old keys ++ message ∷ []
 in_order-append old new key message keys k n u =
     let apart : NotAmong key keys = fresh old key keys k n in
     let last : in_order new (key ∷ []) ≡ message ∷ [] = ap (λ (slot : Option Message). cons_option slot []) u.changed in
     filter_map-append (λ x. get new x) keys (key ∷ []) ∙ rw (same_order old new key (Some message) keys u apart, last) refl
 
-length-cons_option : (slot : Option Message) (messages : List Message) → IsSome slot → length (cons_option slot messages) ≡ length messages + 1
+length-cons_option : (slot : Option Message) (messages : List Message) → IsSome slot
+    → length (cons_option slot messages) ≡ length messages + 1
 length-cons_option None messages h = cc
 length-cons_option (Some message) messages h = omega arith
 
@@ -68,11 +73,6 @@ pub length-in_order : (slab : Slab Message) (keys : List ℕ) → AreKeys slab k
 length-in_order slab [] k = refl
 length-in_order slab (x ∷ rest) k = omega (arith, length-cons_option (get slab x) (in_order slab rest) k.0, length-in_order slab rest k.2)
 
--- the first key's message goes first
-pub in_order-first : (slab : Slab Message) (key : ℕ) (rest : List ℕ) (message : Message) → get slab key ≡ Some message
-    → in_order slab (key ∷ rest) ≡ message ∷ in_order slab rest
-in_order-first slab key rest message e = ap (λ (slot : Option Message). cons_option slot (in_order slab rest)) e
-
 -- what is said where there is a value holds where one is known
 pub at_some : {P : Type 0} (slot : Option Message) → IsSome slot → OnSome slot P → P
 at_some None h p = cc
@@ -80,62 +80,67 @@ at_some (Some message) h p = p
 
 -- ## A channel that is sound
 
--- as many keys as messages wait
-pub length-keys : (taken : ℕ) (slab : Slab Message) (keys : List ℕ) (places : ℕ) (lane : Lane) → IsSound taken slab keys places
-    → record { taken = taken; messages = in_order slab keys } ≡ lane → length keys ≡ length lane.messages
-length-keys taken slab keys places lane s v =
-    sym (length-in_order slab keys s.apart) ∙ ap (λ (l : Lane). length l.messages) v
+-- the lane that contracts see
+abbrev pub lane_of : ℕ → Slab Message → List ℕ → Lane
+lane_of taken slab keys = record { taken = taken; messages = in_order slab keys }
 
-pub sent-keys : (taken : ℕ) (slab : Slab Message) (keys : List ℕ) (places : ℕ) (lane : Lane) → IsSound taken slab keys places
-    → record { taken = taken; messages = in_order slab keys } ≡ lane → taken + length keys ≡ sent lane
-sent-keys taken slab keys places lane s v =
-    omega (arith, length-keys taken slab keys places lane s v, ap (λ (l : Lane). l.taken) v)
+module _ {taken : ℕ} {slab : Slab Message} {keys : List ℕ} {places : ℕ} {lane : Lane}
+    (s : IsSound taken slab keys places) (v : lane_of taken slab keys ≡ lane) where
+  -- as many keys as messages wait
+  pub length-keys : length keys ≡ length lane.messages
+  length-keys = sym (length-in_order slab keys s.apart) ∙ ap (λ (l : Lane). length l.messages) v
 
-pub IsSound-append : (taken : ℕ) (old new : Slab Message) (keys : List ℕ) (places key : ℕ) (message : Message) → IsSound taken old keys places
-    → get old key ≡ None → Updates old new key (Some message) → slab_len new ≡ slab_len old + 1 → new.capacity ≡ old.capacity
-    → length keys < 64 → taken + length keys < 2 ^ 64 - 1 → IsSound taken new (keys ++ key ∷ []) places
-IsSound-append taken old new keys places key message s n u l c f t =
-    let len : length (keys ++ key ∷ []) ≡ length keys + 1 = length-append keys (key ∷ []) in
-    let all : slab_len old ≡ length keys = s.all in
-    let room : 64 ≤ old.capacity = s.messages_room in
-    record {
-      apart = AreKeys-append old new key message keys s.apart n u;
-      all = l ∙ omega arith;
-      few = omega arith;
-      messages_room = omega arith;
-      order_room = s.order_room;
-      counted = omega arith;
-    }
+  pub sent-keys : taken + length keys ≡ sent lane
+  sent-keys = omega (arith, length-keys, ap (λ (l : Lane). l.taken) v)
 
-pub lane-append : (taken : ℕ) (old new : Slab Message) (keys : List ℕ) (places key : ℕ) (message : Message) (lane : Lane) → IsSound taken old keys places
-    → record { taken = taken; messages = in_order old keys } ≡ lane → get old key ≡ None → Updates old new key (Some message)
-    → record { taken = taken; messages = in_order new (keys ++ key ∷ []) } ≡ with_message lane message
-lane-append taken old new keys places key message lane s v n u =
-    rw (← v, in_order-append old new key message keys s.apart n u) refl
+  -- one more message
+  pub lane-append : (new : Slab Message) (key : ℕ) (message : Message) → get slab key ≡ None → Updates slab new key (Some message)
+      → lane_of taken new (keys ++ key ∷ []) ≡ with_message lane message
+  lane-append new key message n u = rw (← v, in_order-append slab new key message keys s.apart n u) refl
 
-pub IsSound-rest : (taken : ℕ) (old new : Slab Message) (key : ℕ) (rest : List ℕ) (places : ℕ) → IsSound taken old (key ∷ rest) places
-    → Updates old new key None → slab_len new + 1 ≡ slab_len old → new.capacity ≡ old.capacity → IsSound (taken + 1) new rest places
-IsSound-rest taken old new key rest places s u l c =
-    let all : slab_len old ≡ length (key ∷ rest) = s.all in
-    let few : length (key ∷ rest) ≤ 64 = s.few in
-    let room : 64 ≤ old.capacity = s.messages_room in
-    let counted : taken + length (key ∷ rest) < 2 ^ 64 = s.counted in
-    record {
-      apart = same_keys old new key None rest u s.apart.1 s.apart.2;
-      all = omega arith;
-      few = omega arith;
-      messages_room = omega arith;
-      order_room = s.order_room;
-      counted = omega arith;
-    }
+  pub IsSound-append : (new : Slab Message) (key : ℕ) (message : Message) → get slab key ≡ None
+      → Updates slab new key (Some message)
+      → slab_len new ≡ slab_len slab + 1 → new.capacity ≡ slab.capacity → length lane.messages < 64 → sent lane < 2 ^ 64 - 1
+      → IsSound taken new (keys ++ key ∷ []) places
+  IsSound-append new key message n u l c f t =
+      let len : length (keys ++ key ∷ []) ≡ length keys + 1 = length-append keys (key ∷ []) in
+      let all : slab_len slab ≡ length keys = s.all in
+      let room : 64 ≤ slab.capacity = s.messages_room in
+      let few : length keys ≡ length lane.messages = length-keys in
+      let count : taken + length keys ≡ sent lane = sent-keys in
+      record {
+        apart = AreKeys-append slab new key message keys s.apart n u;
+        all = l ∙ omega arith;
+        few = omega arith;
+        messages_room = omega arith;
+        order_room = s.order_room;
+        counted = omega arith;
+      }
 
-pub lane-rest : (taken : ℕ) (old new : Slab Message) (key : ℕ) (rest : List ℕ) (places : ℕ) (lane : Lane) → IsSound taken old (key ∷ rest) places
-    → record { taken = taken; messages = in_order old (key ∷ rest) } ≡ lane → Updates old new key None
-    → record { taken = taken + 1; messages = in_order new rest } ≡ without_first lane
-lane-rest taken old new key rest places lane s v u =
-    rw (← v, same_order old new key None rest u s.apart.1) (popped (get old key) s.apart.0)
-  where
-    popped : (slot : Option Message) → IsSome slot
-        → record { taken = taken + 1; messages = in_order old rest } ≡ first_taken taken (cons_option slot (in_order old rest))
-    popped None h = cc
-    popped (Some message) h = refl
+module _ {taken : ℕ} {slab : Slab Message} {key : ℕ} {rest : List ℕ} {places : ℕ} (s : IsSound taken slab (key ∷ rest) places) where
+  -- the first message taken
+  pub IsSound-rest : (new : Slab Message) → Updates slab new key None → slab_len new + 1 ≡ slab_len slab
+      → new.capacity ≡ slab.capacity
+      → IsSound (taken + 1) new rest places
+  IsSound-rest new u l c =
+      let all : slab_len slab ≡ length (key ∷ rest) = s.all in
+      let few : length (key ∷ rest) ≤ 64 = s.few in
+      let room : 64 ≤ slab.capacity = s.messages_room in
+      let counted : taken + length (key ∷ rest) < 2 ^ 64 = s.counted in
+      record {
+        apart = same_keys slab new key None rest u s.apart.1 s.apart.2;
+        all = omega arith;
+        few = omega arith;
+        messages_room = omega arith;
+        order_room = s.order_room;
+        counted = omega arith;
+      }
+
+  popped : (slot : Option Message) → IsSome slot
+      → lane_of (taken + 1) slab rest ≡ first_taken taken (cons_option slot (in_order slab rest))
+  popped None h = cc
+  popped (Some message) h = refl
+
+  pub lane-rest : (new : Slab Message) (lane : Lane) → lane_of taken slab (key ∷ rest) ≡ lane → Updates slab new key None
+      → lane_of (taken + 1) new rest ≡ without_first lane
+  lane-rest new lane v u = rw (← v, same_order slab new key None rest u s.apart.1) (popped (get slab key) s.apart.0)

@@ -12,6 +12,10 @@ pub length-beats : (beats : List (List ℕ)) → AreBeats beats → length (conc
 length-beats [] h = refl
 length-beats (beat ∷ rest) h = omega (arith, length-append beat (concat rest), h.0, length-beats rest h.1)
 
+-- the same of the bytes that contracts see
+pub length-joined : (beats : List (List ℕ)) (bytes : List ℕ) → AreBeats beats → concat beats ≡ bytes → length bytes ≡ length beats * 8
+length-joined beats bytes h v = ap (λ (xs : List ℕ). length xs) (sym v) ∙ length-beats beats h
+
 -- one more beat
 pub AreBeats-append : (beats : List (List ℕ)) (beat : List ℕ) → AreBeats beats → length beat ≡ 8 → AreBeats (beats ++ beat ∷ [])
 AreBeats-append [] beat h l = (l, tt)
@@ -21,11 +25,13 @@ pub concat-last : (beats : List (List ℕ)) (beat : List ℕ) → concat (beats 
 concat-last beats beat = concat-append beats (beat ∷ []) ∙ ap (λ (xs : List ℕ). concat beats ++ xs) (append-nil beat)
 
 -- the beats up to one, and that one
-pub concat-take_more : (beats : List (List ℕ)) (i : ℕ) → i < length beats → concat (take (i + 1) beats) ≡ concat (take i beats) ++ get_or beats i []
+pub concat-take_more : (beats : List (List ℕ)) (i : ℕ) → i < length beats
+    → concat (take (i + 1) beats) ≡ concat (take i beats) ++ get_or beats i []
 concat-take_more beats i h = rw (add-one, take-suc beats i [] h) (concat-last (take i beats) (get_or beats i []))
 
 -- beat i carries bytes 8i to 8i + 7
-pub beat_at : (beats : List (List ℕ)) (i : ℕ) → AreBeats beats → i < length beats → get_or beats i [] ≡ slice_chunk (concat beats) 8 i
+pub beat_at : (beats : List (List ℕ)) (i : ℕ) → AreBeats beats → i < length beats
+    → get_or beats i [] ≡ slice_chunk (concat beats) 8 i
 beat_at [] i h l = absurd (omega arith)
 beat_at (beat ∷ rest) zero h l = sym (take_at beat (concat rest) 8 h.0)
 beat_at (beat ∷ rest) (suc i) h l =
@@ -43,7 +49,8 @@ AreBeats-take [] (suc i) h = tt
 AreBeats-take (beat ∷ rest) (suc i) h = (h.0, AreBeats-take rest i h.1)
 
 -- eight beats have room in 64 bytes
-pub room_for_beat : (beats items : List (List ℕ)) (bytes : List ℕ) (i : ℕ) → items ≡ beats → AreBeats beats → length items ≤ 8 → i < length items
+pub room_for_beat : (beats items : List (List ℕ)) (bytes : List ℕ) (i : ℕ) → items ≡ beats → AreBeats beats → length items ≤ 8
+    → i < length items
     → bytes ≡ concat (take i items) → length bytes + length (get_or items i []) ≤ 64
 room_for_beat beats items bytes i e h f l b =
     let all : AreBeats items = subst AreBeats (sym e) h in

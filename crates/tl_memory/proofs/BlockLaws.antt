@@ -58,7 +58,8 @@ image_bytes-part xs image from (suc n) same fits =
 -- a block of a memory that was filled with an image and with 0
 pub block_in-image : (g : Numbers) (bytes filled start image : List ℕ) (len k : ℕ) → bytes ≡ take len filled ++ replicate k 0
     → filled ≡ start ++ image → start ≡ [] → length image + k ≡ len → len ≡ g.memory_blocks * g.block_bytes
-    → (b : ℕ) → b < g.memory_blocks → block_in (record { geometry = g; bytes = bytes }) b ≡ image_bytes image (b * g.block_bytes) g.block_bytes
+    → (b : ℕ) → b < g.memory_blocks
+    → block_in (record { geometry = g; bytes = bytes }) b ≡ image_bytes image (b * g.block_bytes) g.block_bytes
 unfolding block_in
 block_in-image g bytes filled start image len k e f s l m b h =
     let same : filled ≡ image = f ∙ ap (λ (xs : List ℕ). xs ++ image) s in
@@ -117,7 +118,8 @@ length-put_mid xs ys at k f l =
     omega (arith, length-append (take at xs) (ys ++ drop k (drop at xs)), length-append ys (drop k (drop at xs)), length-take at xs, length-drop k (drop at xs), length-drop at xs)
 
 -- a memory after the block at an address is written
-pub block_in-write : (g : Numbers) (xs ys tail : List ℕ) (address k len : ℕ) → length xs ≡ g.memory_blocks * g.block_bytes → len ≡ length xs
+pub block_in-write : (g : Numbers) (xs ys tail : List ℕ) (address k len : ℕ) → length xs ≡ g.memory_blocks * g.block_bytes
+    → len ≡ length xs
     → IsAddress g address → 0 < g.block_bytes → k ≡ g.block_bytes → length ys ≡ g.block_bytes
     → (b : ℕ)
     → block_in (record { geometry = g; bytes = take len (put_mid address k xs ys ++ tail) }) b
@@ -132,7 +134,8 @@ block_in-write g xs ys tail address k len s t a some e l = λ b.
 
 -- the same, as the code has it
 pub block_in-written : (m : Contents) (g : Numbers) (items xs ys block tail : List ℕ) (address k len : ℕ)
-    → record { geometry = g; bytes = items } ≡ m → xs ≡ items → ys ≡ block → length items ≡ g.memory_blocks * g.block_bytes → len ≡ length items
+    → record { geometry = g; bytes = items } ≡ m → xs ≡ items → ys ≡ block → length items ≡ g.memory_blocks * g.block_bytes
+    → len ≡ length items
     → IsAddress m.geometry address → 0 < g.block_bytes → k ≡ g.block_bytes → length block ≡ m.geometry.block_bytes
     → (b : ℕ)
     → block_in (record { geometry = g; bytes = take len (put_mid address k xs ys ++ tail) }) b
@@ -145,7 +148,8 @@ block_in-written m g items xs ys block tail address k len v x y s t a some e l =
 -- ## For callers
 
 -- the address of a block of the memory is an address of it
-pub IsAddress-of_block : (g : Numbers) (block : ℕ) → block < g.memory_blocks → 0 < g.block_bytes → IsAddress g (block * g.block_bytes)
+pub IsAddress-of_block : (g : Numbers) (block : ℕ) → block < g.memory_blocks → 0 < g.block_bytes
+    → IsAddress g (block * g.block_bytes)
 IsAddress-of_block g block h some = record {
   inside = omega (arith, block_inside block g.memory_blocks g.block_bytes h);
   aligned = mul-mod_left block g.block_bytes;

@@ -17,17 +17,18 @@ count_below-none p (suc n) none =
     let here : p n ≡ false = none n (omega arith) in
     rw (count_below-none p n (λ k h. none k (omega arith)), here) refl
 
--- a test that agrees with another but at one number, which the other refuses, counts that number more if it passes
-pub count_below-one_more : (p q : ℕ → Bool) (n at : ℕ) → at < n → q at ≡ false → ((k : ℕ) → k ≢ at → p k ≡ q k)
-    → count_below p n ≡ count_below q n + (if p at then 1 else 0)
-count_below-one_more p q zero at h refused same = absurd (omega arith)
-count_below-one_more p q (suc n) at h refused same =
+-- tests that agree but at one number differ in their counts by that number
+pub count_below-change : (p q : ℕ → Bool) (n at : ℕ) → at < n → ((k : ℕ) → k ≢ at → p k ≡ q k)
+    → count_below p n + (if q at then 1 else 0) ≡ count_below q n + (if p at then 1 else 0)
+count_below-change p q zero at h same = absurd (omega arith)
+count_below-change p q (suc n) at h same =
     elim (cases_eq n at) [
       | inl here ↦
           let below : count_below p n ≡ count_below q n = count_below-same p q n (λ k l. same k (λ e. absurd (omega arith))) in
-          rw (below, here, refused) (omega arith)
+          rw (below, here) (omega arith)
       | inr other ↦
-          let before : count_below p n ≡ count_below q n + (if p at then 1 else 0) = count_below-one_more p q n at (omega arith) refused same in
+          let before : count_below p n + (if q at then 1 else 0) ≡ count_below q n + (if p at then 1 else 0) =
+          count_below-change p q n at (omega arith) same in
           let agree : p n ≡ q n = same n other in
-          rw (before, agree) (omega arith)
+          rw agree (omega arith)
     ]

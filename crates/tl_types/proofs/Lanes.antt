@@ -47,7 +47,8 @@ both_true true false h = cc
 both_true false b h = cc
 
 -- what is here is this client and this channel
-pub is_here-true : (client : ℕ) (channel : Channel) (x : ℕ) (l : Channel) → is_here client channel x l ≡ true → (x ≡ client) × (l ≡ channel)
+pub is_here-true : (client : ℕ) (channel : Channel) (x : ℕ) (l : Channel) → is_here client channel x l ≡ true
+    → (x ≡ client) × (l ≡ channel)
 is_here-true client channel x l h =
     let both = both_true (x == client) (same_channel l channel) h in
     (eqb-true x client both.0, same_channel-true l channel both.1)
@@ -83,16 +84,17 @@ pub bodies_of-append : (block : ℕ) (messages : List Message) (message : Messag
 bodies_of-append block [] message = refl
 bodies_of-append block (x ∷ rest) message =
     rw (bodies_of-append block rest message)
-        (if_append (x.block == block) x.body (bodies_of block rest) (if message.block == block then message.body ∷ [] else []))
+    (if_append (x.block == block) x.body (bodies_of block rest) (if message.block == block then message.body ∷ [] else []))
 
-if_joined : (here : Bool) (bodies : List Body) (body : Body) → bodies ++ (if here then body ∷ [] else []) ≡ (if here then bodies ++ body ∷ [] else bodies)
+if_joined : (here : Bool) (bodies : List Body) (body : Body)
+    → bodies ++ (if here then body ∷ [] else []) ≡ (if here then bodies ++ body ∷ [] else bodies)
 if_joined true bodies body = refl
 if_joined false bodies body = append-nil bodies
 
 -- a message that is sent goes last in its block's list, and in no other
 pub bodies_of-with_message : (block : ℕ) (lane : Lane) (message : Message)
     → bodies_of block (with_message lane message).messages
-        ≡ (if message.block == block then bodies_of block lane.messages ++ message.body ∷ [] else bodies_of block lane.messages)
+    ≡ (if message.block == block then bodies_of block lane.messages ++ message.body ∷ [] else bodies_of block lane.messages)
 bodies_of-with_message block lane message =
     bodies_of-append block lane.messages message ∙ if_joined (message.block == block) (bodies_of block lane.messages) message.body
 
@@ -109,11 +111,12 @@ bodies_of-first_taken block of taken (x ∷ rest) first = rw (← first) (if_dro
 -- the first message that is taken is the first of its block's list, and of no other
 pub bodies_of-without_first : (block of : ℕ) (lane : Lane) → IsFirst of lane.messages
     → bodies_of block (without_first lane).messages
-        ≡ (if of == block then drop 1 (bodies_of block lane.messages) else bodies_of block lane.messages)
+    ≡ (if of == block then drop 1 (bodies_of block lane.messages) else bodies_of block lane.messages)
 bodies_of-without_first block of lane first = bodies_of-first_taken block of lane.taken lane.messages first
 
 -- the first message heads its block's list
-pub bodies_of-first : (block : ℕ) (x : Message) (rest : List Message) → x.block ≡ block → bodies_of block (x ∷ rest) ≡ x.body ∷ bodies_of block rest
+pub bodies_of-first : (block : ℕ) (x : Message) (rest : List Message) → x.block ≡ block
+    → bodies_of block (x ∷ rest) ≡ x.body ∷ bodies_of block rest
 bodies_of-first block x rest same =
     let here : (x.block == block) ≡ true = eq-eqb x.block block same in
     rw here refl

@@ -1,12 +1,12 @@
-use Rattle.std.proofs.Common.{◌<◌, ◌++◌, length, arith, ◌∙◌, ap, List, ℕ, lit<}
+use Rattle.std.proofs.Common.{◌∙◌, ◌<◌, ◌++◌, length, arith, ap, List, ℕ, lit<}
 use Rattle.std.specs.List.{concat}
-use Rattle.tl_memory.proofs.BeatLaws.{length-beats, concat-last}
+use Rattle.tl_memory.proofs.BeatLaws.{length-joined, concat-last}
 use Rattle.tl_memory.proofs.burst.Burst.push_beat.Goals as goal
 
 pub push-requires : goal.push-requires
 push-requires c =
-    let few : length c.self.inside.beats.items < 8 =
-    omega (arith, length-beats c.self.inside.beats.items c.self.invariant, ap (λ (xs : List ℕ). length xs) c.self.view_is) in
+    let beats = c.self.inside.beats.items in
+    let few : length beats < 8 = omega (arith, length-joined beats c.args.self.now c.self.invariant c.self.view_is) in
     (lit< tt, few)
 
 pub returns : goal.returns
