@@ -61,6 +61,7 @@ field_if :
 field_if f k old true same = same refl
 field_if f k old false same = refl
 
+-- two tests that are both met
 both_true : (t u : Bool) → (t && u) ≡ true → (t ≡ true) × (u ≡ true)
 both_true true true h = (refl, refl)
 both_true true false h = cc
@@ -80,7 +81,10 @@ field-append f shape image log e c k is same x block =
     same ∙ (ap (λ (y : ℕ). f ((end_of shape image log (block_of shape e)).client y)) (sym (eqb-true x c at.0))
     ∙ ap (λ (b : ℕ). f ((end_of shape image log b).client x)) (sym (eqb-true block (block_of shape e) at.1))))
 
-same_home_if : (shape : Shape) (s : Block) (e : Event) (t : Bool) → (t ≡ true → SameHome s (after shape s e)) → SameHome s (cond t (after shape s e) s)
+-- on the event's block and on others
+same_home_if :
+    (shape : Shape) (s : Block) (e : Event) (t : Bool) → (t ≡ true → SameHome s (after shape s e))
+    → SameHome s (cond t (after shape s e) s)
 same_home_if shape s e true same = same refl
 same_home_if shape s e false same = record { memory = refl; home = refl; accepted = refl; outward = refl }
 

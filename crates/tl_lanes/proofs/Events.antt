@@ -63,7 +63,9 @@ both_move c from to body old new moves l =
     ∙ sym (added_is c to body l (shed (Some (record { client = c; channel = from })) c l (list_in old l))))
 
 -- a store moves none
-stored_lists : (k new : Client) → new.a ≡ k.a → new.b ≡ k.b → new.c ≡ k.c → new.d ≡ k.d → new.e ≡ k.e → (l : Channel) → list_in new l ≡ list_in k l
+stored_lists :
+    (k new : Client) → new.a ≡ k.a → new.b ≡ k.b → new.c ≡ k.c → new.d ≡ k.d → new.e ≡ k.e → (l : Channel)
+    → list_in new l ≡ list_in k l
 stored_lists k new a b c d e A = ap (map AcquireBlock) a
 stored_lists k new a b c d e B = ap (map ProbeBlock) b
 stored_lists k new a b c d e C = ap (map b_Upward) c
@@ -71,7 +73,9 @@ stored_lists k new a b c d e D = ap (map b_Downward) d
 stored_lists k new a b c d e E = ap (λ (n : ℕ). replicate n GrantAck) e
 
 -- an Acquire goes on A
-acquire_lists : (k : Client) (grow : Grow) (l : Channel) → list_in (sent_acquire k grow) l ≡ added_here A (AcquireBlock grow) l (list_in k l)
+acquire_lists :
+    (k : Client) (grow : Grow) (l : Channel)
+    → list_in (sent_acquire k grow) l ≡ added_here A (AcquireBlock grow) l (list_in k l)
 acquire_lists k grow A = map-append AcquireBlock k.a (grow ∷ [])
 acquire_lists k grow l = refl
 
@@ -83,7 +87,8 @@ release_lists k prune C = map-append b_Upward k.c (Release (surrender prune (dir
 release_lists k prune l = refl
 
 -- a Probe goes on B
-probe_lists : (k : Client) (cap : ProbeCap) (l : Channel) → list_in (sent_probe k cap) l ≡ added_here B (ProbeBlock cap) l (list_in k l)
+probe_lists :
+    (k : Client) (cap : ProbeCap) (l : Channel) → list_in (sent_probe k cap) l ≡ added_here B (ProbeBlock cap) l (list_in k l)
 probe_lists k cap B = map-append ProbeBlock k.b (cap ∷ [])
 probe_lists k cap l = refl
 
@@ -224,6 +229,7 @@ served_clients s (Data bytes) x = refl
 served_clients s (Put bytes) x = refl
 served_clients s PutAck x = refl
 
+-- so does home when it takes the data
 took_data_clients : (s : Block) (outward : Outward) (x : ℕ) → (took_data s outward).client x ≡ s.client x
 took_data_clients s Quiet x = refl
 took_data_clients s Get x = refl
@@ -278,6 +284,7 @@ event_moves shape s (Drop block) may = λ x l. refl
 event_moves shape s (SendPut block) may = λ x l. refl
 event_moves shape s (TakePutAck block) may = λ x l. refl
 
+-- each permitted event moves the lists of its block by what it takes and sends
 pub every_event_moves_its_lists : EveryEventMovesItsLists
 every_event_moves_its_lists shape s e may = record { follow = event_moves shape s e may.1 }
 
@@ -287,10 +294,12 @@ every_event_moves_its_lists shape s e may = record { follow = event_moves shape 
 away : (client : ℕ → Client) (c : ℕ) (k : Client) (x : ℕ) → x ≢ c → put client c k x ≡ client x
 away client c k x n = ap (λ (t : Bool). cond t k (client x)) (ne_eqb x c n)
 
+-- an accepted Acquire leaves the other clients
 accepted_away : (s : Block) (c : ℕ) (a : List Grow) (x : ℕ) → x ≢ c → (accepted_from s c a).client x ≡ s.client x
 accepted_away s c [] x n = refl
 accepted_away s c (grow ∷ rest) x n = away s.client c (record (s.client c) { a = rest }) x n
 
+-- so does a Grant
 grants_away :
     (shape : Shape) (s : Block) (c : ℕ) (accepted : Option Accepted) (x : ℕ) → x ≢ c
     → (grants shape s c accepted).client x ≡ s.client x
@@ -298,6 +307,7 @@ grants_away shape s c None x n = refl
 grants_away shape s c (Some acquire) x n =
     away s.client c (sent_grant (s.client c) (granted shape s acquire) (home_bytes s.home)) x n
 
+-- each event leaves every client but its own
 pub every_event_is_of_one_client : EveryEventIsOfOneClient
 every_event_is_of_one_client shape s (Load access) x n = refl
 every_event_is_of_one_client shape s (Store access) x n = away s.client access.client _ x n
@@ -318,18 +328,26 @@ every_event_is_of_one_client shape s (Drop block) x n = refl
 every_event_is_of_one_client shape s (SendPut block) x n = refl
 every_event_is_of_one_client shape s (TakePutAck block) x n = refl
 
+-- a Grant leaves home's part
 grants_home : (shape : Shape) (s : Block) (c : ℕ) (accepted : Option Accepted) → SameHome s (grants shape s c accepted)
 grants_home shape s c None = record { memory = refl; home = refl; accepted = refl; outward = refl }
 grants_home shape s c (Some acquire) = record { memory = refl; home = refl; accepted = refl; outward = refl }
 
+-- an event that is of a client alone leaves home's part
 pub every_such_event_leaves_home : EverySuchEventLeavesHome
 every_such_event_leaves_home shape s (Load access) is = record { memory = refl; home = refl; accepted = refl; outward = refl }
 every_such_event_leaves_home shape s (Store access) is = record { memory = refl; home = refl; accepted = refl; outward = refl }
-every_such_event_leaves_home shape s (SendAcquire c block grow) is = record { memory = refl; home = refl; accepted = refl; outward = refl }
-every_such_event_leaves_home shape s (SendRelease c block prune) is = record { memory = refl; home = refl; accepted = refl; outward = refl }
-every_such_event_leaves_home shape s (AnswerProbe c block) is = record { memory = refl; home = refl; accepted = refl; outward = refl }
-every_such_event_leaves_home shape s (TakeGrant c block) is = record { memory = refl; home = refl; accepted = refl; outward = refl }
-every_such_event_leaves_home shape s (TakeReleaseAck c block) is = record { memory = refl; home = refl; accepted = refl; outward = refl }
-every_such_event_leaves_home shape s (SendProbe c block cap) is = record { memory = refl; home = refl; accepted = refl; outward = refl }
+every_such_event_leaves_home shape s (SendAcquire c block grow) is =
+    record { memory = refl; home = refl; accepted = refl; outward = refl }
+every_such_event_leaves_home shape s (SendRelease c block prune) is =
+    record { memory = refl; home = refl; accepted = refl; outward = refl }
+every_such_event_leaves_home shape s (AnswerProbe c block) is =
+    record { memory = refl; home = refl; accepted = refl; outward = refl }
+every_such_event_leaves_home shape s (TakeGrant c block) is =
+    record { memory = refl; home = refl; accepted = refl; outward = refl }
+every_such_event_leaves_home shape s (TakeReleaseAck c block) is =
+    record { memory = refl; home = refl; accepted = refl; outward = refl }
+every_such_event_leaves_home shape s (SendProbe c block cap) is =
+    record { memory = refl; home = refl; accepted = refl; outward = refl }
 every_such_event_leaves_home shape s (SendGrant c block) is = grants_home shape s c s.accepted
 every_such_event_leaves_home shape s e is = cc

@@ -16,6 +16,7 @@ first_of_replicate : (n : ℕ) (body : Body) (rest : List Body) → replicate n 
 first_of_replicate zero body rest e = cc
 first_of_replicate (suc n) body rest e = (cc, omega arith)
 
+-- a list that begins is of a client whose own list begins so
 pub every_first_is_first : EveryFirstIsFirst
 every_first_is_first k = record {
   on_a = λ body rest e. first_of_map _ k.a body rest e;

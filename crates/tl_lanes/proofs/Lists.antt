@@ -54,11 +54,13 @@ added_here channel body l bodies = if same_channel l channel then bodies ++ body
 pub here : (c : ℕ) (channel l : Channel) → is_here c channel c l ≡ same_channel l channel
 here c channel l = ap (λ (t : Bool). t && same_channel l channel) (eq-eqb c c refl)
 
+-- what is taken here
 pub shed_is :
     (c : ℕ) (channel l : Channel) (bodies : List Body)
     → shed (Some (record { client = c; channel = channel })) c l bodies ≡ shed_here channel l bodies
 shed_is c channel l bodies = ap (λ (t : Bool). if t then drop 1 bodies else bodies) (here c channel l)
 
+-- what is sent here
 pub added_is :
     (c : ℕ) (channel : Channel) (body : Body) (l : Channel) (bodies : List Body)
     → added (Some (record { client = c; channel = channel; body = body })) c l bodies ≡ added_here channel body l bodies

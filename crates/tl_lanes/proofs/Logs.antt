@@ -59,6 +59,7 @@ end_of-append shape image log e = end_joined shape (at_reset shape image) log (e
 
 -- ## A block's list in a lane
 
+-- the same in both cases
 same_cond : {X : Type 0} (t : Bool) (x : X) → x ≡ cond t x x
 same_cond true x = refl
 same_cond false x = refl
@@ -141,6 +142,7 @@ list-after shape own s e block x l bodies true follows same is =
     (ap (λ (r : Block). list_in (r.client x) l) (sym (same refl)) ∙ is))
 list-after shape own s e block x l bodies false follows same is = is
 
+-- by what the two tests say
 swapped : (x y : ℕ) (t u : Bool) → (x == y) ≡ t → (y == x) ≡ u → (x == y) ≡ (y == x)
 swapped x y true u e f = e ∙ sym (eq-eqb y x (sym (eqb-true x y e)))
 swapped x y false true e f = let same : (x == y) ≡ true = eq-eqb x y (sym (eqb-true y x f)) in cc
@@ -188,7 +190,8 @@ sent-sent_if false lane message = omega arith
 -- at most one message is sent
 sent-sent : (post : Option Post) (of x : ℕ) (l : Channel) (lane : Lane) → sent (sent_to post of x l lane) ≤ sent lane + 1
 sent-sent None of x l lane = omega arith
-sent-sent (Some post) of x l lane = sent-sent_if (is_here post.client post.channel x l) lane (record { block = of; body = post.body })
+sent-sent (Some post) of x l lane =
+    sent-sent_if (is_here post.client post.channel x l) lane (record { block = of; body = post.body })
 
 -- no more are sent than there are events
 counted-after :
@@ -200,11 +203,13 @@ counted-after shape image log e lawful x l =
     let taken : Lane = taken_from (take_of e) x l lane in
     let before : sent lane ≤ length log = lawful.counted x l in
     let same : sent taken ≡ sent lane = sent-taken (take_of e) x l lane in
-    let more : sent (sent_to (post_of shape own e) (block_of shape e) x l taken) ≤ sent taken + 1 = sent-sent (post_of shape own e) (block_of shape e) x l taken in
-    let is : sent (lane_of shape image (log ++ e ∷ []) x l) ≡ sent (sent_to (post_of shape own e) (block_of shape e) x l taken) = ap sent (lanes_grow_by_one shape image log e x l) in
+    let more : Lane = sent_to (post_of shape own e) (block_of shape e) x l taken in
+    let at_most : sent more ≤ sent taken + 1 = sent-sent (post_of shape own e) (block_of shape e) x l taken in
+    let is : sent (lane_of shape image (log ++ e ∷ []) x l) ≡ sent more = ap sent (lanes_grow_by_one shape image log e x l) in
     let long : length (log ++ e ∷ []) ≡ length log + 1 = length-append log (e ∷ []) in
     omega arith
 
+-- a lawful log stays so with one more permitted event that takes the first message of its channel
 pub lawful_grows_by_one : LawfulGrowsByOne
 lawful_grows_by_one shape image log e lawful may takes = record {
   run = run_joined shape (at_reset shape image) log (e ∷ []) lawful.run (may, tt);
@@ -213,7 +218,8 @@ lawful_grows_by_one shape image log e lawful may takes = record {
 }
 
 -- at reset each list is empty
-empty_list : (image : List ℕ) (shape : Shape) (x block : ℕ) (l : Channel) → list_in ((at_reset shape image block).client x) l ≡ []
+empty_list :
+    (image : List ℕ) (shape : Shape) (x block : ℕ) (l : Channel) → list_in ((at_reset shape image block).client x) l ≡ []
 empty_list image shape x block A = refl
 empty_list image shape x block B = refl
 empty_list image shape x block C = refl
@@ -244,6 +250,7 @@ first_heads_its_list shape image log x l message rest lawful e =
 abbrev Fits : Channel → Message → Type 0
 Fits l message = channel_of (body_kind message.body) ≡ l
 
+-- an answer to a Probe travels on C
 answer_on_c : (answer : ProbeAnswer) → channel_of (answer_kind answer) ≡ C
 answer_on_c (a_TtoB None) = refl
 answer_on_c (a_TtoB (Some bytes)) = refl
@@ -253,6 +260,7 @@ answer_on_c a_BtoB = refl
 answer_on_c a_BtoN = refl
 answer_on_c a_NtoN = refl
 
+-- a Release travels on C
 release_on_c : (given : Surrender) → channel_of (surrender_kind given) ≡ C
 release_on_c (s_TtoB None) = refl
 release_on_c (s_TtoB (Some bytes)) = refl
@@ -260,6 +268,7 @@ release_on_c (s_TtoN None) = refl
 release_on_c (s_TtoN (Some bytes)) = refl
 release_on_c s_BtoN = refl
 
+-- a Grant and a ReleaseAck travel on D
 downward_on_d : (message : Downward) → channel_of (body_kind (b_Downward message)) ≡ D
 downward_on_d (Grant cap None) = refl
 downward_on_d (Grant cap (Some bytes)) = refl
@@ -270,20 +279,24 @@ abbrev PostFits : Option Post → Type 0
 PostFits None = Unit {0}
 PostFits (Some post) = channel_of (body_kind post.body) ≡ post.channel
 
+-- what a client answers
 answer_fits : (c : ℕ) (k : Client) (b : List ProbeCap) → PostFits (answer_post c k b)
 answer_fits c k [] = tt
 answer_fits c k (cap ∷ rest) = answer_on_c (probe_answer (perm_of k.held) cap (dirty_bytes k.held))
 
+-- what home answers to a Release
 ack_fits : (c : ℕ) (ups : List Upward) → PostFits (ack_post c ups)
 ack_fits c [] = tt
 ack_fits c (ProbeAck answer ∷ rest) = tt
 ack_fits c (Release given ∷ rest) = refl
 
+-- what home grants
 grant_fits : (shape : Shape) (s : Block) (c : ℕ) (accepted : Option Accepted) → PostFits (grant_post shape s c accepted)
 grant_fits shape s c None = tt
 grant_fits shape s c (Some acquire) =
     downward_on_d (Grant (granted shape s acquire) (grant_bytes (s.client c).recorded (home_bytes s.home)))
 
+-- what any event sends
 post_fits : (shape : Shape) (s : Block) (e : Event) → PostFits (post_of shape s e)
 post_fits shape s (SendAcquire c block grow) = refl
 post_fits shape s (SendRelease c block prune) = release_on_c (surrender prune (dirty_bytes (s.client c).held))
@@ -295,18 +308,27 @@ post_fits shape s (SendGrant c block) = grant_fits shape s c s.accepted
 post_fits shape s e = tt
 
 -- the messages behind the first
-rest_fits : (l : Channel) (taken : ℕ) (messages : List Message) → All (Fits l) messages → All (Fits l) (first_taken taken messages).messages
+rest_fits :
+    (l : Channel) (taken : ℕ) (messages : List Message) → All (Fits l) messages
+    → All (Fits l) (first_taken taken messages).messages
 rest_fits l taken [] all = all
 rest_fits l taken (first ∷ rest) all = All-drop (Fits l) 1 (first ∷ rest) all
 
-taken_fits_if : (t : Bool) (l : Channel) (lane : Lane) → All (Fits l) lane.messages → All (Fits l) (cond t (without_first lane) lane).messages
+-- whether or not something is taken here
+taken_fits_if :
+    (t : Bool) (l : Channel) (lane : Lane) → All (Fits l) lane.messages
+    → All (Fits l) (cond t (without_first lane) lane).messages
 taken_fits_if true l lane all = rest_fits l lane.taken lane.messages all
 taken_fits_if false l lane all = all
 
-taken_fits : (take : Option Place) (x : ℕ) (l : Channel) (lane : Lane) → All (Fits l) lane.messages → All (Fits l) (taken_from take x l lane).messages
+-- what waits after something is taken
+taken_fits :
+    (take : Option Place) (x : ℕ) (l : Channel) (lane : Lane) → All (Fits l) lane.messages
+    → All (Fits l) (taken_from take x l lane).messages
 taken_fits None x l lane all = all
 taken_fits (Some place) x l lane all = taken_fits_if (is_here place.client place.channel x l) l lane all
 
+-- whether or not something is sent here
 sent_fits_if :
     (t : Bool) (l : Channel) (lane : Lane) (message : Message) → (t ≡ true → Fits l message) → All (Fits l) lane.messages
     → All (Fits l) (cond t (with_message lane message) lane).messages
@@ -314,6 +336,7 @@ sent_fits_if true l lane message fits all =
     All-append (Fits l) lane.messages (message ∷ []) all (All-cons (Fits l) message [] (fits refl) (All-nil (Fits l)))
 sent_fits_if false l lane message fits all = all
 
+-- what waits after something is sent
 sent_fits :
     (post : Option Post) (of x : ℕ) (l : Channel) (lane : Lane) → PostFits post → All (Fits l) lane.messages
     → All (Fits l) (sent_to post of x l lane).messages
@@ -322,6 +345,7 @@ sent_fits (Some post) of x l lane fits all =
     sent_fits_if (is_here post.client post.channel x l) l lane (record { block = of; body = post.body })
     (λ h. fits ∙ sym (is_here-true post.client post.channel x l h).1) all
 
+-- what waits after any events
 lane_fits :
     (shape : Shape) (s : ℕ → Block) (x : ℕ) (l : Channel) (lane : Lane) (log : List Event) → All (Fits l) lane.messages
     → All (Fits l) (lane_from shape s x l lane log).messages
@@ -332,6 +356,7 @@ lane_fits shape s x l lane (e ∷ es) all =
     (sent_fits (post_of shape own e) (block_of shape e) x l (taken_from (take_of e) x l lane) (post_fits shape own e)
     (taken_fits (take_of e) x l lane all))
 
+-- each message that waits is of a kind that travels on its channel
 pub messages_fit_their_channels : MessagesFitTheirChannels
 unfolding lane_of
 messages_fit_their_channels shape image log x l = lane_fits shape (at_reset shape image) x l empty_lane log (All-nil (Fits l))

@@ -20,21 +20,24 @@ abbrev pub message_taken : Option Place → ℕ → Channel → Lane → List Me
 message_taken None x l lane = []
 message_taken (Some place) x l lane = if is_here place.client place.channel x l then take 1 lane.messages else []
 
+-- the messages that these events send there, from a state on
 abbrev pub sent_from : Shape → (ℕ → Block) → ℕ → Channel → List Event → List Message
 sent_from shape s x l [] = []
 sent_from shape s x l (e ∷ es) =
     message_sent (post_of shape (s (block_of shape e)) e) (block_of shape e) x l ++ sent_from shape (after_next shape s e) x l es
 
+-- the messages that these events take there, from a state and a lane on
 abbrev pub taken_along : Shape → (ℕ → Block) → ℕ → Channel → Lane → List Event → List Message
 taken_along shape s x l lane [] = []
 taken_along shape s x l lane (e ∷ es) =
     message_taken (take_of e) x l lane
     ++ taken_along shape (after_next shape s e) x l (lane_after shape (s (block_of shape e)) e x l lane) es
 
--- all messages that a log sends there, in order, and all that it takes
+-- all messages that a log sends there, in order
 abbrev pub all_sent : Shape → List ℕ → List Event → ℕ → Channel → List Message
 all_sent shape image log x l = sent_from shape (at_reset shape image) x l log
 
+-- all messages that it takes there, in order
 abbrev pub all_taken : Shape → List ℕ → List Event → ℕ → Channel → List Message
 all_taken shape image log x l = taken_along shape (at_reset shape image) x l empty_lane log
 

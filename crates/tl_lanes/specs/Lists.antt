@@ -40,6 +40,7 @@ pub record ListsFollow (shape : Shape) (s : Block) (e : Event) : Type 0 where
       (x : ℕ) (l : Channel)
       → list_in ((after shape s e).client x) l ≡ added (post_of shape s e) x l (shed (take_of e) x l (list_in (s.client x) l))
 
+-- so it is with each permitted event, of all 18 kinds
 abbrev pub EveryEventMovesItsLists : Type 0
 EveryEventMovesItsLists = (shape : Shape) (s : Block) (e : Event) → May shape s e → ListsFollow shape s e
 
@@ -61,6 +62,7 @@ pub record FirstIsFirst (k : Client) : Type 0 where
       → (message : Downward) × (more : List Downward) × (body ≡ b_Downward message) × (k.d ≡ message ∷ more)
   pub on_e : (body : Body) (rest : List Body) → list_in k E ≡ body ∷ rest → (body ≡ GrantAck) × (0 < k.e)
 
+-- so it is with every client
 abbrev pub EveryFirstIsFirst : Type 0
 EveryFirstIsFirst = (k : Client) → FirstIsFirst k
 
@@ -125,5 +127,6 @@ pub record SameHome (s t : Block) : Type 0 where
   pub accepted : t.accepted ≡ s.accepted
   pub outward : t.outward ≡ s.outward
 
+-- such an event leaves home's part of the block
 abbrev pub EverySuchEventLeavesHome : Type 0
 EverySuchEventLeavesHome = (shape : Shape) (s : Block) (e : Event) → leaves_home e ≡ true → SameHome s (after shape s e)

@@ -136,11 +136,13 @@ served_one None x y p q = absurd p
 served_one (Some acquire) x y p q = sym p ∙ q
 
 -- no Grant is pending at any client
-pub all_no_grant : (shape : Shape) (now : List ℕ) (s : Block) → Invariant shape now s → NoGrant shape s → (x : ℕ) → NoGrantPending (s.client x)
+pub all_no_grant :
+    (shape : Shape) (now : List ℕ) (s : Block) → Invariant shape now s → NoGrant shape s → (x : ℕ) → NoGrantPending (s.client x)
 all_no_grant shape now s holds none = at_all NoGrantPending shape.clients s.client holds.outside (refl, refl) none
 
 -- no Probe is pending at any client
-pub all_no_probe : (shape : Shape) (now : List ℕ) (s : Block) → Invariant shape now s → NoProbe shape s → (x : ℕ) → NoProbePending (s.client x)
+pub all_no_probe :
+    (shape : Shape) (now : List ℕ) (s : Block) → Invariant shape now s → NoProbe shape s → (x : ℕ) → NoProbePending (s.client x)
 all_no_probe shape now s holds none = at_all NoProbePending shape.clients s.client holds.outside (refl, refl) none
 
 -- nobody is recorded

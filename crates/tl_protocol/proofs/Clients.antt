@@ -299,7 +299,8 @@ stored_ok now later k e holds = record {
 }
 
 -- an absent copy has whatever bytes are the last stored
-pub none_current : (now later : List ℕ) (held : CachedCopy) → rank (perm_of held) ≤ 0 → IsCurrent now held → IsCurrent later held
+pub none_current :
+    (now later : List ℕ) (held : CachedCopy) → rank (perm_of held) ≤ 0 → IsCurrent now held → IsCurrent later held
 none_current now later Absent z there = tt
 none_current now later (Readable bytes) z there = absurd (omega arith)
 none_current now later (Writable bytes dirty) z there = absurd (omega arith)
@@ -322,7 +323,8 @@ passed_ok now later k e holds = record {
 -- where the first message of C has data, home records Tip
 pub has_data_tip : (now : List ℕ) (k : Client) (c : List Upward) → c ≡ k.c → HasData c → ClientIs now k → k.recorded ≡ Tip
 has_data_tip now k [] e h holds = absurd h
-has_data_tip now k (message ∷ rest) e h holds = data_tip now (upward_bytes message) k.recorded h (first_is now k message rest e holds).1
+has_data_tip now k (message ∷ rest) e h holds =
+    data_tip now (upward_bytes message) k.recorded h (first_is now k message rest e holds).1
 
 -- a client with Tip has nothing on C, and home records Tip
 pub tip_is : (now : List ℕ) (k : Client) → perm_of k.held ≡ Tip → ClientIs now k → (k.c ≡ []) × (k.recorded ≡ Tip)

@@ -32,7 +32,8 @@ abbrev weight : Perm → ℕ
 weight p = one_if (not (is_none p))
 
 -- one message counts just where it gives a copy up
-message_weight : (message : Upward) → weight (upward_from message) ≡ weight (upward_to message) + one_if (gives_up (message ∷ []))
+message_weight :
+    (message : Upward) → weight (upward_from message) ≡ weight (upward_to message) + one_if (gives_up (message ∷ []))
 message_weight (ProbeAck (a_TtoB bytes)) = refl
 message_weight (ProbeAck (a_TtoN bytes)) = refl
 message_weight (ProbeAck a_BtoB) = refl
@@ -132,7 +133,8 @@ silent_clients (suc n) client quiet =
     omega arith
 
 -- so it is for all clients and these blocks
-silent_pairs : (shape : Shape) (s : ℕ → Block) (blocks : List ℕ) → IsSilent shape s blocks → count_pairs is_under_way shape s blocks ≡ 0
+silent_pairs :
+    (shape : Shape) (s : ℕ → Block) (blocks : List ℕ) → IsSilent shape s blocks → count_pairs is_under_way shape s blocks ≡ 0
 silent_pairs shape s [] quiet = refl
 silent_pairs shape s (block ∷ rest) quiet =
     let first = silent_clients shape.clients (s block).client quiet.0 in

@@ -31,7 +31,9 @@ ReadFrom shape byte (e ∷ es) = AccessIs shape byte e × ReadFrom shape (λ a. 
 -- ## A run reads so
 
 -- an access that is permitted lies in one block, and a load got the newest bytes
-access_is : (shape : Shape) (byte : ℕ → ℕ) (s : ℕ → Block) (e : Event) → MayNext shape s e → AllKept shape byte s → AccessIs shape byte e
+access_is :
+    (shape : Shape) (byte : ℕ → ℕ) (s : ℕ → Block) (e : Event) → MayNext shape s e → AllKept shape byte s
+    → AccessIs shape byte e
 access_is shape byte s (Load access) permitted kept =
     let address : ℕ = access.address in
     let block : ℕ = address / shape.block_bytes in
@@ -58,7 +60,8 @@ run_reads shape byte s (e ∷ es) kept run = (
 -- ## Only loads and stores count
 
 -- the other events change no byte
-accesses_read : (shape : Shape) (byte : ℕ → ℕ) (events : List Event) → ReadFrom shape byte events → ReadFrom shape byte (accesses events)
+accesses_read :
+    (shape : Shape) (byte : ℕ → ℕ) (events : List Event) → ReadFrom shape byte events → ReadFrom shape byte (accesses events)
 accesses_read shape byte [] r = tt
 accesses_read shape byte (Load access ∷ es) r = (r.0, accesses_read shape byte es r.1)
 accesses_read shape byte (Store access ∷ es) r =

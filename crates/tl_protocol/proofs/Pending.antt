@@ -63,8 +63,10 @@ two_on_c :
     (now : List ℕ) (held : CachedCopy) (wait : Wait) (recorded : Perm) (b : List ProbeCap) (c : List Upward) (d : List Downward)
     → Talk now held wait recorded b c d → (length c ≤ 2) × (length d ≤ 1)
 two_on_c now held wait recorded b c [] talk = (two_heard now held wait recorded b c talk, omega arith)
-two_on_c now held wait recorded b c (Grant cap bytes ∷ []) talk = let none : length c ≡ 0 = ap length talk.0 in (omega arith, omega arith)
-two_on_c now held wait recorded b c (ReleaseAck ∷ []) talk = let none : length c ≡ 0 = ap length talk.0 in (omega arith, omega arith)
+two_on_c now held wait recorded b c (Grant cap bytes ∷ []) talk =
+    let none : length c ≡ 0 = ap length talk.0 in (omega arith, omega arith)
+two_on_c now held wait recorded b c (ReleaseAck ∷ []) talk =
+    let none : length c ≡ 0 = ap length talk.0 in (omega arith, omega arith)
 two_on_c now held wait recorded b c (first ∷ second ∷ rest) talk = absurd talk
 
 -- the messages on C lead from what is recorded to what is held
@@ -130,7 +132,9 @@ every_answer_is_within Tip cap_ToN bytes = omega arith
 -- ## Home
 
 -- the Acquire that home serves is there
-served_there : (accepted : Option Accepted) (x : ℕ) → IsServed accepted x → (acquire : Accepted) × (accepted ≡ Some acquire) × (acquire.client ≡ x)
+served_there :
+    (accepted : Option Accepted) (x : ℕ) → IsServed accepted x
+    → (acquire : Accepted) × (accepted ≡ Some acquire) × (acquire.client ≡ x)
 served_there None x is = absurd is
 served_there (Some acquire) x is = (acquire, refl, is)
 

@@ -20,7 +20,7 @@ use Rattle.tl_protocol.specs.declared.shape.Shape.{Shape}
 use Rattle.tl_protocol.specs.Coherent.{byte_after}
 use Rattle.tl_protocol.specs.Client.{NoProbePending, released, answered, took_grant, took_c_from, sent_probe}
 use Rattle.tl_protocol.specs.Copy.{perm_of, dirty_bytes}
-use Rattle.tl_protocol.specs.Probes.{probe_after, last_probe_from, IsLastProbe, IsWithin, AnswersItsProbe, EveryAnswerIsToItsProbe}
+use Rattle.tl_protocol.specs.Probes.{probe_after, last_probe_from, IsLastProbe, IsWithin, AnswersItsProbe, EveryAnswerIsToItsProbe, LastProbeGrowsByOne}
 use Rattle.tl_protocol.specs.Protocol.{Block, block_of, May, MayOn, after, accepted_from, grants, served, took_data}
 use Rattle.tl_protocol.specs.Runs.{MayNext, after_next, IsRunFrom, end_from, at_reset}
 use Rattle.tl_protocol.proofs.Invariant.{has_probe_ack, IsAtMostOne, Invariant}
@@ -79,7 +79,8 @@ took_c_within last k (Release given ∷ rest) e was =
 none_within : (last : Option ProbeCap) (c : List Upward) → has_probe_ack c ≡ false → All (λ m. IsWithin last m) c
 none_within last [] none = All-nil (λ m. IsWithin last m)
 none_within last (ProbeAck answer ∷ rest) none = cc
-none_within last (Release given ∷ rest) none = All-cons (λ m. IsWithin last m) (Release given) rest tt (none_within last rest none)
+none_within last (Release given ∷ rest) none =
+    All-cons (λ m. IsWithin last m) (Release given) rest tt (none_within last rest none)
 
 -- a Probe joins an empty B, and is the last one
 probe_within : (cap : ProbeCap) (b : List ProbeCap) → b ≡ [] → IsLastProbe (Some cap) (b ++ cap ∷ [])
@@ -220,3 +221,15 @@ pub every_answer_is_to_its_probe : EveryAnswerIsToItsProbe
 every_answer_is_to_its_probe shape image events run block x =
     run_within shape (slice_index image) (at_reset shape image) events (λ b y. None) (reset_kept shape image)
     (λ b y. (tt, All-nil (λ m. IsWithin None m))) run block x
+
+-- from any Probe on
+last_probe_from-append :
+    (before : Option ProbeCap) (events : List Event) (e : Event) (block x : ℕ)
+    → last_probe_from before (events ++ e ∷ []) block x ≡ probe_after e block x (last_probe_from before events block x)
+last_probe_from-append before [] e block x = refl
+last_probe_from-append before (first ∷ events) e block x =
+    last_probe_from-append (probe_after first block x before) events e block x
+
+-- one more event may be a Probe
+pub last_probe_grows_by_one : LastProbeGrowsByOne
+last_probe_grows_by_one events e block x = last_probe_from-append None events e block x

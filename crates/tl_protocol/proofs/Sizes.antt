@@ -140,6 +140,7 @@ none_whole size (Some bytes) e = cc
 abbrev UpwardIsWhole : ℕ → Upward → Type 0
 UpwardIsWhole size message = IsWhole size (upward_bytes message)
 
+-- and so on D
 abbrev DownwardIsWhole : ℕ → Downward → Type 0
 DownwardIsWhole size message = IsWhole size (downward_bytes message)
 

@@ -87,7 +87,8 @@ acquire_step shape now s c grow inside w e holds =
     (λ served none. let waits = holds.service.waits c served none in cc) (λ d. d)
 
 -- a Release is no answer to a Probe
-pub no_ack_more : (c : List Upward) (given : Surrender) → has_probe_ack c ≡ false → has_probe_ack (c ++ Release given ∷ []) ≡ false
+pub no_ack_more :
+    (c : List Upward) (given : Surrender) → has_probe_ack c ≡ false → has_probe_ack (c ++ Release given ∷ []) ≡ false
 no_ack_more [] given e = refl
 no_ack_more (ProbeAck answer ∷ rest) given e = e
 no_ack_more (Release other ∷ rest) given e = no_ack_more rest given e
@@ -512,7 +513,8 @@ step_on shape now s (Store access) may holds =
     store_step shape now s access.client (access.address % shape.block_bytes) access.bytes may.0 may.1.1 holds
 step_on shape now s (SendAcquire c block grow) may holds = acquire_step shape now s c grow may.0 may.1.0 may.1.1 holds
 step_on shape now s (SendRelease c block prune) may holds = release_step shape now s c prune may.0 may.1.0 may.1.1 holds
-step_on shape now s (AnswerProbe c block) may holds = answer_step shape now s c may.1.0.0 may.1.0.1 may.0 may.1.0.2 may.1.1 holds
+step_on shape now s (AnswerProbe c block) may holds =
+    answer_step shape now s c may.1.0.0 may.1.0.1 may.0 may.1.0.2 may.1.1 holds
 step_on shape now s (TakeGrant c block) may holds = take_grant_step shape now s c may.1.0 may.1.1 may.1.2 may.0 may.1.3 holds
 step_on shape now s (TakeReleaseAck c block) may holds = take_release_ack_step shape now s c may.1.0 may.0 may.1.1 holds
 step_on shape now s (AcceptAcquire c block) may holds = accept_step shape now s c may.1.0 may.1.1 may.0 may.1.2 may.2 holds

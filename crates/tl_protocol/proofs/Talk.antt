@@ -64,7 +64,8 @@ pub release_talk :
     (prune : Prune)
     → IsCurrent now held → wait ≡ Nothing → perm_of held ≡ prune_from prune → Talk now held wait recorded b c d
     → Talk now (reduced held (prune_to prune)) ForReleaseAck recorded b (c ++ Release (surrender prune (dirty_bytes held)) ∷ []) d
-release_talk now held wait recorded b c [] prune current waits e talk = release_heard now held wait recorded b c prune current waits e talk
+release_talk now held wait recorded b c [] prune current waits e talk =
+    release_heard now held wait recorded b c prune current waits e talk
 release_talk now held wait recorded b c (Grant cap bytes ∷ []) prune current waits e talk = cc
 release_talk now held wait recorded b c (ReleaseAck ∷ []) prune current waits e talk = cc
 release_talk now held wait recorded b c (first ∷ second ∷ rest) prune current waits e talk = absurd talk
@@ -94,7 +95,8 @@ pub answer_talk :
     → IsAtMostOne (cap ∷ rest) → IsCurrent now held → wait ≢ ForReleaseAck → Talk now held wait recorded (cap ∷ rest) c d
     → Talk now (reduced held (probe_perm cap)) wait recorded rest
     (c ++ ProbeAck (probe_answer (perm_of held) cap (dirty_bytes held)) ∷ []) d
-answer_talk now held wait recorded cap rest c [] one current n talk = answer_heard now held wait recorded cap rest c one current n talk
+answer_talk now held wait recorded cap rest c [] one current n talk =
+    answer_heard now held wait recorded cap rest c one current n talk
 answer_talk now held wait recorded cap rest c (Grant grant bytes ∷ []) one current n talk = cc
 answer_talk now held wait recorded cap rest c (ReleaseAck ∷ []) one current n talk = absurd (n talk.1)
 answer_talk now held wait recorded cap rest c (first ∷ second ∷ tail) one current n talk = absurd talk
@@ -138,7 +140,8 @@ probe_talk now held wait recorded b more c (first ∷ second ∷ rest) n g talk 
 -- The first message from a client leads from what home records.
 pub first_heard :
     (now : List ℕ) (held : CachedCopy) (wait : Wait) (recorded : Perm) (b : List ProbeCap) (message : Upward) (rest : List Upward)
-    → Heard now held wait recorded b (message ∷ rest) → (recorded ≡ upward_from message) × IsData now (upward_bytes message) recorded
+    → Heard now held wait recorded b (message ∷ rest)
+    → (recorded ≡ upward_from message) × IsData now (upward_bytes message) recorded
 first_heard now held wait recorded b (ProbeAck answer) [] talk = (talk.2.0, talk.2.2)
 first_heard now held wait recorded b (Release given) [] talk = (talk.1.0, talk.1.2)
 first_heard now held wait recorded b (ProbeAck answer) (Release given ∷ []) talk = (talk.2.0, talk.2.2)
@@ -148,7 +151,8 @@ first_heard now held wait recorded b message rest talk = absurd talk
 pub first_talk :
     (now : List ℕ) (held : CachedCopy) (wait : Wait) (recorded : Perm) (b : List ProbeCap) (message : Upward) (rest : List Upward)
     (d : List Downward)
-    → Talk now held wait recorded b (message ∷ rest) d → (recorded ≡ upward_from message) × IsData now (upward_bytes message) recorded × (d ≡ [])
+    → Talk now held wait recorded b (message ∷ rest) d
+    → (recorded ≡ upward_from message) × IsData now (upward_bytes message) recorded × (d ≡ [])
 first_talk now held wait recorded b message rest [] talk =
     let leads = first_heard now held wait recorded b message rest talk in (leads.0, leads.1, refl)
 first_talk now held wait recorded b message rest (Grant cap bytes ∷ []) talk = cc
@@ -242,7 +246,8 @@ pub store_heard :
     (now later : List ℕ) (held copy : CachedCopy) (wait : Wait) (recorded : Perm) (b : List ProbeCap) (c : List Upward)
     → perm_of held ≡ Tip → perm_of copy ≡ Tip → Heard now held wait recorded b c → Heard later copy wait recorded b c
 store_heard now later held copy wait recorded b [] e f talk = (talk.0, talk.1 ∙ (e ∙ sym f))
-store_heard now later held copy wait recorded b (message ∷ rest) e f talk = let tip = tip_heard now held wait recorded b (message ∷ rest) e talk in cc
+store_heard now later held copy wait recorded b (message ∷ rest) e f talk =
+    let tip = tip_heard now held wait recorded b (message ∷ rest) e talk in cc
 
 -- and so they do with what is on D
 pub store_talk :
@@ -295,6 +300,7 @@ pub held_talk :
     (now : List ℕ) (held : CachedCopy) (wait : Wait) (recorded : Perm) (b : List ProbeCap) (c : List Upward) (d : List Downward)
     → Talk now held wait recorded b c d → rank (perm_of held) ≤ rank recorded
 held_talk now held wait recorded b c [] talk = held_heard now held wait recorded b c talk
-held_talk now held wait recorded b c (Grant cap bytes ∷ []) talk = omega (arith, ap rank talk.3, sent_le now held bytes cap talk.4)
+held_talk now held wait recorded b c (Grant cap bytes ∷ []) talk =
+    omega (arith, ap rank talk.3, sent_le now held bytes cap talk.4)
 held_talk now held wait recorded b c (ReleaseAck ∷ []) talk = omega (arith, ap rank talk.2)
 held_talk now held wait recorded b c (first ∷ second ∷ rest) talk = absurd talk

@@ -15,10 +15,12 @@ FitsBlock shape address bytes =
 abbrev pub ReadsAs : List ℕ → ℕ → List ℕ → Type 0
 ReadsAs block offset bytes = slice_range block offset (offset + length bytes) ≡ bytes
 
+-- a client may load the bytes that its copy has there
 abbrev pub MayLoad : Shape → Client → Access → Type 0
 MayLoad shape k access =
     FitsBlock shape access.address access.bytes × (perm_of k.held ≢ p_None)
     × ReadsAs (bytes_of k.held) (access.address % shape.block_bytes) access.bytes
 
+-- a client may store where its copy is at Tip
 abbrev pub MayStore : Shape → Client → Access → Type 0
 MayStore shape k access = FitsBlock shape access.address access.bytes × (perm_of k.held ≡ Tip)

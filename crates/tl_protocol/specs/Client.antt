@@ -34,46 +34,60 @@ NoGrantPending k = (list_any is_grant k.d ≡ false) × (k.e ≡ 0)
 
 -- ## What a client may do, and what it leaves
 
+-- a client asks for more while it waits for nothing, starting from what it has
 abbrev pub MaySendAcquire : Client → Grow → Type 0
 MaySendAcquire k grow = (k.wait ≡ Nothing) × (perm_of k.held ≡ grow_from grow)
 
+-- it gives up while it waits for nothing, starting from what it has
 abbrev pub MaySendRelease : Client → Prune → Type 0
 MaySendRelease k prune = (k.wait ≡ Nothing) × (perm_of k.held ≡ prune_from prune)
 
+-- it answers its first Probe, but not while a Release of its own waits for the answer (section 9, "Concurrency")
 abbrev pub MayAnswerProbe : Client → Type 0
 MayAnswerProbe k = HasFirst k.b × (k.wait ≢ ForReleaseAck)
 
+-- a Grant is first on D
 abbrev pub MayTakeGrant : Client → Type 0
 MayTakeGrant k = (cap : GrantCap) × (bytes : Option (List ℕ)) × (rest : List Downward) × (k.d ≡ Grant cap bytes ∷ rest)
 
+-- a ReleaseAck is first on D
 abbrev pub MayTakeReleaseAck : Client → Type 0
 MayTakeReleaseAck k = (rest : List Downward) × (k.d ≡ ReleaseAck ∷ rest)
 
+-- an Acquire is on A
 abbrev pub MayTakeA : Client → Type 0
 MayTakeA k = HasFirst k.a
 
+-- a message is on C
 abbrev pub MayTakeC : Client → Type 0
 MayTakeC k = HasFirst k.c
 
+-- a store makes the copy dirty
 abbrev pub stored : Client → ℕ → List ℕ → Client
 stored k offset bytes = record k { held = stored_in offset bytes k.held }
 
+-- an Acquire goes on A, and the client waits for its Grant
 abbrev pub sent_acquire : Client → Grow → Client
 sent_acquire k grow = record k { a = k.a ++ grow ∷ []; wait = ForGrant }
 
+-- the ReleaseAck is taken from D, and the client waits for nothing
 abbrev pub took_release_ack : Client → Client
 took_release_ack k = record k { wait = Nothing; d = drop 1 k.d }
 
+-- a Probe goes on B
 abbrev pub sent_probe : Client → ProbeCap → Client
 sent_probe k cap = record k { b = k.b ++ cap ∷ [] }
 
+-- home takes a GrantAck from E
 abbrev pub took_grant_ack : Client → Client
 took_grant_ack k = record k { e = k.e - 1 }
 
+-- a Release goes on C, with the bytes of a dirty copy; the client keeps what the Release leaves, and waits for the ReleaseAck
 abbrev pub released : Client → Prune → Client
 released k prune =
     record k { held = reduced k.held (prune_to prune); wait = ForReleaseAck; c = k.c ++ Release (surrender prune (dirty_bytes k.held)) ∷ [] }
 
+-- the first Probe is taken from B, and its answer goes on C, with the bytes of a dirty copy; the client keeps what the Probe leaves
 abbrev pub answered : Client → List ProbeCap → Client
 answered k [] = k
 answered k (cap ∷ rest) =
@@ -83,10 +97,12 @@ answered k (cap ∷ rest) =
       c = k.c ++ ProbeAck (probe_answer (perm_of k.held) cap (dirty_bytes k.held)) ∷ [];
     }
 
+-- the bytes that came along, else its own
 abbrev pub bytes_or : Option (List ℕ) → List ℕ → List ℕ
 bytes_or None own = own
 bytes_or (Some bytes) own = bytes
 
+-- the Grant is taken from D: the client has a clean copy, waits for nothing and sends a GrantAck on E
 abbrev pub took_grant : Client → List Downward → Client
 took_grant k [] = k
 took_grant k (ReleaseAck ∷ rest) = k
@@ -99,6 +115,7 @@ grant_bytes p_None bytes = Some bytes
 grant_bytes Branch bytes = None
 grant_bytes Tip bytes = None
 
+-- a Grant goes on D, and home records what it gives
 abbrev pub sent_grant : Client → GrantCap → List ℕ → Client
 sent_grant k cap bytes = record k { recorded = grant_perm cap; d = k.d ++ Grant cap (grant_bytes k.recorded bytes) ∷ [] }
 

@@ -23,6 +23,7 @@ abbrev pub last_from : ℕ → List Event → ℕ → ℕ
 last_from x [] address = x
 last_from x (e ∷ es) address = last_from (byte_after e address x) es address
 
+-- the last byte stored at an address, else the one of the image
 abbrev pub last : List ℕ → List Event → ℕ → ℕ
 last image events address = last_from (slice_index image address) events address
 
@@ -50,11 +51,13 @@ LoadsLast image events =
     (before : List Event) (access : Access) (rest : List Event)
     → events ≡ before ++ Load access ∷ rest → AreLast image before access.address access.bytes
 
+-- so it is with each block in the end of every run
 abbrev pub EveryRunKeepsCopies : Type 0
 EveryRunKeepsCopies =
     (shape : Shape) (image : List ℕ) (events : List Event) → IsRun shape image events → (block : ℕ)
     → IsKeptAt (end_of shape image events block)
 
+-- so it is with each block in the end of every run, and with each load in it
 abbrev pub EveryRunReadsLast : Type 0
 EveryRunReadsLast =
     (shape : Shape) (image : List ℕ) (events : List Event) → IsRun shape image events

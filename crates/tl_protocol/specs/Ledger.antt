@@ -11,9 +11,11 @@ use Rattle.tl_protocol.specs.Copy.{perm_of}
 use Rattle.tl_protocol.specs.Protocol.{Block, is_none}
 use Rattle.tl_protocol.specs.Runs.{IsRun, end_of}
 
+-- whether a client holds a copy
 abbrev pub has_copy : Client → Bool
 has_copy k = not (is_none (perm_of k.held))
 
+-- whether home records one
 abbrev pub is_recorded : Client → Bool
 is_recorded k = not (is_none k.recorded)
 
@@ -33,6 +35,7 @@ gives_up (message ∷ rest) = (not (is_none (upward_from message)) && is_none (u
 abbrev pub is_under_way : Client → Bool
 is_under_way k = has_grant_data k.d || gives_up k.c
 
+-- one if a test is met
 abbrev pub one_if : Bool → ℕ
 one_if true = 1
 one_if false = 0
@@ -59,6 +62,7 @@ LedgerAddsUp shape s blocks =
     (count_pairs is_recorded shape s blocks ≡ count_pairs has_copy shape s blocks + count_pairs is_under_way shape s blocks)
     × (IsSilent shape s blocks → count_pairs is_recorded shape s blocks ≡ count_pairs has_copy shape s blocks)
 
+-- so it is in the end of every run, for whichever blocks
 abbrev pub EveryLedgerAddsUp : Type 0
 EveryLedgerAddsUp =
     (shape : Shape) (image : List ℕ) (events : List Event) (blocks : List ℕ) → IsRun shape image events

@@ -6,6 +6,7 @@ use Rattle.tl_protocol.specs.declared.shape.Shape.{Shape}
 use Rattle.tl_protocol.specs.Coherent.{LoadsLast}
 use Rattle.tl_protocol.specs.Runs.{IsRun, on_bank}
 
+-- whether an event is a load or a store
 abbrev pub is_access : Event → Bool
 is_access (Load access) = true
 is_access (Store access) = true

@@ -57,6 +57,7 @@ pub record IsOrderly (k : Client) : Type 0 where
   -- a ReleaseAck comes to a client that waits for it, when nothing is on C any more
   pub acknowledged : (rest : List Downward) → k.d ≡ ReleaseAck ∷ rest → (k.wait ≡ ForReleaseAck) × (k.c ≡ [])
 
+-- so it is with each client of each block in the end of every run
 abbrev pub EveryRunKeepsMessages : Type 0
 EveryRunKeepsMessages =
     (shape : Shape) (image : List ℕ) (events : List Event) → IsRun shape image events → (block x : ℕ)
@@ -110,6 +111,7 @@ pub record IsServiceAt (shape : Shape) (s : Block) : Type 0 where
   -- there are no clients past the last
   pub outside : (x : ℕ) → (x < shape.clients → ⊥) → s.client x ≡ fresh_client
 
+-- so it is with each block in the end of every run
 abbrev pub EveryRunKeepsService : Type 0
 EveryRunKeepsService =
     (shape : Shape) (image : List ℕ) (events : List Event) → IsRun shape image events → (block : ℕ)

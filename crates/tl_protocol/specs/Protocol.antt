@@ -29,16 +29,20 @@ pub record Block : Type 0 where
   pub outward : Outward
   pub client : ℕ → Client
 
+-- at reset only the memory has bytes, and nothing is under way
 abbrev pub reset : List ℕ → Block
 reset bytes =
     record { memory = bytes; home = None; accepted = None; outward = Quiet; client = λ _. fresh_client }
 
+-- no Grant of the block is pending
 abbrev pub NoGrant : Shape → Block → Type 0
 NoGrant shape s = (x : ℕ) → x < shape.clients → NoGrantPending (s.client x)
 
+-- no Probe of the block is pending
 abbrev pub NoProbe : Shape → Block → Type 0
 NoProbe shape s = (x : ℕ) → x < shape.clients → NoProbePending (s.client x)
 
+-- home records nobody
 abbrev pub NobodyRecorded : Shape → Block → Type 0
 NobodyRecorded shape s = (x : ℕ) → x < shape.clients → (s.client x).recorded ≡ p_None
 
@@ -52,6 +56,7 @@ pub record Idle (shape : Shape) (s : Block) : Type 0 where
 
 -- ## The permission that a Grant gives
 
+-- whether a permission is None
 abbrev pub is_none : Perm → Bool
 is_none p_None = true
 is_none Branch = false
@@ -69,6 +74,7 @@ granted_cap NtoB false = ToB
 granted_cap NtoT alone = ToT
 granted_cap BtoT alone = ToT
 
+-- what the accepted Acquire's Grant gives, were it sent now
 abbrev pub granted : Shape → Block → Accepted → GrantCap
 granted shape s acquire = granted_cap acquire.grow (is_alone shape.clients acquire.client s.client)
 
@@ -79,6 +85,7 @@ RoomFor shape s c ToB = (x : ℕ) → x < shape.clients → (s.client x).recorde
 
 -- ## Which event may come next
 
+-- the block that an event is of; a load and a store are of the block of their address
 abbrev pub block_of : Shape → Event → ℕ
 block_of shape (Load access) = access.address / shape.block_bytes
 block_of shape (Store access) = access.address / shape.block_bytes
@@ -99,10 +106,12 @@ block_of shape (Drop block) = block
 block_of shape (SendPut block) = block
 block_of shape (TakePutAck block) = block
 
+-- home probes a client that has more, while no Probe of it and no Grant of the block is pending
 abbrev pub MaySendProbe : Shape → Block → ℕ → ProbeCap → Type 0
 MaySendProbe shape s c cap =
     (rank (probe_perm cap) < rank (s.client c).recorded) × NoProbePending (s.client c) × NoGrant shape s
 
+-- home grants the accepted Acquire from its copy, where the others leave room, while nothing of the block is pending
 abbrev pub MaySendGrant : Shape → Block → ℕ → Type 0
 MaySendGrant shape s c =
     ((grow : Grow) × (s.accepted ≡ Some (record { client = c; grow = grow }))
@@ -110,12 +119,15 @@ MaySendGrant shape s c =
     × ((line : Line) × (s.home ≡ Some line))
     × NoProbe shape s × NoGrant shape s
 
+-- home asks the memory for a block that an Acquire wants and home lacks
 abbrev pub MaySendGet : Block → Type 0
 MaySendGet s = ((acquire : Accepted) × (s.accepted ≡ Some acquire)) × (s.home ≡ None) × (s.outward ≡ Quiet)
 
+-- the memory answers a request
 abbrev pub MayServe : Block → Type 0
 MayServe s = IsRequest s.outward
 
+-- home takes the data that it asked for
 abbrev pub MayTakeData : Block → Type 0
 MayTakeData s = IsData s.outward
 
@@ -150,31 +162,38 @@ May shape s event = (block_of shape event < shape.blocks) × MayOn shape s event
 
 -- ## What an event leaves
 
+-- the block with one client changed
 abbrev pub with_client : Block → ℕ → Client → Block
 with_client s c k = record s { client = λ x. if x == c then k else s.client x }
 
+-- home accepts the first Acquire of A
 abbrev pub accepted_from : Block → ℕ → List Grow → Block
 accepted_from s c [] = s
 accepted_from s c (grow ∷ rest) =
     with_client (record s { accepted = Some (record { client = c; grow = grow }) }) c (record (s.client c) { a = rest })
 
+-- home's copy after a message of C, whose data makes it dirty
 abbrev pub home_after : Option Line → Option (List ℕ) → Option Line
 home_after home None = home
 home_after home (Some bytes) = Some (record { bytes = bytes; dirty = true })
 
+-- home takes the first message of C, with its data
 abbrev pub took_c : Block → ℕ → Block
 took_c s c =
     with_client (record s { home = home_after s.home (first_bytes (s.client c).c) }) c (took_c_from (s.client c) (s.client c).c)
 
+-- the bytes of home's copy
 abbrev pub home_bytes : Option Line → List ℕ
 home_bytes None = []
 home_bytes (Some line) = line.bytes
 
+-- home sends the Grant of the accepted Acquire
 abbrev pub grants : Shape → Block → ℕ → Option Accepted → Block
 grants shape s c None = s
 grants shape s c (Some acquire) =
     with_client s c (sent_grant (s.client c) (granted shape s acquire) (home_bytes s.home))
 
+-- the memory answers: a Get with its bytes, a Put by taking the bytes
 abbrev pub served : Block → Outward → Block
 served s Quiet = s
 served s Get = record s { outward = Data s.memory }
@@ -182,6 +201,7 @@ served s (Data bytes) = s
 served s (Put bytes) = record s { memory = bytes; outward = PutAck }
 served s PutAck = s
 
+-- home takes the data, which is its clean copy
 abbrev pub took_data : Block → Outward → Block
 took_data s Quiet = s
 took_data s Get = s
@@ -189,6 +209,7 @@ took_data s (Data bytes) = record s { home = Some (record { bytes = bytes; dirty
 took_data s (Put bytes) = s
 took_data s PutAck = s
 
+-- what each event leaves
 abbrev pub after : Shape → Block → Event → Block
 after shape s (Load access) = s
 after shape s (Store access) =

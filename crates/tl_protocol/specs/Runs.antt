@@ -13,6 +13,7 @@ at_reset shape image block = reset (image_bytes image (block * shape.block_bytes
 abbrev pub MayNext : Shape → (ℕ → Block) → Event → Type 0
 MayNext shape s e = May shape (s (block_of shape e)) e
 
+-- what an event leaves of each block
 abbrev pub after_next : Shape → (ℕ → Block) → Event → ℕ → Block
 after_next shape s e block = if block == block_of shape e then after shape (s block) e else s block
 
@@ -21,14 +22,16 @@ abbrev pub IsRunFrom : Shape → (ℕ → Block) → List Event → Type 0
 IsRunFrom shape s [] = Unit {0}
 IsRunFrom shape s (e ∷ es) = MayNext shape s e × IsRunFrom shape (after_next shape s e) es
 
+-- where these events lead from a state
 abbrev pub end_from : Shape → (ℕ → Block) → List Event → ℕ → Block
 end_from shape s [] = s
 end_from shape s (e ∷ es) = end_from shape (after_next shape s e) es
 
--- a run, and the state at its end
+-- a run from reset
 abbrev pub IsRun : Shape → List ℕ → List Event → Type 0
 IsRun shape image events = IsRunFrom shape (at_reset shape image) events
 
+-- where they lead from reset
 abbrev pub end_of : Shape → List ℕ → List Event → ℕ → Block
 end_of shape image events = end_from shape (at_reset shape image) events
 
@@ -44,14 +47,17 @@ RunsGrowByOne =
 
 -- ## The events of one block, and of one bank
 
+-- the events of one block, in order
 abbrev pub on_block : Shape → ℕ → List Event → List Event
 on_block shape block [] = []
 on_block shape block (e ∷ es) = if block == block_of shape e then e ∷ on_block shape block es else on_block shape block es
 
+-- these events may come one after another from a state of one block
 abbrev pub IsBlockRunFrom : Shape → Block → List Event → Type 0
 IsBlockRunFrom shape s [] = Unit {0}
 IsBlockRunFrom shape s (e ∷ es) = May shape s e × IsBlockRunFrom shape (after shape s e) es
 
+-- where they lead
 abbrev pub block_end_from : Shape → Block → List Event → Block
 block_end_from shape s [] = s
 block_end_from shape s (e ∷ es) = block_end_from shape (after shape s e) es

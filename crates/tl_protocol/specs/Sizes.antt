@@ -14,15 +14,18 @@ use Rattle.tl_protocol.specs.Runs.{IsRun, end_of}
 
 -- ## The bytes that are there
 
+-- a copy's bytes, if there is one
 abbrev pub copy_bytes : CachedCopy → Option (List ℕ)
 copy_bytes Absent = None
 copy_bytes (Readable bytes) = Some bytes
 copy_bytes (Writable bytes dirty) = Some bytes
 
+-- home's bytes, if it has a copy
 abbrev pub line_bytes : Option Line → Option (List ℕ)
 line_bytes None = None
 line_bytes (Some line) = Some line.bytes
 
+-- the bytes that pass between home and the memory, if any
 abbrev pub outward_bytes : Outward → Option (List ℕ)
 outward_bytes Quiet = None
 outward_bytes Get = None
@@ -46,6 +49,7 @@ pub record IsWholeAt (shape : Shape) (s : Block) : Type 0 where
   pub outward : IsWhole shape.block_bytes (outward_bytes s.outward)
   pub memory : length s.memory ≡ shape.block_bytes
 
+-- so it is with each block in the end of every run
 abbrev pub EveryRunKeepsSizes : Type 0
 EveryRunKeepsSizes =
     (shape : Shape) (image : List ℕ) (events : List Event) → IsRun shape image events → (block : ℕ)

@@ -9,8 +9,11 @@ use tl_types::{AccessBytes, BlockNo, ClientId, Grow, ProbeCap, Prune};
 /// A load or a store of a client.
 #[derive(Drop)]
 pub struct Access {
+    /// Who makes it.
     pub client: ClientId,
+    /// The address of its first byte.
     pub address: u32,
+    /// The bytes that it read or writes.
     pub bytes: AccessBytes,
     /// Its place in the order of all banks.
     pub stamp: u64,

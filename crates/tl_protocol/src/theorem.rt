@@ -4,7 +4,7 @@ ghost use Rattle.tl_protocol.specs.Example.{EachKindIsARun};
 ghost use Rattle.tl_protocol.specs.Ledger.{EveryLedgerAddsUp};
 ghost use Rattle.tl_protocol.specs.OneMemory.{EveryMergeIsOneMemory};
 ghost use Rattle.tl_protocol.specs.Pending.{EveryAnswerIsWithin, EveryMessageLeadsDown, EveryRunKeepsMessages, EveryRunKeepsService};
-ghost use Rattle.tl_protocol.specs.Probes.{EveryAnswerIsToItsProbe};
+ghost use Rattle.tl_protocol.specs.Probes.{EveryAnswerIsToItsProbe, LastProbeGrowsByOne};
 ghost use Rattle.tl_protocol.specs.Runs.{EveryMergeIsARun, RunsAreOfBlocks, RunsGrowByOne};
 ghost use Rattle.tl_protocol.specs.Sizes.{EveryRunKeepsSizes};
 
@@ -28,6 +28,7 @@ pub fn every_block()
     ensures downward { EveryMessageLeadsDown }
     ensures answers { EveryAnswerIsWithin }
     ensures probes { EveryAnswerIsToItsProbe }
+    ensures last_probe { LastProbeGrowsByOne }
 {}
 
 /// There is a run with each kind of event.

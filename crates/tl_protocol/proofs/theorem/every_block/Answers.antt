@@ -1,6 +1,6 @@
 use Rattle.tl_protocol.proofs.Coherent.{every_run_keeps_sizes}
 use Rattle.tl_protocol.proofs.Pending.{every_run_keeps_messages, every_message_leads_down, every_answer_is_within, every_run_keeps_service}
-use Rattle.tl_protocol.proofs.Probes.{every_answer_is_to_its_probe}
+use Rattle.tl_protocol.proofs.Probes.{every_answer_is_to_its_probe, last_probe_grows_by_one}
 use Rattle.tl_protocol.proofs.theorem.every_block.Goals as goal
 
 pub returns-clause-sizes : goal.returns-clause-sizes
@@ -20,3 +20,6 @@ returns-clause-answers c = every_answer_is_within
 
 pub returns-clause-probes : goal.returns-clause-probes
 returns-clause-probes c = every_answer_is_to_its_probe
+
+pub returns-clause-last_probe : goal.returns-clause-last_probe
+returns-clause-last_probe c = last_probe_grows_by_one
