@@ -156,7 +156,7 @@ granted-fits shape states later q Evict c own grow line k accepted home is b sam
     ]
 
 -- a state in which a block that is at rest, or that a register works on, changed
-each-at : (shape : Shape) (states : ℕ → Block) (e : Event) (registers : List Register)
+pub each-at : (shape : Shape) (states : ℕ → Block) (e : Event) (registers : List Register)
     → ((q : Register) → works_on q (block_of shape e) ≡ true → Fits shape states q → Fits shape (after_next shape states e) q)
     → Each (Fits shape states) registers → Each (Fits shape (after_next shape states e)) registers
 each-at shape states e registers on h =
@@ -167,7 +167,7 @@ each-at shape states e registers on h =
     ]) h
 
 -- the other blocks that are at rest stay so
-rest-at : (shape : Shape) (states : ℕ → Block) (e : Event) (block : ℕ) → (block ≡ block_of shape e → IsAtRest shape (after_next shape states e block))
+pub rest-at : (shape : Shape) (states : ℕ → Block) (e : Event) (block : ℕ) → (block ≡ block_of shape e → IsAtRest shape (after_next shape states e block))
     → (block ≢ block_of shape e → IsAtRest shape (states block)) → IsAtRest shape (after_next shape states e block)
 rest-at shape states e block same other =
     elim (cases_eq block (block_of shape e)) [
@@ -203,12 +203,12 @@ granting-keeps-agreement shape states registers c own agree may =
 -- ## A victim ends
 
 -- a block that no register serves is not the own block of one that serves
-not-own : (shape : Shape) (states : ℕ → Block) (q : Register) (acquire : Accepted) (victim : ℕ)
+pub not-own : (shape : Shape) (states : ℕ → Block) (q : Register) (acquire : Accepted) (victim : ℕ)
     → ((a : Accepted) → IsServed shape (states victim) q a → ⊥) → IsServed shape (states q.own) q acquire → q.own ≢ victim
 not-own shape states q acquire victim served h = λ e.
     let P = λ (b : ℕ). IsServed shape (states b) q acquire in served acquire (subst P e h)
 
-neq-of : (x w : ℕ) → (x == w) ≡ false → x ≢ w
+pub neq-of : (x w : ℕ) → (x == w) ≡ false → x ≢ w
 neq-of x w e = λ q. let t = eq-eqb x w q in cc
 
 -- where no register serves a block, those that stay go on without it

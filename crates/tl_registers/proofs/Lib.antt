@@ -8,4 +8,5 @@ pub mod Order
 pub mod Pending
 pub mod Permitted
 pub mod Probes
+pub mod Probing
 pub mod Tables

@@ -131,7 +131,7 @@ all-other r (q ∷ rest) free = (
 )
 
 -- the blocks of a register that is there are busy
-found-busy : (own : ℕ) (xs : List Register) (r : Register) (block : ℕ) → register_of own xs ≡ Some r → works_on r block ≡ true
+pub found-busy : (own : ℕ) (xs : List Register) (r : Register) (block : ℕ) → register_of own xs ≡ Some r → works_on r block ≡ true
     → is_busy block xs ≡ false → ⊥
 found-busy own [] r block h on free = cc
 found-busy own (q ∷ rest) r block h on free =
