@@ -3,6 +3,7 @@ use Rattle.std.proofs.Common.{◌≡◌, ◌≢◌, ℕ, ◌<◌, ◌≤◌, ◌
 use Rattle.std.specs.Prelude.{◌⊎◌}
 use Rattle.std.specs.List.{list_any}
 use Rattle.std.proofs.lemmas.Bool.{cases_eq}
+use Rattle.tl_types.specs.Permission.{rank}
 use Rattle.tl_types.specs.declared.permission.Perm.{Perm}
 use Rattle.tl_types.specs.declared.permission.Perm.TheVariants.{None as p_None, Branch, Tip}
 use Rattle.tl_types.specs.declared.permission.ProbeCap.{ProbeCap}
@@ -190,3 +191,119 @@ served-probed shape s later r acquire c place free now h =
       getting = h.getting;
       held = λ pending. let bad : true ≡ false = sym pending ∙ probed-ungranted shape s c (probes_before acquire.grow) free in cc;
     })
+
+served-noted : (shape : Shape) (s : Block) (r : Register) (acquire : Accepted) (c : ℕ) → c < length r.probed
+    → ((x : ℕ) → (s.client x).recorded ≡ p_None) → IsServed shape s r acquire → IsServed shape s (with_probed r c) acquire
+served-noted shape s r acquire c place nobody h = record {
+  inside = h.inside;
+  accepted = h.accepted;
+  probes = noted-elsewhere shape s r (Some acquire.client) (probes_before acquire.grow) c place nobody h.probes;
+  getting = h.getting;
+  held = h.held;
+}
+
+-- the register that sent the Probe still fits, with the Probe noted
+probed-task : (shape : Shape) (states : ℕ → Block) (r : Register) (task : Task) (c block : ℕ) (cap : ProbeCap)
+    → IsSteady shape states → c < length r.probed → NoGrant shape (states block) → ((states block).home ≡ None → ⊥)
+    → IsToProbe r task block cap → TaskFits shape states r task
+    → TaskFits shape (after_next shape states (SendProbe c block cap)) (with_probed r c) task
+probed-task shape states r (Acquire acquire) c block cap steady place free there which h =
+    let s = states r.own in
+    let P = λ (b : ℕ). NoGrant shape (states b) in
+    let now : after_next shape states (SendProbe c block cap) r.own ≡ with_client s c (sent_probe (s.client c) (probes_before acquire.grow)) =
+    here shape states (SendProbe c block cap) r.own (sym which.0) ∙ ap (λ (x : ProbeCap). with_client s c (sent_probe (s.client c) x)) which.1 in
+    served-probed shape s _ r acquire c place (subst P which.0 free) now h
+probed-task shape states r (Replace acquire victim) c block cap steady place free there which h =
+    let e = SendProbe c block cap in
+    let s = states victim in
+    let ne : r.own ≢ block =
+    λ q.
+    let same : r.own ≡ victim = q ∙ which.0 in
+    let none : (states r.own).accepted ≡ None = ap (λ (x : ℕ). (states x).accepted) same ∙ h.2.not_accepted in
+    let bad : Some acquire ≡ None = sym h.0.accepted ∙ none in
+    cc
+    in
+    let own = elsewhere shape states e r.own ne in
+    let P = λ (b : Block). IsServed shape b (with_probed r c) acquire in
+    let Q = λ (b : Block). Awaits b in
+    let R = λ (b : ℕ). (states b).home ≡ None → ⊥ in
+    let now : after_next shape states e victim ≡ with_client s c (sent_probe (s.client c) ToN) =
+    here shape states e victim (sym which.0) ∙ ap (λ (x : ProbeCap). with_client s c (sent_probe (s.client c) x)) which.1 in (
+      subst P (sym own) (served-noted shape (states r.own) r acquire c place (nobody-recorded shape (states r.own) (steady.service r.own) h.1.lacks) h.0),
+      subst Q (sym own) h.1,
+      leaves-probed shape s _ r c place (subst R which.0 there) now h.2,
+    )
+probed-task shape states r Evict c block cap steady place free there which h =
+    let e = SendProbe c block cap in
+    let s = states r.own in
+    let R = λ (b : ℕ). (states b).home ≡ None → ⊥ in
+    let now : after_next shape states e r.own ≡ with_client s c (sent_probe (s.client c) ToN) =
+    here shape states e r.own (sym which.0) ∙ ap (λ (x : ProbeCap). with_client s c (sent_probe (s.client c) x)) which.1 in
+    leaves-probed shape s _ r c place (subst R which.0 there) now h
+
+-- the register works on the block that it probes
+works-there : (r : Register) (task : Task) (block : ℕ) (cap : ProbeCap) → IsToProbe r task block cap
+    → ((r.own == block) || is_block block (victim_in r.own task)) ≡ true
+works-there r (Acquire acquire) block cap which =
+    let P = λ (b : ℕ). ((r.own == b) || is_block b (victim_in r.own (Acquire acquire))) ≡ true in
+    subst P (sym which.0) (on-own r (Acquire acquire))
+works-there r (Replace acquire victim) block cap which =
+    let P = λ (b : ℕ). ((r.own == b) || is_block b (victim_in r.own (Replace acquire victim))) ≡ true in
+    subst P (sym which.0) (on-victim r acquire victim)
+works-there r Evict block cap which =
+    let P = λ (b : ℕ). ((r.own == b) || is_block b (victim_in r.own Evict)) ≡ true in
+    subst P (sym which.0) (on-own r Evict)
+
+-- a noted Probe does not change what a register works on
+same-works : (own c block : ℕ) (q : Register) → works_on (with_probe_of own c q) block ≡ works_on q block
+same-works own c block q = elim (bool-cases (q.own == own)) [ inl e ↦ rw e refl | inr e ↦ rw e refl ]
+
+free-noted : (own c block : ℕ) (registers : List Register) → is_busy block (noted own c registers) ≡ false
+    → is_busy block registers ≡ false
+free-noted own c block [] h = refl
+free-noted own c block (q ∷ rest) h =
+    let both = or-false (works_on (with_probe_of own c q) block) (is_busy block (noted own c rest)) h in
+    let here : works_on q block ≡ false = sym (same-works own c block q) ∙ both.0 in
+    let more = free-noted own c block rest both.1 in
+    rw (here, more) refl
+
+pub probing-keeps-agreement : ProbingKeepsAgreement
+probing-keeps-agreement shape states registers r c block cap steady agree found which may =
+    let e = SendProbe c block cap in
+    let later = after_next shape states e in
+    let s = states block in
+    let f = with_probe_of r.own c in
+    let there : s.home ≡ None → ⊥ =
+    λ none.
+    let nobody = nobody-recorded shape s (steady.service block) none c in
+    absurd (omega (arith, ap rank nobody, may.1.1.0))
+    in
+    record {
+      fits = each-map (Fits shape later) f registers
+          (each-both (IsOneOf r) (Fits shape states) (λ q. Fits shape later (f q)) registers
+          (λ q which-one fits. elim which-one [
+            | inl same ↦
+                let P = λ (x : Register). Fits shape later (f x) in
+                let Q = λ (x : Register). Fits shape states x in
+                let now : Fits shape states r = subst Q same fits in
+                let own : (r.own == r.own) ≡ true = eq-eqb r.own r.own refl in
+                let place : c < length r.probed = omega (arith, may.1.0, now.places) in
+                let long : length (set r.probed c true) ≡ length r.probed = simp length-set in
+                let one : Fits shape later (with_probed r c) = record {
+                  known = now.known;
+                  places = omega (arith, now.places, long);
+                  task = probed-task shape states r r.task c block cap steady place may.1.1.2 there which now.task;
+                } in
+                subst P (sym same) (rw own one)
+            | inr other ↦
+                let away : (q.own == r.own) ≡ false = (or-false (q.own == r.own) (is_block r.own (victim_of q)) (other r.own (on-own r r.task))).0 in
+                rw away (fits-elsewhere shape states e q (other block (works-there r r.task block cap which)) fits)
+          ])
+          (one-among r.own registers r agree.apart found) agree.fits);
+      at_rest = λ b none. rest-at shape states e b
+          (λ q.
+          let free : is_busy block registers ≡ false = ap (λ (x : ℕ). is_busy x registers) (sym q) ∙ free-noted r.own c b registers none in
+          absurd (found-busy r.own registers r block found (works-there r r.task block cap which) free))
+          (λ q. agree.at_rest b (free-noted r.own c b registers none));
+      apart = apart-map f registers (λ q b on. sym (same-works r.own c b q) ∙ on) agree.apart;
+    }
