@@ -1,33 +1,30 @@
 -- What a register carries out, and what closes it, keeps the agreement.
-use Rattle.std.proofs.Common.{◌≡◌, ◌≢◌, ℕ, zero, suc, ◌-◌, ◌<◌, ◌==◌, ◌&&◌, ◌||◌, not, Bool, true, false, List, [], ◌∷◌, map, filter, Option, Some, None, refl, sym, ◌∙◌, ap, subst, arith, inl, inr, eqb-true, eq-eqb}
+use Rattle.std.proofs.Common.{◌≡◌, ◌≢◌, ℕ, ◌-◌, ◌<◌, ◌==◌, ◌&&◌, ◌||◌, not, Bool, true, false, List, [], ◌∷◌, map, filter, Option, Some, None, refl, sym, ◌∙◌, ap, subst, arith, inl, inr, eqb-true, eq-eqb}
 use Rattle.std.specs.Prelude.{◌⊎◌}
-use Rattle.std.specs.List.{list_any}
 use Rattle.std.proofs.lemmas.Bool.{cases_eq}
-use Rattle.tl_types.specs.Message.{is_grant}
 use Rattle.tl_types.specs.declared.message.Upward.{Upward}
 use Rattle.tl_types.specs.declared.permission.Grow.{Grow}
 use Rattle.tl_types.specs.declared.permission.ProbeCap.{ProbeCap}
 use Rattle.tl_protocol.specs.Client.{sent_grant, took_grant_ack}
 use Rattle.tl_protocol.specs.Pending.{IsGrantPending, IsServiceAt}
-use Rattle.tl_protocol.specs.Protocol.{Block, Idle, block_of, after, with_client, granted, grants, home_bytes}
-use Rattle.tl_protocol.specs.Runs.{MayNext, after_next}
+use Rattle.tl_protocol.specs.Protocol.{Block, Idle, block_of, with_client, granted, grants, home_bytes}
+use Rattle.tl_protocol.specs.Runs.{after_next}
 use Rattle.tl_protocol.specs.declared.client.Client.{Client}
 use Rattle.tl_protocol.specs.declared.event.Event.{Event}
 use Rattle.tl_protocol.specs.declared.event.Event.TheVariants.{SendGrant, TakeGrantAck, Drop, SendPut, TakePutAck}
 use Rattle.tl_protocol.specs.declared.home.Accepted.{Accepted}
 use Rattle.tl_protocol.specs.declared.home.Line.{Line}
-use Rattle.tl_protocol.specs.declared.home.Outward.{Outward}
 use Rattle.tl_protocol.specs.declared.home.Outward.TheVariants.{Quiet, Put, PutAck}
 use Rattle.tl_protocol.specs.declared.shape.Shape.{Shape}
 use Rattle.tl_registers.specs.declared.register.Register.{Register}
 use Rattle.tl_registers.specs.declared.register.Task.{Task}
 use Rattle.tl_registers.specs.declared.register.Task.TheVariants.{Acquire, Replace, Evict}
-use Rattle.tl_registers.specs.Agree.{IsAtRest, Each, Agree, IsSteady, GrantingKeepsAgreement, PuttingKeepsAgreement, DroppingKeepsAgreement, ClosingKeepsAgreement, EndingKeepsAgreement}
-use Rattle.tl_registers.specs.Fit.{Ask, Answer, ProbeFits, IsPutting, IsGetting, Leaves, IsServed, Awaits, TaskFits, Fits}
+use Rattle.tl_registers.specs.Agree.{IsAtRest, Each, Agree, GrantingKeepsAgreement, PuttingKeepsAgreement, DroppingKeepsAgreement, ClosingKeepsAgreement, EndingKeepsAgreement}
+use Rattle.tl_registers.specs.Fit.{Ask, Answer, ProbeFits, Leaves, IsServed, Awaits, TaskFits, Fits}
 use Rattle.tl_registers.specs.NextAction.{probes_before}
-use Rattle.tl_registers.specs.Pending.{is_probed, is_granted, any_below, grant_pending}
+use Rattle.tl_registers.specs.Pending.{is_probed, is_granted, grant_pending}
 use Rattle.tl_registers.specs.Register.{victim_in, has_probed, is_other, is_block, works_on, IsBelow}
-use Rattle.tl_registers.specs.Registers.{is_busy, closed, ended, is_evict, task_without, without_victim, without_evict}
+use Rattle.tl_registers.specs.Registers.{is_busy, closed, ended, is_evict, task_without, without_victim}
 use Rattle.tl_registers.proofs.Agreement.{WorksOn}
 use Rattle.tl_registers.proofs.Blocks.{put-probes}
 use Rattle.tl_registers.proofs.Opening.{elsewhere, here, fits-elsewhere}

@@ -1,3 +1,4 @@
+pub mod Actions
 pub mod Agreement
 pub mod Blocks
 pub mod Closing

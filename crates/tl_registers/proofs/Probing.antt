@@ -1,7 +1,5 @@
 -- The Probes and the Get of a register keep the agreement.
-use Rattle.std.proofs.Common.{◌≡◌, ◌≢◌, ℕ, ◌<◌, ◌≤◌, ◌==◌, ◌||◌, not, Bool, true, false, List, [], ◌∷◌, ◌++◌, length, map, Option, Some, None, refl, sym, ◌∙◌, ap, subst, arith, inl, inr, eqb-true, eq-eqb, get_or, set, length-set, get_or-set_other, get_or-set_same}
-use Rattle.std.specs.Prelude.{◌⊎◌}
-use Rattle.std.specs.List.{list_any}
+use Rattle.std.proofs.Common.{◌≡◌, ◌≢◌, ℕ, ◌<◌, ◌==◌, ◌||◌, Bool, true, false, List, [], ◌∷◌, ◌++◌, length, Option, Some, None, refl, sym, ◌∙◌, ap, subst, arith, inl, inr, eqb-true, eq-eqb, set, length-set, get_or-set_other, get_or-set_same}
 use Rattle.std.proofs.lemmas.Bool.{cases_eq}
 use Rattle.tl_types.specs.Permission.{rank}
 use Rattle.tl_types.specs.declared.permission.Perm.{Perm}
@@ -10,28 +8,27 @@ use Rattle.tl_types.specs.declared.permission.ProbeCap.{ProbeCap}
 use Rattle.tl_types.specs.declared.permission.ProbeCap.TheVariants.{ToB, ToN}
 use Rattle.tl_protocol.specs.Client.{sent_probe}
 use Rattle.tl_protocol.specs.Pending.{IsServiceAt}
-use Rattle.tl_protocol.specs.Protocol.{Block, NoGrant, block_of, after, with_client}
-use Rattle.tl_protocol.specs.Runs.{MayNext, after_next}
+use Rattle.tl_protocol.specs.Protocol.{Block, NoGrant, with_client}
+use Rattle.tl_protocol.specs.Runs.{after_next}
 use Rattle.tl_protocol.specs.declared.client.Client.{Client}
 use Rattle.tl_protocol.specs.declared.event.Event.TheVariants.{SendProbe, SendGet}
 use Rattle.tl_protocol.specs.declared.home.Accepted.{Accepted}
-use Rattle.tl_protocol.specs.declared.home.Line.{Line}
 use Rattle.tl_protocol.specs.declared.home.Outward.TheVariants.{Get}
 use Rattle.tl_protocol.specs.declared.shape.Shape.{Shape}
 use Rattle.tl_registers.specs.declared.register.Register.{Register}
 use Rattle.tl_registers.specs.declared.register.Task.{Task}
 use Rattle.tl_registers.specs.declared.register.Task.TheVariants.{Acquire, Replace, Evict}
-use Rattle.tl_registers.specs.Agree.{IsAtRest, Each, Agree, IsSteady, IsToProbe, ProbingKeepsAgreement, FetchingKeepsAgreement}
+use Rattle.tl_registers.specs.Agree.{IsSteady, IsToProbe, ProbingKeepsAgreement, FetchingKeepsAgreement}
 use Rattle.tl_registers.specs.Fit.{Ask, ProbeFits, ProbesFit, Leaves, IsServed, Awaits, TaskFits, Fits}
 use Rattle.tl_registers.specs.NextAction.{probes_before}
 use Rattle.tl_registers.specs.Pending.{has_first, is_probed, is_granted, grant_pending}
 use Rattle.tl_registers.specs.Register.{with_probed, has_probed, is_above, is_other, is_block, victim_in, victim_of, works_on}
-use Rattle.tl_registers.specs.Registers.{is_busy, register_of, with_probe_of, noted}
+use Rattle.tl_registers.specs.Registers.{is_busy, with_probe_of, noted}
 use Rattle.tl_registers.proofs.Agreement.{on-own, on-victim}
 use Rattle.tl_registers.proofs.Closing.{rest-at, neq-of}
 use Rattle.tl_registers.proofs.Opening.{elsewhere, here, fits-elsewhere}
 use Rattle.tl_registers.proofs.Pending.{bool-cases, or-false, any_below-none, free-grant}
-use Rattle.tl_registers.proofs.Tables.{IsOneOf, IsOther, one-among, found-busy, each-both, each-map, apart-map}
+use Rattle.tl_registers.proofs.Tables.{IsOneOf, one-among, found-busy, each-both, each-map, apart-map}
 
 -- ## A Get
 

@@ -1,5 +1,5 @@
 //! What ties the register's rule to the protocol.
-ghost use Rattle.tl_registers.specs.Agree.{AgreeAtReset, EveryRunIsSteady, EventsLeaveRegisters, ProbingKeepsAgreement, FetchingKeepsAgreement, GrantingKeepsAgreement, PuttingKeepsAgreement, DroppingKeepsAgreement, EndingKeepsAgreement, AcceptingKeepsAgreement, EvictingKeepsAgreement, ClosingKeepsAgreement};
+ghost use Rattle.tl_registers.specs.Agree.{AgreeAtReset, EveryActionIsOfItsRegister, EveryRunIsSteady, EventsLeaveRegisters, ProbingKeepsAgreement, FetchingKeepsAgreement, GrantingKeepsAgreement, PuttingKeepsAgreement, DroppingKeepsAgreement, EndingKeepsAgreement, AcceptingKeepsAgreement, EvictingKeepsAgreement, ClosingKeepsAgreement};
 ghost use Rattle.tl_registers.specs.Fit.{EveryActionIsPermitted};
 ghost use Rattle.tl_registers.specs.Pending.{PendingIsTheProtocols};
 
@@ -9,9 +9,10 @@ pub fn pending_is_the_protocols()
 {}
 
 /// What a register does next is permitted by the protocol, wherever each block is as every run keeps it and the register fits
-/// the state.
+/// the state, and it is of the block that the register works on.
 pub fn every_action_is_permitted()
-    ensures { EveryActionIsPermitted }
+    ensures permitted { EveryActionIsPermitted }
+    ensures own { EveryActionIsOfItsRegister }
 {}
 
 /// The open registers and the protocol's state agree: at reset, and after each event, with the change of the registers that
