@@ -1,19 +1,16 @@
 -- The open registers and the protocol's state agree after each event that leaves the registers.
-use Rattle.std.proofs.Common.{◌≡◌, sym, ℕ, ◌<◌, ◌==◌, ◌||◌, eq-eqb, Bool, true, false, List, [], ◌∷◌, Option, Some, None, refl, ◌∙◌, arith, inl, inr, eqb-true}
-use Rattle.std.specs.Prelude.{◌⊎◌}
+use Rattle.std.proofs.Common.{◌≡◌, sym, ℕ, ◌==◌, ◌||◌, eq-eqb, true, false, List, [], ◌∷◌, Option, Some, None, refl, ◌∙◌, inl, inr}
 use Rattle.tl_types.specs.declared.permission.ProbeCap.{ProbeCap}
 use Rattle.tl_types.specs.declared.permission.ProbeCap.TheVariants.{ToN}
-use Rattle.tl_protocol.specs.declared.client.Client.{Client}
-use Rattle.tl_protocol.specs.declared.event.Event.{Event}
 use Rattle.tl_protocol.specs.declared.home.Accepted.{Accepted}
 use Rattle.tl_protocol.specs.declared.shape.Shape.{Shape}
-use Rattle.tl_protocol.specs.Protocol.{Block, block_of, after}
+use Rattle.tl_protocol.specs.Protocol.{Block, block_of}
 use Rattle.tl_protocol.specs.Runs.{after_next}
 use Rattle.tl_protocol.proofs.Pending.{every_run_keeps_messages, every_run_keeps_service}
 use Rattle.tl_registers.specs.declared.register.Register.{Register}
 use Rattle.tl_registers.specs.declared.register.Task.{Task}
 use Rattle.tl_registers.specs.declared.register.Task.TheVariants.{Acquire, Replace, Evict}
-use Rattle.tl_registers.specs.Agree.{IsAtRest, Each, Agree, IsSteady, LeavesRegisters, EventsLeaveRegisters, AgreeAtReset, EveryRunIsSteady}
+use Rattle.tl_registers.specs.Agree.{IsAtRest, Each, EventsLeaveRegisters, AgreeAtReset, EveryRunIsSteady}
 use Rattle.tl_registers.specs.Fit.{ProbesFit, NobodyIsProbed, Leaves, IsServed, Awaits, TaskFits, Fits}
 use Rattle.tl_registers.specs.NextAction.{probes_before}
 use Rattle.tl_registers.specs.Register.{has_probed, is_other, works_on, is_block, victim_in}

@@ -1,8 +1,6 @@
 -- What an event that leaves the registers leaves of the blocks that they work on.
-use Rattle.std.proofs.Common.{◌≡◌, ◌≢◌, ℕ, ◌<◌, ◌≤◌, ◌==◌, ◌||◌, Bool, true, false, List, [], ◌∷◌, drop, Option, Some, None, if◌then◌else◌, refl, sym, ◌∙◌, ap, subst, arith, inl, inr, eqb-true, eq-eqb}
-use Rattle.std.specs.Prelude.{◌⊎◌}
+use Rattle.std.proofs.Common.{◌≡◌, ℕ, ◌≤◌, ◌==◌, true, false, List, [], ◌∷◌, Option, Some, None, refl, sym, ◌∙◌, ap, subst, arith, inl, inr, eqb-true}
 use Rattle.std.specs.List.{list_any}
-use Rattle.std.proofs.lemmas.Bool.{cases_eq}
 use Rattle.tl_types.specs.Message.{upward_from, upward_to, upward_bytes, is_grant}
 use Rattle.tl_types.specs.Permission.{rank}
 use Rattle.tl_types.specs.declared.message.Downward.{Downward}
@@ -11,13 +9,10 @@ use Rattle.tl_types.specs.declared.message.ProbeAnswer.TheVariants.{TtoB as a_Tt
 use Rattle.tl_types.specs.declared.message.Surrender.TheVariants.{TtoB as s_TtoB, TtoN as s_TtoN, BtoN as s_BtoN}
 use Rattle.tl_types.specs.declared.message.Upward.{Upward}
 use Rattle.tl_types.specs.declared.message.Upward.TheVariants.{ProbeAck, Release}
-use Rattle.tl_types.specs.declared.permission.Perm.{Perm}
-use Rattle.tl_types.specs.declared.permission.Perm.TheVariants.{None as p_None, Branch, Tip}
-use Rattle.tl_types.specs.declared.permission.ProbeCap.{ProbeCap}
-use Rattle.tl_protocol.specs.Client.{first_bytes, took_c_from, stored, sent_acquire, released, answered, took_grant, took_release_ack}
-use Rattle.tl_protocol.specs.Home.{IsRequest, IsData}
+use Rattle.tl_types.specs.declared.permission.Perm.TheVariants.{None as p_None, Tip}
+use Rattle.tl_protocol.specs.Client.{first_bytes, took_c_from}
 use Rattle.tl_protocol.specs.Pending.{Lead, IsOrderly, IsServiceAt}
-use Rattle.tl_protocol.specs.Protocol.{Block, after, with_client, took_c, home_after, served, took_data, MayOn}
+use Rattle.tl_protocol.specs.Protocol.{Block, after, with_client, took_c, home_after, served, took_data}
 use Rattle.tl_protocol.specs.declared.client.Client.{Client}
 use Rattle.tl_protocol.specs.declared.event.Event.{Event}
 use Rattle.tl_protocol.specs.declared.event.Event.TheVariants.{Load, Store, SendAcquire, SendRelease, AnswerProbe, TakeGrant, TakeReleaseAck, AcceptAcquire, SendProbe, TakeC, SendGrant, TakeGrantAck, SendGet, Serve, TakeData, Drop, SendPut, TakePutAck}

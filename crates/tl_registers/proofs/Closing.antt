@@ -1,37 +1,34 @@
 -- What a register carries out, and what closes it, keeps the agreement.
-use Rattle.std.proofs.Common.{◌≡◌, ◌≢◌, ℕ, zero, suc, ◌-◌, ◌<◌, ◌==◌, ◌&&◌, ◌||◌, not, Bool, true, false, List, [], ◌∷◌, map, filter, Option, Some, None, refl, sym, ◌∙◌, ap, subst, arith, inl, inr, eqb-true, eq-eqb}
+use Rattle.std.proofs.Common.{◌≡◌, ◌≢◌, ℕ, ◌-◌, ◌<◌, ◌==◌, ◌&&◌, ◌||◌, not, Bool, true, false, List, [], ◌∷◌, map, filter, Option, Some, None, refl, sym, ◌∙◌, ap, subst, arith, inl, inr, eqb-true, eq-eqb}
 use Rattle.std.specs.Prelude.{◌⊎◌}
-use Rattle.std.specs.List.{list_any}
 use Rattle.std.proofs.lemmas.Bool.{cases_eq}
-use Rattle.tl_types.specs.Message.{is_grant}
 use Rattle.tl_types.specs.declared.message.Upward.{Upward}
 use Rattle.tl_types.specs.declared.permission.Grow.{Grow}
 use Rattle.tl_types.specs.declared.permission.ProbeCap.{ProbeCap}
 use Rattle.tl_protocol.specs.Client.{sent_grant, took_grant_ack}
 use Rattle.tl_protocol.specs.Pending.{IsGrantPending, IsServiceAt}
-use Rattle.tl_protocol.specs.Protocol.{Block, Idle, block_of, after, with_client, granted, grants, home_bytes}
-use Rattle.tl_protocol.specs.Runs.{MayNext, after_next}
+use Rattle.tl_protocol.specs.Protocol.{Block, Idle, block_of, with_client, granted, grants, home_bytes}
+use Rattle.tl_protocol.specs.Runs.{after_next}
 use Rattle.tl_protocol.specs.declared.client.Client.{Client}
 use Rattle.tl_protocol.specs.declared.event.Event.{Event}
 use Rattle.tl_protocol.specs.declared.event.Event.TheVariants.{SendGrant, TakeGrantAck, Drop, SendPut, TakePutAck}
 use Rattle.tl_protocol.specs.declared.home.Accepted.{Accepted}
 use Rattle.tl_protocol.specs.declared.home.Line.{Line}
-use Rattle.tl_protocol.specs.declared.home.Outward.{Outward}
 use Rattle.tl_protocol.specs.declared.home.Outward.TheVariants.{Quiet, Put, PutAck}
 use Rattle.tl_protocol.specs.declared.shape.Shape.{Shape}
 use Rattle.tl_registers.specs.declared.register.Register.{Register}
 use Rattle.tl_registers.specs.declared.register.Task.{Task}
 use Rattle.tl_registers.specs.declared.register.Task.TheVariants.{Acquire, Replace, Evict}
-use Rattle.tl_registers.specs.Agree.{IsAtRest, Each, Agree, IsSteady, GrantingKeepsAgreement, PuttingKeepsAgreement, DroppingKeepsAgreement, ClosingKeepsAgreement, EndingKeepsAgreement}
-use Rattle.tl_registers.specs.Fit.{Ask, Answer, ProbeFits, IsPutting, IsGetting, Leaves, IsServed, Awaits, TaskFits, Fits}
+use Rattle.tl_registers.specs.Agree.{IsAtRest, Each, Agree, GrantingKeepsAgreement, PuttingKeepsAgreement, DroppingKeepsAgreement, ClosingKeepsAgreement, EndingKeepsAgreement}
+use Rattle.tl_registers.specs.Fit.{Ask, Answer, ProbeFits, Leaves, IsServed, Awaits, TaskFits, Fits}
 use Rattle.tl_registers.specs.NextAction.{probes_before}
-use Rattle.tl_registers.specs.Pending.{is_probed, is_granted, any_below, grant_pending}
+use Rattle.tl_registers.specs.Pending.{is_probed, is_granted, grant_pending}
 use Rattle.tl_registers.specs.Register.{victim_in, has_probed, is_other, is_block, works_on, IsBelow}
-use Rattle.tl_registers.specs.Registers.{is_busy, closed, ended, is_evict, task_without, without_victim, without_evict}
+use Rattle.tl_registers.specs.Registers.{is_busy, closed, ended, is_evict, task_without, without_victim}
 use Rattle.tl_registers.proofs.Agreement.{WorksOn}
 use Rattle.tl_registers.proofs.Blocks.{put-probes}
 use Rattle.tl_registers.proofs.Opening.{elsewhere, here, fits-elsewhere}
-use Rattle.tl_registers.proofs.Pending.{bool-cases, or-false, or-else, any_below-false, free-probe}
+use Rattle.tl_registers.proofs.Pending.{bool-cases, or-false, or-else, any_below-false, free-probe, grant-free, free-grant}
 use Rattle.tl_registers.proofs.Probes.{same-probes}
 use Rattle.tl_registers.proofs.Tables.{each-follows, each-map, each-filter, apart-map, apart-filter}
 
@@ -156,7 +153,7 @@ granted-fits shape states later q Evict c own grow line k accepted home is b sam
     ]
 
 -- a state in which a block that is at rest, or that a register works on, changed
-each-at : (shape : Shape) (states : ℕ → Block) (e : Event) (registers : List Register)
+pub each-at : (shape : Shape) (states : ℕ → Block) (e : Event) (registers : List Register)
     → ((q : Register) → works_on q (block_of shape e) ≡ true → Fits shape states q → Fits shape (after_next shape states e) q)
     → Each (Fits shape states) registers → Each (Fits shape (after_next shape states e)) registers
 each-at shape states e registers on h =
@@ -167,7 +164,7 @@ each-at shape states e registers on h =
     ]) h
 
 -- the other blocks that are at rest stay so
-rest-at : (shape : Shape) (states : ℕ → Block) (e : Event) (block : ℕ) → (block ≡ block_of shape e → IsAtRest shape (after_next shape states e block))
+pub rest-at : (shape : Shape) (states : ℕ → Block) (e : Event) (block : ℕ) → (block ≡ block_of shape e → IsAtRest shape (after_next shape states e block))
     → (block ≢ block_of shape e → IsAtRest shape (states block)) → IsAtRest shape (after_next shape states e block)
 rest-at shape states e block same other =
     elim (cases_eq block (block_of shape e)) [
@@ -198,4 +195,390 @@ granting-keeps-agreement shape states registers c own agree may =
           cc)
           (λ q. agree.at_rest block free);
       apart = agree.apart;
+    }
+
+-- ## A victim ends
+
+-- a block that no register serves is not the own block of one that serves
+pub not-own : (shape : Shape) (states : ℕ → Block) (q : Register) (acquire : Accepted) (victim : ℕ)
+    → ((a : Accepted) → IsServed shape (states victim) q a → ⊥) → IsServed shape (states q.own) q acquire → q.own ≢ victim
+not-own shape states q acquire victim served h = λ e.
+    let P = λ (b : ℕ). IsServed shape (states b) q acquire in served acquire (subst P e h)
+
+pub neq-of : (x w : ℕ) → (x == w) ≡ false → x ≢ w
+neq-of x w e = λ q. let t = eq-eqb x w q in cc
+
+-- where no register serves a block, those that stay go on without it
+end-task : (shape : Shape) (states later : ℕ → Block) (q : Register) (task : Task) (victim : ℕ)
+    → ((acquire : Accepted) → IsServed shape (states victim) q acquire → ⊥)
+    → ((block : ℕ) → block ≢ victim → later block ≡ states block)
+    → not (is_evict task && (q.own == victim)) ≡ true → TaskFits shape states q task
+    → TaskFits shape later q (task_without victim task)
+end-task shape states later q (Acquire acquire) victim served other stays h =
+    let P = λ (s : Block). IsServed shape s q acquire in
+    subst P (sym (other q.own (not-own shape states q acquire victim served h))) h
+end-task shape states later q (Replace acquire block) victim served other stays h =
+    let P = λ (s : Block). IsServed shape s q acquire in
+    let own = other q.own (not-own shape states q acquire victim served h.0) in
+    elim (bool-cases (block == victim)) [
+      | inl e ↦ rw e (subst P (sym own) h.0)
+      | inr e ↦
+          let Q = λ (s : Block). Awaits s in
+          let R = λ (s : Block). Leaves shape s q in
+          rw e (subst P (sym own) h.0, subst Q (sym own) h.1, subst R (sym (other block (neq-of block victim e))) h.2)
+    ]
+end-task shape states later q Evict victim served other stays h =
+    elim (bool-cases (q.own == victim)) [
+      | inl e ↦ let bad : not (q.own == victim) ≡ false = rw e refl in let worse : true ≡ false = sym stays ∙ bad in cc
+      | inr e ↦ let R = λ (s : Block). Leaves shape s q in subst R (sym (other q.own (neq-of q.own victim e))) h
+    ]
+
+-- the task of a register does not say which clients it has probed
+same-marks : (shape : Shape) (states : ℕ → Block) (q : Register) (marked task : Task) → TaskFits shape states q task
+    → TaskFits shape states (record q { task = marked }) task
+same-marks shape states q marked (Acquire acquire) h = record { inside = h.inside; accepted = h.accepted; probes = h.probes; getting = h.getting; held = h.held }
+same-marks shape states q marked (Replace acquire victim) h = (
+  record { inside = h.0.inside; accepted = h.0.accepted; probes = h.0.probes; getting = h.0.getting; held = h.0.held },
+  h.1,
+  record { probes = h.2.probes; not_accepted = h.2.not_accepted; gone = h.2.gone; putting = h.2.putting },
+)
+same-marks shape states q marked Evict h =
+    record { probes = h.probes; not_accepted = h.not_accepted; gone = h.gone; putting = h.putting }
+
+below-without : (blocks own victim : ℕ) (task : Task) → IsBelow blocks (victim_in own task)
+    → IsBelow blocks (victim_in own (task_without victim task))
+below-without blocks own victim (Acquire acquire) h = h
+below-without blocks own victim (Replace acquire block) h =
+    elim (bool-cases (block == victim)) [ inl e ↦ rw e tt | inr e ↦ rw e h ]
+below-without blocks own victim Evict h = h
+
+-- a register that goes on without a victim works on none but its blocks
+fewer-works : (own victim block : ℕ) (task : Task)
+    → ((own == block) || is_block block (victim_in own (task_without victim task))) ≡ true
+    → ((own == block) || is_block block (victim_in own task)) ≡ true
+fewer-works own victim block (Acquire acquire) h = h
+fewer-works own victim block (Replace acquire b) h =
+    elim (bool-cases (own == block)) [
+      | inl e ↦ rw e refl
+      | inr e ↦ elim (bool-cases (b == victim)) [
+        | inl t ↦ let g : ((own == block) || false) ≡ true = (rw t at h) in let bad = or-else (own == block) false g e in cc
+        | inr t ↦ (rw t at h)
+      ]
+    ]
+fewer-works own victim block Evict h = h
+
+-- and on all of them but the victim
+still-works : (own victim block : ℕ) (task : Task) → block ≢ victim
+    → ((own == block) || is_block block (victim_in own (task_without victim task))) ≡ false
+    → ((own == block) || is_block block (victim_in own task)) ≡ false
+still-works own victim block (Acquire acquire) ne h = h
+still-works own victim block (Replace acquire b) ne h =
+    elim (bool-cases (b == victim)) [
+      | inr t ↦ (rw t at h)
+      | inl t ↦
+          let g : ((own == block) || false) ≡ false = (rw t at h) in
+          let here : (own == block) ≡ false = (or-false (own == block) false g).0 in
+          let there : (b == block) ≡ false =
+          elim (bool-cases (b == block)) [ inr n ↦ n | inl n ↦ absurd (ne (sym (eqb-true b block n) ∙ eqb-true b victim t)) ] in
+          rw (here, there) refl
+    ]
+still-works own victim block Evict ne h = h
+
+-- an evict register that closes worked on its own block alone
+gone-works : (own victim block : ℕ) (task : Task) → block ≢ victim → not (is_evict task && (own == victim)) ≡ false
+    → ((own == block) || is_block block (victim_in own task)) ≡ false
+gone-works own victim block (Acquire acquire) ne h = cc
+gone-works own victim block (Replace acquire b) ne h = cc
+gone-works own victim block Evict ne h =
+    elim (bool-cases (own == victim)) [
+      | inr e ↦ let bad : not (own == victim) ≡ true = rw e refl in let worse : true ≡ false = sym bad ∙ h in cc
+      | inl e ↦
+          let other : (own == block) ≡ false =
+          elim (bool-cases (own == block)) [ inr n ↦ n | inl n ↦ absurd (ne (sym (eqb-true own block n) ∙ eqb-true own victim e)) ] in
+          rw other refl
+    ]
+
+-- a block that is not busy afterwards was not before
+was-free : (test : Register → Bool) (f : Register → Register) (block : ℕ) (xs : List Register)
+    → ((q : Register) → test q ≡ false → works_on q block ≡ false)
+    → ((q : Register) → works_on (f q) block ≡ false → works_on q block ≡ false)
+    → is_busy block (map f (filter test xs)) ≡ false → is_busy block xs ≡ false
+was-free test f block [] gone still h = refl
+was-free test f block (q ∷ rest) gone still h =
+    elim (bool-cases (test q)) [
+      | inl e ↦
+          let g : (works_on (f q) block || is_busy block (map f (filter test rest))) ≡ false = (rw e at h) in
+          let both = or-false (works_on (f q) block) (is_busy block (map f (filter test rest))) g in
+          let here = still q both.0 in
+          let more = was-free test f block rest gone still both.1 in
+          rw (here, more) refl
+      | inr e ↦
+          let g : is_busy block (map f (filter test rest)) ≡ false = (rw e at h) in
+          let here = gone q e in
+          let more = was-free test f block rest gone still g in
+          rw (here, more) refl
+    ]
+
+-- where no register serves a block, and it is at rest later, its registers go on or close
+end-agrees : (shape : Shape) (states later : ℕ → Block) (registers : List Register) (victim : ℕ) → Agree shape states registers
+    → ((q : Register) (acquire : Accepted) → IsServed shape (states victim) q acquire → ⊥)
+    → ((block : ℕ) → block ≢ victim → later block ≡ states block) → IsAtRest shape (later victim)
+    → Agree shape later (ended victim registers)
+end-agrees shape states later registers victim agree served other rest =
+    let test : Register → Bool = λ q. not (is_evict q.task && (q.own == victim)) in
+    let f = without_victim victim in
+    record {
+      fits = each-map (Fits shape later) f (filter test registers)
+          (each-filter (λ q. Fits shape later (f q)) test registers
+          (each-follows (Fits shape states) (λ q. test q ≡ true → Fits shape later (f q)) registers
+          (λ q fits stays. record {
+            known = (fits.known.0, below-without shape.blocks q.own victim q.task fits.known.1);
+            places = fits.places;
+            task = same-marks shape later q (task_without victim q.task) (task_without victim q.task) (end-task shape states later q q.task victim (served q) other stays fits.task);
+          })
+          agree.fits));
+      at_rest = λ block free. elim (cases_eq block victim) [
+        | inl e ↦ let P = λ (b : ℕ). IsAtRest shape (later b) in subst P (sym e) rest
+        | inr e ↦
+            let P = λ (s : Block). IsAtRest shape s in
+            subst P (sym (other block e))
+            (agree.at_rest block
+            (was-free test f block registers (λ q t. gone-works q.own victim block q.task e t) (λ q t. still-works q.own victim block q.task e t) free))
+      ];
+      apart = apart-map f (filter test registers) (λ q block on. fewer-works q.own victim block q.task on) (apart-filter test registers agree.apart);
+    }
+
+pub dropping-keeps-agreement : DroppingKeepsAgreement
+dropping-keeps-agreement shape states registers block agree may =
+    let e = Drop block in
+    let idle = may.1.1 in
+    let Q = λ (s : Block). IsAtRest shape s in
+    end-agrees shape states (after_next shape states e) registers block agree
+    (λ q acquire served. let bad : None ≡ Some acquire = sym idle.not_accepted ∙ served.accepted in cc)
+    (λ b ne. elsewhere shape states e b ne)
+    (subst Q (sym (here shape states e block refl)) (record {
+      not_accepted = idle.not_accepted;
+      unprobed = λ x l. free-probe ((states block).client x) (idle.no_probe x l);
+      quiet = idle.quiet;
+    }))
+
+-- with a Put acknowledged, home has no copy
+no-copy : (shape : Shape) (s : Block) (home : Option Line) → IsServiceAt shape s → s.home ≡ home → s.outward ≡ PutAck → s.home ≡ None
+no-copy shape s None kept is out = is
+no-copy shape s (Some line) kept is out = let quiet = kept.quiet line is in let bad : PutAck ≡ Quiet = sym out ∙ quiet in cc
+
+acknowledged : (shape : Shape) (states : ℕ → Block) (registers : List Register) (victim : ℕ) → IsServiceAt shape (states victim)
+    → Agree shape states registers → (states victim).outward ≡ PutAck → IsAtRest shape (record (states victim) { outward = Quiet })
+acknowledged shape states registers victim kept agree out =
+    elim (bool-cases (is_busy victim registers)) [
+      | inr free ↦ let quiet = (agree.at_rest victim free).quiet in let bad : PutAck ≡ Quiet = sym out ∙ quiet in cc
+      | inl busy ↦
+          let who = someone shape states registers victim agree.fits busy in
+          elim who.1 [
+            | inl leaves ↦ record {
+              not_accepted = leaves.not_accepted;
+              unprobed = leaves.gone (no-copy shape (states victim) (states victim).home kept refl out);
+              quiet = refl;
+            }
+            | inr served ↦ let getting = served.1.getting in absurd (rw out at getting)
+          ]
+    ]
+
+pub ending-keeps-agreement : EndingKeepsAgreement
+ending-keeps-agreement shape states registers victim steady agree may =
+    let e = TakePutAck victim in
+    let Q = λ (s : Block). IsAtRest shape s in
+    end-agrees shape states (after_next shape states e) registers victim agree
+    (λ q acquire served. let getting = served.getting in let out = may.1 in absurd (rw out at getting))
+    (λ b ne. elsewhere shape states e b ne)
+    (subst Q (sym (here shape states e victim refl)) (acknowledged shape states registers victim (steady.service victim) agree may.1))
+
+-- ## A Put
+
+put-leaves : (shape : Shape) (s later : Block) (q : Register) (bytes : List ℕ) → Idle shape s
+    → later ≡ record s { home = None; outward = Put bytes } → Leaves shape s q → Leaves shape later q
+put-leaves shape s later q bytes idle now h =
+    let P = λ (b : Block). Leaves shape b q in
+    subst P (sym now) (record {
+      probes = h.probes;
+      not_accepted = h.not_accepted;
+      gone = λ none x l. free-probe (s.client x) (idle.no_probe x l);
+      putting = tt;
+    })
+
+-- a block that is idle is served by no register
+idle-served : (shape : Shape) (s : Block) (q : Register) (acquire : Accepted) → Idle shape s → IsServed shape s q acquire → ⊥
+idle-served shape s q acquire idle served = let bad : None ≡ Some acquire = sym idle.not_accepted ∙ served.accepted in cc
+
+put-away : (shape : Shape) (states later : ℕ → Block) (q : Register) (victim block : ℕ) (bytes : List ℕ)
+    → Idle shape (states block) → later block ≡ record (states block) { home = None; outward = Put bytes }
+    → ((b : ℕ) → b ≢ block → later b ≡ states b) → Leaves shape (states victim) q → Leaves shape (later victim) q
+put-away shape states later q victim block bytes idle now other h =
+    elim (cases_eq victim block) [
+      | inl e ↦
+          let P = λ (b : ℕ). Leaves shape (states b) q in
+          let Q = λ (b : ℕ). Leaves shape (later b) q in
+          subst Q (sym e) (put-leaves shape (states block) (later block) q bytes idle now (subst P e h))
+      | inr e ↦ let P = λ (s : Block). Leaves shape s q in subst P (sym (other victim e)) h
+    ]
+
+put-task : (shape : Shape) (states later : ℕ → Block) (q : Register) (task : Task) (block : ℕ) (bytes : List ℕ)
+    → Idle shape (states block) → later block ≡ record (states block) { home = None; outward = Put bytes }
+    → ((b : ℕ) → b ≢ block → later b ≡ states b) → TaskFits shape states q task → TaskFits shape later q task
+put-task shape states later q (Acquire acquire) block bytes idle now other h =
+    let P = λ (s : Block). IsServed shape s q acquire in
+    let ne = not-own shape states q acquire block (λ a. idle-served shape (states block) q a idle) h in
+    subst P (sym (other q.own ne)) h
+put-task shape states later q (Replace acquire victim) block bytes idle now other h =
+    let P = λ (s : Block). IsServed shape s q acquire in
+    let Q = λ (s : Block). Awaits s in
+    let ne = not-own shape states q acquire block (λ a. idle-served shape (states block) q a idle) h.0 in (
+      subst P (sym (other q.own ne)) h.0,
+      subst Q (sym (other q.own ne)) h.1,
+      put-away shape states later q victim block bytes idle now other h.2,
+    )
+put-task shape states later q Evict block bytes idle now other h = put-away shape states later q q.own block bytes idle now other h
+
+pub putting-keeps-agreement : PuttingKeepsAgreement
+putting-keeps-agreement shape states registers block agree may busy =
+    let e = SendPut block in
+    let s = states block in
+    let now = here shape states e block refl in
+    record {
+      fits = each-follows (Fits shape states) (Fits shape (after_next shape states e)) registers
+          (λ q fits. record {
+            known = fits.known;
+            places = fits.places;
+            task = put-task shape states (after_next shape states e) q q.task block (home_bytes s.home) may.1.1 now (λ b ne. elsewhere shape states e b ne) fits.task;
+          }) agree.fits;
+      at_rest = λ b free. rest-at shape states e b
+          (λ q. let none : is_busy block registers ≡ false = ap (λ (x : ℕ). is_busy x registers) (sym q) ∙ free in
+          let bad : true ≡ false = sym busy ∙ none in
+          cc)
+          (λ q. agree.at_rest b free);
+      apart = agree.apart;
+    }
+
+-- ## The GrantAck is taken
+
+granted-by : (k : Client) → 0 < k.e → is_granted k ≡ true
+granted-by k l =
+    elim (bool-cases (is_granted k)) [
+      | inl e ↦ e
+      | inr e ↦ let free = grant-free k e in absurd (omega (arith, free.1))
+    ]
+
+-- where one client is granted, a Grant is pending
+pending-at : (shape : Shape) (s : Block) (c : ℕ) → c < shape.clients → is_granted (s.client c) ≡ true → grant_pending shape s ≡ true
+pending-at shape s c l h =
+    elim (bool-cases (grant_pending shape s)) [
+      | inl e ↦ e
+      | inr e ↦ let bad : true ≡ false = sym h ∙ any_below-false (λ x. is_granted (s.client x)) shape.clients c e l in cc
+    ]
+
+-- of a block whose Grant is pending, a register with another own block has another victim
+not-victim : (shape : Shape) (states : ℕ → Block) (q : Register) (own : ℕ) (acquire : Accepted) → Fits shape states q
+    → (states own).accepted ≡ Some acquire → (q.own == own) ≡ false → works_on q own ≡ false
+not-victim shape states q own acquire fits accepted ne =
+    elim (bool-cases (works_on q own)) [
+      | inr e ↦ e
+      | inl e ↦ elim (works-how shape states q q.task own fits.task e) [
+        | inl leaves ↦ let bad : Some acquire ≡ None = sym accepted ∙ leaves.not_accepted in cc
+        | inr served ↦ absurd (neq-of q.own own ne served.2)
+      ]
+    ]
+
+-- its own register has no victim any more
+own-alone : (shape : Shape) (states : ℕ → Block) (q : Register) (task : Task) (own block : ℕ) (acquire : Accepted) → q.own ≡ own
+    → (states own).accepted ≡ Some acquire → grant_pending shape (states own) ≡ true → TaskFits shape states q task → block ≢ own
+    → ((q.own == block) || is_block block (victim_in q.own task)) ≡ false
+own-alone shape states q (Acquire a) own block acquire is accepted pending h ne =
+    let other : (q.own == block) ≡ false =
+    elim (bool-cases (q.own == block)) [ inr n ↦ n | inl n ↦ absurd (ne (sym (eqb-true q.own block n) ∙ is)) ] in
+    rw other refl
+own-alone shape states q (Replace a victim) own block acquire is accepted pending h ne =
+    let here : grant_pending shape (states q.own) ≡ true = ap (λ (x : ℕ). grant_pending shape (states x)) is ∙ pending in
+    let line = h.0.held here in
+    let bad : Some line.0 ≡ None = sym line.1 ∙ h.1.lacks in
+    cc
+own-alone shape states q Evict own block acquire is accepted pending h ne =
+    let none : (states own).accepted ≡ None = ap (λ (x : ℕ). (states x).accepted) (sym is) ∙ h.not_accepted in
+    let bad : Some acquire ≡ None = sym accepted ∙ none in
+    cc
+
+-- home holds a block whose Grant is pending
+home-holds : (shape : Shape) (states : ℕ → Block) (registers : List Register) (own : ℕ) (acquire : Accepted)
+    → Agree shape states registers → (states own).accepted ≡ Some acquire → grant_pending shape (states own) ≡ true
+    → (line : Line) × ((states own).home ≡ Some line)
+home-holds shape states registers own acquire agree accepted pending =
+    elim (bool-cases (is_busy own registers)) [
+      | inr free ↦ let bad : None ≡ Some acquire = sym (agree.at_rest own free).not_accepted ∙ accepted in cc
+      | inl busy ↦
+          let who = someone shape states registers own agree.fits busy in
+          elim who.1 [
+            | inl leaves ↦ let bad : Some acquire ≡ None = sym accepted ∙ leaves.not_accepted in cc
+            | inr served ↦ served.1.held pending
+          ]
+    ]
+
+free-closed : (own block : ℕ) (registers : List Register) → Each (λ q. (q.own == own) ≡ true → works_on q block ≡ false) registers
+    → is_busy block (closed own registers) ≡ false → is_busy block registers ≡ false
+free-closed own block [] each h = refl
+free-closed own block (q ∷ rest) each h =
+    elim (bool-cases (q.own == own)) [
+      | inl e ↦
+          let g : is_busy block (closed own rest) ≡ false = (rw e at h) in
+          let here = each.0 e in
+          let more = free-closed own block rest each.1 g in
+          rw (here, more) refl
+      | inr e ↦
+          let g : (works_on q block || is_busy block (closed own rest)) ≡ false = (rw e at h) in
+          let both = or-false (works_on q block) (is_busy block (closed own rest)) g in
+          let here = both.0 in
+          let more = free-closed own block rest each.1 both.1 in
+          rw (here, more) refl
+    ]
+
+not-true : (a : Bool) → not a ≡ true → a ≡ false
+not-true true h = cc
+not-true false h = refl
+
+fewer-acks : (k : Client) → is_granted k ≡ false → is_granted (took_grant_ack k) ≡ false
+fewer-acks k h =
+    let free = grant-free k h in
+    let none : k.e - 1 ≡ 0 = omega (arith, free.1) in
+    free-grant (took_grant_ack k) (free.0, none)
+
+pub closing-keeps-agreement : ClosingKeepsAgreement
+closing-keeps-agreement shape states registers c own steady agree may =
+    let e = TakeGrantAck c own in
+    let s = states own in
+    let kept = steady.service own in
+    let acks : 0 < (s.client c).e = may.1.1 in
+    let pending : IsGrantPending (s.client c) = inr acks in
+    let whose = kept.served c pending in
+    let accepted : s.accepted ≡ Some whose.0 = whose.1 in
+    let granted : grant_pending shape s ≡ true = pending-at shape s c may.1.0 (granted-by (s.client c) acks) in
+    let line = home-holds shape states registers own whose.0 agree accepted granted in
+    let later = after_next shape states e in
+    let Q = λ (b : Block). IsAtRest shape b in
+    record {
+      fits = each-filter (Fits shape later) (λ q. not (q.own == own)) registers
+          (each-follows (Fits shape states) (λ q. not (q.own == own) ≡ true → Fits shape later q) registers
+          (λ q fits stays. fits-elsewhere shape states e q (not-victim shape states q own whose.0 fits accepted (not-true (q.own == own) stays)) fits)
+          agree.fits);
+      at_rest = λ block free. rest-at shape states e block
+          (λ q.
+          let P = λ (x : ℕ). IsAtRest shape (later x) in
+          subst P (sym q) (subst Q (sym (here shape states e own refl)) (record {
+            not_accepted = refl;
+            unprobed = λ x l. (put-probes s c (took_grant_ack (s.client c)) (same-probes (s.client c) _ refl refl refl (fewer-acks (s.client c))) x).brings_none (free-probe (s.client x) (kept.no_probe c x pending));
+            quiet = kept.quiet line.0 line.1;
+          })))
+          (λ ne. agree.at_rest block
+          (free-closed own block registers
+          (each-follows (Fits shape states) (λ q. (q.own == own) ≡ true → works_on q block ≡ false) registers
+          (λ q fits t. own-alone shape states q q.task own block whose.0 (eqb-true q.own own t) accepted granted fits.task ne)
+          agree.fits) free));
+      apart = apart-filter (λ q. not (q.own == own)) registers agree.apart;
     }

@@ -1,3 +1,4 @@
+pub mod Actions
 pub mod Agreement
 pub mod Blocks
 pub mod Closing
@@ -8,4 +9,5 @@ pub mod Order
 pub mod Pending
 pub mod Permitted
 pub mod Probes
+pub mod Probing
 pub mod Tables

@@ -1,5 +1,5 @@
 -- A register that opens fits the state, and the others still do.
-use Rattle.std.proofs.Common.{◌≡◌, ◌≢◌, ℕ, zero, suc, ◌+◌, ◌<◌, ◌≤◌, ◌==◌, ◌||◌, Bool, true, false, List, [], ◌∷◌, ◌++◌, length, replicate, get_or, if◌then◌else◌, Option, Some, None, refl, sym, ◌∙◌, ap, subst, arith, inl, inr, eqb-true, eq-eqb}
+use Rattle.std.proofs.Common.{◌≡◌, ◌≢◌, ℕ, zero, suc, ◌<◌, ◌≤◌, ◌==◌, ◌||◌, true, false, List, [], ◌∷◌, replicate, get_or, Option, Some, None, refl, sym, ◌∙◌, ap, subst, inl, inr, eqb-true, eq-eqb}
 use Rattle.std.specs.Prelude.{◌⊎◌}
 use Rattle.std.specs.List.{list_any}
 use Rattle.tl_types.specs.Message.{is_probe_ack}
@@ -10,7 +10,7 @@ use Rattle.tl_types.specs.declared.permission.ProbeCap.{ProbeCap}
 use Rattle.tl_types.specs.declared.permission.ProbeCap.TheVariants.{ToN}
 use Rattle.tl_protocol.specs.Pending.{IsServiceAt}
 use Rattle.tl_protocol.specs.Protocol.{Block, block_of, after, accepted_from, with_client}
-use Rattle.tl_protocol.specs.Runs.{MayNext, after_next}
+use Rattle.tl_protocol.specs.Runs.{after_next}
 use Rattle.tl_protocol.specs.declared.client.Client.{Client}
 use Rattle.tl_protocol.specs.declared.event.Event.{Event}
 use Rattle.tl_protocol.specs.declared.event.Event.TheVariants.{AcceptAcquire}
@@ -23,16 +23,16 @@ use Rattle.tl_registers.specs.declared.register.Task.{Task}
 use Rattle.tl_registers.specs.declared.register.Task.TheVariants.{Acquire, Replace, Evict}
 use Rattle.tl_registers.specs.declared.way.Way.{Way}
 use Rattle.tl_registers.specs.Agree.{IsAtRest, Each, Agree, IsSteady, IsFreeVictim, EvictingKeepsAgreement, AcceptingKeepsAgreement}
-use Rattle.tl_registers.specs.Fit.{Ask, Answer, ProbeFits, ProbesFit, NobodyIsProbed, IsPutting, IsGetting, Leaves, IsServed, Awaits, TaskFits, Fits}
+use Rattle.tl_registers.specs.Fit.{Ask, Answer, ProbesFit, NobodyIsProbed, IsPutting, IsGetting, Leaves, IsServed, Awaits, Fits}
 use Rattle.tl_registers.specs.NextAction.{probes_before}
-use Rattle.tl_registers.specs.Pending.{has_first, is_probed, is_granted, grant_pending}
-use Rattle.tl_registers.specs.Register.{opened, acquire_task, victim_in, has_probed, is_other, is_block, works_on, IsBelow}
+use Rattle.tl_registers.specs.Pending.{has_first, is_granted, grant_pending}
+use Rattle.tl_registers.specs.Register.{opened, acquire_task, has_probed, works_on}
 use Rattle.tl_registers.specs.Registers.{is_busy}
 use Rattle.tl_registers.proofs.Agreement.{KeepsFor, fits-kept}
 use Rattle.tl_registers.proofs.Blocks.{Keeps, nothing-keeps, put-probes}
 use Rattle.tl_registers.proofs.Pending.{bool-cases, or-false, or-else, any_below-none, free-grant}
 use Rattle.tl_registers.proofs.Probes.{same-probes}
-use Rattle.tl_registers.proofs.Tables.{each-follows, each-both, each-end, busy-end, apart-end}
+use Rattle.tl_registers.proofs.Tables.{each-both, each-end, busy-end, apart-end}
 
 -- ## Nothing is under way
 

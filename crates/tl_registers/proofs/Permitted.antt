@@ -126,11 +126,11 @@ may-probe shape s r asking cap c fits h free =
 -- ## The first case that applies
 
 -- a Probe where there is one to send, nothing while Probes are pending, and else what the later cases say
-abbrev ProbesOr : Option ℕ → ℕ → ProbeCap → Bool → List Case → Due → Type 0
+abbrev pub ProbesOr : Option ℕ → ℕ → ProbeCap → Bool → List Case → Due → Type 0
 ProbesOr to block cap pending later due =
     ((c : ℕ) × (to ≡ Some c) × (due ≡ Probe c block cap)) ⊎ ((to ≡ None) × (pending ≡ false) × (first later ≡ Some due))
 
-probes-first : (to : Option ℕ) (block : ℕ) (cap : ProbeCap) (pending : Bool) (later : List Case) (due : Due)
+pub probes-first : (to : Option ℕ) (block : ℕ) (cap : ProbeCap) (pending : Bool) (later : List Case) (due : Due)
     → first (probes block cap to ∷ (if pending then waits else passes) ∷ later) ≡ Some due
     → ProbesOr to block cap pending later due
 probes-first (Some c) block cap pending later due h = inl (c, refl, cc)
@@ -158,7 +158,7 @@ nobody-granted : (shape : Shape) (s : Block) → IsServiceAt shape s → s.accep
 nobody-granted shape s kept free = grant-none shape s (λ x l. kept.no_grant free x)
 
 -- a block that is gone from home waits for the Put's acknowledgement
-gone : (pending : Bool) (due : Due) → first ((if pending then waits else passes) ∷ passes ∷ waits ∷ []) ≡ Some due → ⊥
+pub gone : (pending : Bool) (due : Due) → first ((if pending then waits else passes) ∷ passes ∷ waits ∷ []) ≡ Some due → ⊥
 gone true due h = cc
 gone false due h = cc
 
@@ -260,12 +260,12 @@ no-room-to-probe shape s acquire x kept is pending other above =
     let bad = not-above (s.client x).recorded acquire.grow few in
     cc
 
-fetched : (t : Bool) (later : List Case) (due : Due)
+pub fetched : (t : Bool) (later : List Case) (due : Due)
     → first ((if t then acts Get else waits) ∷ later) ≡ Some due → (t ≡ true) × (Get ≡ due)
 fetched true later due h = (refl, cc)
 fetched false later due h = cc
 
-granting : (t : Bool) (c : ℕ) (due : Due)
+pub granting : (t : Bool) (c : ℕ) (due : Due)
     → first ((if t then waits else acts (Grant c)) ∷ []) ≡ Some due → (t ≡ false) × (Grant c ≡ due)
 granting true c due h = cc
 granting false c due h = (refl, cc)
@@ -301,7 +301,7 @@ serve-may shape s r acquire (Some line) due is kept fits h =
 -- ## The register
 
 -- while the victim has not left, its cases alone say what comes next
-away-first : (a b c d : Case) (later : List Case) → d ≡ waits → first (a ∷ b ∷ c ∷ d ∷ later) ≡ first (a ∷ b ∷ c ∷ d ∷ [])
+pub away-first : (a b c d : Case) (later : List Case) → d ≡ waits → first (a ∷ b ∷ c ∷ d ∷ later) ≡ first (a ∷ b ∷ c ∷ d ∷ [])
 away-first passes passes passes d later e = rw e refl
 away-first passes passes waits d later e = refl
 away-first passes passes (acts due) d later e = refl

@@ -1,10 +1,9 @@
 -- Lists of registers of which no two work on one block.
-use Rattle.std.proofs.Common.{◌≡◌, ◌≢◌, ℕ, ◌==◌, ◌&&◌, ◌||◌, not, Bool, true, false, List, [], ◌∷◌, ◌++◌, map, filter, Option, Some, None, refl, sym, ◌∙◌, ap, subst, inl, inr, eqb-true, eq-eqb}
-use Rattle.std.specs.Prelude.{◌⊎◌, find}
-use Rattle.std.specs.List.{list_any}
+use Rattle.std.proofs.Common.{◌≡◌, ℕ, ◌==◌, ◌||◌, Bool, true, false, List, [], ◌∷◌, ◌++◌, map, filter, Some, refl, sym, ◌∙◌, ap, inl, inr}
+use Rattle.std.specs.Prelude.{◌⊎◌}
 use Rattle.tl_registers.specs.declared.register.Register.{Register}
 use Rattle.tl_registers.specs.Agree.{Each, AreApart}
-use Rattle.tl_registers.specs.Register.{works_on, is_block, victim_of}
+use Rattle.tl_registers.specs.Register.{works_on}
 use Rattle.tl_registers.specs.Registers.{is_busy, register_of}
 use Rattle.tl_registers.proofs.Pending.{bool-cases, or-false}
 
@@ -131,7 +130,7 @@ all-other r (q ∷ rest) free = (
 )
 
 -- the blocks of a register that is there are busy
-found-busy : (own : ℕ) (xs : List Register) (r : Register) (block : ℕ) → register_of own xs ≡ Some r → works_on r block ≡ true
+pub found-busy : (own : ℕ) (xs : List Register) (r : Register) (block : ℕ) → register_of own xs ≡ Some r → works_on r block ≡ true
     → is_busy block xs ≡ false → ⊥
 found-busy own [] r block h on free = cc
 found-busy own (q ∷ rest) r block h on free =

@@ -1,22 +1,25 @@
 -- When all open registers of a bank agree with the protocol's state (this project's own).
-use Rattle.std.specs.Prelude.{◌≡◌, ◌≢◌, ℕ, ◌<◌, ◌≤◌, Bool, true, false, List, [], ◌∷◌, ◌++◌, Option, Some, None}
-use Rattle.tl_protocol.specs.declared.client.Client.{Client}
+use Rattle.std.specs.Prelude.{◌≡◌, ◌≢◌, ℕ, ◌<◌, ◌≤◌, true, false, List, [], ◌∷◌, ◌++◌, Option, Some, None}
 use Rattle.tl_protocol.specs.declared.event.Event.{Event}
-use Rattle.tl_protocol.specs.declared.event.Event.TheVariants.{Load, Store, SendAcquire, SendRelease, AnswerProbe, TakeGrant, TakeReleaseAck, AcceptAcquire, SendProbe, TakeC, SendGrant, TakeGrantAck, SendGet, Serve, TakeData, Drop, SendPut, TakePutAck}
+use Rattle.tl_protocol.specs.declared.event.Event.TheVariants.{AcceptAcquire, SendProbe, SendGrant, TakeGrantAck, SendGet, Drop, SendPut, TakePutAck}
 use Rattle.tl_protocol.specs.declared.home.Outward.TheVariants.{Quiet}
 use Rattle.tl_protocol.specs.declared.shape.Shape.{Shape}
 use Rattle.tl_protocol.specs.Pending.{IsOrderly, IsServiceAt}
 use Rattle.tl_protocol.specs.Protocol.{Block}
 use Rattle.tl_protocol.specs.Runs.{MayNext, after_next, at_reset, IsRun, end_of}
 use Rattle.tl_types.specs.declared.permission.Grow.{Grow}
+use Rattle.tl_types.specs.declared.permission.ProbeCap.{ProbeCap}
+use Rattle.tl_types.specs.declared.permission.ProbeCap.TheVariants.{ToN}
+use Rattle.tl_protocol.specs.declared.home.Accepted.{Accepted}
 use Rattle.tl_registers.specs.declared.due.Due.{Due}
 use Rattle.tl_registers.specs.declared.due.Due.TheVariants.{Probe, Grant, Get, Put, Drop as d_Drop}
 use Rattle.tl_registers.specs.declared.register.Register.{Register}
-use Rattle.tl_registers.specs.declared.register.Task.TheVariants.{Evict}
+use Rattle.tl_registers.specs.declared.register.Task.{Task}
+use Rattle.tl_registers.specs.declared.register.Task.TheVariants.{Acquire, Replace, Evict}
 use Rattle.tl_registers.specs.declared.way.Way.{Way}
-use Rattle.tl_registers.specs.Fit.{Fits, NobodyIsProbed, event_of}
-use Rattle.tl_registers.specs.NextAction.{next_due}
-use Rattle.tl_registers.specs.Register.{works_on, opened, acquire_task}
+use Rattle.tl_registers.specs.Fit.{Fits, NobodyIsProbed}
+use Rattle.tl_registers.specs.NextAction.{next_due, probes_before}
+use Rattle.tl_registers.specs.Register.{victim_of, works_on, opened, acquire_task}
 use Rattle.tl_registers.specs.Registers.{is_busy, register_of, noted, ended, closed}
 
 -- A block on which nothing is under way that a register must know of.
@@ -76,7 +79,41 @@ EveryRunIsSteady =
 
 -- ## What a register carries out
 
--- A Grant that is permitted keeps the agreement.
+-- the block is the register's own, whose Acquire it serves, and the cap leaves room for the Grant, or it is the victim, probed toN
+abbrev pub IsToProbe : Register → Task → ℕ → ProbeCap → Type 0
+IsToProbe r (Acquire acquire) block cap = (block ≡ r.own) × (cap ≡ probes_before acquire.grow)
+IsToProbe r (Replace acquire victim) block cap = (block ≡ victim) × (cap ≡ ToN)
+IsToProbe r Evict block cap = (block ≡ r.own) × (cap ≡ ToN)
+
+-- what an action says of the register whose it is
+abbrev pub IsOf : Register → Due → Type 0
+IsOf r (Probe c block cap) = IsToProbe r r.task block cap
+IsOf r (Grant c) = (acquire : Accepted) × (r.task ≡ Acquire acquire) × (acquire.client ≡ c)
+IsOf r Get = (acquire : Accepted) × (r.task ≡ Acquire acquire)
+IsOf r (Put block) = victim_of r ≡ Some block
+IsOf r (d_Drop block) = victim_of r ≡ Some block
+
+-- What a register does next is of the block that it works on.
+abbrev pub EveryActionIsOfItsRegister : Type 0
+EveryActionIsOfItsRegister =
+    (shape : Shape) (states : ℕ → Block) (r : Register) (due : Due) → next_due shape states r ≡ Some due → IsOf r due
+
+-- A Probe of a register's, which it notes, keeps the agreement.
+abbrev pub ProbingKeepsAgreement : Type 0
+ProbingKeepsAgreement =
+    (shape : Shape) (states : ℕ → Block) (registers : List Register) (r : Register) (c block : ℕ) (cap : ProbeCap)
+    → IsSteady shape states → Agree shape states registers → register_of r.own registers ≡ Some r → IsToProbe r r.task block cap
+    → MayNext shape states (SendProbe c block cap)
+    → Agree shape (after_next shape states (SendProbe c block cap)) (noted r.own c registers)
+
+-- A Get of a register that serves its own block keeps it.
+abbrev pub FetchingKeepsAgreement : Type 0
+FetchingKeepsAgreement =
+    (shape : Shape) (states : ℕ → Block) (registers : List Register) (r : Register) (acquire : Accepted)
+    → Agree shape states registers → register_of r.own registers ≡ Some r → r.task ≡ Acquire acquire
+    → MayNext shape states (SendGet r.own) → Agree shape (after_next shape states (SendGet r.own)) registers
+
+-- A Grant that is permitted keeps it.
 abbrev pub GrantingKeepsAgreement : Type 0
 GrantingKeepsAgreement =
     (shape : Shape) (states : ℕ → Block) (registers : List Register) (c own : ℕ) → Agree shape states registers

@@ -1,5 +1,5 @@
 //! What ties the register's rule to the protocol.
-ghost use Rattle.tl_registers.specs.Agree.{AgreeAtReset, EveryRunIsSteady, EventsLeaveRegisters};
+ghost use Rattle.tl_registers.specs.Agree.{AgreeAtReset, EveryActionIsOfItsRegister, EveryRunIsSteady, EventsLeaveRegisters, ProbingKeepsAgreement, FetchingKeepsAgreement, GrantingKeepsAgreement, PuttingKeepsAgreement, DroppingKeepsAgreement, EndingKeepsAgreement, AcceptingKeepsAgreement, EvictingKeepsAgreement, ClosingKeepsAgreement};
 ghost use Rattle.tl_registers.specs.Fit.{EveryActionIsPermitted};
 ghost use Rattle.tl_registers.specs.Pending.{PendingIsTheProtocols};
 
@@ -9,15 +9,25 @@ pub fn pending_is_the_protocols()
 {}
 
 /// What a register does next is permitted by the protocol, wherever each block is as every run keeps it and the register fits
-/// the state.
+/// the state, and it is of the block that the register works on.
 pub fn every_action_is_permitted()
-    ensures { EveryActionIsPermitted }
+    ensures permitted { EveryActionIsPermitted }
+    ensures own { EveryActionIsOfItsRegister }
 {}
 
-/// The open registers and the protocol's state agree: at reset, and after each event that no register carries out, opens for
-/// or closes at.
+/// The open registers and the protocol's state agree: at reset, and after each event, with the change of the registers that
+/// goes along with it.
 pub fn registers_agree()
     ensures at_reset { AgreeAtReset }
     ensures steady { EveryRunIsSteady }
     ensures events { EventsLeaveRegisters }
+    ensures probe { ProbingKeepsAgreement }
+    ensures get { FetchingKeepsAgreement }
+    ensures grant { GrantingKeepsAgreement }
+    ensures put { PuttingKeepsAgreement }
+    ensures drop { DroppingKeepsAgreement }
+    ensures put_ack { EndingKeepsAgreement }
+    ensures accept { AcceptingKeepsAgreement }
+    ensures evict { EvictingKeepsAgreement }
+    ensures close { ClosingKeepsAgreement }
 {}
