@@ -109,7 +109,7 @@ impl Links {
         self.queue(client, channel).first()
     }
 
-    /// Whether a message of a block waits on a channel that is looked for.
+    /// Whether some message of a block that waits on a channel is one that is looked for.
     pub fn has(&self, client: ClientId, channel: Channel, block: BlockNo, wanted: Wanted) -> bool
         requires { client < self.now.clients }
         ensures { result ≡ list_any (is_wanted wanted) (bodies_of block (lane_in self.now client channel).messages) }

@@ -97,7 +97,7 @@ impl Queue {
         self.messages.try_remove(key)
     }
 
-    /// Whether a message of a block waits that is looked for.
+    /// Whether some message of a block that waits is one that is looked for.
     pub(crate) fn has(&self, block: BlockNo, wanted: Wanted) -> bool
         ensures { result ≡ list_any (is_wanted wanted) (bodies_of block self.now.messages) }
     {
