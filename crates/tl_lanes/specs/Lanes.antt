@@ -1,5 +1,5 @@
 -- The links as a log leaves them: for each client and channel the messages of all blocks, oldest first, with serials
--- (this project's own; TileLink 1.8, section 4, keeps the messages of a channel in order).
+-- (this project's own; the messages are those of TileLink 1.8, section 9).
 use Rattle.std.specs.Prelude.{ℕ, List, [], ◌∷◌, Option, Some, None, if◌then◌else◌}
 use Rattle.tl_types.specs.Lane.{Lane, empty_lane, is_here, with_message, without_first}
 use Rattle.tl_types.specs.Message.{probe_answer, surrender}

@@ -1,4 +1,4 @@
--- Which loads and stores a client may make.
+-- Which loads and stores a client may make (TileLink 1.8, section 9: Branch reads, Tip reads and writes).
 use Rattle.std.specs.Prelude.{◌≡◌, ◌≢◌, ℕ, ◌+◌, ◌%◌, ◌<◌, ◌≤◌, List, length, slice_range}
 use Rattle.tl_types.specs.declared.permission.Perm.TheVariants.{None as p_None, Tip}
 use Rattle.tl_protocol.specs.Copy.{perm_of, bytes_of}

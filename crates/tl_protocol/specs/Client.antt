@@ -42,7 +42,7 @@ MaySendAcquire k grow = (k.wait ≡ Nothing) × (perm_of k.held ≡ grow_from gr
 abbrev pub MaySendRelease : Client → Prune → Type 0
 MaySendRelease k prune = (k.wait ≡ Nothing) × (perm_of k.held ≡ prune_from prune)
 
--- it answers its first Probe, but not while a Release of its own waits for the answer (section 9, "Concurrency")
+-- it answers its first Probe, but not while a Release of its own waits for the answer
 abbrev pub MayAnswerProbe : Client → Type 0
 MayAnswerProbe k = HasFirst k.b × (k.wait ≢ ForReleaseAck)
 

@@ -1,4 +1,4 @@
--- What a run keeps of the copies of each block, and of their bytes.
+-- What a run keeps of the copies of each block, and of their bytes (this project's own theorems).
 use Rattle.std.specs.Prelude.{◌≡◌, ◌≢◌, ℕ, ◌+◌, ◌-◌, ◌*◌, ◌<◌, ◌≤◌, ◌&&◌, List, [], ◌∷◌, ◌++◌, length, slice_index, Some, if◌then◌else◌, nat_lt, nat_le}
 use Rattle.tl_types.specs.declared.permission.Perm.TheVariants.{None as p_None, Tip}
 use Rattle.tl_protocol.specs.declared.event.Access.{Access}

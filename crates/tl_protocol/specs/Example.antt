@@ -1,4 +1,4 @@
--- A run in which each kind of event stands.
+-- A run in which each kind of event stands (this project's own).
 use Rattle.std.specs.Prelude.{ℕ, List, [], ◌∷◌, ◌++◌}
 use Rattle.tl_types.specs.declared.permission.Grow.TheVariants.{NtoB, NtoT}
 use Rattle.tl_types.specs.declared.permission.Prune.TheVariants.{TtoN, BtoN}

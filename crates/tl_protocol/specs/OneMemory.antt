@@ -1,4 +1,4 @@
--- Loads and stores as those of one memory.
+-- Loads and stores as those of one memory (this project's own theorems).
 use Rattle.std.specs.Prelude.{◌≡◌, ℕ, List, [], ◌∷◌, Bool, true, false, if◌then◌else◌}
 use Rattle.tl_protocol.specs.declared.event.Event.{Event}
 use Rattle.tl_protocol.specs.declared.event.Event.TheVariants.{Load, Store}

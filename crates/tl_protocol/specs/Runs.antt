@@ -1,4 +1,4 @@
--- Runs: lists of events, each permitted where the ones before it lead.
+-- Runs: lists of events, each permitted where the ones before it lead (this project's own).
 use Rattle.std.specs.Prelude.{◌≡◌, ◌↔◌, ℕ, ◌*◌, ◌==◌, List, [], ◌∷◌, ◌++◌, if◌then◌else◌}
 use Rattle.tl_types.specs.Bytes.{image_bytes}
 use Rattle.tl_protocol.specs.declared.event.Event.{Event}

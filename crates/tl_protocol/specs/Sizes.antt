@@ -1,4 +1,4 @@
--- Wherever the bytes of a block are, they are a whole block.
+-- Wherever the bytes of a block are, they are a whole block (this project's own theorems).
 use Rattle.std.specs.Prelude.{◌≡◌, ℕ, List, length, Option, Some, None}
 use Rattle.std.specs.List.{All}
 use Rattle.tl_types.specs.Message.{upward_bytes, downward_bytes}
