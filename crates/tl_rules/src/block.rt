@@ -329,49 +329,49 @@ impl BlockState {
         ensures { IsTrue result ↔ MayOn shape (block_state self.now) event.now }
     {
         match event {
-            Event::Load(access) => match self.clients.get(access.client.index()) {
-                Some(client) => client.may_load(shape, access),
-                None => false,
-            },
-            Event::Store(access) => match self.clients.get(access.client.index()) {
-                Some(client) => client.may_store(shape, access),
-                None => false,
-            },
-            Event::SendAcquire(c, _, grow) => match self.clients.get(c.index()) {
-                Some(client) => client.may_send_acquire(*grow),
-                None => false,
-            },
-            Event::SendRelease(c, _, prune) => match self.clients.get(c.index()) {
-                Some(client) => client.may_send_release(*prune),
-                None => false,
-            },
-            Event::AnswerProbe(c, _) => match self.clients.get(c.index()) {
-                Some(client) => client.may_answer_probe(),
-                None => false,
-            },
-            Event::TakeGrant(c, _) => match self.clients.get(c.index()) {
-                Some(client) => client.may_take_grant(),
-                None => false,
-            },
-            Event::TakeReleaseAck(c, _) => match self.clients.get(c.index()) {
-                Some(client) => client.may_take_release_ack(),
-                None => false,
-            },
-            Event::AcceptAcquire(c, _) => match self.clients.get(c.index()) {
-                Some(client) => client.may_take_a() && self.accepted.is_none(),
-                None => false,
-            },
+            Event::Load(access) => self
+                .clients
+                .get(access.client.index())
+                .is_some_and(|client| client.may_load(shape, access)),
+            Event::Store(access) => self
+                .clients
+                .get(access.client.index())
+                .is_some_and(|client| client.may_store(shape, access)),
+            Event::SendAcquire(c, _, grow) => self
+                .clients
+                .get(c.index())
+                .is_some_and(|client| client.may_send_acquire(*grow)),
+            Event::SendRelease(c, _, prune) => self
+                .clients
+                .get(c.index())
+                .is_some_and(|client| client.may_send_release(*prune)),
+            Event::AnswerProbe(c, _) => self
+                .clients
+                .get(c.index())
+                .is_some_and(|client| client.may_answer_probe()),
+            Event::TakeGrant(c, _) => self
+                .clients
+                .get(c.index())
+                .is_some_and(|client| client.may_take_grant()),
+            Event::TakeReleaseAck(c, _) => self
+                .clients
+                .get(c.index())
+                .is_some_and(|client| client.may_take_release_ack()),
+            Event::AcceptAcquire(c, _) => self
+                .clients
+                .get(c.index())
+                .is_some_and(|client| client.may_take_a() && self.accepted.is_none()),
             Event::SendProbe(c, _, cap) => c.number() < shape.clients
                 && self.may_send_probe(shape, *c, *cap),
-            Event::TakeC(c, _) => match self.clients.get(c.index()) {
-                Some(client) => client.may_take_c(),
-                None => false,
-            },
+            Event::TakeC(c, _) => self
+                .clients
+                .get(c.index())
+                .is_some_and(|client| client.may_take_c()),
             Event::SendGrant(c, _) => c.number() < shape.clients && self.may_send_grant(shape, *c),
-            Event::TakeGrantAck(c, _) => match self.clients.get(c.index()) {
-                Some(client) => client.may_take_grant_ack(),
-                None => false,
-            },
+            Event::TakeGrantAck(c, _) => self
+                .clients
+                .get(c.index())
+                .is_some_and(|client| client.may_take_grant_ack()),
             Event::SendGet(_) => self.may_send_get(),
             Event::Serve(_) => self.outward.may_serve(),
             Event::TakeData(_) => self.outward.is_data(),
