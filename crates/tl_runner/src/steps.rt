@@ -184,3 +184,6 @@ pub(crate) fn serve(
     }
     Ok(())
 }
+
+#[cfg(test)]
+mod tests;
