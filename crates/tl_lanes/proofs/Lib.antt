@@ -4,3 +4,4 @@ pub mod Events
 pub mod First
 pub mod Lists
 pub mod Logs
+pub mod Whole

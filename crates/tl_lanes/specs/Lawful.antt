@@ -3,13 +3,14 @@ use Rattle.std.specs.Prelude.{◌≡◌, ℕ, ◌≤◌, List, [], ◌∷◌, �
 use Rattle.std.specs.List.{All}
 use Rattle.tl_types.specs.Codes.{channel_of}
 use Rattle.tl_types.specs.Lane.{empty_lane, sent, bodies_of, IsFirst}
-use Rattle.tl_types.specs.Message.{body_kind}
+use Rattle.tl_types.specs.Message.{body_kind, body_bytes}
 use Rattle.tl_types.specs.declared.channel.Channel.{Channel}
 use Rattle.tl_types.specs.declared.message.Message.{Message}
 use Rattle.tl_protocol.specs.declared.event.Event.{Event}
 use Rattle.tl_protocol.specs.declared.shape.Shape.{Shape}
 use Rattle.tl_protocol.specs.Protocol.{block_of}
 use Rattle.tl_protocol.specs.Runs.{MayNext, IsRun, end_of}
+use Rattle.tl_protocol.specs.Sizes.{IsWhole}
 use Rattle.tl_lanes.specs.Lanes.{Place, take_of, lane_of, lane_after}
 use Rattle.tl_lanes.specs.Lists.{list_in}
 
@@ -65,3 +66,10 @@ abbrev pub MessagesFitTheirChannels : Type 0
 MessagesFitTheirChannels =
     (shape : Shape) (image : List ℕ) (log : List Event) (x : ℕ) (l : Channel)
     → All (λ message. channel_of (body_kind message.body) ≡ l) (lane_of shape image log x l).messages
+
+-- the data of the first message of a channel, if it has any, is a whole block
+abbrev pub FirstIsWhole : Type 0
+FirstIsWhole =
+    (shape : Shape) (image : List ℕ) (log : List Event) (x : ℕ) (l : Channel) (message : Message) (rest : List Message)
+    → Lawful shape image log → (lane_of shape image log x l).messages ≡ message ∷ rest
+    → IsWhole shape.block_bytes (body_bytes message.body)

@@ -1,6 +1,6 @@
 //! How each event moves the messages between clients and home, and what holds of logs that take them in order.
 ghost use Rattle.tl_lanes.specs.Delivery.{EveryMessageIsDeliveredInOrder};
-ghost use Rattle.tl_lanes.specs.Lawful.{EmptyIsLawful, FirstHeadsItsList, LanesGrowByOne, LawfulGrowsByOne, MessagesFitTheirChannels};
+ghost use Rattle.tl_lanes.specs.Lawful.{EmptyIsLawful, FirstHeadsItsList, FirstIsWhole, LanesGrowByOne, LawfulGrowsByOne, MessagesFitTheirChannels};
 ghost use Rattle.tl_lanes.specs.Lists.{EveryEventIsOfOneClient, EveryEventMovesItsLists, EveryFirstIsFirst, EverySuchEventLeavesHome};
 
 /// Each permitted event takes the front of one list of its client and sends to the end of one, and leaves the other clients;
@@ -20,6 +20,7 @@ pub fn every_lawful_log()
     ensures first { FirstHeadsItsList }
     ensures kinds { MessagesFitTheirChannels }
     ensures begins { EveryFirstIsFirst }
+    ensures whole { FirstIsWhole }
 {}
 
 /// Each message on a channel is taken once, and in the order of sending.

@@ -1,5 +1,6 @@
 use Rattle.tl_lanes.proofs.Logs.{empty_is_lawful, lawful_grows_by_one, lanes_grow_by_one, first_heads_its_list, messages_fit_their_channels}
 use Rattle.tl_lanes.proofs.First.{every_first_is_first}
+use Rattle.tl_lanes.proofs.Whole.{first_is_whole}
 use Rattle.tl_lanes.proofs.laws.every_lawful_log.Goals as goal
 
 pub returns-clause-empty : goal.returns-clause-empty
@@ -19,3 +20,6 @@ returns-clause-kinds c = messages_fit_their_channels
 
 pub returns-clause-begins : goal.returns-clause-begins
 returns-clause-begins c = every_first_is_first
+
+pub returns-clause-whole : goal.returns-clause-whole
+returns-clause-whole c = first_is_whole
