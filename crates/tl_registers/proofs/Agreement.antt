@@ -14,10 +14,10 @@ use Rattle.tl_registers.specs.Agree.{IsAtRest, Each, EventsLeaveRegisters, Agree
 use Rattle.tl_registers.specs.Fit.{ProbesFit, NobodyIsProbed, Leaves, IsServed, Awaits, TaskFits, Fits}
 use Rattle.tl_registers.specs.NextAction.{probes_before}
 use Rattle.tl_registers.specs.Register.{has_probed, is_other, works_on, is_block, victim_in}
-use Rattle.tl_registers.proofs.Probes.{or-true}
 use Rattle.tl_registers.proofs.Blocks.{Keeps, nothing-keeps, event-keeps}
-use Rattle.tl_registers.proofs.Pending.{bool-cases, any_below-none, any_below-false}
+use Rattle.tl_registers.proofs.Pending.{any_below-none, any_below-false}
 use Rattle.tl_registers.specs.Pending.{is_granted, grant_pending}
+use Rattle.tl_registers.proofs.Booleans.{bool-cases, or-true}
 
 -- ## One block
 

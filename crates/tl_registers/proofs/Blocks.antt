@@ -23,8 +23,8 @@ use Rattle.tl_protocol.specs.declared.shape.Shape.{Shape}
 use Rattle.tl_protocol.proofs.Pending.{every_message_leads_down}
 use Rattle.tl_registers.specs.Agree.{LeavesRegisters}
 use Rattle.tl_registers.specs.Fit.{IsPutting, IsGetting}
-use Rattle.tl_registers.proofs.Pending.{bool-cases}
 use Rattle.tl_registers.proofs.Probes.{KeepsProbes, same-probes, released-probes, answered-probes, took_grant-probes, took_c-probes, fewer-grants}
+use Rattle.tl_registers.proofs.Booleans.{bool-cases}
 
 -- What such an event does to a block: no Acquire is accepted or done with, the Probes of each client are kept, and home and what
 -- is outward change only as a register that works on the block can bear.

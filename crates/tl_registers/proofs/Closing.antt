@@ -28,9 +28,10 @@ use Rattle.tl_registers.specs.Registers.{is_busy, closed, ended, is_evict, task_
 use Rattle.tl_registers.proofs.Agreement.{WorksOn}
 use Rattle.tl_registers.proofs.Blocks.{put-probes}
 use Rattle.tl_registers.proofs.Opening.{elsewhere, here, fits-elsewhere}
-use Rattle.tl_registers.proofs.Pending.{bool-cases, or-false, or-else, any_below-false, free-probe, grant-free, free-grant}
+use Rattle.tl_registers.proofs.Pending.{any_below-false, free-probe, grant-free, free-grant}
 use Rattle.tl_registers.proofs.Probes.{same-probes}
 use Rattle.tl_registers.proofs.Tables.{each-follows, each-map, each-filter, apart-map, apart-filter}
+use Rattle.tl_registers.proofs.Booleans.{bool-cases, or-false, or-else, not-true, neq-of}
 
 -- ## Who works on a block
 
@@ -204,9 +205,6 @@ pub not-own : (shape : Shape) (states : ℕ → Block) (q : Register) (acquire :
     → ((a : Accepted) → IsServed shape (states victim) q a → ⊥) → IsServed shape (states q.own) q acquire → q.own ≢ victim
 not-own shape states q acquire victim served h = λ e.
     let P = λ (b : ℕ). IsServed shape (states b) q acquire in served acquire (subst P e h)
-
-pub neq-of : (x w : ℕ) → (x == w) ≡ false → x ≢ w
-neq-of x w e = λ q. let t = eq-eqb x w q in cc
 
 -- where no register serves a block, those that stay go on without it
 end-task : (shape : Shape) (states later : ℕ → Block) (q : Register) (task : Task) (victim : ℕ)
@@ -538,10 +536,6 @@ free-closed own block (q ∷ rest) each h =
           let more = free-closed own block rest each.1 both.1 in
           rw (here, more) refl
     ]
-
-not-true : (a : Bool) → not a ≡ true → a ≡ false
-not-true true h = cc
-not-true false h = refl
 
 fewer-acks : (k : Client) → is_granted k ≡ false → is_granted (took_grant_ack k) ≡ false
 fewer-acks k h =

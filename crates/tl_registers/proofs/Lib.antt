@@ -1,6 +1,7 @@
 pub mod Actions
 pub mod Agreement
 pub mod Blocks
+pub mod Booleans
 pub mod Closing
 pub mod Held
 pub mod Lowest

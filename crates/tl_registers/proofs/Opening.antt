@@ -30,9 +30,10 @@ use Rattle.tl_registers.specs.Register.{opened, acquire_task, has_probed, works_
 use Rattle.tl_registers.specs.Registers.{is_busy}
 use Rattle.tl_registers.proofs.Agreement.{KeepsFor, fits-kept}
 use Rattle.tl_registers.proofs.Blocks.{Keeps, nothing-keeps, put-probes}
-use Rattle.tl_registers.proofs.Pending.{bool-cases, or-false, or-else, any_below-none, free-grant}
+use Rattle.tl_registers.proofs.Pending.{any_below-none, free-grant}
 use Rattle.tl_registers.proofs.Probes.{same-probes}
 use Rattle.tl_registers.proofs.Tables.{each-both, each-end, busy-end, apart-end}
+use Rattle.tl_registers.proofs.Booleans.{bool-cases, or-false, or-else, neqb-of}
 
 -- ## Nothing is under way
 
@@ -103,9 +104,6 @@ evicting-keeps-agreement shape states registers own way steady agree few known f
     }
 
 -- ## A register for an Acquire
-
-neqb-of : (x w : ℕ) → x ≢ w → (x == w) ≡ false
-neqb-of x w ne = elim (bool-cases (x == w)) [ inl q ↦ absurd (ne (eqb-true x w q)) | inr q ↦ q ]
 
 -- an event leaves the other blocks
 pub elsewhere : (shape : Shape) (states : ℕ → Block) (e : Event) (block : ℕ) → block ≢ block_of shape e

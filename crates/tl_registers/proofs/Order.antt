@@ -5,7 +5,7 @@ use Rattle.std.proofs.lemmas.Bool.{cases_eq}
 use Rattle.tl_protocol.specs.declared.event.Event.{Event}
 use Rattle.tl_protocol.specs.declared.event.Event.TheVariants.{SendGrant}
 use Rattle.tl_registers.specs.VictimWay.{grants_block, last_grant_from, last_grant, block_in, first_not_held, IsAmong, IsNoLater, EachBefore, FirstInOrderIsOldest, FreeSetIsInOrder, GrantKeepsOrder, OtherEventsKeepOrder, PlacingKeepsOrder, ClearingKeepsOrder}
-use Rattle.tl_registers.proofs.Pending.{bool-cases}
+use Rattle.tl_registers.proofs.Booleans.{bool-cases, or-true, neq-of, neqb-of}
 
 -- ## The last Grant of a block
 
@@ -45,12 +45,6 @@ last_grant-same : (block : ℕ) (log : List Event) (e : Event) → grants_block 
 last_grant-same block log e n = last_grant-append block log e ∙ rw n refl
 
 -- ## What is among the ways
-
-neq-of : (x w : ℕ) → (x == w) ≡ false → x ≢ w
-neq-of x w e = λ q. let t = eq-eqb x w q in cc
-
-neqb-of : (x w : ℕ) → x ≢ w → (x == w) ≡ false
-neqb-of x w ne = elim (bool-cases (x == w)) [ inl q ↦ absurd (ne (eqb-true x w q)) | inr q ↦ q ]
 
 abbrev without : ℕ → List ℕ → List ℕ
 without w order = filter (λ v. not (v == w)) order
@@ -230,10 +224,6 @@ block_in-cleared : (slots : List (Option ℕ)) (w : ℕ) → block_in (set slots
 block_in-cleared [] w = refl
 block_in-cleared (x ∷ slots) zero = refl
 block_in-cleared (x ∷ slots) (suc w) = block_in-cleared slots w
-
-or-true : (a : Bool) → (a || true) ≡ true
-or-true true = refl
-or-true false = refl
 
 pub placing-keeps-order : PlacingKeepsOrder
 placing-keeps-order slots filling log order w block ordered =

@@ -1,6 +1,5 @@
 -- Whether a Probe or a Grant is pending, as the protocol says it.
-use Rattle.std.proofs.Common.{◌≡◌, ℕ, zero, suc, ◌<◌, ◌==◌, ◌||◌, not, Bool, true, false, List, [], ◌∷◌, refl, ◌∙◌, ap, arith, inl, inr, eqb-true, eq-eqb}
-use Rattle.std.specs.Prelude.{◌⊎◌}
+use Rattle.std.proofs.Common.{◌≡◌, ℕ, zero, suc, ◌<◌, ◌==◌, not, Bool, true, false, List, [], ◌∷◌, refl, ◌∙◌, ap, arith, inl, inr, eqb-true, eq-eqb}
 use Rattle.std.specs.List.{list_any}
 use Rattle.std.proofs.lemmas.Bool.{cases_eq}
 use Rattle.tl_types.specs.Message.{is_probe_ack, is_grant}
@@ -12,25 +11,7 @@ use Rattle.tl_protocol.specs.Client.{NoProbePending, NoGrantPending}
 use Rattle.tl_protocol.specs.Pending.{IsGrantPending}
 use Rattle.tl_protocol.specs.Protocol.{Block, NoProbe, NoGrant}
 use Rattle.tl_registers.specs.Pending.{has_first, is_probed, is_granted, any_below, probe_pending, grant_pending, is_quiet, PendingIsTheProtocols}
-
--- ## Booleans
-
--- a test passes or it does not
-pub bool-cases : (a : Bool) → (a ≡ true) ⊎ (a ≡ false)
-bool-cases true = inl refl
-bool-cases false = inr refl
-
-pub or-false : (a b : Bool) → (a || b) ≡ false → (a ≡ false) × (b ≡ false)
-or-false true b h = cc
-or-false false b h = (refl, h)
-
-not-false : (a : Bool) → not a ≡ false → a ≡ true
-not-false true h = refl
-not-false false h = cc
-
-pub or-else : (a b : Bool) → (a || b) ≡ true → a ≡ false → b ≡ true
-or-else true b h e = cc
-or-else false b h e = h
+use Rattle.tl_registers.proofs.Booleans.{bool-cases, or-false, not-false, or-else}
 
 -- ## Tests below a number
 

@@ -26,15 +26,8 @@ use Rattle.tl_registers.specs.Fit.{event_of, ProbesFit, Leaves, IsServed, TaskFi
 use Rattle.tl_registers.specs.NextAction.{Case, passes, waits, acts, first, probes, probe_victim, await_probes, give_up, await_put, probes_before, fetch, probe_others, grant, serve, cases}
 use Rattle.tl_registers.specs.Pending.{is_probed, probe_pending, grant_pending, is_quiet}
 use Rattle.tl_registers.specs.Register.{has_probed, is_above, is_other, must_probe, or_this, lowest, victim_in, IsBelow}
-use Rattle.tl_registers.proofs.Pending.{bool-cases, any_below-false, probe-free, no-probe, no-grant, grant-none, some-granted, or-else, quiet-is}
-
-and-true : (a b : Bool) → (a && b) ≡ true → (a ≡ true) × (b ≡ true)
-and-true true b h = (refl, h)
-and-true false b h = cc
-
-not-true : (a : Bool) → not a ≡ true → a ≡ false
-not-true true h = cc
-not-true false h = refl
+use Rattle.tl_registers.proofs.Pending.{any_below-false, probe-free, no-probe, no-grant, grant-none, some-granted, quiet-is}
+use Rattle.tl_registers.proofs.Booleans.{bool-cases, or-else, and-true, not-true}
 
 -- ## The lowest client to probe
 

@@ -20,6 +20,7 @@ use Rattle.tl_protocol.proofs.Pending.{every_answer_is_within}
 use Rattle.tl_registers.specs.Fit.{Ask, Answer, ProbeFits}
 use Rattle.tl_registers.specs.Pending.{has_first, is_probed, is_granted}
 use Rattle.tl_registers.specs.Register.{is_above}
+use Rattle.tl_registers.proofs.Booleans.{or-true}
 
 -- What a step of a client does to what is pending at it: it keeps the Probes that fit, and brings no Probe and no Grant up.
 pub record KeepsProbes (k later : Client) : Type 0 where
@@ -28,10 +29,6 @@ pub record KeepsProbes (k later : Client) : Type 0 where
   pub grants_none : is_granted k ≡ false → is_granted later ≡ false
 
 -- ## The messages on C
-
-pub or-true : (t : Bool) → (t || true) ≡ true
-or-true true = refl
-or-true false = refl
 
 any-release : (c : List Upward) (given : Surrender) → list_any is_probe_ack (c ++ Release given ∷ []) ≡ list_any is_probe_ack c
 any-release [] given = refl

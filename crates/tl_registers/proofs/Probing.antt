@@ -25,10 +25,11 @@ use Rattle.tl_registers.specs.Pending.{has_first, is_probed, is_granted, grant_p
 use Rattle.tl_registers.specs.Register.{with_probed, has_probed, is_above, is_other, is_block, victim_in, victim_of, works_on}
 use Rattle.tl_registers.specs.Registers.{is_busy, with_probe_of, noted}
 use Rattle.tl_registers.proofs.Agreement.{on-own, on-victim}
-use Rattle.tl_registers.proofs.Closing.{rest-at, neq-of}
+use Rattle.tl_registers.proofs.Closing.{rest-at}
 use Rattle.tl_registers.proofs.Opening.{elsewhere, here, fits-elsewhere}
-use Rattle.tl_registers.proofs.Pending.{bool-cases, or-false, any_below-none, free-grant}
+use Rattle.tl_registers.proofs.Pending.{any_below-none, free-grant}
 use Rattle.tl_registers.proofs.Tables.{IsOneOf, one-among, found-busy, each-both, each-map, apart-map}
+use Rattle.tl_registers.proofs.Booleans.{bool-cases, or-false, neq-of}
 
 -- ## A Get
 

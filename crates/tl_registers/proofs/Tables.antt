@@ -5,7 +5,7 @@ use Rattle.tl_registers.specs.declared.register.Register.{Register}
 use Rattle.tl_registers.specs.Agree.{Each, AreApart}
 use Rattle.tl_registers.specs.Register.{works_on}
 use Rattle.tl_registers.specs.Registers.{is_busy, register_of}
-use Rattle.tl_registers.proofs.Pending.{bool-cases, or-false}
+use Rattle.tl_registers.proofs.Booleans.{bool-cases, or-false}
 
 -- ## What holds of each register
 

@@ -28,6 +28,7 @@ pub record IsAtRest (shape : Shape) (s : Block) : Type 0 where
   pub unprobed : NobodyIsProbed shape s.client
   pub quiet : s.outward ≡ Quiet
 
+-- it holds of each register
 abbrev pub Each : (Register → Type 0) → List Register → Type 0
 Each P [] = Unit {0}
 Each P (r ∷ rest) = P r × Each P rest
@@ -79,7 +80,7 @@ EveryRunIsSteady =
 
 -- ## What a register carries out
 
--- the block is the register's own, whose Acquire it serves, and the cap leaves room for the Grant, or it is the victim, probed toN
+-- the block is the victim, probed toN, or it is the register's own, and the cap leaves room for the Grant
 abbrev pub IsToProbe : Register → Task → ℕ → ProbeCap → Type 0
 IsToProbe r (Acquire acquire) block cap = (block ≡ r.own) × (cap ≡ probes_before acquire.grow)
 IsToProbe r (Replace acquire victim) block cap = (block ≡ victim) × (cap ≡ ToN)
