@@ -21,7 +21,7 @@ use Rattle.tl_protocol.specs.declared.shape.Shape.{Shape}
 use Rattle.tl_registers.specs.declared.register.Register.{Register}
 use Rattle.tl_registers.specs.declared.register.Task.{Task}
 use Rattle.tl_registers.specs.declared.register.Task.TheVariants.{Acquire, Replace, Evict}
-use Rattle.tl_registers.specs.declared.way.Way.{Way}
+use Rattle.tl_registers.specs.declared.way_of_set.WayOfSet.{WayOfSet}
 use Rattle.tl_registers.specs.Agree.{IsAtRest, Each, Agree, IsSteady, IsFreeVictim, EvictingKeepsAgreement, AcceptingKeepsAgreement}
 use Rattle.tl_registers.specs.Fit.{Ask, Answer, ProbesFit, NobodyIsProbed, IsPutting, IsGetting, Leaves, IsServed, Awaits, Fits}
 use Rattle.tl_registers.specs.NextAction.{probes_before}
@@ -81,7 +81,7 @@ leaves-fresh shape s r none rest = record {
 
 -- ## An evict register
 
-evict-works : (own block : ℕ) (way : Way) → works_on (opened own way Evict) block ≡ true → own ≡ block
+evict-works : (own block : ℕ) (way : WayOfSet) → works_on (opened own way Evict) block ≡ true → own ≡ block
 evict-works own block way on =
     elim (bool-cases (own == block)) [
       | inl e ↦ eqb-true own block e
@@ -155,7 +155,7 @@ served-fresh shape s r c grow rest none inside kept free = record {
       cc;
 }
 
-acquire-works : (own block : ℕ) (way : Way) (acquire : Accepted) (victim : Option ℕ)
+acquire-works : (own block : ℕ) (way : WayOfSet) (acquire : Accepted) (victim : Option ℕ)
     → works_on (opened own way (acquire_task acquire victim)) block ≡ true → (own ≡ block) ⊎ (victim ≡ Some block)
 acquire-works own block way acquire None on =
     elim (bool-cases (own == block)) [
@@ -168,7 +168,7 @@ acquire-works own block way acquire (Some victim) on =
       | inr e ↦ inr (ap Some (eqb-true victim block (or-else (own == block) (victim == block) on e)))
     ]
 
-own-works : (own : ℕ) (way : Way) (task : Task) → works_on (opened own way task) own ≡ true
+own-works : (own : ℕ) (way : WayOfSet) (task : Task) → works_on (opened own way task) own ≡ true
 own-works own way task = rw (eq-eqb own own refl) refl
 
 free-of : (shape : Shape) (states : ℕ → Block) (registers : List Register) (own block : ℕ) (victim : Option ℕ)
@@ -187,7 +187,7 @@ free-of shape states registers own block (Some victim) free out which =
     ]
 
 acquire-fits : (shape : Shape) (states later : ℕ → Block) (registers : List Register) (c own : ℕ) (grow : Grow) (rest : List Grow)
-    (way : Way) (victim : Option ℕ) → IsSteady shape states → Agree shape states registers → shape.clients ≤ 16 → own < shape.blocks → c < shape.clients
+    (way : WayOfSet) (victim : Option ℕ) → IsSteady shape states → Agree shape states registers → shape.clients ≤ 16 → own < shape.blocks → c < shape.clients
     → is_busy own registers ≡ false → IsFreeVictim shape states registers own victim
     → later own ≡ accepted-block (states own) c grow rest → ((block : ℕ) → block ≢ own → later block ≡ states block)
     → Fits shape later (opened own way (acquire_task (record { client = c; grow = grow }) victim))

@@ -16,7 +16,7 @@ use Rattle.tl_registers.specs.declared.due.Due.TheVariants.{Probe, Grant, Get, P
 use Rattle.tl_registers.specs.declared.register.Register.{Register}
 use Rattle.tl_registers.specs.declared.register.Task.{Task}
 use Rattle.tl_registers.specs.declared.register.Task.TheVariants.{Acquire, Replace, Evict}
-use Rattle.tl_registers.specs.declared.way.Way.{Way}
+use Rattle.tl_registers.specs.declared.way_of_set.WayOfSet.{WayOfSet}
 use Rattle.tl_registers.specs.Fit.{Fits, NobodyIsProbed}
 use Rattle.tl_registers.specs.NextAction.{next_due, probes_before}
 use Rattle.tl_registers.specs.Register.{victim_of, works_on, opened, acquire_task}
@@ -144,7 +144,7 @@ IsFreeVictim shape states registers own (Some victim) =
 -- A register that opens for an accepted Acquire, of a block and a victim that no register works on, keeps the agreement.
 abbrev pub AcceptingKeepsAgreement : Type 0
 AcceptingKeepsAgreement =
-    (shape : Shape) (states : ℕ → Block) (registers : List Register) (c own : ℕ) (grow : Grow) (rest : List Grow) (way : Way)
+    (shape : Shape) (states : ℕ → Block) (registers : List Register) (c own : ℕ) (grow : Grow) (rest : List Grow) (way : WayOfSet)
     (victim : Option ℕ) → IsSteady shape states → Agree shape states registers → shape.clients ≤ 16
     → MayNext shape states (AcceptAcquire c own) → ((states own).client c).a ≡ grow ∷ rest → is_busy own registers ≡ false
     → IsFreeVictim shape states registers own victim
@@ -154,7 +154,7 @@ AcceptingKeepsAgreement =
 -- An evict register that opens for a block that no register works on keeps it.
 abbrev pub EvictingKeepsAgreement : Type 0
 EvictingKeepsAgreement =
-    (shape : Shape) (states : ℕ → Block) (registers : List Register) (own : ℕ) (way : Way) → IsSteady shape states
+    (shape : Shape) (states : ℕ → Block) (registers : List Register) (own : ℕ) (way : WayOfSet) → IsSteady shape states
     → Agree shape states registers → shape.clients ≤ 16 → own < shape.blocks → is_busy own registers ≡ false
     → Agree shape states (registers ++ opened own way Evict ∷ [])
 

@@ -8,10 +8,10 @@ use Rattle.tl_protocol.specs.Protocol.{Block}
 use Rattle.tl_registers.specs.declared.register.Task.{Task}
 use Rattle.tl_registers.specs.declared.register.Task.TheVariants.{Acquire, Replace, Evict}
 use Rattle.tl_registers.specs.declared.register.Register.{Register}
-use Rattle.tl_registers.specs.declared.way.Way.{Way}
+use Rattle.tl_registers.specs.declared.way_of_set.WayOfSet.{WayOfSet}
 
 -- a register that has probed nobody yet
-abbrev pub opened : ℕ → Way → Task → Register
+abbrev pub opened : ℕ → WayOfSet → Task → Register
 opened own way task = record { own = own; way = way; task = task; probed = replicate 16 false }
 
 -- what a register is open for that serves an Acquire, where its way has a victim or none

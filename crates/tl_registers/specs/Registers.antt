@@ -7,7 +7,7 @@ use Rattle.tl_registers.specs.declared.due.Due.{Due}
 use Rattle.tl_registers.specs.declared.register.Register.{Register}
 use Rattle.tl_registers.specs.declared.register.Task.{Task}
 use Rattle.tl_registers.specs.declared.register.Task.TheVariants.{Acquire, Replace, Evict}
-use Rattle.tl_registers.specs.declared.way.Way.{Way}
+use Rattle.tl_registers.specs.declared.way_of_set.WayOfSet.{WayOfSet}
 use Rattle.tl_registers.specs.NextAction.{next_due}
 use Rattle.tl_registers.specs.Register.{works_on, with_probed}
 
@@ -25,7 +25,7 @@ abbrev pub is_busy : ℕ → List Register → Bool
 is_busy block registers = list_any (λ r. works_on r block) registers
 
 -- a register holds the way
-abbrev pub is_held : Way → List Register → Bool
+abbrev pub is_held : WayOfSet → List Register → Bool
 is_held way registers = list_any (λ r. (r.way.set == way.set) && (r.way.way == way.way)) registers
 
 -- the ways of a set that registers hold, by the age of the registers

@@ -10,7 +10,7 @@ mod registers;
 #[cfg(test)]
 mod tests;
 mod victim_way;
-mod way;
+mod way_of_set;
 
 pub use client_set::ClientSet;
 pub use due::Due;
@@ -19,4 +19,4 @@ pub use protocol::Protocol;
 pub use register::{Register, Task};
 pub use registers::Registers;
 pub use victim_way::first_in_order_is_oldest;
-pub use way::Way;
+pub use way_of_set::WayOfSet;

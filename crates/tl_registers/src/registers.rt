@@ -8,7 +8,7 @@ ghost use Rattle.tl_registers.specs.Registers.{register_of, due_of, is_busy, is_
 use crate::due::Due;
 use crate::protocol::Protocol;
 use crate::register::{Register, Task};
-use crate::way::Way;
+use crate::way_of_set::WayOfSet;
 use arrayvec::ArrayVec;
 use std::marker::Model;
 use tl_protocol::Accepted;
@@ -79,7 +79,7 @@ impl Registers {
         &mut self,
         own: BlockNo,
         acquire: Accepted,
-        way: Way,
+        way: WayOfSet,
         victim: Option<BlockNo>,
     )
         requires { length self.old.open_registers < self.old.limit }
@@ -92,7 +92,7 @@ impl Registers {
     }
 
     /// Opens a register that sends the block `own` away, which is in a way.
-    pub fn open_evict(&mut self, own: BlockNo, way: Way)
+    pub fn open_evict(&mut self, own: BlockNo, way: WayOfSet)
         requires { length self.old.open_registers < self.old.limit }
         ensures { self.new ≡ record self.old {
           open_registers = self.old.open_registers ++ opened own way Task.Evict ∷ [];
@@ -129,7 +129,7 @@ impl Registers {
     }
 
     /// Whether a register holds a way.
-    pub fn is_held(&self, way: Way) -> bool
+    pub fn is_held(&self, way: WayOfSet) -> bool
         ensures { result ≡ is_held way self.now.open_registers }
     {
         self.as_slice().iter().any(|register| register.way.set == way.set

@@ -7,7 +7,7 @@ ghost use Rattle.tl_protocol.specs.Client.{fresh_client};
 ghost use Rattle.tl_registers.specs.declared.register.Task.{Task};
 ghost use Rattle.tl_registers.specs.Register.{opened};
 
-use crate::{Due, Protocol, Register, Registers, Task, Way};
+use crate::{Due, Protocol, Register, Registers, Task, WayOfSet};
 use tl_protocol::Accepted;
 use tl_types::{BlockNo, ClientId, Grow, Perm, ProbeCap};
 
@@ -139,7 +139,11 @@ fn away() -> Sight {
 fn evicting() -> Register
     ensures { result ≡ opened 1 (record { set = 0; way = 3 }) Task.Evict }
 {
-    Register::open(BlockNo::new(VICTIM), Way { set: 0, way: 3 }, Task::Evict)
+    Register::open(
+        BlockNo::new(VICTIM),
+        WayOfSet { set: 0, way: 3 },
+        Task::Evict,
+    )
 }
 
 fn acquire(number: u32, grow: Grow) -> Accepted
@@ -156,7 +160,7 @@ fn serving(number: u32, grow: Grow) -> Register
 {
     Register::open(
         BlockNo::new(OWN),
-        Way { set: 0, way: 3 },
+        WayOfSet { set: 0, way: 3 },
         Task::Acquire(acquire(number, grow)),
     )
 }
@@ -280,7 +284,7 @@ fn a_victim_leaves_before_the_own_block_is_served(rt: HostRuntime) {
     registers.open_acquire(
         own,
         acquire(0, Grow::NtoB),
-        Way { set: 0, way: 3 },
+        WayOfSet { set: 0, way: 3 },
         Some(victim),
     );
     let mut scene = Scene {
@@ -321,8 +325,8 @@ fn registers_open_go_on_and_close(rt: HostRuntime) {
     let first = BlockNo::new(4);
     let second = BlockNo::new(9);
     let victim = BlockNo::new(5);
-    let low = Way { set: 1, way: 0 };
-    let high = Way { set: 1, way: 2 };
+    let low = WayOfSet { set: 1, way: 0 };
+    let high = WayOfSet { set: 1, way: 2 };
     let mut registers = Registers::new(2);
     assert!(rt; registers.is_empty());
     registers.open_acquire(first, acquire(0, Grow::NtoT), low, Some(victim));
@@ -332,7 +336,7 @@ fn registers_open_go_on_and_close(rt: HostRuntime) {
     assert!(rt;
         registers.is_held(low)
             && registers.is_held(high)
-            && !registers.is_held(Way { set: 1, way: 1 })
+            && !registers.is_held(WayOfSet { set: 1, way: 1 })
     );
     assert_eq!(rt; registers.held_in(1).as_slice(), [0, 2].as_slice());
 
@@ -359,8 +363,18 @@ fn a_probe_is_noted_at_its_register(rt: HostRuntime) {
     let second = BlockNo::new(9);
     let client = ClientId::new(3);
     let mut registers = Registers::new(8);
-    registers.open_acquire(first, acquire(0, Grow::NtoT), Way { set: 0, way: 0 }, None);
-    registers.open_acquire(second, acquire(1, Grow::NtoT), Way { set: 0, way: 1 }, None);
+    registers.open_acquire(
+        first,
+        acquire(0, Grow::NtoT),
+        WayOfSet { set: 0, way: 0 },
+        None,
+    );
+    registers.open_acquire(
+        second,
+        acquire(1, Grow::NtoT),
+        WayOfSet { set: 0, way: 1 },
+        None,
+    );
     registers.note_probe(second, client);
     let has_probed = |block: BlockNo| match registers.of_block(block) {
         Some(register) => register.probed.contains(client),

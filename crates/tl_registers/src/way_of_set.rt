@@ -2,7 +2,7 @@
 
 /// A way, by the number of its set and its own number in that set.
 #[derive(Clone, Copy, Debug, PartialEq, Eq)]
-pub struct Way {
+pub struct WayOfSet {
     pub set: u32,
     pub way: u32,
 }
