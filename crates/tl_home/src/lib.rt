@@ -1,0 +1,7 @@
+//! What home holds of one bank beside the clients' part: the directory with home's copies, what passes between home and
+//! the memory, and the memory.
+#![tactic(auto)]
+
+mod directory;
+
+pub use directory::Directory;
