@@ -422,6 +422,23 @@ replaces m g bank t after s store block set way old new view held tag size lines
       held = here; tag = tag; geometry = refl; bank = refl; sets = size.sets; ways = size.ways; lines = lines; bytes = bytes
     }) held
 
+-- what a write of bytes leaves elsewhere
+pub written_other : (g : Numbers) (bank : ℕ) (t : Table) (s store : Store) (set way : ℕ) (bytes : List ℕ) → IsDirectory (dir g bank t s)
+    → ((x y : ℕ) → y < s.ways → bytes_at store x y ≡ (if x == set && y == way then bytes else bytes_at s x y))
+    → (x y : ℕ) → y < t.ways → (x == set && y == way) ≡ false → bytes_at store x y ≡ bytes_at s x y
+written_other g bank t s store set way bytes sound written x y inside other =
+    written x y (subst (λ n. y < n) (sym (sound.store_ways ∙ sym sound.ways)) inside) ∙ ap (λ there. if there then bytes else bytes_at s x y) other
+
+-- and in its place
+pub written_here : (m : Directory) (g : Numbers) (bank : ℕ) (t : Table) (s store : Store) (block set way : ℕ) (entry : Entry) (bytes : List ℕ)
+    → dir g bank t s ≡ m → IsDirectory (dir g bank t s) → IsHeld m block set way entry
+    → ((x y : ℕ) → y < s.ways → bytes_at store x y ≡ (if x == set && y == way then bytes else bytes_at s x y))
+    → bytes_at store set way ≡ bytes
+written_here m g bank t s store block set way entry bytes view sound held written =
+    let inside : way < t.ways = subst (λ (d : Directory). way < d.table.ways) (sym view) held.inside in
+    written set way (subst (λ n. way < n) (sym (sound.store_ways ∙ sym sound.ways)) inside)
+    ∙ ap (λ there. if there then bytes else bytes_at s set way) (here_true set way)
+
 -- an entry is replaced by itself where the lines stay
 pub replaces-itself : (m : Directory) (g : Numbers) (bank : ℕ) (t after : Table) (s : Store) (block set way : ℕ) (old : Entry)
     → dir g bank t s ≡ m → IsHeld m block set way old → IsSameSize t after → ((x y : ℕ) → line_at after x y ≡ line_at t x y)

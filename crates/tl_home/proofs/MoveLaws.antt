@@ -268,3 +268,11 @@ IsDirectory-filled g bank t after s store block set way entry sound inside place
         let sets' : x ≡ set = eqb-true x set (both (x == set) (y == way) is).0 in
         let here : place_of g block ≡ record { bank = bank; set = x; tag = line.tag } = rw (sets', ← same) place in
         record { block = block; inside = inside; place = here }
+
+-- the place of a block of the bank
+pub own_place : (m : Directory) (g : Numbers) (bank : ℕ) (t : Table) (s : Store) (block set tag : ℕ) → dir g bank t s ≡ m
+    → bank_of m.geometry block ≡ m.bank → set ≡ set_of g block → tag ≡ tag_of g block
+    → place_of g block ≡ record { bank = bank; set = set; tag = tag }
+own_place m g bank t s block set tag view own sets tags =
+    let own' : bank_of g block ≡ bank = subst (λ (x : Directory). bank_of x.geometry block ≡ x.bank) (sym view) own in
+    rw (own', sets, tags) refl

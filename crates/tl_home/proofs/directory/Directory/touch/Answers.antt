@@ -16,7 +16,7 @@ pub returns-clause-ways : goal.returns-clause-ways
 returns-clause-ways c = ways-kept (step c)
 
 pub returns-clause-lines : goal.returns-clause-lines
-returns-clause-lines c = lines-kept (step c) ? refl
+returns-clause-lines c = lines-kept (step c) (ap (λ (d : Directory). bytes_at d.store c.unwrap-held.result.set c.unwrap-held.result.way) c.self.view_is) refl
 
 pub returns-clause-recorded : goal.returns-clause-recorded
 returns-clause-recorded c = recorded-kept (step c) (λ x. refl)
