@@ -1,1 +1,3 @@
 pub mod Directories
+pub mod Crossings
+pub mod Homes

@@ -2,6 +2,9 @@
 //! the memory, and the memory.
 #![tactic(auto)]
 
+mod backing;
+mod crossings;
 mod directory;
+mod home;
 
-pub use directory::Directory;
+pub use home::Home;
