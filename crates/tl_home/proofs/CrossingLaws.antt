@@ -124,6 +124,12 @@ outward_of-place block [] place d p = absurd (omega (arith, p.inside))
 outward_of-place block (e ∷ rest) zero d p = rw (eq-eqb e.block block (p.here d)) refl
 outward_of-place block (e ∷ rest) (suc i) d p = rw (head_differs block e rest i p) (outward_of-place block rest i d (tail_place block e rest i p))
 
+-- and something does
+pub passes-at : (block : ℕ) (list : List Crossing) (place : ℕ) → IsPlace block list place → AreApart list → outward_of block list ≢ Quiet
+passes-at block [] place p apart = absurd (omega (arith, p.inside))
+passes-at block (e ∷ rest) zero p apart = rw (eq-eqb e.block block (p.here e)) apart.0
+passes-at block (e ∷ rest) (suc i) p apart = rw (head_differs block e rest i p) (passes-at block rest i (tail_place block e rest i p) apart.2)
+
 -- taking it out
 pub remove-place : (block : ℕ) (list : List Crossing) (place : ℕ) → IsPlace block list place → remove list place ≡ without block list
 remove-place block [] place p = absurd (omega (arith, p.inside))

@@ -3,7 +3,7 @@ use Rattle.std.specs.Prelude.{remove}
 use Rattle.tl_protocol.specs.declared.home.Outward.TheVariants.{Quiet}
 use Rattle.tl_home.specs.declared.crossings.Crossing.{Crossing}
 use Rattle.tl_home.specs.Crossings.{AreApart, outward_of, without, IsPlace}
-use Rattle.tl_home.proofs.CrossingLaws.{AreApart-removed, remove-place, outward_of-place, outward_of-without, outward_of-quiet, length-without}
+use Rattle.tl_home.proofs.CrossingLaws.{passes-at, AreApart-removed, remove-place, outward_of-place, outward_of-without, outward_of-quiet, length-without}
 use Rattle.tl_home.proofs.crossings.Crossings.take.Goals as goal
 
 pub invariant_of-self : goal.invariant_of-self
@@ -36,7 +36,9 @@ returns-in-Some-clause-count c = λ passes.
     ap (λ (list : List Crossing). length list + 1) (rest c) ∙ length-without c.args.block c.args.self.now passes
 
 pub returns-in-Some-clause-unchanged : goal.returns-in-Some-clause-unchanged
-returns-in-Some-clause-unchanged c = λ quiet. ?
+returns-in-Some-clause-unchanged c = λ quiet.
+    absurd (passes-at c.args.block c.args.self.now c.in-Some.place c.in-Some.ensures
+    (subst (λ (list : List Crossing). AreApart list) c.self.view_is c.self.invariant) quiet)
 
 pub returns-in-None-clause-outward : goal.returns-in-None-clause-outward
 returns-in-None-clause-outward c = outward_of-quiet c.args.block c.args.self.now c.in-None.ensures
