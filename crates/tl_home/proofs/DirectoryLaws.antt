@@ -129,6 +129,15 @@ pub line_of-none : (d : Directory) (block : ℕ) → way_of d block ≡ None →
 unfolding line_of
 line_of-none d block none = rw none refl
 
+-- a block without a line lies nowhere
+pub way_of-no_line : (d : Directory) (block : ℕ) → line_of d block ≡ None → way_of d block ≡ None
+unfolding line_of
+way_of-no_line d block none = of_line (way_of d block) none
+  where
+    of_line : (way : Option ℕ) → option_map (copy_at d (set_of d.geometry block)) way ≡ None → way ≡ None
+    of_line None is = refl
+    of_line (Some way) is = absurd (cc)
+
 pub recorded_of-none : (d : Directory) (client block : ℕ) → way_of d block ≡ None → recorded_of d client block ≡ NoAccess
 unfolding recorded_of
 recorded_of-none d client block none = rw none refl

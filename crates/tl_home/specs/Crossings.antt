@@ -1,6 +1,6 @@
 -- What passes between home and the memory, of the few blocks of which anything does (TileLink 1.8, sections 6 and 8; the list is
 -- this project's own).
-use Rattle.std.specs.Prelude.{◌≡◌, ◌≢◌, ℕ, ◌<◌, ◌==◌, List, [], ◌∷◌, length, slice_index_or, if◌then◌else◌}
+use Rattle.std.specs.Prelude.{◌≡◌, ◌≢◌, ℕ, ◌<◌, ◌≤◌, ◌==◌, List, [], ◌∷◌, length, slice_index_or, if◌then◌else◌}
 use Rattle.tl_protocol.specs.declared.home.Outward.{Outward}
 use Rattle.tl_protocol.specs.declared.home.Outward.TheVariants.{Quiet}
 use Rattle.tl_home.specs.declared.crossings.Crossing.{Crossing}
@@ -14,6 +14,11 @@ outward_of block (first ∷ rest) = if first.block == block then first.outward e
 abbrev pub AreApart : List Crossing → Type 0
 AreApart [] = Unit {0}
 AreApart (first ∷ rest) = (first.outward ≢ Quiet) × (outward_of first.block rest ≡ Quiet) × AreApart rest
+
+-- such a list has at most eight
+pub record AreCrossings (list : List Crossing) : Type 0 where
+  pub apart : AreApart list
+  pub few : length list ≤ 8
 
 -- the list without the first that is of a block
 abbrev pub without : ℕ → List Crossing → List Crossing

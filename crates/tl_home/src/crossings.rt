@@ -39,11 +39,11 @@ impl Model for Crossings {
 
     ghost Value = { List Crossing };
 
-    ghost use Rattle.tl_home.specs.Crossings.{AreApart};
+    ghost use Rattle.tl_home.specs.Crossings.{AreCrossings};
 
     ghost view = { λ c. c.list.items };
 
-    ghost invariant = { λ c. AreApart c.list.items };
+    ghost invariant = { λ c. AreCrossings c.list.items };
 }
 
 impl Crossings {
@@ -111,6 +111,7 @@ impl Crossings {
         ensures taken { result ≡ outward_of block self.old }
         ensures outward { (b : ℕ) → outward_of b self.new ≡ (if b == block then Quiet else outward_of b self.old) }
         ensures count { outward_of block self.old ≢ Quiet → length self.new + 1 ≡ length self.old }
+        ensures room { outward_of block self.old ≢ Quiet → length self.new < 8 }
         ensures unchanged { outward_of block self.old ≡ Quiet → self.new ≡ self.old }
     {
         match self.place_of(block) {

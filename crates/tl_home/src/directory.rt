@@ -39,6 +39,8 @@ impl Directory {
         ensures geometry { IfOk result (λ d. d.geometry ≡ geometry) }
         ensures bank { IfOk result (λ d. d.bank ≡ bank) }
         ensures ways { IfOk result (λ d. (b : ℕ) → way_of d b ≡ None) }
+        ensures lines { IfOk result (λ d. (b : ℕ) → line_of d b ≡ None) }
+        ensures recorded { IfOk result (λ d. (c b : ℕ) → recorded_of d c b ≡ NoAccess) }
         ensures free { IfOk result (λ d. (set way : ℕ) → free_in d set way ≡ true) }
         ensures orders { IfOk result (λ d. (set : ℕ) → set < geometry.sets → order_of d set ≡ rising geometry.ways) }
     {
@@ -119,7 +121,7 @@ impl Directory {
     /// Records a permission for a client of a block that home holds. Beside Tip no other client may have any.
     pub fn record(&mut self, client: ClientId, block: BlockNo, perm: Perm)
         requires block { block < self.old.geometry.memory_blocks }
-        requires held { IsSome (way_of self.old block) }
+        requires held { IsSome (line_of self.old block) }
         requires known { client < 16 }
         requires tip { perm ≡ Tip → (other : ℕ) → other ≢ client → recorded_of self.old other block ≡ NoAccess }
         requires branch { perm ≡ Branch → (other : ℕ) → other ≢ client → recorded_of self.old other block ≢ Tip }
@@ -138,7 +140,7 @@ impl Directory {
     /// Writes the bytes of a block that home holds: its copy is then dirty.
     pub fn write(&mut self, block: BlockNo, bytes: BlockBytes)
         requires block { block < self.old.geometry.memory_blocks }
-        requires held { IsSome (way_of self.old block) }
+        requires held { IsSome (line_of self.old block) }
         ensures same { SameBank self.old self.new }
         ensures ways { (b : ℕ) → way_of self.new b ≡ way_of self.old b }
         ensures lines { (b : ℕ) → line_of self.new b ≡ (if b == block then Some (record { bytes = bytes; dirty = true }) else line_of self.old b) }
@@ -155,7 +157,7 @@ impl Directory {
     /// Moves the way of a block that home holds last in the order of its set.
     pub fn touch(&mut self, block: BlockNo)
         requires block { block < self.old.geometry.memory_blocks }
-        requires held { IsSome (way_of self.old block) }
+        requires held { IsSome (line_of self.old block) }
         ensures same { SameBank self.old self.new }
         ensures ways { (b : ℕ) → way_of self.new b ≡ way_of self.old b }
         ensures lines { (b : ℕ) → line_of self.new b ≡ line_of self.old b }
@@ -172,7 +174,7 @@ impl Directory {
     /// Gives up home's copy of a block that home holds, and what it records of it.
     pub fn clear(&mut self, block: BlockNo)
         requires block { block < self.old.geometry.memory_blocks }
-        requires held { IsSome (way_of self.old block) }
+        requires held { IsSome (line_of self.old block) }
         ensures same { SameBank self.old self.new }
         ensures ways { (b : ℕ) → way_of self.new b ≡ (if b == block then None else way_of self.old b) }
         ensures lines { (b : ℕ) → line_of self.new b ≡ (if b == block then None else line_of self.old b) }
@@ -190,7 +192,7 @@ impl Directory {
     pub fn place(&mut self, block: BlockNo, way: Way, bytes: BlockBytes)
         requires block { block < self.old.geometry.memory_blocks }
         requires own { bank_of self.old.geometry block ≡ self.old.bank }
-        requires away { way_of self.old block ≡ None }
+        requires away { line_of self.old block ≡ None }
         requires way { way < self.old.geometry.ways }
         requires free { free_in self.old (set_of self.old.geometry block) way ≡ true }
         ensures same { SameBank self.old self.new }
@@ -209,7 +211,8 @@ impl Directory {
     /// Where a block lies, and its entry, if home holds it.
     fn find(&self, block: BlockNo) -> Option<Held>
         requires { block < self.now.geometry.memory_blocks }
-        ensures { MatchOption result (way_of self.now block ≡ None) (λ held. IsHeld self.now block held.set held.way held.entry) }
+        ensures is { MatchOption result (way_of self.now block ≡ None) (λ held. IsHeld self.now block held.set held.way held.entry) }
+        ensures none { IfNone result (line_of self.now block ≡ None) }
     {
         let Place { bank, set, tag } = self.geometry.place(block);
         if bank != self.bank {

@@ -10,7 +10,7 @@ use Rattle.tl_home.proofs.directory.Directory.clear.Goals as goal
 step : (c : goal.After-clear) → Clears c.args.self.now (dir c.self.inside.geometry c.self.inside.bank c.clear.new.self c.self.inside.store) c.args.block c.unwrap-held.result.set c.unwrap-held.result.way c.unwrap-held.result.entry
 step c =
     let held : IsHeld c.args.self.now c.args.block c.unwrap-held.result.set c.unwrap-held.result.way c.unwrap-held.result.entry =
-    rw c.unwrap-held.ensures at c.find.ensures in
+    rw c.unwrap-held.ensures at c.find.ensures.is in
     clears c.args.self.now c.self.inside.geometry c.self.inside.bank c.self.inside.ways c.clear.new.self c.self.inside.store c.args.block c.unwrap-held.result.set c.unwrap-held.result.way c.unwrap-held.result.entry c.self.view_is held c.clear.ensures.size c.clear.ensures.lines
 
 pub returns-clause-ways : goal.returns-clause-ways

@@ -5,7 +5,7 @@ use Rattle.tl_ways.specs.Tables.{line_at, set_count}
 use Rattle.tl_ways.specs.Stores.{bytes_at}
 use Rattle.tl_home.specs.Directories.{Directory, IsHeld}
 use Rattle.tl_map.specs.Places.{place_of, set_of, tag_of}
-use Rattle.tl_home.proofs.DirectoryLaws.{dir, orders-kept}
+use Rattle.tl_home.proofs.DirectoryLaws.{dir, way_of-no_line, orders-kept}
 use Rattle.tl_home.proofs.MoveLaws.{Fills, fills, tag_is_new, IsDirectory-filled, own_place, ways-filled, lines-filled, recorded-filled, free-filled}
 use Rattle.tl_home.proofs.directory.Directory.place.Goals as goal
 
@@ -13,7 +13,7 @@ pub place-requires-clause-alone : goal.place-requires-clause-alone
 place-requires-clause-alone c = λ other apart.
     tag_is_new c.args.self.now c.self.inside.geometry c.self.inside.bank c.self.inside.ways c.self.inside.store c.args.block c.place-place.result.set c.new.result.tag other c.self.view_is c.self.invariant
     c.requires.own (ap (λ (p : Place). p.set) c.place-place.ensures.is)
-    (c.new.ensures.tag ∙ ap (λ (p : Place). p.tag) c.place-place.ensures.is) c.requires.away
+    (c.new.ensures.tag ∙ ap (λ (p : Place). p.tag) c.place-place.ensures.is) (way_of-no_line c.args.self.now c.args.block c.requires.away)
 
 pub invariant_of-self : goal.invariant_of-self
 invariant_of-self c =
@@ -25,14 +25,14 @@ invariant_of-self c =
     (own_place c.args.self.now c.self.inside.geometry c.self.inside.bank c.self.inside.ways c.self.inside.store c.args.block c.place-place.result.set c.new.result.tag c.self.view_is c.requires.own set tag)
     (subst (λ n. c.args.way < n) (sym c.self.invariant.ways) (subst (λ (d : Directory). c.args.way < d.geometry.ways) (sym c.self.view_is) c.requires.way))
     (λ other. tag_is_new c.args.self.now c.self.inside.geometry c.self.inside.bank c.self.inside.ways c.self.inside.store c.args.block c.place-place.result.set c.new.result.tag other c.self.view_is c.self.invariant
-    c.requires.own set tag c.requires.away)
+    c.requires.own set tag (way_of-no_line c.args.self.now c.args.block c.requires.away))
     c.place.ensures.size c.place.ensures.lines c.write.ensures.sets c.write.ensures.ways
 
 step : (c : goal.After-write) → Fills c.args.self.now (dir c.self.inside.geometry c.self.inside.bank c.place.new.self c.write.new.self) c.args.block c.place-place.result.set c.args.way c.new.result c.args.bytes
 step c =
     fills c.args.self.now c.self.inside.geometry c.self.inside.bank c.self.inside.ways c.place.new.self c.self.inside.store c.write.new.self c.args.block c.place-place.result.set c.args.way c.new.result c.args.bytes
     c.self.view_is c.self.invariant c.requires.own (ap (λ (p : Place). p.set) c.place-place.ensures.is)
-    (c.new.ensures.tag ∙ ap (λ (p : Place). p.tag) c.place-place.ensures.is) c.requires.away c.requires.way c.requires.free
+    (c.new.ensures.tag ∙ ap (λ (p : Place). p.tag) c.place-place.ensures.is) (way_of-no_line c.args.self.now c.args.block c.requires.away) c.requires.way c.requires.free
     c.new.ensures.perms c.new.ensures.dirty c.place.ensures.size c.place-place.ensures.set c.place.ensures.lines c.write.ensures.bytes
 
 pub returns-clause-ways : goal.returns-clause-ways

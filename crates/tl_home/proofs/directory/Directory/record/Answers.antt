@@ -10,19 +10,19 @@ use Rattle.tl_home.proofs.directory.Directory.record.Goals as goal
 pub set-requires-clause-tip : goal.set-requires-clause-tip
 set-requires-clause-tip c = λ tip other apart.
     let held : IsHeld c.args.self.now c.args.block c.unwrap-held.result.set c.unwrap-held.result.way c.unwrap-held.result.entry =
-    rw c.unwrap-held.ensures at c.find.ensures in
+    rw c.unwrap-held.ensures at c.find.ensures.is in
     sym (recorded_of-held c.args.self.now other c.args.block c.unwrap-held.result.set c.unwrap-held.result.way c.unwrap-held.result.entry held) ∙ c.requires.tip tip other apart
 
 pub set-requires-clause-branch : goal.set-requires-clause-branch
 set-requires-clause-branch c = λ branch other apart same.
     let held : IsHeld c.args.self.now c.args.block c.unwrap-held.result.set c.unwrap-held.result.way c.unwrap-held.result.entry =
-    rw c.unwrap-held.ensures at c.find.ensures in
+    rw c.unwrap-held.ensures at c.find.ensures.is in
     c.requires.branch branch other apart (recorded_of-held c.args.self.now other c.args.block c.unwrap-held.result.set c.unwrap-held.result.way c.unwrap-held.result.entry held ∙ same)
 
 pub invariant_of-self : goal.invariant_of-self
 invariant_of-self c =
     let held : IsHeld c.args.self.now c.args.block c.unwrap-held.result.set c.unwrap-held.result.way c.unwrap-held.result.entry =
-    rw c.unwrap-held.ensures at c.find.ensures in
+    rw c.unwrap-held.ensures at c.find.ensures.is in
     IsDirectory-replaced c.self.inside.geometry c.self.inside.bank c.self.inside.ways c.place.new.self c.self.inside.store c.self.inside.store c.unwrap-held.result.set c.unwrap-held.result.way
     c.unwrap-held.result.entry c.set.new.self c.self.invariant
     (subst (λ (d : Directory). line_at d.table c.unwrap-held.result.set c.unwrap-held.result.way ≡ Some c.unwrap-held.result.entry) (sym c.self.view_is) held.line)
@@ -31,7 +31,7 @@ invariant_of-self c =
 step : (c : goal.After-place) → Replaces c.args.self.now (dir c.self.inside.geometry c.self.inside.bank c.place.new.self c.self.inside.store) c.args.block c.unwrap-held.result.set c.unwrap-held.result.way c.unwrap-held.result.entry c.set.new.self
 step c =
     let held : IsHeld c.args.self.now c.args.block c.unwrap-held.result.set c.unwrap-held.result.way c.unwrap-held.result.entry =
-    rw c.unwrap-held.ensures at c.find.ensures in
+    rw c.unwrap-held.ensures at c.find.ensures.is in
     replaces c.args.self.now c.self.inside.geometry c.self.inside.bank c.self.inside.ways c.place.new.self c.self.inside.store c.self.inside.store c.args.block c.unwrap-held.result.set c.unwrap-held.result.way c.unwrap-held.result.entry c.set.new.self
     c.self.view_is held c.set.ensures.tag c.place.ensures.size c.place.ensures.lines (λ x y inside other. refl)
 
