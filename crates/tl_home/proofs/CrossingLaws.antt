@@ -1,6 +1,6 @@
 -- What passes of each block, after something comes to pass or is taken.
 use Rattle.std.proofs.Common.{◌≡◌, ◌≢◌, ℕ, zero, suc, ◌+◌, ◌<◌, ◌==◌, Bool, true, false, List, [], ◌∷◌, ◌++◌, length, drop, slice_index_or, if◌then◌else◌, refl, sym, ◌∙◌, ap, arith, eq-eqb, eqb-true, inl, inr, subst}
-use Rattle.std.specs.Prelude.{remove}
+use Rattle.std.specs.Prelude.{remove, ◌≤◌, ◌⊎◌}
 use Rattle.std.proofs.lemmas.Bool.{cases_eq}
 use Rattle.std.proofs.lemmas.Bool.Decides.{nat_tests}
 use Rattle.tl_protocol.specs.declared.home.Outward.{Outward}
@@ -40,11 +40,10 @@ pub AreApart-append : (x : Crossing) (list : List Crossing) → AreApart list �
     → AreApart (list ++ x ∷ [])
 AreApart-append x [] apart quiet passes = (passes, refl, tt)
 AreApart-append x (e ∷ rest) apart quiet passes =
-    let first = quiet_first x.block e rest apart quiet in
-    (
+    let first = quiet_first x.block e rest apart quiet in (
       apart.0,
       outward_of-append x rest apart.2 first.1 e.block ∙ ap (λ there. if there then x.outward else outward_of e.block rest) (differs e.block x.block first.0)
-      ∙ apart.1,
+          ∙ apart.1,
       AreApart-append x rest apart.2 first.1 passes,
     )
 
@@ -76,11 +75,10 @@ AreApart-without block (e ∷ rest) apart =
     elim (cases_eq e.block block) [
       | inl same ↦ rw (eq-eqb e.block block same) apart.2
       | inr other ↦
-          rw (differs e.block block other)
-          (
+          rw (differs e.block block other) (
             apart.0,
             outward_of-without block rest apart.2 e.block ∙ ap (λ there. if there then Quiet else outward_of e.block rest) (differs e.block block other)
-            ∙ apart.1,
+                ∙ apart.1,
             AreApart-without block rest apart.2,
           )
     ]
@@ -140,5 +138,64 @@ remove-place block (e ∷ rest) (suc i) p =
 -- the same, as the code has it
 pub AreApart-removed : (block : ℕ) (list : List Crossing) (place : ℕ) → IsPlace block list place → AreApart list → AreApart (remove list place)
 AreApart-removed block list place p apart = rw (remove-place block list place p) (AreApart-without block list apart)
+
+-- ## Their number
+
+-- of a list whose head is another block's
+later_passes : (b : ℕ) (e : Crossing) (rest : List Crossing) → AreApart (e ∷ rest) → outward_of b rest ≢ Quiet → outward_of b (e ∷ rest) ≢ Quiet
+later_passes b e rest apart passes quiet = passes (quiet_first b e rest apart quiet).1
+
+-- a block has this holder, or none has
+held_by : (holder : ℕ → ℕ) (n : ℕ) (list : List Crossing) → AreApart list
+    → ((b : ℕ) × (outward_of b list ≢ Quiet) × (holder b ≡ n)) ⊎ ((b : ℕ) → outward_of b list ≢ Quiet → holder b ≢ n)
+held_by holder n [] apart = inr (λ b passes is. passes refl)
+held_by holder n (e ∷ rest) apart =
+    elim (cases_eq (holder e.block) n) [
+      | inl same ↦
+          inl (e.block, (λ quiet. (quiet_first e.block e rest apart quiet).0 refl), same)
+      | inr other ↦ elim (held_by holder n rest apart.2) [
+        | inl found ↦ inl (found.0, later_passes found.0 e rest apart found.1, found.2)
+        | inr none ↦ inr (λ b passes is. elim (cases_eq e.block b) [
+          | inl same ↦ other (ap holder same ∙ is)
+          | inr differ ↦ none b (rw (differs e.block b differ) at passes) is
+        ])
+      ]
+    ]
+
+-- there are no more than the holders of which each has its own
+pub length-held : (holder : ℕ → ℕ) (n : ℕ) (list : List Crossing) → AreApart list
+    → ((b : ℕ) → outward_of b list ≢ Quiet → holder b < n)
+    → ((a b : ℕ) → outward_of a list ≢ Quiet → outward_of b list ≢ Quiet → holder a ≡ holder b → a ≡ b) → length list ≤ n
+length-held holder zero [] apart inside own = omega arith
+length-held holder zero (e ∷ rest) apart inside own =
+    let below = inside e.block (λ quiet. (quiet_first e.block e rest apart quiet).0 refl) in
+    absurd (omega arith)
+length-held holder (suc n) list apart inside own =
+    elim (held_by holder n list apart) [
+      | inl found ↦
+          let less = length-without found.0 list found.1 in
+          let there : (b : ℕ) → outward_of b (without found.0 list) ≢ Quiet → (b ≢ found.0) × (outward_of b list ≢ Quiet) =
+          λ b passes. remaining found.0 list apart b passes in
+          let rest = length-held holder n (without found.0 list) (AreApart-without found.0 list apart)
+          (λ b passes. below b n (inside b (there b passes).1) (λ is. (there b passes).0 (own b found.0 (there b passes).1 found.1 (is ∙ sym found.2))))
+          (λ a b first second. own a b (there a first).1 (there b second).1) in
+          omega (arith, less, rest)
+      | inr none ↦
+          let rest = length-held holder n list apart (λ b passes. below b n (inside b passes) (none b passes)) own in
+          omega (arith, rest)
+    ]
+  where
+    below : (b n : ℕ) → holder b < suc n → holder b ≢ n → holder b < n
+    below b n less other = grind (arith, other)
+
+    remaining : (block : ℕ) (list : List Crossing) → AreApart list → (b : ℕ) → outward_of b (without block list) ≢ Quiet
+        → (b ≢ block) × (outward_of b list ≢ Quiet)
+    remaining block list apart b passes =
+        elim (cases_eq b block) [
+          | inl same ↦
+              absurd (passes (outward_of-without block list apart b ∙ ap (λ there. if there then Quiet else outward_of b list) (eq-eqb b block same)))
+          | inr other ↦
+              (other, λ quiet. passes (outward_of-without block list apart b ∙ ap (λ there. if there then Quiet else outward_of b list) (differs b block other) ∙ quiet))
+        ]
 
 pub ruleset puts = (outward_of-append, AreApart-append)

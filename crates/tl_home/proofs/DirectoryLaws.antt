@@ -400,6 +400,7 @@ module _ {d after : Directory} {block set way : ℕ} {old new : Entry} (r : Repl
       and_true : (a : Bool) (p q : Perm) → (if a then p else q) ≡ (if a && true then p else q)
       and_true true p q = refl
       and_true false p q = refl
+
       and_false : (a : Bool) (p q : Perm) → q ≡ (if a && false then p else q)
       and_false true p q = refl
       and_false false p q = refl
@@ -428,7 +429,14 @@ pub replaces : (m : Directory) (g : Numbers) (bank : ℕ) (t after : Table) (s s
 replaces m g bank t after s store block set way old new view held tag size lines bytes =
     subst (λ (d : Directory). IsHeld d block set way old → Replaces d (dir g bank after store) block set way old new) view
     (λ here. record {
-      held = here; tag = tag; geometry = refl; bank = refl; sets = size.sets; ways = size.ways; lines = lines; bytes = bytes
+      held = here;
+      tag = tag;
+      geometry = refl;
+      bank = refl;
+      sets = size.sets;
+      ways = size.ways;
+      lines = lines;
+      bytes = bytes;
     }) held
 
 -- what a write of bytes leaves elsewhere
@@ -574,15 +582,19 @@ IsDirectory-replaced g bank t after s store set way old new sound line tag size 
     at x y is =
         let parts = both (x == set) (y == way) is in
         rw (eqb-true x set parts.0, eqb-true y way parts.1) line
+
     outside : (x y : ℕ) → t.ways ≤ y → (there : Bool) → (x == set && y == way) ≡ there → (if x == set && y == way then Some new else line_at t x y) ≡ None
     outside x y past false is = rw is (sound.outside x y past)
     outside x y past true is = absurd (let none = sound.outside x y past in let some = at x y is in cc)
+
     tags_by : (x y : ℕ) (there : Bool) → (x == set && y == way) ≡ there
         → tag_in_line (if x == set && y == way then Some new else line_at t x y) ≡ tag_at t x y
     tags_by x y false is = rw is refl
     tags_by x y true is = rw (is, at x y is) (ap Some tag)
+
     tags : (x y : ℕ) → tag_at after x y ≡ tag_at t x y
     tags x y = ap tag_in_line (lines x y) ∙ tags_by x y (x == set && y == way) refl
+
     placed : (x y : ℕ) (entry : Entry) (there : Bool) → (x == set && y == way) ≡ there
         → (if x == set && y == way then Some new else line_at t x y) ≡ Some entry → IsPlaced g bank x entry.tag
     placed x y entry false is line = sound.placed x y entry (rw is at line)

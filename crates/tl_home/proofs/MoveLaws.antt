@@ -199,8 +199,21 @@ fills m g bank t after s store block set way entry bytes view sound own sets tag
     let same_ways : s.ways ≡ t.ways = sound.store_ways ∙ sym sound.ways in
     subst (λ (x : Directory). way_of x block ≡ None → Fills x (dir g bank after store) block set way entry bytes) view
     (λ none. record {
-      sound = sound; own = own'; in_set = sets; away = none; inside = inside'; free = free'; tag = tag; nobody = nobody; clean = clean;
-      geometry = refl; bank = refl; sets = size.sets; set_inside = subst (λ n. set < n) (sym sound.sets) set_in; ways = size.ways; lines = lines;
+      sound = sound;
+      own = own';
+      in_set = sets;
+      away = none;
+      inside = inside';
+      free = free';
+      tag = tag;
+      nobody = nobody;
+      clean = clean;
+      geometry = refl;
+      bank = refl;
+      sets = size.sets;
+      set_inside = subst (λ n. set < n) (sym sound.sets) set_in;
+      ways = size.ways;
+      lines = lines;
       others = λ x y below other. written x y (subst (λ n. y < n) (sym same_ways) below) ∙ ap (λ there. if there then bytes else bytes_at s x y) other;
       bytes_here = written set way (subst (λ n. way < n) (sym same_ways) inside')
           ∙ ap (λ there. if there then bytes else bytes_at s set way) (here_true set way);
@@ -241,16 +254,21 @@ IsDirectory-filled g bank t after s store block set way entry sound inside place
     outside x y past true is =
         let at : y ≡ way = eqb-true y way (both (x == set) (y == way) is).1 in
         absurd (omega arith)
+
     after_tag : ℕ → ℕ → Option ℕ
     after_tag x y = tag_in_line (if x == set && y == way then Some entry else line_at t x y)
+
     old_tag : (x y k : ℕ) → (x == set && y == way) ≡ false → tag_in_line (if x == set && y == way then Some entry else line_at t x y) ≡ Some k → tag_at t x y ≡ Some k
     old_tag x y k is tagged = rw is at tagged
+
     new_tag : (x y k : ℕ) → (x == set && y == way) ≡ true → tag_in_line (if x == set && y == way then Some entry else line_at t x y) ≡ Some k → (entry.tag ≡ k)
     new_tag x y k is tagged = let one : Some entry.tag ≡ Some k = rw is at tagged in cc
+
     clash : (x v w k : ℕ) → (x == set && v == way) ≡ true → entry.tag ≡ k → tag_at t x w ≡ Some k → ⊥
     clash x v w k is tag old =
         let sets' : x ≡ set = eqb-true x set (both (x == set) (v == way) is).0 in
         alone w (rw (← sets', tag) old)
+
     distinct : (x v w k : ℕ) (here there : Bool) → (x == set && v == way) ≡ here → (x == set && w == way) ≡ there
         → tag_in_line (if x == set && v == way then Some entry else line_at t x v) ≡ Some k
         → tag_in_line (if x == set && w == way then Some entry else line_at t x w) ≡ Some k → v ≡ w
@@ -259,6 +277,7 @@ IsDirectory-filled g bank t after s store block set way entry sound inside place
         eqb-true v way (both (x == set) (v == way) a).1 ∙ sym (eqb-true w way (both (x == set) (w == way) b).1)
     distinct x v w k true false a b first second = absurd (clash x v w k a (new_tag x v k a first) (old_tag x w k b second))
     distinct x v w k false true a b first second = absurd (clash x w v k b (new_tag x w k b second) (old_tag x v k a first))
+
     placed : (x y : ℕ) (line : Entry) (there : Bool) → (x == set && y == way) ≡ there
         → (if x == set && y == way then Some entry else line_at t x y) ≡ Some line → IsPlaced g bank x line.tag
     placed x y line false is found = sound.placed x y line (rw is at found)

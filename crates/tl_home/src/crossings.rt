@@ -62,8 +62,24 @@ impl Crossings {
     pub fn len(&self) -> usize
         ensures is { result ≡ length self.now }
         ensures few { result ≤ 8 }
+        ensures each { (n : ℕ) (holder : ℕ → ℕ)
+            → ((b : ℕ) → outward_of b self.now ≢ Quiet → holder b < n)
+            → ((a b : ℕ) → outward_of a self.now ≢ Quiet → outward_of b self.now ≢ Quiet → holder a ≡ holder b → a ≡ b)
+            → result ≤ n }
     {
         self.list.len()
+    }
+
+    /// What passes of a block, if anything does.
+    pub fn of(&self, block: BlockNo) -> Option<&Outward>
+        ensures { MatchOption result (outward_of block self.now ≡ Quiet) (λ outward. outward_of block self.now ≡ outward.now) }
+    {
+        for crossing in self.list.as_slice() {
+            if crossing.block.number() == block.number() {
+                return Some(&crossing.outward);
+            }
+        }
+        None
     }
 
     /// Whether nothing passes of a block.
@@ -133,18 +149,6 @@ impl Crossings {
         ensures count { length self.new ≡ length self.old + 1 }
     {
         self.list.push(Crossing { block, outward });
-    }
-
-    /// What passes of a block, if anything does.
-    fn of(&self, block: BlockNo) -> Option<&Outward>
-        ensures { MatchOption result (outward_of block self.now ≡ Quiet) (λ outward. outward_of block self.now ≡ outward.now) }
-    {
-        for crossing in self.list.as_slice() {
-            if crossing.block.number() == block.number() {
-                return Some(&crossing.outward);
-            }
-        }
-        None
     }
 
     /// Where what passes of a block stands.

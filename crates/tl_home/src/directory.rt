@@ -54,6 +54,13 @@ impl Directory {
         })
     }
 
+    /// The bank.
+    pub fn bank(&self) -> BankNo
+        ensures { result ≡ self.now.bank }
+    {
+        self.bank
+    }
+
     /// The way in which a block lies, if home holds it.
     pub fn way(&self, block: BlockNo) -> Option<Way>
         requires { block < self.now.geometry.memory_blocks }
@@ -204,7 +211,8 @@ impl Directory {
         ensures orders { (set : ℕ) → order_of self.new set ≡ order_of self.old set }
     {
         let place = self.geometry.place(block);
-        self.ways.place(place.set, way, Entry::new(place.tag, false));
+        self.ways
+            .place(place.set, way, Entry::new(place.tag, false));
         self.store.write(place.set, way, bytes);
     }
 

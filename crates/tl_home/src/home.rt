@@ -1,5 +1,5 @@
 //! What home holds of the blocks of one bank.
-ghost use Rattle.std.specs.Prelude.{◌≡◌, ◌≢◌, ◌↔◌, ℕ, ◌+◌, ◌*◌, ◌<◌, ◌≤◌, ◌==◌, ◌&&◌, length, IfNone, IfOk, IfSome, IsSome, IsTrue, None, Some, false, true, is_none, option_copied, if◌then◌else◌};
+ghost use Rattle.std.specs.Prelude.{◌≡◌, ◌≢◌, ◌↔◌, ℕ, ◌+◌, ◌*◌, ◌<◌, ◌≤◌, ◌==◌, ◌&&◌, length, IfNone, IfOk, IfSome, IsSome, IsTrue, MatchOption, None, Some, false, true, is_none, option_copied, if◌then◌else◌};
 ghost use Rattle.std.specs.Option.{option_map};
 ghost use Rattle.tl_types.specs.Bytes.{image_bytes};
 ghost use Rattle.tl_types.specs.declared.permission.Perm.TheVariants.{None as NoAccess, Branch, Tip};
@@ -11,7 +11,7 @@ ghost use Rattle.tl_protocol.specs.declared.home.Line.{Line};
 ghost use Rattle.tl_protocol.specs.declared.home.Outward.TheVariants.{Quiet, Get, Put, PutAck};
 ghost use Rattle.tl_ways.specs.Orders.{chosen, is_busy, rising};
 ghost use Rattle.tl_home.specs.Directories.{is_way, order_after};
-ghost use Rattle.tl_home.specs.Homes.{geometry_in, bank_in, line_in, recorded_in, outward_in, crossing_count, memory_in, way_in, free_at, order_at, SameBank, SameWays, SameOutward, SameHome, SameMemory, served_outward, served_memory, fetched};
+ghost use Rattle.tl_home.specs.Homes.{geometry_in, bank_in, line_in, recorded_in, outward_in, crossing_count, memory_in, way_in, free_at, order_at, SameBank, SameWays, SameOutward, SameHome, SameMemory, EachHasHolder, served_outward, served_memory, fetched};
 
 use crate::backing;
 use crate::crossings::Crossings;
@@ -49,7 +49,12 @@ impl Home {
 
     /// Home of one bank over a memory that holds an image no longer than it, and 0 past the image: it holds no block. All
     /// memory that it ever uses is taken here, and only the memory's part grows with the blocks.
-    pub fn new(alloc: Global, geometry: Geometry, bank: BankNo, image: &[u8]) -> Result<Home, AllocError>
+    pub fn new(
+        alloc: Global,
+        geometry: Geometry,
+        bank: BankNo,
+        image: &[u8],
+    ) -> Result<Home, AllocError>
         requires { length image.now ≤ geometry.memory_blocks * geometry.block_bytes }
         ensures geometry { IfOk result (λ h. geometry_in h ≡ geometry) }
         ensures bank { IfOk result (λ h. bank_in h ≡ bank) }
@@ -71,6 +76,20 @@ impl Home {
             crossings: Crossings::new(),
             memory,
         })
+    }
+
+    /// The geometry.
+    pub fn geometry(&self) -> Geometry
+        ensures { result ≡ geometry_in self.now }
+    {
+        self.memory.geometry()
+    }
+
+    /// The bank.
+    pub fn bank(&self) -> BankNo
+        ensures { result ≡ bank_in self.now }
+    {
+        self.directory.bank()
     }
 
     /// The way in which a block lies, if home holds it.
@@ -105,6 +124,13 @@ impl Home {
         self.directory.recorded(client, block)
     }
 
+    /// What passes of a block between home and the memory, if anything does.
+    pub fn outward(&self, block: BlockNo) -> Option<&Outward>
+        ensures { MatchOption result (outward_in self.now block ≡ Quiet) (λ outward. outward_in self.now block ≡ outward.now) }
+    {
+        self.crossings.of(block)
+    }
+
     /// Whether nothing of a block passes between home and the memory.
     pub fn is_quiet(&self, block: BlockNo) -> bool
         ensures { IsTrue result ↔ (outward_in self.now block ≡ Quiet) }
@@ -137,6 +163,7 @@ impl Home {
     pub fn crossings(&self) -> usize
         ensures is { result ≡ crossing_count self.now }
         ensures few { result ≤ 8 }
+        ensures each { (n : ℕ) (holder : ℕ → ℕ) → EachHasHolder self.now n holder → result ≤ n }
     {
         self.crossings.len()
     }
@@ -170,7 +197,7 @@ impl Home {
         ensures first { IfSome result (λ block. (b : ℕ) → from ≤ b → b < block → line_in self.now b ≡ None) }
         ensures none { IfNone result ((b : ℕ) → from ≤ b → b < (geometry_in self.now).memory_blocks → line_in self.now b ≡ None) }
     {
-        for number in from..self.memory.geometry().memory_blocks() {
+        for number in from..self.geometry().memory_blocks() {
             let block = BlockNo::new(number);
             if self.is_dirty(block).is_some() {
                 return Some(block);
@@ -275,7 +302,7 @@ impl Home {
         ensures memory { SameMemory self.old self.new }
     {
         let bytes = self.directory.bytes(block).unwrap().copied();
-        self.directory.clear(block);
+        self.drop_line(block);
         self.crossings.put(block, Outward::Put(bytes));
     }
 

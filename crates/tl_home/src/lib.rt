@@ -8,3 +8,6 @@ mod directory;
 mod home;
 
 pub use home::Home;
+
+#[cfg(test)]
+mod tests;
