@@ -1,6 +1,6 @@
 -- What the directory holds of each block, before and after one of its ways changes.
-use Rattle.std.proofs.Common.{◌≡◌, ◌≢◌, ℕ, zero, suc, ◌<◌, ◌==◌, ◌&&◌, Bool, true, false, List, Option, None, Some, if◌then◌else◌, refl, sym, ◌∙◌, ap, arith, eq-eqb, eqb-true, inl, inr, subst}
-use Rattle.std.specs.Prelude.{IfSome, IfNone, IsSome, is_none, not, ◌≤◌}
+use Rattle.std.proofs.Common.{◌≡◌, ◌≢◌, ℕ, ◌<◌, ◌==◌, ◌&&◌, Bool, true, false, List, Option, None, Some, if◌then◌else◌, refl, sym, ◌∙◌, ap, arith, eq-eqb, eqb-true, inl, inr, subst}
+use Rattle.std.specs.Prelude.{IfSome, IfNone, is_none, not, ◌≤◌}
 use Rattle.std.specs.Option.{option_map}
 use Rattle.std.proofs.lemmas.Bool.{cases_eq, cases_order}
 use Rattle.std.proofs.lemmas.Bool.Decides.{nat_tests}
@@ -10,13 +10,12 @@ use Rattle.tl_map.specs.Numbers.{Numbers}
 use Rattle.tl_map.specs.Places.{bank_of, set_of, tag_of, place_of}
 use Rattle.tl_map.specs.declared.place.Place.{Place}
 use Rattle.tl_map.proofs.PlaceLaws.{place_of-alone}
-use Rattle.tl_protocol.specs.declared.home.Line.{Line}
 use Rattle.tl_ways.specs.Lines.{Line as Entry, perm_of}
-use Rattle.tl_ways.specs.Orders.{lowest, or_else, chosen, touched}
+use Rattle.tl_ways.specs.Orders.{lowest, chosen, touched}
 use Rattle.tl_ways.specs.Rows.{tag_in_line}
 use Rattle.tl_ways.specs.Tables.{Table, IsSameSize, line_at, order_at, set_count, tag_at, chosen_at}
 use Rattle.tl_ways.specs.Stores.{Store, bytes_at}
-use Rattle.tl_home.specs.Directories.{Directory, has_tag, way_by_tag, copy_at, perm_at, perm_in, dirty_in, way_of, line_of, recorded_of, free_in, order_of, is_way, order_after, IsDirectory, IsHeld, IsPlaced}
+use Rattle.tl_home.specs.Directories.{Directory, has_tag, way_by_tag, copy_at, perm_at, way_of, line_of, recorded_of, free_in, order_of, order_after, IsDirectory, IsHeld, IsPlaced}
 use Rattle.tl_home.proofs.LowestLaws.{lowest-passes, lowest-none, lowest-same, lowest-only}
 
 -- two numbers are one, or the test tells them apart

@@ -1,23 +1,16 @@
 -- What the directory holds of each block after one leaves or comes.
-use Rattle.std.proofs.Common.{◌≡◌, ◌≢◌, ℕ, zero, suc, ◌<◌, ◌==◌, ◌&&◌, Bool, true, false, List, Option, None, Some, if◌then◌else◌, refl, sym, ◌∙◌, ap, arith, eq-eqb, eqb-true, inl, inr, subst}
-use Rattle.std.specs.Prelude.{IfSome, IfNone, IsSome, is_none, ◌≤◌}
-use Rattle.std.specs.Option.{option_map}
-use Rattle.std.proofs.lemmas.Bool.{cases_eq, cases_order}
-use Rattle.std.proofs.lemmas.Bool.Decides.{nat_tests}
-use Rattle.tl_types.specs.declared.permission.Perm.{Perm}
+use Rattle.std.proofs.Common.{◌≡◌, ◌≢◌, ℕ, ◌<◌, ◌==◌, ◌&&◌, Bool, true, false, List, Option, None, Some, if◌then◌else◌, refl, sym, ◌∙◌, ap, arith, eqb-true, inl, inr, subst}
+use Rattle.std.specs.Prelude.{is_none, ◌≤◌}
+use Rattle.std.proofs.lemmas.Bool.{cases_eq}
 use Rattle.tl_types.specs.declared.permission.Perm.TheVariants.{None as NoAccess}
 use Rattle.tl_map.specs.Numbers.{Numbers}
 use Rattle.tl_map.specs.Places.{bank_of, set_of, tag_of, place_of}
-use Rattle.tl_map.specs.declared.place.Place.{Place}
-use Rattle.tl_map.proofs.PlaceLaws.{place_of-alone}
-use Rattle.tl_protocol.specs.declared.home.Line.{Line}
 use Rattle.tl_ways.specs.Lines.{Line as Entry, perm_of}
-use Rattle.tl_ways.specs.Orders.{lowest, or_else, chosen}
 use Rattle.tl_ways.specs.Rows.{tag_in_line}
-use Rattle.tl_ways.specs.Tables.{Table, IsSameSize, line_at, order_at, set_count, tag_at, chosen_at}
+use Rattle.tl_ways.specs.Tables.{Table, IsSameSize, line_at, set_count, tag_at}
 use Rattle.tl_ways.specs.Stores.{Store, bytes_at}
-use Rattle.tl_home.specs.Directories.{Directory, has_tag, way_by_tag, copy_at, perm_at, perm_in, dirty_in, way_of, line_of, recorded_of, free_in, order_of, is_way, order_after, IsDirectory, IsHeld, IsPlaced}
-use Rattle.tl_home.proofs.DirectoryLaws.{Changes, OnlyTag, IsThere, way_of-other, line_of-other, recorded_of-other, way_of-found, way_of-none, line_of-held, line_of-none, recorded_of-held, recorded_of-none, by_block, both, here_true, at_way, dir, untagged, free_line}
+use Rattle.tl_home.specs.Directories.{Directory, way_of, line_of, recorded_of, free_in, is_way, IsDirectory, IsHeld, IsPlaced}
+use Rattle.tl_home.proofs.DirectoryLaws.{Changes, way_of-other, line_of-other, recorded_of-other, way_of-found, way_of-none, line_of-held, line_of-none, recorded_of-held, recorded_of-none, by_block, both, here_true, at_way, dir, untagged, free_line}
 
 -- whether a place is free after a way changes
 free_by : (there : Bool) (entry line : Option Entry) → is_none (if there then entry else line) ≡ (if there then is_none entry else is_none line)

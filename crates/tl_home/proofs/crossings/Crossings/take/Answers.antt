@@ -1,6 +1,5 @@
-use Rattle.std.proofs.Common.{◌≡◌, ◌≢◌, ◌∙◌, ◌+◌, ◌≤◌, List, length, ap, sym, subst, refl, arith}
+use Rattle.std.proofs.Common.{◌≡◌, ◌∙◌, ◌+◌, ◌≤◌, List, length, ap, sym, subst, arith}
 use Rattle.std.specs.Prelude.{remove}
-use Rattle.tl_protocol.specs.declared.home.Outward.TheVariants.{Quiet}
 use Rattle.tl_home.specs.declared.crossings.Crossing.{Crossing}
 use Rattle.tl_home.specs.Crossings.{AreApart, outward_of, without, IsPlace}
 use Rattle.tl_home.proofs.CrossingLaws.{passes-at, AreApart-removed, remove-place, outward_of-place, outward_of-without, outward_of-quiet, length-without}

@@ -1,4 +1,4 @@
-use Rattle.std.proofs.Common.{◌≡◌, ◌∙◌, ℕ, Some, None, true, false, ap, refl, sym}
+use Rattle.std.proofs.Common.{◌≡◌, ◌∙◌, ℕ, Some, ap, sym}
 use Rattle.std.specs.Prelude.{is_none}
 use Rattle.tl_map.specs.declared.place.Place.{Place}
 use Rattle.tl_ways.specs.Tables.{line_at}

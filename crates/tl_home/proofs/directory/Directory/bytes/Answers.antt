@@ -1,4 +1,4 @@
-use Rattle.std.proofs.Common.{refl, sym, ap, Some}
+use Rattle.std.proofs.Common.{refl, ap, Some}
 use Rattle.tl_home.specs.Directories.{Directory}
 use Rattle.tl_ways.specs.Stores.{bytes_at}
 use Rattle.tl_home.proofs.DirectoryLaws.{line_of-held, line_of-none}

@@ -1,9 +1,9 @@
-use Rattle.std.proofs.Common.{◌≡◌, ◌≢◌, ◌==◌, ◌∙◌, None, true, false, sym, ap, eqb-true, eq-eqb, subst}
-use Rattle.std.specs.Prelude.{MatchOption, ◌<◌}
+use Rattle.std.proofs.Common.{◌≡◌, ◌==◌, ◌∙◌, None, true, false, sym, ap, eqb-true, eq-eqb, subst}
+use Rattle.std.specs.Prelude.{◌<◌}
 use Rattle.tl_map.specs.declared.place.Place.{Place}
 use Rattle.tl_map.specs.Places.{bank_of}
 use Rattle.tl_ways.specs.Tables.{set_count}
-use Rattle.tl_home.specs.Directories.{way_of, IsHeld}
+use Rattle.tl_home.specs.Directories.{way_of}
 use Rattle.tl_home.proofs.DirectoryLaws.{held-found, none-found, elsewhere, not_flip, line_of-none}
 use Rattle.tl_home.proofs.directory.Directory.find.Goals as goal
 

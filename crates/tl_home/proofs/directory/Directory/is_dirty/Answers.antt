@@ -1,6 +1,4 @@
-use Rattle.std.proofs.Common.{refl, sym, ap}
-use Rattle.tl_home.specs.Directories.{Directory}
-use Rattle.tl_ways.specs.Stores.{bytes_at}
+use Rattle.std.proofs.Common.{refl}
 use Rattle.tl_home.proofs.DirectoryLaws.{line_of-held, line_of-none}
 use Rattle.tl_home.proofs.directory.Directory.is_dirty.Goals as goal
 

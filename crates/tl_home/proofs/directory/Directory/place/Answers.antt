@@ -1,10 +1,7 @@
-use Rattle.std.proofs.Common.{◌≡◌, ◌≢◌, ◌∙◌, ◌==◌, ◌&&◌, ◌<◌, ℕ, Bool, Some, None, false, true, if◌then◌else◌, ap, refl, sym, subst}
+use Rattle.std.proofs.Common.{◌≡◌, ◌∙◌, ◌<◌, ap, sym, subst}
 use Rattle.tl_map.specs.declared.place.Place.{Place}
-use Rattle.tl_ways.specs.Lines.{Line as Entry, perm_of}
-use Rattle.tl_ways.specs.Tables.{line_at, set_count}
-use Rattle.tl_ways.specs.Stores.{bytes_at}
-use Rattle.tl_home.specs.Directories.{Directory, IsHeld}
-use Rattle.tl_map.specs.Places.{place_of, set_of, tag_of}
+use Rattle.tl_home.specs.Directories.{Directory}
+use Rattle.tl_map.specs.Places.{set_of, tag_of}
 use Rattle.tl_home.proofs.DirectoryLaws.{dir, way_of-no_line, orders-kept}
 use Rattle.tl_home.proofs.MoveLaws.{Fills, fills, tag_is_new, IsDirectory-filled, own_place, ways-filled, lines-filled, recorded-filled, free-filled}
 use Rattle.tl_home.proofs.directory.Directory.place.Goals as goal

@@ -1,7 +1,5 @@
-use Rattle.std.proofs.Common.{◌≡◌, ◌≢◌, ◌∙◌, ◌==◌, ◌&&◌, ◌<◌, ℕ, Bool, Some, None, false, true, if◌then◌else◌, ap, refl, sym, subst}
-use Rattle.tl_map.specs.declared.place.Place.{Place}
-use Rattle.tl_ways.specs.Lines.{Line as Entry, perm_of}
-use Rattle.tl_ways.specs.Tables.{line_at, set_count}
+use Rattle.std.proofs.Common.{◌≡◌, ◌∙◌, Some, ap, refl, sym, subst}
+use Rattle.tl_ways.specs.Tables.{line_at}
 use Rattle.tl_ways.specs.Stores.{bytes_at}
 use Rattle.tl_home.specs.Directories.{Directory, IsHeld}
 use Rattle.tl_home.proofs.DirectoryLaws.{Replaces, dir, replaces, IsDirectory-replaced, ways-kept, lines-kept, recorded-set, recorded_of-held, free-kept, orders-kept}

@@ -1,6 +1,4 @@
-use Rattle.std.proofs.Common.{◌≡◌, ◌≢◌, ◌∙◌, ◌==◌, ◌&&◌, ◌<◌, ℕ, Bool, Some, None, false, true, if◌then◌else◌, ap, refl, sym, subst}
-use Rattle.tl_ways.specs.Lines.{Line as Entry, perm_of}
-use Rattle.tl_ways.specs.Tables.{line_at}
+use Rattle.std.proofs.Common.{ap, refl}
 use Rattle.tl_ways.specs.Stores.{bytes_at}
 use Rattle.tl_home.specs.Directories.{Directory, IsHeld}
 use Rattle.tl_home.proofs.DirectoryLaws.{Replaces, dir, replaces-itself, ways-kept, lines-kept, recorded-kept, free-kept, orders-touched}

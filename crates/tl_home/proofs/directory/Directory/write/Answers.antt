@@ -1,9 +1,6 @@
-use Rattle.std.proofs.Common.{◌≡◌, ◌≢◌, ◌∙◌, ◌==◌, ◌&&◌, ◌<◌, ℕ, Bool, Some, None, false, true, if◌then◌else◌, ap, refl, sym, subst}
-use Rattle.tl_map.specs.declared.place.Place.{Place}
-use Rattle.tl_ways.specs.Lines.{Line as Entry, perm_of}
-use Rattle.tl_ways.specs.Tables.{line_at, set_count}
-use Rattle.tl_ways.specs.Stores.{bytes_at}
-use Rattle.tl_home.specs.Directories.{Directory, IsHeld}
+use Rattle.std.proofs.Common.{true, ap}
+use Rattle.tl_ways.specs.Lines.{Line as Entry}
+use Rattle.tl_home.specs.Directories.{IsHeld}
 use Rattle.tl_home.proofs.DirectoryLaws.{Replaces, dir, replaces, written_here, written_other, ways-kept, lines-written, recorded-kept, free-kept, orders-kept}
 use Rattle.tl_home.proofs.directory.Directory.write.Goals as goal
 
