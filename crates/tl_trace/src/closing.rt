@@ -1,6 +1,7 @@
 //! What a bank holds at the end of a trace.
 
-ghost use Rattle.std.specs.Prelude.{Some};
+ghost use Rattle.std.specs.Prelude.{◌≡◌, Some};
+ghost use Rattle.tl_types.specs.declared.permission.Perm.TheVariants.{None as NoAccess};
 ghost use Rattle.tl_trace.specs.Closing.{perm_letter, recorded_letters, held_letters, flag_text, block_text};
 
 use arrayvec::ArrayVec;
@@ -16,6 +17,8 @@ pub struct Standing {
 }
 
 impl Default for Standing {
+    ghost is_default = { λ s. (s.recorded ≡ NoAccess) × (s.held ≡ NoAccess) };
+
     fn default() -> Standing {
         Standing {
             recorded: Perm::None,
