@@ -11,12 +11,20 @@ use crate::closing::{BankClosing, BlockLine};
 use std::alloc::AllocError;
 use std::fmt::Write;
 
+/// The line of a step.
+pub fn push_answer(text: &mut String, index: usize, answer: &Answer) -> Result<(), AllocError>
+    ensures { OnOk result (string_bytes text.new ≡ string_bytes text.old ++ answer_line index answer.now) }
+{
+    write!(text, "{index} {answer}\n")?;
+    Ok(())
+}
+
 /// The line of each step.
 pub fn push_answers(text: &mut String, answers: &[Answer]) -> Result<(), AllocError>
     ensures { OnOk result (string_bytes text.new ≡ string_bytes text.old ++ lines_from answer_line 0 answers.now) }
 {
     for (index, answer) in answers.iter().enumerate() {
-        write!(text, "{index} {answer}\n")?;
+        push_answer(text, index, answer)?;
     }
     Ok(())
 }
