@@ -125,7 +125,7 @@ fn line(number: u32, dirty: bool, standings: &[(Perm, Perm)]) -> BlockLine {
     }
 }
 
-/// a-store-and-a-reader
+/// The worked trace `a-store-and-a-reader`.
 #[test]
 fn shows_a_store_and_a_reader(rt: HostRuntime) -> Result<(), Fail> {
     let alloc = rt.alloc();
@@ -173,7 +173,7 @@ end
     Ok(())
 }
 
-/// eviction-writes-back
+/// The worked trace `eviction-writes-back`.
 #[test]
 fn shows_that_an_eviction_writes_back(rt: HostRuntime) -> Result<(), Fail> {
     let alloc = rt.alloc();
