@@ -1,0 +1,4 @@
+pub mod Memory
+pub mod Answer
+pub mod Closing
+pub mod Trace
