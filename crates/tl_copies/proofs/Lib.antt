@@ -1,0 +1,4 @@
+pub mod EntryLaws
+pub mod PlaceLaws
+pub mod CountLaws
+pub mod TableLaws

@@ -1,0 +1,94 @@
+-- The place of a block's entry.
+use Rattle.std.proofs.Common.{◌≡◌, ◌≢◌, ℕ, zero, suc, ◌==◌, Bool, true, false, List, [], ◌∷◌, ◌++◌, length, drop, Some, None, if◌then◌else◌, slice_index_or, slice_set, refl, sym, ◌∙◌, ap, arith, eq-eqb}
+use Rattle.std.specs.Prelude.{remove}
+use Rattle.std.specs.List.{refill}
+use Rattle.std.proofs.lemmas.List.{take_at, length-set}
+use Rattle.std.proofs.lemmas.Bool.Decides.{nat_tests}
+use Rattle.tl_copies.specs.declared.held.Held.{Held}
+use Rattle.tl_copies.specs.declared.table.Entry.{Entry}
+use Rattle.tl_copies.specs.Held.{is_granted, is_renewed}
+use Rattle.tl_copies.specs.Entries.{found, without, replaced, kept, IsPlace}
+use Rattle.tl_copies.proofs.EntryLaws.{entry}
+
+-- another block's entry is passed over
+differs : (a b : ℕ) → a ≢ b → (a == b) ≡ false
+differs a b d = grind (arith, nat_tests)
+
+tail_place : (block : ℕ) (e : Entry) (rest : List Entry) (i : ℕ) → IsPlace block (e ∷ rest) (suc i) → IsPlace block rest i
+tail_place block e rest i p = record {
+  inside = omega (arith, p.inside);
+  here = p.here;
+  first = λ k d h. p.first (suc k) d (omega arith);
+}
+
+head_differs : (block : ℕ) (e : Entry) (rest : List Entry) (i : ℕ) → IsPlace block (e ∷ rest) (suc i) → (e.block == block) ≡ false
+head_differs block e rest i p = differs e.block block (p.first 0 e (omega arith))
+
+-- what stands at the place is what the table has of the block
+pub found-place : (block : ℕ) (es : List Entry) (place : ℕ) (d : Entry) → IsPlace block es place → found block es ≡ Some (slice_index_or es place d).held
+found-place block [] place d p = absurd (omega (arith, p.inside))
+found-place block (e ∷ rest) zero d p =
+    let is : (e.block == block) ≡ true = eq-eqb e.block block (p.here d) in
+    rw is refl
+found-place block (e ∷ rest) (suc i) d p = rw (head_differs block e rest i p) (found-place block rest i d (tail_place block e rest i p))
+
+-- taking out the entry at the place
+pub remove-place : (block : ℕ) (es : List Entry) (place : ℕ) → IsPlace block es place → remove es place ≡ without block es
+remove-place block [] place p = absurd (omega (arith, p.inside))
+remove-place block (e ∷ rest) zero p =
+    let is : (e.block == block) ≡ true = eq-eqb e.block block (p.here e) in
+    rw is refl
+remove-place block (e ∷ rest) (suc i) p =
+    rw (head_differs block e rest i p) (ap (λ (es : List Entry). e ∷ es) (remove-place block rest i (tail_place block e rest i p)))
+
+-- changing the entry at the place
+pub set-place : (block : ℕ) (held : Held) (es : List Entry) (place : ℕ) → IsPlace block es place → slice_set es place (entry block held) ≡ replaced block held es
+set-place block held [] place p = absurd (omega (arith, p.inside))
+set-place block held (e ∷ rest) zero p =
+    let is : (e.block == block) ≡ true = eq-eqb e.block block (p.here e) in
+    rw is refl
+set-place block held (e ∷ rest) (suc i) p =
+    rw (head_differs block e rest i p) (ap (λ (es : List Entry). e ∷ es) (set-place block held rest i (tail_place block e rest i p)))
+
+-- a block that is not there is not taken out
+pub without-none : (block : ℕ) (es : List Entry) → found block es ≡ None → without block es ≡ es
+without-none block [] n = refl
+without-none block (e ∷ rest) n = by_test (e.block == block) n (without-none block rest)
+  where
+    by_test : (here : Bool) → (if here then Some e.held else found block rest) ≡ None → (found block rest ≡ None → without block rest ≡ rest)
+        → (if here then rest else e ∷ without block rest) ≡ e ∷ rest
+    by_test true h ih = cc
+    by_test false h ih = ap (λ (es : List Entry). e ∷ es) (ih h)
+
+-- ## What is kept, as the code does it
+
+-- a new entry goes last
+pub kept-new : (block : ℕ) (held : Held) (es : List Entry) → found block es ≡ None → kept block held es ≡ es ++ entry block held ∷ []
+kept-new block held es n = rw n (ap (λ (zs : List Entry). zs ++ entry block held ∷ []) (without-none block es n))
+
+granted_is : (block : ℕ) (held : Held) (es : List Entry) (place : ℕ) (old : Entry) (renewed : Bool) → IsPlace block es place
+    → old ≡ slice_index_or es place old → is_renewed old.held held ≡ renewed → is_granted (found block es) held ≡ renewed
+granted_is block held es place old renewed p o r =
+    let is : found block es ≡ Some old.held = found-place block es place old p ∙ ap (λ (e : Entry). Some e.held) (sym o) in
+    rw is r
+
+-- so does an entry whose Grant came
+pub kept-granted : (block : ℕ) (held : Held) (es : List Entry) (place : ℕ) (old : Entry) → IsPlace block es place
+    → old ≡ slice_index_or es place old → is_renewed old.held held ≡ true → kept block held es ≡ remove es place ++ entry block held ∷ []
+kept-granted block held es place old p o r =
+    rw (granted_is block held es place old true p o r) (ap (λ (zs : List Entry). zs ++ entry block held ∷ []) (sym (remove-place block es place p)))
+
+-- any other stays in its place
+pub kept-same : (block : ℕ) (held : Held) (es : List Entry) (place : ℕ) (old : Entry) → IsPlace block es place
+    → old ≡ slice_index_or es place old → is_renewed old.held held ≡ false → kept block held es ≡ slice_set es place (entry block held)
+kept-same block held es place old p o r =
+    rw (granted_is block held es place old false p o r) (sym (set-place block held es place p))
+
+-- the same, as a write through the slice leaves it
+pub kept-written : (block : ℕ) (held : Held) (es items shown : List Entry) (place : ℕ) (old : Entry) → items ≡ es → shown ≡ items → IsPlace block es place
+    → old ≡ slice_index_or es place old → is_renewed old.held held ≡ false
+    → refill (length items) items (slice_set shown place (entry block held)) ≡ kept block held es
+kept-written block held es items shown place old v s p o r =
+    rw (s, v)
+    (take_at (slice_set es place (entry block held)) (drop (length (slice_set es place (entry block held))) es) (length es) (length-set es place (entry block held))
+    ∙ sym (kept-same block held es place old p o r))

@@ -1,0 +1,200 @@
+-- The tables of all clients after one of them changes.
+use Rattle.std.proofs.Common.{◌≡◌, ◌≢◌, ℕ, zero, suc, ◌<◌, ◌≤◌, ◌==◌, Bool, true, false, List, [], ◌∷◌, length, Option, Some, None, if◌then◌else◌, slice_index_or, slice_set, refl, sym, ◌∙◌, ap, subst, arith, eqb-true, eq-eqb, inl, inr}
+use Rattle.std.specs.Prelude.{All, OnOk, OnErr, IsErr, Result, ◌↔◌}
+use Rattle.std.proofs.Common.{Ok, Err}
+use Rattle.std.proofs.lemmas.List.Elements.{All-set}
+use Rattle.std.proofs.lemmas.Bool.{cases_order}
+use Rattle.std.proofs.lemmas.List.{get_or-set_same, get_or-set_other}
+use Rattle.tl_copies.specs.declared.held.Held.{Held}
+use Rattle.tl_copies.specs.declared.table.Entry.{Entry}
+use Rattle.tl_copies.specs.Held.{is_granted}
+use Rattle.tl_copies.specs.Entries.{found, without, kept, IsTable}
+use Rattle.tl_copies.specs.Copies.{Tables, clients_of, held_at, order_in, is_cell, entries, order_without, order_after}
+use Rattle.tl_copies.proofs.EntryLaws.{blocks, found-kept, found-without, order-kept, order-without, IsTable-kept, IsTable-without}
+use Rattle.tl_copies.proofs.CountLaws.{entries-table}
+
+abbrev pub tables_of : ℕ → ℕ → ℕ → List (List Entry) → Tables
+tables_of bank limit n tables = record { bank = bank; limit = limit; blocks = n; tables = tables }
+
+any_default : (tables : List (List Entry)) (i : ℕ) (d u : List Entry) → i < length tables → slice_index_or tables i d ≡ slice_index_or tables i u
+any_default [] i d u h = absurd (omega arith)
+any_default (t ∷ rest) zero d u h = refl
+any_default (t ∷ rest) (suc i) d u h = any_default rest i d u (omega arith)
+
+-- the table of a client
+pub table_at : (tables : List (List Entry)) (client : ℕ) (table : List Entry) → client < length tables → table ≡ slice_index_or tables client table
+    → slice_index_or tables client [] ≡ table
+table_at tables client table h e = sym (e ∙ any_default tables client table [] h)
+
+set_at : {X : Type 0} (f : List Entry → X) (tables : List (List Entry)) (client x : ℕ) (new : List Entry) (here : Bool) → client < length tables → (x == client) ≡ here
+    → f (slice_index_or (slice_set tables client new) x []) ≡ (if here then f new else f (slice_index_or tables x []))
+set_at f tables client x new true h e = rw (eqb-true x client e, get_or-set_same tables client new [] h) refl
+set_at f tables client x new false h e =
+    let other : x ≢ client = λ q. let u : (x == client) ≡ true = eq-eqb x client q in cc in
+    rw (get_or-set_other tables client x new [] other) refl
+
+-- the map after the table of one client changes in one block
+pub held_at-set : (bank limit n : ℕ) (tables : List (List Entry)) (client block : ℕ) (old new : List Entry) (value : Option Held)
+    → client < length tables → slice_index_or tables client [] ≡ old
+    → ((y : ℕ) → found y new ≡ (if y == block then value else found y old))
+    → (x y : ℕ)
+    → held_at (tables_of bank limit n (slice_set tables client new)) x y
+    ≡ (if is_cell client block x y then value else held_at (tables_of bank limit n tables) x y)
+unfolding held_at
+held_at-set bank limit n tables client block old new value h o f x y = by_test (x == client) refl
+  where
+    by_test : (here : Bool) → (x == client) ≡ here
+        → found y (slice_index_or (slice_set tables client new) x [])
+        ≡ (if is_cell client block x y then value else found y (slice_index_or tables x []))
+    by_test true e =
+        set_at (λ (t : List Entry). found y t) tables client x new true h e
+        ∙ f y
+        ∙ rw (e, eqb-true x client e, o) refl
+    by_test false e = set_at (λ (t : List Entry). found y t) tables client x new false h e ∙ rw e refl
+
+-- the order after the table of one client changes
+pub order_in-set : (bank limit n : ℕ) (tables : List (List Entry)) (client : ℕ) (old new : List Entry) (f : List ℕ → List ℕ)
+    → client < length tables → slice_index_or tables client [] ≡ old → blocks new ≡ f (blocks old)
+    → (x : ℕ)
+    → order_in (tables_of bank limit n (slice_set tables client new)) x
+    ≡ (if x == client then f (order_in (tables_of bank limit n tables) x) else order_in (tables_of bank limit n tables) x)
+unfolding order_in
+order_in-set bank limit n tables client old new f h o b x = by_test (x == client) refl
+  where
+    by_test : (here : Bool) → (x == client) ≡ here
+        → blocks (slice_index_or (slice_set tables client new) x [])
+        ≡ (if x == client then f (blocks (slice_index_or tables x [])) else blocks (slice_index_or tables x []))
+    by_test true e =
+        set_at (λ (t : List Entry). blocks t) tables client x new true h e ∙ b ∙ rw (e, eqb-true x client e, o) refl
+    by_test false e = set_at (λ (t : List Entry). blocks t) tables client x new false h e ∙ rw e refl
+
+-- ## What a client's table is in all tables
+
+-- a client's table is sound
+pub row_sound : (limit n : ℕ) (tables : List (List Entry)) (at : ℕ) (old : List Entry) → All (λ t. IsTable limit n t) tables → at < length tables
+    → old ≡ slice_index_or tables at old → IsTable limit n old
+row_sound limit n tables at old all h o = subst (λ (t : List Entry). IsTable limit n t) (sym o) (all at old h)
+
+-- what is said where it succeeds leads on there
+pub on_ok : {T E P Q : Type 0} (r : Result T E) → (P → Q) → OnOk r P → OnOk r Q
+on_ok (Ok x) f p = f p
+on_ok (Err e) f p = p
+
+-- how a client's table stands in the tables, as the code has it: m is what contracts see
+pub record IsRow (m : Tables) (bank limit n : ℕ) (tables : List (List Entry)) (at client : ℕ) (old : List Entry) : Type 0 where
+  pub view : tables_of bank limit n tables ≡ m
+  pub at_client : at ≡ client
+  pub inside : client < clients_of m
+  pub row : old ≡ slice_index_or tables at old
+  pub sound : All (λ t. IsTable limit n t) tables
+
+row_inside : (m : Tables) (bank limit n : ℕ) (tables : List (List Entry)) (at client : ℕ) (old : List Entry) → IsRow m bank limit n tables at client old
+    → at < length tables
+unfolding clients_of
+row_inside m bank limit n tables at client old r =
+    let here : client < length tables = subst (λ (v : Tables). client < clients_of v) (sym r.view) r.inside in
+    omega (arith, r.at_client)
+
+table_sound : (m : Tables) (bank limit n : ℕ) (tables : List (List Entry)) (at client : ℕ) (old : List Entry) → IsRow m bank limit n tables at client old
+    → IsTable limit n old
+table_sound m bank limit n tables at client old r =
+    row_sound limit n tables at old r.sound (row_inside m bank limit n tables at client old r) r.row
+
+table_is : (m : Tables) (bank limit n : ℕ) (tables : List (List Entry)) (at client : ℕ) (old : List Entry) → IsRow m bank limit n tables at client old
+    → slice_index_or tables at [] ≡ old
+table_is m bank limit n tables at client old r = table_at tables at old (row_inside m bank limit n tables at client old r) r.row
+
+-- what a client holds is what its table has
+pub held_at-row : (m : Tables) (bank limit n : ℕ) (tables : List (List Entry)) (at client : ℕ) (old : List Entry) → IsRow m bank limit n tables at client old
+    → (b : ℕ) → held_at m client b ≡ found b old
+unfolding held_at
+held_at-row m bank limit n tables at client old r b =
+    rw (← r.view, ← r.at_client, table_is m bank limit n tables at client old r) refl
+
+-- ## A copy kept
+
+pub held_at-kept : (m : Tables) (bank limit n : ℕ) (tables : List (List Entry)) (at client block : ℕ) (old new : List Entry) (held : Held)
+    → IsRow m bank limit n tables at client old → new ≡ kept block held old
+    → (x y : ℕ)
+    → held_at (tables_of bank limit n (slice_set tables at new)) x y
+    ≡ (if is_cell client block x y then Some held else held_at m x y)
+held_at-kept m bank limit n tables at client block old new held r e x y =
+    rw (← r.view, ← r.at_client)
+    (held_at-set bank limit n tables at block old new (Some held) (row_inside m bank limit n tables at client old r)
+    (table_is m bank limit n tables at client old r)
+    (λ b. rw e (found-kept n block held old (table_sound m bank limit n tables at client old r).apart b)) x y)
+
+pub order_in-kept : (m : Tables) (bank limit n : ℕ) (tables : List (List Entry)) (at client block : ℕ) (old new : List Entry) (held : Held)
+    → IsRow m bank limit n tables at client old → new ≡ kept block held old
+    → (x : ℕ)
+    → order_in (tables_of bank limit n (slice_set tables at new)) x
+    ≡ (if x == client then order_after (is_granted (held_at m client block) held) block (order_in m x) else order_in m x)
+order_in-kept m bank limit n tables at client block old new held r e x =
+    rw (held_at-row m bank limit n tables at client old r block, ← r.view, ← r.at_client)
+    (order_in-set bank limit n tables at old new (order_after (is_granted (found block old) held) block)
+    (row_inside m bank limit n tables at client old r) (table_is m bank limit n tables at client old r)
+    (rw e (order-kept block held old)) x)
+
+at_most : (a b : ℕ) → (b ≤ a → ⊥) → a < b
+at_most a b h =
+    elim (cases_order a b) [
+      | inl same ↦ absurd (h (omega arith))
+      | inr (inl less) ↦ less
+      | inr (inr more) ↦ absurd (h (omega arith))
+    ]
+
+kept_sound : {T E : Type 0} (result : Result T E) (limit n block : ℕ) (held : Held) (old new : List Entry) → OnOk result (new ≡ kept block held old)
+    → OnErr result (new ≡ old) → (IsErr result ↔ ((found block old ≡ None) × (limit ≤ length old))) → IsTable limit n old → block < n → IsTable limit n new
+kept_sound (Ok x) limit n block held old new e u f t l =
+    rw e (IsTable-kept limit n block held old t l (λ none. at_most (length old) limit (λ full. let no = f.1 (none, full) in cc)))
+kept_sound (Err x) limit n block held old new e u f t l = rw u t
+
+-- all tables stay sound
+pub sound-kept : {T E : Type 0} (result : Result T E) (m : Tables) (bank limit n : ℕ) (tables : List (List Entry)) (at client block : ℕ) (held : Held) (old new : List Entry)
+    → IsRow m bank limit n tables at client old → OnOk result (new ≡ kept block held old)
+    → OnErr result (new ≡ old) → (IsErr result ↔ ((found block old ≡ None) × (limit ≤ length old))) → block < n
+    → All (λ t. IsTable limit n t) (slice_set tables at new)
+sound-kept result m bank limit n tables at client block held old new r e u f l =
+    All-set (λ t. IsTable limit n t) tables at new
+    (kept_sound result limit n block held old new e u f (table_sound m bank limit n tables at client old r) l) r.sound
+
+-- full is what contracts call full
+pub full-is : (m : Tables) (bank limit n : ℕ) (tables : List (List Entry)) (at client block : ℕ) (old : List Entry) (Refused : Type 0)
+    → IsRow m bank limit n tables at client old → (Refused ↔ ((found block old ≡ None) × (limit ≤ length old)))
+    → Refused ↔ ((held_at m client block ≡ None) × (m.limit ≤ entries m client))
+full-is m bank limit n tables at client block old Refused r f =
+    let held : held_at m client block ≡ found block old = held_at-row m bank limit n tables at client old r block in
+    let sound : IsTable m.limit m.blocks old = rw (← r.view) (table_sound m bank limit n tables at client old r) in
+    let count : entries m client ≡ length old = entries-table m client old (held_at-row m bank limit n tables at client old r) sound in
+    let most : limit ≡ m.limit = ap (λ (v : Tables). v.limit) r.view in
+    rw (held, count, ← most) f
+
+-- ## An entry taken out
+
+pub held_at-without : (m : Tables) (bank limit n : ℕ) (tables : List (List Entry)) (at client block : ℕ) (old new : List Entry)
+    → IsRow m bank limit n tables at client old → new ≡ without block old
+    → (x y : ℕ)
+    → held_at (tables_of bank limit n (slice_set tables at new)) x y
+    ≡ (if is_cell client block x y then None else held_at m x y)
+held_at-without m bank limit n tables at client block old new r e x y =
+    rw (← r.view, ← r.at_client)
+    (held_at-set bank limit n tables at block old new None (row_inside m bank limit n tables at client old r)
+    (table_is m bank limit n tables at client old r)
+    (λ b. rw e (found-without n block old (table_sound m bank limit n tables at client old r).apart b)) x y)
+
+pub order_in-without : (m : Tables) (bank limit n : ℕ) (tables : List (List Entry)) (at client block : ℕ) (old new : List Entry)
+    → IsRow m bank limit n tables at client old → new ≡ without block old
+    → (x : ℕ)
+    → order_in (tables_of bank limit n (slice_set tables at new)) x
+    ≡ (if x == client then order_without block (order_in m x) else order_in m x)
+order_in-without m bank limit n tables at client block old new r e x =
+    rw (← r.view, ← r.at_client)
+    (order_in-set bank limit n tables at old new (order_without block)
+    (row_inside m bank limit n tables at client old r) (table_is m bank limit n tables at client old r)
+    (rw e (order-without block old)) x)
+
+pub sound-without : (m : Tables) (bank limit n : ℕ) (tables : List (List Entry)) (at client block : ℕ) (old new : List Entry)
+    → IsRow m bank limit n tables at client old → new ≡ without block old → All (λ t. IsTable limit n t) (slice_set tables at new)
+sound-without m bank limit n tables at client block old new r e =
+    All-set (λ t. IsTable limit n t) tables at new
+    (rw e (IsTable-without limit n block old (table_sound m bank limit n tables at client old r))) r.sound

@@ -1,0 +1,7 @@
+use Rattle.std.proofs.Common.{◌∙◌, sym}
+use Rattle.tl_copies.proofs.CountLaws.{copies-table}
+use Rattle.tl_copies.proofs.copies.Copies.count.Goals as goal
+
+pub returns-clause-value : goal.returns-clause-value
+returns-clause-value c =
+    c.count.ensures ∙ sym (copies-table c.args.self.now c.args.client c.table.result.now c.table.ensures.held c.table.ensures.sound)

@@ -1,0 +1,36 @@
+-- A client's copy of a block.
+use Rattle.std.specs.Prelude.{Bool, true, false, not, ◌&&◌, Option, Some, None}
+use Rattle.tl_types.specs.declared.permission.Perm.{Perm}
+use Rattle.tl_types.specs.declared.permission.Perm.TheVariants as perm
+use Rattle.tl_types.specs.declared.wait.Wait.{Wait}
+use Rattle.tl_types.specs.declared.wait.Wait.TheVariants.{Nothing, ForGrant, ForReleaseAck}
+use Rattle.tl_copies.specs.declared.held.Held.{Held}
+
+-- a permission to read, or to read and write
+abbrev pub is_above_none : Perm → Bool
+is_above_none perm.None = false
+is_above_none perm.Branch = true
+is_above_none perm.Tip = true
+
+-- whether there is a copy
+abbrev pub is_copy : Held → Bool
+is_copy held = is_above_none held.perm
+
+-- the same of an entry that may be absent
+abbrev pub has_copy : Option Held → Bool
+has_copy None = false
+has_copy (Some held) = is_copy held
+
+abbrev pub waits_for_grant : Wait → Bool
+waits_for_grant Nothing = false
+waits_for_grant ForGrant = true
+waits_for_grant ForReleaseAck = false
+
+-- the entry waited for a Grant, and no longer does
+abbrev pub is_renewed : Held → Held → Bool
+is_renewed old new = waits_for_grant old.wait && not (waits_for_grant new.wait)
+
+-- the entry is new, or its Grant came
+abbrev pub is_granted : Option Held → Held → Bool
+is_granted None new = true
+is_granted (Some old) new = is_renewed old new
