@@ -1,0 +1,5 @@
+pub mod Entry
+pub mod Home
+pub mod Layers
+pub mod Means
+pub mod Shown
