@@ -1,5 +1,5 @@
 -- What an entry says is what it was made of.
-use Rattle.std.proofs.Common.{◌≡◌, ℕ, ◌<◌, true, false, Option, Some, None, is_some, refl, ap, ◌∙◌}
+use Rattle.std.proofs.Common.{◌≡◌, ℕ, ◌<◌, true, false, cond, Option, Some, None, is_some, refl, ap, ◌∙◌}
 use Rattle.tl_types.specs.Count.{count_below}
 use Rattle.tl_types.proofs.Counts.{count_below-same}
 use Rattle.tl_types.specs.declared.wait.Wait.{Wait}
@@ -9,7 +9,7 @@ use Rattle.tl_protocol.specs.Ledger.{has_copy}
 use Rattle.tl_protocol.specs.declared.client.Client.{Client}
 use Rattle.tl_protocol.specs.declared.copy.CachedCopy.{CachedCopy}
 use Rattle.tl_protocol.specs.declared.copy.CachedCopy.TheVariants.{Absent, Readable, Writable}
-use Rattle.tl_copies.specs.Copies.{held_at, entries, copies}
+use Rattle.tl_copies.specs.Copies.{Tables, held_at, is_cell, entries, copies}
 use Rattle.tl_copies.specs.Held.{has_copy as table_has_copy}
 use Rattle.tl_copies.specs.declared.held.Held.{Held}
 use Rattle.tl_bank_spec.specs.View.{View, has_entry_for, client_at, entries_at, copies_at, perm_at, has_entry}
@@ -89,3 +89,12 @@ perm-is v h c b m lt l = ap perm_in (m.copies c b lt l) ∙ perm_in-entry (clien
 pub bytes-is : (v : View) (h : Layers) (c b : ℕ) → Means v h → c < v.geometry.clients → b < v.geometry.memory_blocks
     → bytes_in (held_at h.copies c b) ≡ bytes_of (client_at v c b).held
 bytes-is v h c b m lt l = ap bytes_in (m.copies c b lt l) ∙ bytes_in-entry (client_at v c b).held (client_at v c b).wait
+
+-- the tables after a copy was put in, said of another name of that copy
+pub put-is : (old new : Tables) (c b : ℕ) (copy later : CachedCopy) (wait next : Wait) → copy ≡ later → wait ≡ next
+    → ((x y : ℕ) → held_at new x y ≡ cond (is_cell c b x y) (entry_with copy wait) (held_at old x y))
+    → (x y : ℕ) → held_at new x y ≡ cond (is_cell c b x y) (entry_with later next) (held_at old x y)
+put-is old new c b copy later wait next e f after x y =
+    after x y
+        ∙ ap (λ (p : CachedCopy). cond (is_cell c b x y) (entry_with p wait) (held_at old x y)) e
+        ∙ ap (λ (w : Wait). cond (is_cell c b x y) (entry_with later w) (held_at old x y)) f

@@ -13,14 +13,14 @@ use Rattle.tl_protocol.specs.declared.home.Outward.TheVariants.{Quiet}
 use Rattle.tl_lanes.proofs.Logs.{empty_is_lawful}
 use Rattle.tl_links.specs.Table.{lane_in}
 use Rattle.tl_copies.specs.Copies.{held_at, clients_of}
-use Rattle.tl_map.specs.Numbers.{Numbers}
+use Rattle.tl_map.specs.Numbers.{Numbers, IsLawful}
 use Rattle.tl_bank_spec.specs.View.{View, IsOwn, shape_of}
 use Rattle.tl_bank.specs.Home.{line_in, recorded_in, outward_in, memory_in}
 use Rattle.tl_bank.specs.Layers.{Layers}
 use Rattle.tl_bank.specs.Means.{Means}
 
 -- layers that hold nothing mean a bank whose log is empty
-pub means-fresh : (g : Numbers) (number : ℕ) (image : List ℕ) (room : ℕ) (h : Layers)
+pub means-fresh : (g : Numbers) (number : ℕ) (image : List ℕ) (room : ℕ) (h : Layers) → IsLawful g
     → ((c : ℕ) (k : Channel) → lane_in h.links c k ≡ empty_lane)
     → ((c b : ℕ) → held_at h.copies c b ≡ None)
     → ((b : ℕ) → line_in h.home b ≡ None) → ((c b : ℕ) → recorded_in h.home c b ≡ p_None) → ((b : ℕ) → outward_in h.home b ≡ Quiet)
@@ -28,7 +28,7 @@ pub means-fresh : (g : Numbers) (number : ℕ) (image : List ℕ) (room : ℕ) (
     → h.clock ≡ 0 → h.links.bank ≡ number → h.links.clients ≡ g.clients → clients_of h.copies ≡ g.clients
     → h.copies.blocks ≡ g.memory_blocks → h.copies.limit ≡ g.copies → h.limit ≡ g.registers
     → Means (record { geometry = g; number = number; image = image; log = []; room = room; registers = [] }) h
-means-fresh g number image room h lanes copies line recorded outward memory clock lb lc cc' cb cl limit =
+means-fresh g number image room h lawful lanes copies line recorded outward memory clock lb lc cc' cb cl limit =
     let empty = empty_is_lawful (shape_of g) image in
     record {
       lawful = empty.0;
@@ -40,6 +40,7 @@ means-fresh g number image room h lanes copies line recorded outward memory cloc
       home = λ b own. record { line = line b; recorded = λ c l. recorded c b; outward = outward b; memory = memory b own.0 };
       accepted = λ b. refl;
       clock = clock;
+      geometry = lawful;
       links_bank = lb;
       links_clients = lc;
       copies_clients = cc';

@@ -1,5 +1,5 @@
 -- What a client's table has of a block (this project's own).
-use Rattle.std.specs.Prelude.{ℕ, Bool, false, List, [], Option, Some, None, if◌then◌else◌}
+use Rattle.std.specs.Prelude.{◌≡◌, ℕ, ◌<◌, Bool, true, false, List, [], Option, Some, None, if◌then◌else◌}
 use Rattle.tl_types.specs.declared.permission.Perm.{Perm}
 use Rattle.tl_types.specs.declared.permission.Perm.TheVariants.{None as p_None, Branch, Tip}
 use Rattle.tl_types.specs.declared.wait.Wait.{Wait}
@@ -8,6 +8,7 @@ use Rattle.tl_protocol.specs.Copy.{perm_of, bytes_of}
 use Rattle.tl_protocol.specs.declared.client.Client.{Client}
 use Rattle.tl_protocol.specs.declared.copy.CachedCopy.{CachedCopy}
 use Rattle.tl_protocol.specs.declared.copy.CachedCopy.TheVariants.{Absent, Readable, Writable}
+use Rattle.tl_copies.specs.Copies.{Tables, clients_of, entries, held_at}
 use Rattle.tl_copies.specs.declared.held.Held.{Held}
 use Rattle.tl_bank_spec.specs.View.{has_entry_for}
 
@@ -27,6 +28,12 @@ entry_with copy wait = if has_entry_for copy wait then Some (held_as copy wait) 
 -- the entry of a client's part of a block
 abbrev pub entry_of : Client → Option Held
 entry_of k = entry_with k.held k.wait
+
+-- a client's table has a place for a copy of a block: it has an entry of it, or room for one more, or needs none
+pub record HasPlace (tables : Tables) (c block : ℕ) (copy : CachedCopy) (wait : Wait) : Type 0 where
+  pub client : c < clients_of tables
+  pub inside : block < tables.blocks
+  pub room : has_entry_for copy wait ≡ true → held_at tables c block ≡ None → entries tables c < tables.limit
 
 -- ## What an entry says
 

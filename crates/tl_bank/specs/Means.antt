@@ -2,6 +2,7 @@
 use Rattle.std.specs.Prelude.{◌≡◌, ℕ, ◌<◌, Option, Some, None}
 use Rattle.std.specs.List.{All}
 use Rattle.tl_types.specs.declared.channel.Channel.{Channel}
+use Rattle.tl_map.specs.Numbers.{IsLawful}
 use Rattle.tl_protocol.specs.declared.home.Accepted.{Accepted}
 use Rattle.tl_protocol.specs.Protocol.{Block, block_of}
 use Rattle.tl_lanes.specs.Lawful.{Lawful}
@@ -54,6 +55,7 @@ pub record Means (v : View) (layers : Layers) : Type 0 where
   pub accepted : (b : ℕ) → (block_at v b).accepted ≡ accepted_by (register_of b v.registers)
   pub clock : layers.clock ≡ clock_of v.log
   -- the layers are of this bank and this geometry
+  pub geometry : IsLawful v.geometry
   pub links_bank : layers.links.bank ≡ v.number
   pub links_clients : layers.links.clients ≡ v.geometry.clients
   pub copies_clients : clients_of layers.copies ≡ v.geometry.clients

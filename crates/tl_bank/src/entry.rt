@@ -1,13 +1,13 @@
 //! The entries of the clients' tables, as copies of the protocol.
-ghost use Rattle.std.specs.Prelude.{◌≡◌, ◌<◌, ℕ, None, if◌then◌else◌, true};
+ghost use Rattle.std.specs.Prelude.{◌≡◌, ◌≤◌, ℕ, length, if◌then◌else◌};
 ghost use Rattle.std.specs.Option.{option_copied};
-ghost use Rattle.tl_bank.specs.Entry.{entry_with, held_as, copy_in, wait_in, perm_in};
+ghost use Rattle.tl_bank.specs.Entry.{HasPlace, entry_with, held_as, copy_in, wait_in, perm_in};
 ghost use Rattle.tl_bank_spec.specs.View.{has_entry_for};
-ghost use Rattle.tl_copies.specs.Copies.{clients_of, entries, held_at, is_cell, SameSize};
+ghost use Rattle.tl_copies.specs.Copies.{held_at, is_cell, SameSize};
 
 use tl_copies::{Copies, Held};
 use tl_protocol::CachedCopy;
-use tl_types::{BlockNo, ClientId, Perm, Wait};
+use tl_types::{AccessBytes, BlockNo, ClientId, Perm, Wait};
 
 /// The copy that an entry keeps.
 pub(crate) fn copy_in(held: Option<&Held>) -> CachedCopy
@@ -60,6 +60,14 @@ fn held_as(copy: CachedCopy, wait: Wait) -> Held
     }
 }
 
+/// The bytes of an access, which are at most eight.
+pub(crate) fn access_of(bytes: &[u8]) -> AccessBytes
+    requires { length bytes.now ≤ 8 }
+    ensures { result ≡ bytes.now }
+{
+    AccessBytes::from_slice(bytes).unwrap()
+}
+
 /// Whether a table has an entry for such a copy.
 fn has_entry_for(copy: &CachedCopy, wait: Wait) -> bool
     ensures { result ≡ has_entry_for copy.now wait }
@@ -78,9 +86,7 @@ pub(crate) fn put(
     copy: CachedCopy,
     wait: Wait,
 )
-    requires client { client < clients_of copies.old }
-    requires block { block < copies.old.blocks }
-    requires room { has_entry_for copy wait ≡ true → held_at copies.old client block ≡ None → entries copies.old client < copies.old.limit }
+    requires { HasPlace copies.old client block copy wait }
     ensures same { SameSize copies.old copies.new }
     ensures after { (x y : ℕ)
         → held_at copies.new x y ≡ (if is_cell client block x y then entry_with copy wait else held_at copies.old x y) }

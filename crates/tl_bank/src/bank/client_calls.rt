@@ -1,1 +1,133 @@
 //! The calls of clients.
+ghost use Rattle.std.specs.Prelude.{◌≡◌, ◌+◌, None, false, IfErr, IfOk, OnErr, OnOk, length, slice_range};
+ghost use Rattle.tl_map.specs.Places.{block_at as block_of_address, offset_of};
+ghost use Rattle.tl_protocol.specs.Copy.{bytes_of, stored_in};
+ghost use Rattle.tl_protocol.specs.declared.event.Event.{Event};
+ghost use Rattle.tl_bank_spec.specs.Calls.{load_cases, store_cases};
+ghost use Rattle.tl_bank_spec.specs.Cases.{clock_full};
+ghost use Rattle.tl_bank_spec.specs.Refusal.{IsRefused, first_of};
+ghost use Rattle.tl_bank_spec.specs.View.{Appends, client_at, latest};
+
+use crate::bank::Bank;
+use crate::entry;
+use tl_bank_spec::{Loaded, Refusal, When};
+use tl_protocol::{Access, CachedCopy, Event};
+use tl_types::{AccessBytes, ClientId};
+
+impl Bank {
+    /// Reads `len` bytes of a client's copy from an address on: one to eight, in one block.
+    pub fn load(
+        &mut self,
+        client: ClientId,
+        address: u32,
+        len: usize,
+        when: When,
+    ) -> Result<Loaded, Refusal>
+        ensures refused { IfErr result (λ r. IsRefused (first_of (load_cases self.old client address len when.clock)) self.old.room r) }
+        ensures unchanged { OnErr result (self.new ≡ self.old) }
+        ensures permitted { OnOk result (first_of (load_cases self.old client address len when.clock) ≡ None) }
+        ensures appends { IfOk result
+            (λ loaded. Appends self.old self.new (Event.Load (record {
+              client = client; address = address; bytes = loaded.bytes; stamp = loaded.stamp; index = when.index;
+            }))) }
+        ensures bytes { IfOk result
+            (λ loaded. loaded.bytes
+            ≡ slice_range (bytes_of (client_at self.old client (block_of_address self.old.geometry address)).held)
+                (offset_of self.old.geometry address) (offset_of self.old.geometry address + len)) }
+        ensures stamp { IfOk result (λ loaded. loaded.stamp ≡ latest self.old when.clock + 1) }
+    {
+        if let Some(refusal) = self.load_refusal(client, address, len, when.clock) {
+            return Err(refusal);
+        }
+        let bytes = self.read(client, address, len, when.clock);
+        let stamp = self.next_stamp(when.clock);
+        self.make_room()?;
+        self.clock = stamp;
+        self.log.append(Event::Load(Access {
+            client,
+            address,
+            bytes: bytes.copied(),
+            stamp,
+            index: when.index,
+        }));
+        Ok(Loaded { bytes, stamp })
+    }
+
+    /// Writes one to eight bytes over a client's copy, from an address on, in one block. The answer is the stamp.
+    pub fn store(
+        &mut self,
+        client: ClientId,
+        address: u32,
+        bytes: &[u8],
+        when: When,
+    ) -> Result<u64, Refusal>
+        ensures refused { IfErr result (λ r. IsRefused (first_of (store_cases self.old client address (length bytes.now) when.clock)) self.old.room r) }
+        ensures unchanged { OnErr result (self.new ≡ self.old) }
+        ensures permitted { OnOk result (first_of (store_cases self.old client address (length bytes.now) when.clock) ≡ None) }
+        ensures appends { IfOk result
+            (λ stamp. Appends self.old self.new (Event.Store (record {
+              client = client; address = address; bytes = bytes.now; stamp = stamp; index = when.index;
+            }))) }
+        ensures stamp { IfOk result (λ stamp. stamp ≡ latest self.old when.clock + 1) }
+    {
+        if let Some(refusal) = self.store_refusal(client, address, bytes.len(), when.clock) {
+            return Err(refusal);
+        }
+        let block = self.geometry.block_at(address);
+        let access = entry::access_of(bytes);
+        let copy = self.stored(client, address, &access, when.clock);
+        let wait = self.wait(client, block);
+        let stamp = self.next_stamp(when.clock);
+        self.make_room()?;
+        entry::put(&mut self.copies, client, block, copy, wait);
+        self.clock = stamp;
+        self.log.append(Event::Store(Access {
+            client,
+            address,
+            bytes: access,
+            stamp,
+            index: when.index,
+        }));
+        Ok(stamp)
+    }
+
+    /// The copy that a store leaves which may take place.
+    fn stored(
+        &self,
+        client: ClientId,
+        address: u32,
+        access: &AccessBytes,
+        clock: u64,
+    ) -> CachedCopy
+        requires { first_of (store_cases self.now client address (length access.now) clock) ≡ None }
+        ensures { result
+            ≡ stored_in (offset_of self.now.geometry address) access.now
+                (client_at self.now client (block_of_address self.now.geometry address)).held }
+    {
+        let _ = clock;
+        let mut copy = self.copy(client, self.geometry.block_at(address));
+        copy.store(self.geometry.offset(address) as usize, access);
+        copy
+    }
+
+    /// The bytes of a load that may take place.
+    fn read(&self, client: ClientId, address: u32, len: usize, clock: u64) -> AccessBytes
+        requires { first_of (load_cases self.now client address len clock) ≡ None }
+        ensures { result
+            ≡ slice_range (bytes_of (client_at self.now client (block_of_address self.now.geometry address)).held)
+                (offset_of self.now.geometry address) (offset_of self.now.geometry address + len) }
+    {
+        let _ = clock;
+        let copy = self.copy(client, self.geometry.block_at(address));
+        let offset = self.geometry.offset(address);
+        copy.into_bytes().access_at(offset, len as u32).unwrap()
+    }
+
+    /// The stamp of the next access.
+    fn next_stamp(&self, clock: u64) -> u64
+        requires { clock_full self.now clock ≡ false }
+        ensures { result ≡ latest self.now clock + 1 }
+    {
+        self.clock.max(clock) + 1
+    }
+}
