@@ -98,3 +98,7 @@ put-is old new c b copy later wait next e f after x y =
     after x y
         ∙ ap (λ (p : CachedCopy). cond (is_cell c b x y) (entry_with p wait) (held_at old x y)) e
         ∙ ap (λ (w : Wait). cond (is_cell c b x y) (entry_with later w) (held_at old x y)) f
+
+pub has_entry-is : (v : View) (h : Layers) (c b : ℕ) → Means v h → c < v.geometry.clients → b < v.geometry.memory_blocks
+    → is_some (held_at h.copies c b) ≡ has_entry (client_at v c b)
+has_entry-is v h c b m lt l = ap (λ (o : Option Held). is_some o) (m.copies c b lt l) ∙ is_some-entry (client_at v c b).held (client_at v c b).wait

@@ -1,6 +1,12 @@
+pub mod Acquires
 pub mod Allowed
+pub mod Counts
 pub mod Entries
 pub mod Fresh
+pub mod Heads
 pub mod Keep
 pub mod Loads
+pub mod Places
+pub mod ReleaseAcks
+pub mod Releases
 pub mod Stores

@@ -21,28 +21,8 @@ use Rattle.tl_bank.specs.Means.{Means}
 use Rattle.tl_bank.proofs.Allowed.{AccessAllowed, store-allowed}
 use Rattle.tl_bank.proofs.Entries.{is_some-entry, put-is}
 use Rattle.tl_bank.proofs.Keep.{means-step}
+use Rattle.tl_bank.proofs.Places.{entry-there, place-there}
 use Rattle.tl_bank.proofs.Loads.{later-is}
-
--- a copy above None has an entry
-pub entry-there : (copy : CachedCopy) (wait : Wait) → perm_of copy ≢ p_None → has_entry_for copy wait ≡ true
-entry-there Absent wait some = absurd (some refl)
-entry-there (Readable bytes) wait some = refl
-entry-there (Writable bytes dirty) wait some = refl
-
-some-is : (o : Option Held) → is_some o ≡ true → o ≢ None
-some-is None h = cc
-some-is (Some x) h = λ e. cc
-
--- where there is an entry, there is a place for another copy
-pub place-there : (v : View) (h : Layers) (c b : ℕ) (copy : CachedCopy) (wait : Wait) → Means v h
-    → c < v.geometry.clients → b < v.geometry.memory_blocks → has_entry (client_at v c b) ≡ true → HasPlace h.copies c b copy wait
-place-there v h c b copy wait m lt l has = record {
-  client = rw m.copies_clients lt;
-  inside = rw m.copies_blocks l;
-  room = λ need none.
-      absurd (some-is (held_at h.copies c b)
-          (ap (λ (o : Option Held). is_some o) (m.copies c b lt l) ∙ is_some-entry (client_at v c b).held (client_at v c b).wait ∙ has) none)
-}
 
 tip-some : (copy : CachedCopy) → perm_of copy ≡ Tip → perm_of copy ≢ p_None
 tip-some Absent h = cc
@@ -55,7 +35,7 @@ store-place v h c address len clock copy wait m none =
     let block : ℕ = address / v.geometry.block_bytes in
     let ok = store-allowed v c address len clock none in
     place-there v h c block copy wait m ok.0.client ok.0.block
-        (entry-there (client_at v c block).held (client_at v c block).wait (tip-some (client_at v c block).held ok.1))
+        (λ need. entry-there (client_at v c block).held (client_at v c block).wait (tip-some (client_at v c block).held ok.1))
 
 -- what a store shows of the bank before it
 pub record Writes (v : View) (c address : ℕ) (bytes : List ℕ) (clock block : ℕ) (copy : CachedCopy) (wait : Wait) (stamp : ℕ) : Type 0 where

@@ -1,5 +1,6 @@
 pub mod Entry
 pub mod Home
 pub mod Layers
+pub mod Link
 pub mod Means
 pub mod Shown

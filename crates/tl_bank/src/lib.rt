@@ -4,6 +4,7 @@
 mod bank;
 mod entry;
 mod home;
+mod link;
 mod share;
 
 pub use bank::{Bank, BankError};

@@ -1,18 +1,24 @@
 //! The calls of clients.
 ghost use Rattle.std.specs.Prelude.{◌≡◌, ◌+◌, None, false, IfErr, IfOk, OnErr, OnOk, length, slice_range};
+ghost use Rattle.tl_types.specs.declared.channel.Channel.{Channel};
 ghost use Rattle.tl_map.specs.Places.{block_at as block_of_address, offset_of};
 ghost use Rattle.tl_protocol.specs.Copy.{bytes_of, stored_in};
 ghost use Rattle.tl_protocol.specs.declared.event.Event.{Event};
-ghost use Rattle.tl_bank_spec.specs.Calls.{load_cases, store_cases};
-ghost use Rattle.tl_bank_spec.specs.Cases.{clock_full};
+ghost use Rattle.tl_bank_spec.specs.Calls.{load_cases, store_cases, acquire_cases, release_cases, take_release_ack_cases};
+ghost use Rattle.tl_bank_spec.specs.Cases.{block_named, clock_full};
 ghost use Rattle.tl_bank_spec.specs.Refusal.{IsRefused, first_of};
-ghost use Rattle.tl_bank_spec.specs.View.{Appends, client_at, latest};
+ghost use Rattle.tl_bank_spec.specs.Share.{recounted};
+ghost use Rattle.tl_bank_spec.specs.View.{Appends, client_at, copies_at, latest, next_ticket, perm_at};
 
 use crate::bank::Bank;
 use crate::entry;
+use crate::link;
+use crate::share::Share;
 use tl_bank_spec::{Loaded, Refusal, When};
 use tl_protocol::{Access, CachedCopy, Event};
-use tl_types::{AccessBytes, ClientId};
+use tl_types::{
+    AccessBytes, BlockNo, Body, Channel, ClientId, Grow, Message, Prune, Surrender, Ticket, Upward, Wait,
+};
 
 impl Bank {
     /// Reads `len` bytes of a client's copy from an address on: one to eight, in one block.
@@ -89,6 +95,86 @@ impl Bank {
             index: when.index,
         }));
         Ok(stamp)
+    }
+
+    /// Asks home for a copy, or for a better one.
+    pub fn acquire(
+        &mut self,
+        client: ClientId,
+        block: BlockNo,
+        grow: Grow,
+    ) -> Result<Ticket, Refusal>
+        ensures refused { IfErr result (λ r. IsRefused (first_of (acquire_cases self.old client block grow)) self.old.room r) }
+        ensures unchanged { OnErr result (self.new ≡ self.old) }
+        ensures permitted { OnOk result (first_of (acquire_cases self.old client block grow) ≡ None) }
+        ensures appends { OnOk result (Appends self.old self.new (Event.SendAcquire client block grow)) }
+        ensures ticket { IfOk result (λ ticket. ticket ≡ next_ticket self.old client Channel.A) }
+    {
+        if let Some(refusal) = self.acquire_refusal(client, block, grow) {
+            return Err(refusal);
+        }
+        let copy = self.copy(client, block);
+        self.make_room()?;
+        let body = Body::AcquireBlock(grow);
+        let ticket = link::send(&mut self.links, client, Channel::A, Message { block, body });
+        entry::put(&mut self.copies, client, block, copy, Wait::ForGrant);
+        self.log.append(Event::SendAcquire(client, block, grow));
+        Ok(ticket)
+    }
+
+    /// Gives up a part of a copy, or all of it.
+    pub fn release(
+        &mut self,
+        client: ClientId,
+        block: BlockNo,
+        prune: Prune,
+        share: &mut Share,
+    ) -> Result<Ticket, Refusal>
+        ensures refused { IfErr result (λ r. IsRefused (first_of (release_cases self.old client block prune share.old)) self.old.room r) }
+        ensures unchanged { OnErr result (self.new ≡ self.old) }
+        ensures share_unchanged { OnErr result (share.new ≡ share.old) }
+        ensures permitted { OnOk result (first_of (release_cases self.old client block prune share.old) ≡ None) }
+        ensures appends { OnOk result (Appends self.old self.new (Event.SendRelease client block prune)) }
+        ensures ticket { IfOk result (λ ticket. ticket ≡ next_ticket self.old client Channel.C) }
+        ensures share { OnOk result
+            (share.new ≡ recounted (perm_at self.old client block) (perm_at self.new client block) share.old) }
+        ensures counted { OnOk result (share.new.count ≡ copies_at self.new client) }
+    {
+        if let Some(refusal) = self.release_refusal(client, block, prune, share) {
+            return Err(refusal);
+        }
+        let mut copy = self.copy(client, block);
+        let before = copy.perm();
+        let given = Surrender::of(prune, copy.dirty_bytes());
+        copy.reduce(prune.to());
+        let later = copy.perm();
+        self.make_room()?;
+        let body = Body::Upward(Upward::Release(given));
+        let ticket = link::send(&mut self.links, client, Channel::C, Message { block, body });
+        entry::put(&mut self.copies, client, block, copy, Wait::ForReleaseAck);
+        self.log.append(Event::SendRelease(client, block, prune));
+        share.recount(before, later);
+        Ok(ticket)
+    }
+
+    /// Takes home's answer to a Release.
+    pub fn take_release_ack(&mut self, ticket: Ticket) -> Result<(), Refusal>
+        ensures refused { IfErr result (λ r. IsRefused (first_of (take_release_ack_cases self.old ticket)) self.old.room r) }
+        ensures unchanged { OnErr result (self.new ≡ self.old) }
+        ensures permitted { OnOk result (first_of (take_release_ack_cases self.old ticket) ≡ None) }
+        ensures appends { OnOk result
+            (Appends self.old self.new (Event.TakeReleaseAck ticket.client (block_named self.old ticket Channel.D))) }
+    {
+        if let Some(refusal) = self.take_release_ack_refusal(&ticket) {
+            return Err(refusal);
+        }
+        let block = self.first_block(ticket.client, Channel::D);
+        let copy = self.copy(ticket.client, block);
+        self.make_room()?;
+        link::discard(&mut self.links, ticket);
+        entry::put(&mut self.copies, ticket.client, block, copy, Wait::Nothing);
+        self.log.append(Event::TakeReleaseAck(ticket.client, block));
+        Ok(())
     }
 
     /// The copy that a store leaves which may take place.
