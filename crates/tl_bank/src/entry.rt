@@ -2,12 +2,13 @@
 ghost use Rattle.std.specs.Prelude.{◌≡◌, ◌≤◌, ℕ, length, if◌then◌else◌};
 ghost use Rattle.std.specs.Option.{option_copied};
 ghost use Rattle.tl_bank.specs.Entry.{HasPlace, entry_with, held_as, copy_in, wait_in, perm_in};
+ghost use Rattle.tl_bank.specs.Head.{asked_by, granted_by};
 ghost use Rattle.tl_bank_spec.specs.View.{has_entry_for};
 ghost use Rattle.tl_copies.specs.Copies.{held_at, is_cell, SameSize};
 
 use tl_copies::{Copies, Held};
 use tl_protocol::CachedCopy;
-use tl_types::{AccessBytes, BlockNo, ClientId, Perm, Wait};
+use tl_types::{AccessBytes, BlockNo, Body, ClientId, Downward, Perm, ProbeCap, Wait};
 
 /// The copy that an entry keeps.
 pub(crate) fn copy_in(held: Option<&Held>) -> CachedCopy
@@ -57,6 +58,30 @@ fn held_as(copy: CachedCopy, wait: Wait) -> Held
         dirty,
         bytes: copy.into_bytes(),
         wait,
+    }
+}
+
+/// What a Probe leaves at most.
+pub(crate) fn asked_by(body: &Body) -> ProbeCap
+    ensures { result ≡ asked_by body.now }
+{
+    match body {
+        Body::ProbeBlock(cap) => *cap,
+        _ => ProbeCap::ToN,
+    }
+}
+
+/// The copy that a Grant makes of a client's own.
+pub(crate) fn granted_by(body: &Body, own: CachedCopy) -> CachedCopy
+    ensures { result ≡ granted_by body.now own }
+{
+    match body {
+        Body::Downward(Downward::Grant(cap, Some(bytes))) => CachedCopy::clean(
+            cap.perm(),
+            bytes.copied(),
+        ),
+        Body::Downward(Downward::Grant(cap, None)) => CachedCopy::clean(cap.perm(), own.into_bytes()),
+        _ => CachedCopy::Absent,
     }
 }
 

@@ -4,7 +4,7 @@ ghost use Rattle.tl_types.specs.declared.channel.Channel.{Channel};
 ghost use Rattle.tl_map.specs.Places.{block_at as block_of_address, offset_of};
 ghost use Rattle.tl_protocol.specs.Copy.{bytes_of, stored_in};
 ghost use Rattle.tl_protocol.specs.declared.event.Event.{Event};
-ghost use Rattle.tl_bank_spec.specs.Calls.{load_cases, store_cases, acquire_cases, release_cases, take_release_ack_cases};
+ghost use Rattle.tl_bank_spec.specs.Calls.{load_cases, store_cases, acquire_cases, release_cases, answer_probe_cases, take_grant_cases, take_release_ack_cases};
 ghost use Rattle.tl_bank_spec.specs.Cases.{block_named, clock_full};
 ghost use Rattle.tl_bank_spec.specs.Refusal.{IsRefused, first_of};
 ghost use Rattle.tl_bank_spec.specs.Share.{recounted};
@@ -17,7 +17,8 @@ use crate::share::Share;
 use tl_bank_spec::{Loaded, Refusal, When};
 use tl_protocol::{Access, CachedCopy, Event};
 use tl_types::{
-    AccessBytes, BlockNo, Body, Channel, ClientId, Grow, Message, Prune, Surrender, Ticket, Upward, Wait,
+    AccessBytes, BlockNo, Body, Channel, ClientId, Grow, Message, ProbeAnswer, Prune, Surrender,
+    Ticket, Upward, Wait,
 };
 
 impl Bank {
@@ -175,6 +176,75 @@ impl Bank {
         entry::put(&mut self.copies, ticket.client, block, copy, Wait::Nothing);
         self.log.append(Event::TakeReleaseAck(ticket.client, block));
         Ok(())
+    }
+
+    /// Answers the first Probe on its way to a client.
+    pub fn answer_probe(&mut self, ticket: Ticket, share: &mut Share) -> Result<Ticket, Refusal>
+        ensures refused { IfErr result (λ r. IsRefused (first_of (answer_probe_cases self.old ticket share.old)) self.old.room r) }
+        ensures unchanged { OnErr result (self.new ≡ self.old) }
+        ensures share_unchanged { OnErr result (share.new ≡ share.old) }
+        ensures permitted { OnOk result (first_of (answer_probe_cases self.old ticket share.old) ≡ None) }
+        ensures appends { OnOk result
+            (Appends self.old self.new (Event.AnswerProbe ticket.client (block_named self.old ticket Channel.B))) }
+        ensures ticket { IfOk result (λ sent. sent ≡ next_ticket self.old ticket.client Channel.C) }
+        ensures share { OnOk result
+            (share.new
+            ≡ recounted (perm_at self.old ticket.client (block_named self.old ticket Channel.B))
+                (perm_at self.new ticket.client (block_named self.old ticket Channel.B)) share.old) }
+        ensures counted { OnOk result (share.new.count ≡ copies_at self.new ticket.client) }
+    {
+        if let Some(refusal) = self.answer_probe_refusal(&ticket, share) {
+            return Err(refusal);
+        }
+        let block = self.first_block(ticket.client, Channel::B);
+        let cap = self.first_cap(ticket.client);
+        let mut copy = self.copy(ticket.client, block);
+        let wait = self.wait(ticket.client, block);
+        let before = copy.perm();
+        let answer = ProbeAnswer::of(before, cap, copy.dirty_bytes());
+        copy.reduce(cap.perm());
+        let later = copy.perm();
+        self.make_room()?;
+        link::discard(&mut self.links, ticket);
+        let body = Body::Upward(Upward::ProbeAck(answer));
+        let sent = link::send(&mut self.links, ticket.client, Channel::C, Message { block, body });
+        entry::put(&mut self.copies, ticket.client, block, copy, wait);
+        self.log.append(Event::AnswerProbe(ticket.client, block));
+        share.recount(before, later);
+        Ok(sent)
+    }
+
+    /// Takes the Grant that is first on its way to a client, and sends the GrantAck.
+    pub fn take_grant(&mut self, ticket: Ticket, share: &mut Share) -> Result<Ticket, Refusal>
+        ensures refused { IfErr result (λ r. IsRefused (first_of (take_grant_cases self.old ticket share.old)) self.old.room r) }
+        ensures unchanged { OnErr result (self.new ≡ self.old) }
+        ensures share_unchanged { OnErr result (share.new ≡ share.old) }
+        ensures permitted { OnOk result (first_of (take_grant_cases self.old ticket share.old) ≡ None) }
+        ensures appends { OnOk result
+            (Appends self.old self.new (Event.TakeGrant ticket.client (block_named self.old ticket Channel.D))) }
+        ensures ticket { IfOk result (λ sent. sent ≡ next_ticket self.old ticket.client Channel.E) }
+        ensures share { OnOk result
+            (share.new
+            ≡ recounted (perm_at self.old ticket.client (block_named self.old ticket Channel.D))
+                (perm_at self.new ticket.client (block_named self.old ticket Channel.D)) share.old) }
+        ensures counted { OnOk result (share.new.count ≡ copies_at self.new ticket.client) }
+    {
+        if let Some(refusal) = self.take_grant_refusal(&ticket, share) {
+            return Err(refusal);
+        }
+        let block = self.first_block(ticket.client, Channel::D);
+        let own = self.copy(ticket.client, block);
+        let before = own.perm();
+        let copy = self.first_granted(ticket.client, own);
+        let later = copy.perm();
+        self.make_room()?;
+        link::discard(&mut self.links, ticket);
+        let body = Body::GrantAck;
+        let sent = link::send(&mut self.links, ticket.client, Channel::E, Message { block, body });
+        entry::put(&mut self.copies, ticket.client, block, copy, Wait::Nothing);
+        self.log.append(Event::TakeGrant(ticket.client, block));
+        share.recount(before, later);
+        Ok(sent)
     }
 
     /// The copy that a store leaves which may take place.

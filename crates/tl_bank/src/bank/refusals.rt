@@ -1,7 +1,9 @@
 //! Why the calls of clients are refused, and what these tests look at.
 ghost use Rattle.std.specs.Prelude.{◌≡◌, ◌<◌, ◌||◌};
-ghost use Rattle.tl_bank_spec.specs.Calls.{load_cases, store_cases, acquire_cases, release_cases, take_release_ack_cases};
-ghost use Rattle.tl_bank_spec.specs.Cases.{no_client, no_block, bad_access, bad_share, elsewhere, waits, copies_full, link_full, clock_full, first_block, is_a_release_ack};
+ghost use Rattle.tl_types.specs.declared.channel.Channel.{Channel};
+ghost use Rattle.tl_bank.specs.Head.{first_cap, first_granted};
+ghost use Rattle.tl_bank_spec.specs.Calls.{load_cases, store_cases, acquire_cases, release_cases, answer_probe_cases, take_grant_cases, take_release_ack_cases};
+ghost use Rattle.tl_bank_spec.specs.Cases.{no_client, no_block, bad_access, bad_share, elsewhere, waits, copies_full, link_full, clock_full, first_block, release_pending, is_a_grant, is_a_release_ack};
 ghost use Rattle.tl_bank_spec.specs.Refusal.{first_of};
 ghost use Rattle.tl_bank_spec.specs.View.{client_at, lane_at, perm_at, has_entry, entries_at, copies_at};
 
@@ -10,7 +12,7 @@ use crate::entry;
 use crate::share::Share;
 use tl_bank_spec::Refusal;
 use tl_protocol::CachedCopy;
-use tl_types::{BlockNo, Body, Channel, ClientId, Grow, Perm, Prune, Ticket, Wait};
+use tl_types::{BlockNo, Body, Channel, ClientId, Grow, Perm, ProbeCap, Prune, Ticket, Wait};
 
 /// How many bytes an access has at most.
 const MOST: usize = 8;
@@ -256,6 +258,95 @@ impl Bank {
         }
     }
 
+    /// What the first Probe on its way to a client leaves at most.
+    pub(super) fn first_cap(&self, client: ClientId) -> ProbeCap
+        requires { client < self.now.geometry.clients }
+        ensures { result ≡ first_cap (lane_at self.now client Channel.B).messages }
+    {
+        match self.links.first(client, Channel::B) {
+            Some(message) => entry::asked_by(&message.body),
+            None => ProbeCap::ToN,
+        }
+    }
+
+    /// The copy that the Grant which is first on its way to a client makes of the client's own.
+    pub(super) fn first_granted(&self, client: ClientId, own: CachedCopy) -> CachedCopy
+        requires { client < self.now.geometry.clients }
+        ensures { result ≡ first_granted (lane_at self.now client Channel.D).messages own }
+    {
+        match self.links.first(client, Channel::D) {
+            Some(message) => entry::granted_by(&message.body, own),
+            None => CachedCopy::Absent,
+        }
+    }
+
+    pub(super) fn answer_probe_refusal(&self, ticket: &Ticket, share: &Share) -> Option<Refusal>
+        ensures { result ≡ first_of (answer_probe_cases self.now ticket.now share.now) }
+    {
+        if ticket.client.number() >= self.geometry.clients()
+            || self.is_bad_share(ticket.client, share)
+        {
+            return Some(Refusal::OutOfRange);
+        }
+        if ticket.bank.number() != self.number.number()
+            || share.bank().number() != self.number.number()
+        {
+            return Some(Refusal::WrongBank);
+        }
+        if ticket.channel.index() != Channel::B.index() {
+            return Some(Refusal::NotHead);
+        }
+        if self.links.waiting(ticket.client, Channel::B) == 0 {
+            return Some(Refusal::NothingThere);
+        }
+        if ticket.serial != self.links.taken(ticket.client, Channel::B) {
+            return Some(Refusal::NotHead);
+        }
+        if self.is_release_pending(ticket.client) {
+            return Some(Refusal::ReleasePending);
+        }
+        if self.is_link_full(ticket.client, Channel::C) {
+            return Some(Refusal::LinkFull);
+        }
+        None
+    }
+
+    /// Whether the client of the first Probe on its way has a Release of its block unanswered.
+    fn is_release_pending(&self, client: ClientId) -> bool
+        requires { client < self.now.geometry.clients }
+        ensures { result ≡ release_pending self.now client (first_block (lane_at self.now client Channel.B).messages) }
+    {
+        self.wait(client, self.first_block(client, Channel::B)) == Wait::ForReleaseAck
+    }
+
+    pub(super) fn take_grant_refusal(&self, ticket: &Ticket, share: &Share) -> Option<Refusal>
+        ensures { result ≡ first_of (take_grant_cases self.now ticket.now share.now) }
+    {
+        if ticket.client.number() >= self.geometry.clients()
+            || self.is_bad_share(ticket.client, share)
+        {
+            return Some(Refusal::OutOfRange);
+        }
+        if ticket.bank.number() != self.number.number()
+            || share.bank().number() != self.number.number()
+        {
+            return Some(Refusal::WrongBank);
+        }
+        if ticket.channel.index() != Channel::D.index() {
+            return Some(Refusal::NotHead);
+        }
+        let Some(message) = self.links.first(ticket.client, Channel::D) else {
+            return Some(Refusal::NothingThere);
+        };
+        if ticket.serial != self.links.taken(ticket.client, Channel::D) || !is_grant(&message.body) {
+            return Some(Refusal::NotHead);
+        }
+        if self.is_link_full(ticket.client, Channel::E) {
+            return Some(Refusal::LinkFull);
+        }
+        None
+    }
+
     pub(super) fn take_release_ack_refusal(&self, ticket: &Ticket) -> Option<Refusal>
         ensures { result ≡ first_of (take_release_ack_cases self.now ticket.now) }
     {
@@ -286,6 +377,16 @@ fn is_release_ack(body: &Body) -> bool
 {
     match body {
         Body::Downward(message) => !message.is_grant(),
+        _ => false,
+    }
+}
+
+/// Whether a message is a Grant.
+fn is_grant(body: &Body) -> bool
+    ensures { result ≡ is_a_grant body.now }
+{
+    match body {
+        Body::Downward(message) => message.is_grant(),
         _ => false,
     }
 }
