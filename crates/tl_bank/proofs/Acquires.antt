@@ -1,5 +1,5 @@
 -- An Acquire, and what it leaves.
-use Rattle.std.proofs.Common.{◌≡◌, ℕ, ◌<◌, true, List, [], ◌∷◌, ◌++◌, Option, Some, None, if◌then◌else◌, refl}
+use Rattle.std.proofs.Common.{◌≡◌, ℕ, [], ◌∷◌, ◌++◌, None, if◌then◌else◌, refl}
 use Rattle.tl_types.specs.Lane.{is_here, with_message}
 use Rattle.tl_types.specs.declared.channel.Channel.{Channel}
 use Rattle.tl_types.specs.declared.channel.Channel.TheVariants.{A}
@@ -37,8 +37,8 @@ pub record Asks (v : View) (c b : ℕ) (grow : Grow) (copy : CachedCopy) : Type 
 pub acquire-keeps : (v : View) (h : Layers) (c b : ℕ) (grow : Grow) (copy : CachedCopy) (room : ℕ) (links : Table) (tables : Tables)
     → Means v h → Asks v c b grow copy → SameLinks h.links links
     → ((x : ℕ) (l : Channel) → lane_in links x l
-        ≡ (if is_here c A x l then with_message (lane_in h.links x l) (record { block = b; body = AcquireBlock grow })
-            else lane_in h.links x l))
+    ≡ (if is_here c A x l then with_message (lane_in h.links x l) (record { block = b; body = AcquireBlock grow })
+    else lane_in h.links x l))
     → SameCopies h.copies tables
     → ((x y : ℕ) → held_at tables x y ≡ (if is_cell c b x y then entry_with copy ForGrant else held_at h.copies x y))
     → Means (record v { log = v.log ++ SendAcquire c b grow ∷ []; room = room }) (record h { links = links; copies = tables })
@@ -46,21 +46,21 @@ acquire-keeps v h c b grow copy room links tables m asks same_links sends same a
     let k : Client = client_at v c b in
     let ok : AcquireAllowed v c b grow = acquire-allowed v c b grow asks.allowed in
     means-step v h (record h { links = links; copies = tables }) (SendAcquire c b grow) c (sent_acquire k grow) room m
-        (record {
-          may = (ok.block, (ok.client, (ok.wait, ok.from)));
-          first = tt;
-          leaves = refl;
-          here = ok.here;
-          later = tt;
-          client = λ x. refl;
-          recorded = refl
-        })
-        (record {
-          lanes = sends;
-          copies = put-is h.copies tables c b copy k.held ForGrant ForGrant asks.copy_is refl after;
-          links_size = same_links;
-          copies_size = same;
-          home = refl;
-          limit = refl;
-          clock = refl
-        })
+    (record {
+      may = (ok.block, (ok.client, (ok.wait, ok.from)));
+      first = tt;
+      leaves = refl;
+      here = ok.here;
+      later = tt;
+      client = λ x. refl;
+      recorded = refl;
+    })
+    (record {
+      lanes = sends;
+      copies = put-is h.copies tables c b copy k.held ForGrant ForGrant asks.copy_is refl after;
+      links_size = same_links;
+      copies_size = same;
+      home = refl;
+      limit = refl;
+      clock = refl;
+    })

@@ -1,7 +1,6 @@
 -- What a call may rely on where no refusal's case holds.
-use Rattle.std.proofs.Common.{◌≡◌, ◌≢◌, ℕ, zero, suc, ◌+◌, ◌-◌, ◌^◌, ◌/◌, ◌%◌, ◌<◌, ◌≤◌, ◌==◌, ◌&&◌, ◌||◌, not, Bool, true, false, max, List, [], ◌∷◌, ◌++◌, length, Option, Some, None, if◌then◌else◌, refl, sym, ◌∙◌, ap, subst, arith, eqb-true, eq-eqb, nat_lt, nat_le}
+use Rattle.std.proofs.Common.{◌≡◌, ◌≢◌, ℕ, ◌+◌, ◌/◌, ◌%◌, ◌<◌, ◌≤◌, ◌==◌, ◌&&◌, ◌||◌, not, Bool, true, false, List, [], ◌∷◌, Some, None, if◌then◌else◌, refl, arith, eqb-true, nat_lt, nat_le}
 use Rattle.std.proofs.lemmas.Bool.Decides.{nat_tests}
-use Rattle.std.proofs.lemmas.Grind.{common_steps}
 use Rattle.tl_types.specs.Permission.{rank, grow_from, prune_from}
 use Rattle.tl_types.specs.declared.permission.Perm.{Perm}
 use Rattle.tl_types.specs.declared.permission.Perm.TheVariants.{None as p_None, Branch, Tip}
@@ -9,13 +8,12 @@ use Rattle.tl_types.specs.declared.permission.Grow.{Grow}
 use Rattle.tl_types.specs.declared.permission.Prune.{Prune}
 use Rattle.tl_types.specs.declared.wait.Wait.{Wait}
 use Rattle.tl_types.specs.declared.wait.Wait.TheVariants.{Nothing, ForGrant, ForReleaseAck}
-use Rattle.tl_map.specs.Numbers.{Numbers}
 use Rattle.tl_bank_spec.specs.Share.{Holding}
-use Rattle.tl_map.specs.Places.{bank_of, has_bytes, has_block, offset_of}
+use Rattle.tl_map.specs.Places.{bank_of}
 use Rattle.tl_bank_spec.specs.Calls.{block_named_by, load_cases, store_cases, acquire_cases, release_cases}
-use Rattle.tl_bank_spec.specs.Cases.{no_client, no_block, bad_access, bad_share, other_share, copies_full, elsewhere, may_not_read, may_not_write, clock_full}
+use Rattle.tl_bank_spec.specs.Cases.{no_client, no_block, bad_access, bad_share, other_share, copies_full, elsewhere}
 use Rattle.tl_bank_spec.specs.Refusal.{first_of}
-use Rattle.tl_bank_spec.specs.View.{View, client_at, copies_at, is_waiting, perm_at, latest}
+use Rattle.tl_bank_spec.specs.View.{View, client_at, copies_at, is_waiting, perm_at}
 use Rattle.tl_bank_spec.specs.declared.refusal.Refusal.{Refusal}
 
 -- ## No case holds
@@ -76,14 +74,14 @@ access-allowed v client address len range here =
     let both = or-false (no_client v client) (bad_access v address len) range in
     let block : ℕ = address / v.geometry.block_bytes in
     let bytes = bytes-are 0 len (nat_lt block v.geometry.memory_blocks)
-        (nat_le (address % v.geometry.block_bytes + len) v.geometry.block_bytes) both.1 in
+    (nat_le (address % v.geometry.block_bytes + len) v.geometry.block_bytes) both.1 in
     record {
       client = client-is v client both.0;
       some = bytes.0;
       few = bytes.1;
       fits = let h = bytes.3 in grind (arith, nat_tests);
       block = let h = bytes.2 in grind (arith, nat_tests);
-      here = here-is v block here
+      here = here-is v block here;
     }
 
 readable : (p : Perm) → nat_lt (rank p) 1 ≡ false → p ≢ p_None
@@ -144,7 +142,7 @@ acquire-allowed v c b grow none =
       here = here-is v b f.1.0;
       wait = not-waiting (client_at v c b).wait f.1.1.0;
       from = same-perm (perm_at v c b) (grow_from grow) f.1.1.1.0;
-      place = f.1.1.1.1.0
+      place = f.1.1.1.1.0;
     }
 
 -- a share of this client and this bank, with the number of its copies
@@ -181,5 +179,5 @@ release-allowed v c b prune share none =
       here = here-is v b place.0;
       count = share-is v c share range.2 place.1;
       wait = not-waiting (client_at v c b).wait f.1.1.0;
-      from = same-perm (perm_at v c b) (prune_from prune) f.1.1.1.0
+      from = same-perm (perm_at v c b) (prune_from prune) f.1.1.1.0;
     }

@@ -1,5 +1,5 @@
 -- How many copies a client has, before and after an event.
-use Rattle.std.proofs.Common.{◌≡◌, ◌≢◌, ℕ, zero, suc, ◌+◌, ◌-◌, ◌^◌, ◌<◌, ◌≤◌, ◌==◌, ◌&&◌, not, Bool, true, false, cond, if◌then◌else◌, List, [], ◌∷◌, ◌++◌, refl, sym, ◌∙◌, ap, arith, eq-eqb, eqb-true}
+use Rattle.std.proofs.Common.{◌≡◌, ◌≢◌, ℕ, zero, suc, ◌+◌, ◌^◌, ◌<◌, ◌≤◌, ◌==◌, ◌&&◌, not, Bool, true, false, cond, if◌then◌else◌, [], ◌∷◌, ◌++◌, refl, sym, ◌∙◌, ap, arith, eq-eqb}
 use Rattle.std.proofs.lemmas.Bool.Decides.{nat_tests}
 use Rattle.tl_types.specs.Count.{count_below}
 use Rattle.tl_types.proofs.Counts.{count_below-one_more}
@@ -25,7 +25,7 @@ count-change p q n at l same =
     let other : (k : ℕ) → k ≢ at → p k ≡ r k = λ k ne. let no : (k == at) ≡ false = grind (arith, nat_tests) in rw no refl in
     let before : count_below p n ≡ count_below r n + (if p at then 1 else 0) = count_below-one_more p r n at l gone other in
     let later : count_below q n ≡ count_below r n + (if q at then 1 else 0) =
-        count_below-one_more q r n at l gone (λ k ne. sym (same k ne) ∙ other k ne) in
+    count_below-one_more q r n at l gone (λ k ne. sym (same k ne) ∙ other k ne) in
     omega arith
 
 recount-is : (before later : Perm) (n m : ℕ)
@@ -58,8 +58,8 @@ pub step-perm : (v : View) (e : Event) (c : ℕ) (k : Client) (room : ℕ) → C
 step-perm v e c k room step =
     let block : ℕ = block_of (shape_of v.geometry) e in
     ap (λ (x : Client). perm_of x.held)
-        (client-append (shape_of v.geometry) v.image v.log e c k step.client c block
-            ∙ at-own (c == c) (block == block) k (client_at v c block) (eq-eqb c c refl) (eq-eqb block block refl))
+    (client-append (shape_of v.geometry) v.image v.log e c k step.client c block
+    ∙ at-own (c == c) (block == block) k (client_at v c block) (eq-eqb c c refl) (eq-eqb block block refl))
 
 -- the number of its copies after the event
 pub step-count : (v : View) (e : Event) (c : ℕ) (k : Client) (room : ℕ) → ClientStep v e c k
@@ -72,16 +72,16 @@ step-count v e c k room step =
     let q : ℕ → Bool = λ b. has_copy (client_at next c b) in
     let here : q block ≡ not (is_none (perm_of k.held)) = ap (λ x. not (is_none x)) (step-perm v e c k room step) in
     let same : (b : ℕ) → b ≢ block → p b ≡ q b =
-        λ b other.
-            let no : (b == block) ≡ false = grind (arith, nat_tests) in
-            ap (λ (x : Client). has_copy x)
-                (sym (client-append (shape_of v.geometry) v.image v.log e c k step.client c b
-                    ∙ at-other (c == c) (b == block) k (client_at v c b) no)) in
+    λ b other.
+    let no : (b == block) ≡ false = grind (arith, nat_tests) in
+    ap (λ (x : Client). has_copy x)
+    (sym (client-append (shape_of v.geometry) v.image v.log e c k step.client c b
+    ∙ at-other (c == c) (b == block) k (client_at v c b) no)) in
     let change : count_below p v.geometry.memory_blocks + (if q block then 1 else 0)
-            ≡ count_below q v.geometry.memory_blocks + (if p block then 1 else 0) =
-        count-change p q v.geometry.memory_blocks block step.may.0 same in
+    ≡ count_below q v.geometry.memory_blocks + (if p block then 1 else 0) =
+    count-change p q v.geometry.memory_blocks block step.may.0 same in
     recount-is (perm_at v c block) (perm_of k.held) (count_below p v.geometry.memory_blocks) (count_below q v.geometry.memory_blocks)
-        (rw here at change)
+    (rw here at change)
 
 -- a client with a copy of a block has one at least
 pub counts-one : (v : View) (c b : ℕ) → b < v.geometry.memory_blocks → is_none (perm_at v c b) ≡ false → 0 < copies_at v c
@@ -91,9 +91,9 @@ counts-one v c b l some =
     let at : p b ≡ true = ap not some in
     let gone : q b ≡ false = rw (eq-eqb b b refl) refl in
     let change : count_below p v.geometry.memory_blocks + (if q b then 1 else 0)
-            ≡ count_below q v.geometry.memory_blocks + (if p b then 1 else 0) =
-        count-change p q v.geometry.memory_blocks b l
-            (λ y other. let no : (y == b) ≡ false = grind (arith, nat_tests) in rw no refl) in
+    ≡ count_below q v.geometry.memory_blocks + (if p b then 1 else 0) =
+    count-change p q v.geometry.memory_blocks b l
+    (λ y other. let no : (y == b) ≡ false = grind (arith, nat_tests) in rw no refl) in
     let one : count_below p v.geometry.memory_blocks + 0 ≡ count_below q v.geometry.memory_blocks + 1 = rw (gone, at) at change in
     omega arith
 
@@ -102,10 +102,10 @@ count-few : (p : ℕ → Bool) (n : ℕ) → count_below p n ≤ n
 count-few p zero = omega arith
 count-few p (suc n) =
     let split : (t : Bool) → count_below p n + (if t then 1 else 0) ≤ suc n =
-        λ t. elim t as (λ t. count_below p n + (if t then 1 else 0) ≤ suc n) [
-          true ↦ let rest = count-few p n in omega arith
-          | false ↦ let rest = count-few p n in omega arith
-        ] in
+    λ t. elim t as (λ t. count_below p n + (if t then 1 else 0) ≤ suc n) [
+      | true ↦ let rest = count-few p n in omega arith
+      | false ↦ let rest = count-few p n in omega arith
+    ] in
     split (p n)
 
 -- and at most as many as there are blocks

@@ -1,5 +1,5 @@
 -- What an entry says is what it was made of.
-use Rattle.std.proofs.Common.{◌≡◌, ℕ, ◌<◌, true, false, cond, Option, Some, None, is_some, refl, ap, ◌∙◌}
+use Rattle.std.proofs.Common.{◌≡◌, ℕ, ◌<◌, cond, Option, is_some, refl, ap, ◌∙◌}
 use Rattle.tl_types.specs.Count.{count_below}
 use Rattle.tl_types.proofs.Counts.{count_below-same}
 use Rattle.tl_types.specs.declared.wait.Wait.{Wait}
@@ -13,7 +13,7 @@ use Rattle.tl_copies.specs.Copies.{Tables, held_at, is_cell, entries, copies}
 use Rattle.tl_copies.specs.Held.{has_copy as table_has_copy}
 use Rattle.tl_copies.specs.declared.held.Held.{Held}
 use Rattle.tl_bank_spec.specs.View.{View, has_entry_for, client_at, entries_at, copies_at, perm_at, has_entry}
-use Rattle.tl_bank.specs.Entry.{entry_with, entry_of, copy_in, wait_in, perm_in, bytes_in}
+use Rattle.tl_bank.specs.Entry.{entry_with, copy_in, wait_in, perm_in, bytes_in}
 use Rattle.tl_bank.specs.Layers.{Layers}
 use Rattle.tl_bank.specs.Means.{Means}
 
@@ -64,15 +64,15 @@ has_copy-entry k (Writable bytes dirty) wait = refl
 pub entries-is : (v : View) (h : Layers) (c : ℕ) → Means v h → c < v.geometry.clients → entries h.copies c ≡ entries_at v c
 entries-is v h c m lt =
     ap (λ n. count_below (λ b. is_some (held_at h.copies c b)) n) m.copies_blocks
-        ∙ count_below-same (λ b. is_some (held_at h.copies c b)) (λ b. has_entry (client_at v c b)) v.geometry.memory_blocks
-            (λ b l. ap (λ (o : Option Held). is_some o) (m.copies c b lt l) ∙ is_some-entry (client_at v c b).held (client_at v c b).wait)
+    ∙ count_below-same (λ b. is_some (held_at h.copies c b)) (λ b. has_entry (client_at v c b)) v.geometry.memory_blocks
+    (λ b l. ap (λ (o : Option Held). is_some o) (m.copies c b lt l) ∙ is_some-entry (client_at v c b).held (client_at v c b).wait)
 
 pub copies-is : (v : View) (h : Layers) (c : ℕ) → Means v h → c < v.geometry.clients → copies h.copies c ≡ copies_at v c
 copies-is v h c m lt =
     ap (λ n. count_below (λ b. table_has_copy (held_at h.copies c b)) n) m.copies_blocks
-        ∙ count_below-same (λ b. table_has_copy (held_at h.copies c b)) (λ b. has_copy (client_at v c b)) v.geometry.memory_blocks
-            (λ b l. ap (λ (o : Option Held). table_has_copy o) (m.copies c b lt l)
-                ∙ has_copy-entry (client_at v c b) (client_at v c b).held (client_at v c b).wait)
+    ∙ count_below-same (λ b. table_has_copy (held_at h.copies c b)) (λ b. has_copy (client_at v c b)) v.geometry.memory_blocks
+    (λ b l. ap (λ (o : Option Held). table_has_copy o) (m.copies c b lt l)
+    ∙ has_copy-entry (client_at v c b) (client_at v c b).held (client_at v c b).wait)
 
 pub copy-is : (v : View) (h : Layers) (c b : ℕ) → Means v h → c < v.geometry.clients → b < v.geometry.memory_blocks
     → copy_in (held_at h.copies c b) ≡ (client_at v c b).held
@@ -96,8 +96,8 @@ pub put-is : (old new : Tables) (c b : ℕ) (copy later : CachedCopy) (wait next
     → (x y : ℕ) → held_at new x y ≡ cond (is_cell c b x y) (entry_with later next) (held_at old x y)
 put-is old new c b copy later wait next e f after x y =
     after x y
-        ∙ ap (λ (p : CachedCopy). cond (is_cell c b x y) (entry_with p wait) (held_at old x y)) e
-        ∙ ap (λ (w : Wait). cond (is_cell c b x y) (entry_with later w) (held_at old x y)) f
+    ∙ ap (λ (p : CachedCopy). cond (is_cell c b x y) (entry_with p wait) (held_at old x y)) e
+    ∙ ap (λ (w : Wait). cond (is_cell c b x y) (entry_with later w) (held_at old x y)) f
 
 pub has_entry-is : (v : View) (h : Layers) (c b : ℕ) → Means v h → c < v.geometry.clients → b < v.geometry.memory_blocks
     → is_some (held_at h.copies c b) ≡ has_entry (client_at v c b)

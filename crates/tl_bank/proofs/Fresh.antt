@@ -1,5 +1,5 @@
 -- A bank at reset.
-use Rattle.std.proofs.Common.{◌≡◌, ℕ, ◌*◌, ◌<◌, List, [], Option, None, refl, sym, ◌∙◌, ap, subst}
+use Rattle.std.proofs.Common.{◌≡◌, ℕ, ◌*◌, ◌<◌, List, [], None, refl, sym, ◌∙◌, subst}
 use Rattle.std.specs.List.{All}
 use Rattle.std.proofs.lemmas.List.Elements.{All-nil}
 use Rattle.tl_types.specs.Bytes.{image_bytes}
@@ -14,7 +14,7 @@ use Rattle.tl_lanes.proofs.Logs.{empty_is_lawful}
 use Rattle.tl_links.specs.Table.{lane_in}
 use Rattle.tl_copies.specs.Copies.{held_at, clients_of}
 use Rattle.tl_map.specs.Numbers.{Numbers, IsLawful}
-use Rattle.tl_bank_spec.specs.View.{View, IsOwn, shape_of}
+use Rattle.tl_bank_spec.specs.View.{IsOwn, shape_of}
 use Rattle.tl_bank.specs.Home.{line_in, recorded_in, outward_in, memory_in}
 use Rattle.tl_bank.specs.Layers.{Layers}
 use Rattle.tl_bank.specs.Means.{Means}
@@ -46,5 +46,5 @@ means-fresh g number image room h lawful lanes copies line recorded outward memo
       copies_clients = cc';
       copies_blocks = cb;
       copies_limit = cl;
-      limit = limit
+      limit = limit;
     }

@@ -1,5 +1,5 @@
 -- Taking a Grant, and what it leaves.
-use Rattle.std.proofs.Common.{◌≡◌, ℕ, ◌+◌, ◌<◌, ◌^◌, ◌==◌, ◌||◌, not, Bool, true, false, cond, List, [], ◌∷◌, ◌++◌, map, Option, Some, None, if◌then◌else◌, refl, sym, ◌∙◌, ap, subst}
+use Rattle.std.proofs.Common.{◌≡◌, ℕ, ◌<◌, ◌^◌, ◌==◌, not, true, false, cond, List, [], ◌∷◌, ◌++◌, map, Option, None, if◌then◌else◌, refl, sym, ◌∙◌, ap, subst}
 use Rattle.tl_types.specs.Lane.{Lane, is_here, with_message, without_first, bodies_of}
 use Rattle.tl_types.specs.Permission.{grant_perm}
 use Rattle.tl_types.specs.declared.channel.Channel.{Channel}
@@ -14,7 +14,6 @@ use Rattle.tl_types.specs.declared.permission.Perm.{Perm}
 use Rattle.tl_types.specs.declared.ticket.Ticket.{Ticket}
 use Rattle.tl_types.specs.declared.wait.Wait.{Wait}
 use Rattle.tl_types.specs.declared.wait.Wait.TheVariants.{Nothing, ForGrant}
-use Rattle.tl_map.specs.Numbers.{IsLawful}
 use Rattle.tl_protocol.specs.Client.{bytes_or, took_grant}
 use Rattle.tl_protocol.specs.Copy.{bytes_of, clean_copy, perm_of}
 use Rattle.tl_protocol.specs.Protocol.{is_none}
@@ -49,9 +48,10 @@ pub grant-allowed : (v : View) (t : Ticket) (share : Holding) → first_of (take
 grant-allowed v t share none =
     let f : AllFalse (take_grant_cases v t share) = all-false (take_grant_cases v t share) none in
     let range = or-false (no_client v t.client) (bad_share v t.client share) f.0 in
-    let place = or-false (not (t.bank == v.number)) (other_share v share) f.1.0 in
-    (head-allowed v t D is_a_grant (client-is v t.client range.0) place.0 f.1.1.0 f.1.1.1.1.0,
-        share-is v t.client share range.1 place.1)
+    let place = or-false (not (t.bank == v.number)) (other_share v share) f.1.0 in (
+      head-allowed v t D is_a_grant (client-is v t.client range.0) place.0 f.1.1.0 f.1.1.1.1.0,
+      share-is v t.client share range.1 place.1,
+    )
 
 grant-body : (body : Body) → is_a_grant body ≡ true → (cap : GrantCap) × (bytes : Option (List ℕ)) × (body ≡ b_Downward (Grant cap bytes))
 grant-body (AcquireBlock grow) h = cc
@@ -81,14 +81,14 @@ granted-is v h t m ok =
     let x : Message = ok.first.0 in
     let body = grant-body x.body ok.first.3 in
     let list = grant-begins (client_at v t.client (block_named v t D)).d (bodies_of x.block ok.first.1) body.0 body.1
-        (head-list v h t D is_a_grant m ok ∙ ap (λ (b : Body). b ∷ bodies_of x.block ok.first.1) body.2) in
+    (head-list v h t D is_a_grant m ok ∙ ap (λ (b : Body). b ∷ bodies_of x.block ok.first.1) body.2) in
     record {
       cap = body.0;
       bytes = body.1;
       rest = list.0;
       list = list.1;
       makes = λ own.
-          ap (λ (ms : List Message). first_granted ms own) ok.first.2 ∙ ap (λ (b : Body). granted_by b own) body.2
+          ap (λ (ms : List Message). first_granted ms own) ok.first.2 ∙ ap (λ (b : Body). granted_by b own) body.2;
     }
 
 -- ## The step
@@ -118,7 +118,7 @@ grant-step v h t share block m none g is =
       here = own.1;
       later = tt;
       client = λ x. ap (λ (ds : List Downward). cond (x == t.client) (took_grant k ds) (client_at v x at)) g.list;
-      recorded = refl
+      recorded = refl;
     } in
     subst (λ b. ClientStep v (TakeGrant t.client b) t.client (taken v t g b)) (sym is) step
 
@@ -136,8 +136,8 @@ grant-place v h t share block before copy m takes =
     let at : ℕ = block_named v t D in
     let waits = ((every_run_keeps_messages (shape_of v.geometry) v.image v.log m.lawful.run at t.client).granted g.cap g.bytes g.rest g.list).0 in
     subst (λ b. HasPlace h.copies t.client b copy Nothing) (sym takes.block_is)
-        (place-there v h t.client at copy Nothing m ok.client own.0
-            (λ need. waiting-entry (client_at v t.client at).held (client_at v t.client at).wait waits))
+    (place-there v h t.client at copy Nothing m ok.client own.0
+    (λ need. waiting-entry (client_at v t.client at).held (client_at v t.client at).wait waits))
 
 copy-taken : (v : View) (t : Ticket) (share : Holding) (block : ℕ) (before : Perm) (copy : CachedCopy) (g : Granted v t)
     → Takes v t share block before copy → copy ≡ (taken v t g block).held
@@ -147,11 +147,11 @@ pub grant-keeps : (v : View) (h : Layers) (t : Ticket) (share : Holding) (block 
     (between links : Table) (tables : Tables)
     → Means v h → Takes v t share block before copy → SameLinks h.links between
     → ((x : ℕ) (l : Channel) → lane_in between x l
-        ≡ (if is_here t.client t.channel x l then without_first (lane_in h.links x l) else lane_in h.links x l))
+    ≡ (if is_here t.client t.channel x l then without_first (lane_in h.links x l) else lane_in h.links x l))
     → SameLinks between links
     → ((x : ℕ) (l : Channel) → lane_in links x l
-        ≡ (if is_here t.client E x l then with_message (lane_in between x l) (record { block = block; body = GrantAck })
-            else lane_in between x l))
+    ≡ (if is_here t.client E x l then with_message (lane_in between x l) (record { block = block; body = GrantAck })
+    else lane_in between x l))
     → SameCopies h.copies tables
     → ((x y : ℕ) → held_at tables x y ≡ (if is_cell t.client block x y then entry_with copy Nothing else held_at h.copies x y))
     → Means (record v { log = v.log ++ TakeGrant t.client block ∷ []; room = room }) (record h { links = links; copies = tables })
@@ -159,24 +159,24 @@ grant-keeps v h t share block before copy room between links tables m takes firs
     let ok = (grant-allowed v t share takes.allowed).0 in
     let g : Granted v t = granted-is v h t m ok in
     let Took : Channel → Type 0 = λ k. (x : ℕ) (l : Channel) → lane_in between x l
-        ≡ (if is_here t.client k x l then without_first (lane_in h.links x l) else lane_in h.links x l) in
+    ≡ (if is_here t.client k x l then without_first (lane_in h.links x l) else lane_in h.links x l) in
     let from_d : Took D = subst Took ok.channel took in
     means-step v h (record h { links = links; copies = tables }) (TakeGrant t.client block) t.client (taken v t g block) room m
-        (grant-step v h t share block m takes.allowed g takes.block_is)
-        (record {
-          lanes = λ x l.
-              sends x l
-                  ∙ ap (λ (lane : Lane). cond (is_here t.client E x l) (with_message lane (record { block = block; body = GrantAck })) lane)
-                      (from_d x l);
-          copies =
-              put-is h.copies tables t.client block copy (taken v t g block).held Nothing Nothing
-                  (copy-taken v t share block before copy g takes) refl after;
-          links_size = record { bank = second.bank ∙ first.bank; clients = second.clients ∙ first.clients };
-          copies_size = same;
-          home = refl;
-          limit = refl;
-          clock = refl
-        })
+    (grant-step v h t share block m takes.allowed g takes.block_is)
+    (record {
+      lanes = λ x l.
+          sends x l
+          ∙ ap (λ (lane : Lane). cond (is_here t.client E x l) (with_message lane (record { block = block; body = GrantAck })) lane)
+          (from_d x l);
+      copies =
+          put-is h.copies tables t.client block copy (taken v t g block).held Nothing Nothing
+          (copy-taken v t share block before copy g takes) refl after;
+      links_size = record { bank = second.bank ∙ first.bank; clients = second.clients ∙ first.clients };
+      copies_size = same;
+      home = refl;
+      limit = refl;
+      clock = refl;
+    })
 
 -- ## The share
 
@@ -185,7 +185,7 @@ pub grant-enough : (v : View) (h : Layers) (t : Ticket) (share : Holding) (block
 grant-enough v h t share block before copy m takes =
     let both = grant-allowed v t share takes.allowed in
     let own : IsOwn v.geometry v.number block =
-        subst (λ b. IsOwn v.geometry v.number b) (sym takes.block_is) (head-own v h t D is_a_grant m both.0) in
+    subst (λ b. IsOwn v.geometry v.number b) (sym takes.block_is) (head-own v h t D is_a_grant m both.0) in
     let enough = share-enough v t.client block share m.geometry own.0 both.1 in
     (λ some. enough.0 (sym (ap is_none takes.before_is) ∙ some), enough.1)
 
@@ -196,8 +196,8 @@ pub grant-later : (v : View) (h : Layers) (t : Ticket) (share : Holding) (block 
 grant-later v h t share block before copy room m takes =
     let g : Granted v t = granted-is v h t m (grant-allowed v t share takes.allowed).0 in
     ap perm_of (copy-taken v t share block before copy g takes)
-        ∙ sym (step-perm v (TakeGrant t.client block) t.client (taken v t g block) room
-            (grant-step v h t share block m takes.allowed g takes.block_is))
+    ∙ sym (step-perm v (TakeGrant t.client block) t.client (taken v t g block) room
+    (grant-step v h t share block m takes.allowed g takes.block_is))
 
 -- and the share counts the client's copies afterwards
 pub grant-count : (v : View) (h : Layers) (t : Ticket) (share : Holding) (block : ℕ) (before : Perm) (copy : CachedCopy) (room : ℕ)
@@ -207,5 +207,5 @@ grant-count v h t share block before copy room m takes =
     let both = grant-allowed v t share takes.allowed in
     let g : Granted v t = granted-is v h t m both.0 in
     share-count v (TakeGrant t.client block) t.client (taken v t g block) room share before (perm_of copy)
-        (grant-step v h t share block m takes.allowed g takes.block_is) both.1 takes.before_is
-        (ap perm_of (copy-taken v t share block before copy g takes))
+    (grant-step v h t share block m takes.allowed g takes.block_is) both.1 takes.before_is
+    (ap perm_of (copy-taken v t share block before copy g takes))

@@ -1,5 +1,5 @@
 -- The first message of a channel, which a ticket names.
-use Rattle.std.proofs.Common.{◌≡◌, ◌≢◌, ℕ, ◌<◌, ◌==◌, ◌||◌, not, Bool, true, false, List, [], ◌∷◌, ◌++◌, Option, Some, None, refl, sym, ◌∙◌, ap, subst, eqb-true}
+use Rattle.std.proofs.Common.{◌≡◌, ◌≢◌, ℕ, ◌<◌, ◌==◌, not, Bool, true, false, List, [], ◌∷◌, refl, sym, ◌∙◌, ap, subst, eqb-true}
 use Rattle.std.specs.List.{All}
 use Rattle.std.proofs.lemmas.List.Elements.{All-head}
 use Rattle.tl_types.specs.Channel.{same_channel}
@@ -12,7 +12,7 @@ use Rattle.tl_types.proofs.Lanes.{same_channel-true}
 use Rattle.tl_lanes.specs.Lists.{list_in}
 use Rattle.tl_lanes.proofs.Logs.{first_heads_its_list}
 use Rattle.tl_links.specs.Table.{lane_in}
-use Rattle.tl_bank_spec.specs.Cases.{begins, block_named, first_block, is_empty, not_head, other_channel}
+use Rattle.tl_bank_spec.specs.Cases.{begins, block_named, first_block, not_head, other_channel}
 use Rattle.tl_bank_spec.specs.View.{View, IsOwn, shape_of, client_at, lane_at}
 use Rattle.tl_bank.specs.Layers.{Layers}
 use Rattle.tl_bank.specs.Link.{IsHead}
@@ -41,7 +41,7 @@ head-allowed v t k kind lt bank channel head =
       bank = eqb-true t.bank v.number (not-false (t.bank == v.number) bank);
       channel = same_channel-true t.channel k (not-false (same_channel t.channel k) channel);
       serial = eqb-true t.serial (lane_at v t.client k).taken (not-false (t.serial == (lane_at v t.client k).taken) both.0);
-      first = first-kind kind (lane_at v t.client k).messages both.1
+      first = first-kind kind (lane_at v t.client k).messages both.1;
     }
 
 not-empty : (xs : List Message) (x : Message) (rest : List Message) → xs ≡ x ∷ rest → xs ≢ []
@@ -53,7 +53,7 @@ is-head v h t k kind m ok = record {
   bank = ok.bank ∙ sym m.links_bank;
   client = rw m.links_clients ok.client;
   waits = rw (ok.channel, m.lanes t.client k ok.client) (not-empty (lane_at v t.client k).messages ok.first.0 ok.first.1 ok.first.2);
-  serial = rw (ok.channel, m.lanes t.client k ok.client) ok.serial
+  serial = rw (ok.channel, m.lanes t.client k ok.client) ok.serial;
 }
 
 own-first : (P : ℕ → Type 0) (xs : List Message) (x : Message) (rest : List Message) → xs ≡ x ∷ rest → All (λ y. P y.block) xs
@@ -77,7 +77,7 @@ head-list v h t k kind m ok =
     let rest : List Message = ok.first.1 in
     let at : block_named v t k ≡ x.block = ap first_block ok.first.2 in
     ap (λ b. list_in (client_at v t.client b) k) at
-        ∙ first_heads_its_list (shape_of v.geometry) v.image v.log t.client k x rest m.lawful ok.first.2
+    ∙ first_heads_its_list (shape_of v.geometry) v.image v.log t.client k x rest m.lawful ok.first.2
 
 first-of : (xs : List Message) (x : Message) (rest : List Message) → xs ≡ x ∷ rest → IsFirst (first_block xs) xs
 first-of xs x rest e = let R : List Message → Type 0 = λ ys. IsFirst (first_block ys) ys in subst R (sym e) refl

@@ -1,16 +1,14 @@
 -- An event of one client, applied to the layers as the protocol says, leaves a bank whose layers hold what its log leaves.
-use Rattle.std.proofs.Common.{◌≡◌, ℕ, ◌+◌, ◌<◌, ◌==◌, ◌&&◌, Bool, true, false, cond, List, [], ◌∷◌, ◌++◌, length, Option, Some, None, refl, sym, ◌∙◌, ap, subst, arith}
+use Rattle.std.proofs.Common.{◌≡◌, ℕ, ◌==◌, Bool, true, false, cond, List, [], ◌∷◌, ◌++◌, Option, Some, None, refl, sym, ◌∙◌, ap, subst}
 use Rattle.std.specs.List.{All}
 use Rattle.std.proofs.lemmas.List.Elements.{All-nil, All-cons, All-append, All-tail}
 use Rattle.tl_types.specs.Lane.{Lane, is_here, with_message, first_taken, without_first}
 use Rattle.tl_types.specs.declared.channel.Channel.{Channel}
 use Rattle.tl_types.specs.declared.message.Message.{Message}
-use Rattle.tl_types.specs.declared.permission.Perm.{Perm}
 use Rattle.tl_map.specs.Numbers.{Numbers}
 use Rattle.tl_map.specs.Places.{bank_of}
 use Rattle.tl_protocol.specs.declared.client.Client.{Client}
 use Rattle.tl_protocol.specs.declared.event.Event.{Event}
-use Rattle.tl_protocol.specs.declared.event.Event.TheVariants.{Load, Store}
 use Rattle.tl_protocol.specs.Protocol.{Block, block_of, after}
 use Rattle.tl_protocol.specs.Runs.{MayNext, end_of}
 use Rattle.tl_lanes.specs.Lanes.{Post, Place, post_of, take_of, taken_from, sent_to, lane_after, lane_of}
@@ -22,7 +20,7 @@ use Rattle.tl_lanes.proofs.Logs.{lanes_grow_by_one, lawful_grows_by_one}
 use Rattle.tl_links.specs.Table.{lane_in, SameSize as SameLinks}
 use Rattle.tl_copies.specs.Copies.{held_at, is_cell, SameSize as SameCopies}
 use Rattle.tl_copies.specs.declared.held.Held.{Held}
-use Rattle.tl_bank_spec.specs.View.{View, IsOwn, IsLater, StampsRiseFrom, StampsRise, shape_of, block_at, client_at, lane_at, stamped, clock_from, clock_of}
+use Rattle.tl_bank_spec.specs.View.{View, IsOwn, IsLater, StampsRiseFrom, shape_of, block_at, client_at, stamped, clock_from, clock_of}
 use Rattle.tl_bank.specs.Entry.{entry_of}
 use Rattle.tl_bank.specs.Home.{HomeState}
 use Rattle.tl_bank.specs.Layers.{Layers}
@@ -111,7 +109,7 @@ home-stays clients home block s t h same recorded = record {
   line = h.line ∙ sym same.home;
   recorded = λ c l. h.recorded c l ∙ sym (recorded c);
   outward = h.outward ∙ sym same.outward;
-  memory = h.memory ∙ sym same.memory
+  memory = h.memory ∙ sym same.memory;
 }
 
 pub means-step : (v : View) (old new : Layers) (e : Event) (c : ℕ) (k : Client) (room : ℕ)
@@ -126,28 +124,28 @@ means-step v old new e c k room m step follow =
     let s : Block = block_at v block in
     let own : IsOwn g v.number block = (step.may.0, step.here) in
     let same : (y : ℕ) → SameHome (end_of shape image log y) (end_of shape image (log ++ e ∷ []) y) =
-        home-append shape image log e (every_such_event_leaves_home shape s e step.leaves) in
+    home-append shape image log e (every_such_event_leaves_home shape s e step.leaves) in
     record {
       lawful = lawful_grows_by_one shape image log e m.lawful step.may step.first;
       own =
           All-append (λ (e : Event). IsOwn g v.number (block_of shape e)) log (e ∷ []) m.own
-              (All-cons (λ (e : Event). IsOwn g v.number (block_of shape e)) e [] own (All-nil (λ (e : Event). IsOwn g v.number (block_of shape e))));
+          (All-cons (λ (e : Event). IsOwn g v.number (block_of shape e)) e [] own (All-nil (λ (e : Event). IsOwn g v.number (block_of shape e))));
       rising = stamps-append 0 log e m.rising step.later;
       inside = λ x l.
           subst (λ (lane : Lane). All (Of (IsOwn g v.number)) lane.messages) (sym (lanes_grow_by_one shape image log e x l))
-              (inside-sent (IsOwn g v.number) (post_of shape s e) block x l (taken_from (take_of e) x l (lane_of shape image log x l)) own
-                  (inside-taken (IsOwn g v.number) (take_of e) x l (lane_of shape image log x l) (m.inside x l)));
+          (inside-sent (IsOwn g v.number) (post_of shape s e) block x l (taken_from (take_of e) x l (lane_of shape image log x l)) own
+          (inside-taken (IsOwn g v.number) (take_of e) x l (lane_of shape image log x l) (m.inside x l)));
       lanes = λ x l h.
           follow.lanes x l ∙ ap (λ (lane : Lane). lane_after shape s e x l lane) (m.lanes x l h)
-              ∙ sym (lanes_grow_by_one shape image log e x l);
+          ∙ sym (lanes_grow_by_one shape image log e x l);
       copies = λ x y h l.
           follow.copies x y ∙ ap (λ (o : Option Held). cond (is_cell c block x y) (entry_of k) o) (m.copies x y h l)
-              ∙ if-entry (is_cell c block x y) k (client_at v x y)
-              ∙ ap entry_of (sym (client-append shape image log e c k step.client x y));
+          ∙ if-entry (is_cell c block x y) k (client_at v x y)
+          ∙ ap entry_of (sym (client-append shape image log e c k step.client x y));
       home = λ y o.
           subst (λ (home : HomeState). IsHome g.clients home y (end_of shape image (log ++ e ∷ []) y)) (sym follow.home)
-              (home-stays g.clients old.home y (end_of shape image log y) (end_of shape image (log ++ e ∷ []) y) (m.home y o) (same y)
-                  (λ x. field-append (λ (k : Client). k.recorded) shape image log e c k step.client step.recorded x y));
+          (home-stays g.clients old.home y (end_of shape image log y) (end_of shape image (log ++ e ∷ []) y) (m.home y o) (same y)
+          (λ x. field-append (λ (k : Client). k.recorded) shape image log e c k step.client step.recorded x y));
       accepted = λ y. (same y).accepted ∙ m.accepted y;
       clock = follow.clock ∙ ap (λ n. stamped n e) m.clock ∙ sym (clock_from-append 0 log e);
       geometry = m.geometry;
@@ -156,5 +154,5 @@ means-step v old new e c k room m step follow =
       copies_clients = follow.copies_size.clients ∙ m.copies_clients;
       copies_blocks = follow.copies_size.blocks ∙ m.copies_blocks;
       copies_limit = follow.copies_size.limit ∙ m.copies_limit;
-      limit = follow.limit ∙ m.limit
+      limit = follow.limit ∙ m.limit;
     }

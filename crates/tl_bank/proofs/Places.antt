@@ -1,13 +1,12 @@
 -- Where a client's table has a place for a copy.
-use Rattle.std.proofs.Common.{◌≡◌, ◌≢◌, ℕ, ◌<◌, ◌≤◌, ◌&&◌, not, Bool, true, false, Option, Some, None, is_some, refl, sym, ◌∙◌, ap, arith, nat_le}
+use Rattle.std.proofs.Common.{◌≡◌, ◌≢◌, ℕ, ◌<◌, ◌&&◌, not, Bool, true, false, Option, Some, None, is_some, refl, sym, ◌∙◌, ap, arith, nat_le}
 use Rattle.std.proofs.lemmas.Bool.Decides.{nat_tests}
 use Rattle.tl_types.specs.declared.permission.Perm.TheVariants.{None as p_None}
-use Rattle.tl_types.specs.declared.permission.Grow.{Grow}
 use Rattle.tl_types.specs.declared.wait.Wait.{Wait}
 use Rattle.tl_protocol.specs.Copy.{perm_of}
 use Rattle.tl_protocol.specs.declared.copy.CachedCopy.{CachedCopy}
 use Rattle.tl_protocol.specs.declared.copy.CachedCopy.TheVariants.{Absent, Readable, Writable}
-use Rattle.tl_copies.specs.Copies.{clients_of, entries, held_at}
+use Rattle.tl_copies.specs.Copies.{entries, held_at}
 use Rattle.tl_copies.specs.declared.held.Held.{Held}
 use Rattle.tl_bank_spec.specs.Cases.{copies_full}
 use Rattle.tl_bank_spec.specs.View.{View, has_entry_for, has_entry, client_at, entries_at}
@@ -34,7 +33,7 @@ place-there v h c b copy wait m lt l has = record {
   inside = rw m.copies_blocks l;
   room = λ need none.
       absurd (some-is (held_at h.copies c b)
-          (ap (λ (o : Option Held). is_some o) (m.copies c b lt l) ∙ is_some-entry (client_at v c b).held (client_at v c b).wait ∙ has need) none)
+      (ap (λ (o : Option Held). is_some o) (m.copies c b lt l) ∙ is_some-entry (client_at v c b).held (client_at v c b).wait ∙ has need) none);
 }
 
 room-is : (has : Bool) (copies entries : ℕ) → (not has && nat_le copies entries) ≡ false → has ≡ false → entries < copies
@@ -53,6 +52,6 @@ place-free v h c b copy wait m lt l free = record {
   inside = rw m.copies_blocks l;
   room = λ need none.
       rw (entries-is v h c m lt, m.copies_limit)
-          (room-is (has_entry (client_at v c b)) v.geometry.copies (entries_at v c) free
-              (sym (has_entry-is v h c b m lt l) ∙ none-is (held_at h.copies c b) none))
+      (room-is (has_entry (client_at v c b)) v.geometry.copies (entries_at v c) free
+      (sym (has_entry-is v h c b m lt l) ∙ none-is (held_at h.copies c b) none));
 }

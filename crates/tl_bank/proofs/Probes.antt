@@ -1,25 +1,22 @@
 -- Answering a Probe, and what it leaves.
-use Rattle.std.proofs.Common.{◌≡◌, ◌≢◌, ℕ, ◌+◌, ◌-◌, ◌<◌, ◌≤◌, ◌^◌, ◌==◌, ◌||◌, ◌&&◌, not, Bool, true, false, cond, length, List, [], ◌∷◌, ◌++◌, map, Option, Some, None, if◌then◌else◌, refl, sym, ◌∙◌, ap, subst, arith, eq-eqb, nat_le}
+use Rattle.std.proofs.Common.{◌≡◌, ◌≢◌, ℕ, ◌<◌, ◌≤◌, ◌^◌, ◌==◌, not, true, false, cond, length, List, [], ◌∷◌, ◌++◌, map, Some, None, if◌then◌else◌, refl, sym, ◌∙◌, ap, subst, arith, eq-eqb}
 use Rattle.std.proofs.lemmas.Bool.Decides.{nat_tests}
-use Rattle.tl_types.specs.Channel.{same_channel}
 use Rattle.tl_types.specs.Lane.{Lane, sent, is_here, with_message, without_first, bodies_of}
 use Rattle.tl_types.specs.Message.{probe_answer}
 use Rattle.tl_types.specs.Permission.{probe_perm}
 use Rattle.tl_types.specs.declared.channel.Channel.{Channel}
 use Rattle.tl_types.specs.declared.channel.Channel.TheVariants.{B, C}
 use Rattle.tl_types.specs.declared.message.Body.{Body}
-use Rattle.tl_types.specs.declared.message.Body.TheVariants.{AcquireBlock, ProbeBlock, Upward as b_Upward, Downward as b_Downward, GrantAck}
+use Rattle.tl_types.specs.declared.message.Body.TheVariants.{ProbeBlock, Upward as b_Upward}
 use Rattle.tl_types.specs.declared.message.Message.{Message}
 use Rattle.tl_types.specs.declared.message.ProbeAnswer.{ProbeAnswer}
 use Rattle.tl_types.specs.declared.message.Upward.TheVariants.{ProbeAck}
 use Rattle.tl_types.specs.declared.permission.ProbeCap.{ProbeCap}
-use Rattle.tl_types.specs.declared.permission.ProbeCap.TheVariants.{ToB, ToN}
 use Rattle.tl_types.specs.declared.permission.Perm.{Perm}
 use Rattle.tl_types.specs.declared.permission.Perm.TheVariants.{None as p_None, Branch, Tip}
 use Rattle.tl_types.specs.declared.ticket.Ticket.{Ticket}
 use Rattle.tl_types.specs.declared.wait.Wait.{Wait}
 use Rattle.tl_types.specs.declared.wait.Wait.TheVariants.{Nothing, ForGrant, ForReleaseAck}
-use Rattle.tl_map.specs.Numbers.{IsLawful}
 use Rattle.tl_protocol.specs.Client.{answered}
 use Rattle.tl_protocol.specs.Copy.{dirty_bytes, perm_of, reduced}
 use Rattle.tl_protocol.specs.Protocol.{is_none}
@@ -27,14 +24,14 @@ use Rattle.tl_protocol.specs.declared.client.Client.{Client}
 use Rattle.tl_protocol.specs.declared.copy.CachedCopy.{CachedCopy}
 use Rattle.tl_protocol.specs.declared.copy.CachedCopy.TheVariants.{Absent, Readable, Writable}
 use Rattle.tl_protocol.specs.declared.event.Event.TheVariants.{AnswerProbe}
-use Rattle.tl_lanes.specs.Lanes.{answer_post, sent_to, taken_from}
+use Rattle.tl_lanes.specs.Lanes.{answer_post, sent_to}
 use Rattle.tl_links.specs.Table.{Table, lane_in, SameSize as SameLinks}
 use Rattle.tl_copies.specs.Copies.{Tables, held_at, is_cell, SameSize as SameCopies}
 use Rattle.tl_bank_spec.specs.Calls.{answer_probe_cases}
-use Rattle.tl_bank_spec.specs.Cases.{any_body, awaits_release_ack, bad_share, block_named, link_full, no_client, other_share, release_pending}
+use Rattle.tl_bank_spec.specs.Cases.{any_body, awaits_release_ack, bad_share, block_named, link_full, no_client, other_share}
 use Rattle.tl_bank_spec.specs.Refusal.{first_of}
 use Rattle.tl_bank_spec.specs.Share.{Holding, recount}
-use Rattle.tl_bank_spec.specs.View.{View, IsOwn, has_entry_for, is_waiting, shape_of, client_at, copies_at, lane_at, perm_at}
+use Rattle.tl_bank_spec.specs.View.{View, IsOwn, has_entry_for, client_at, copies_at, lane_at, perm_at}
 use Rattle.tl_bank.specs.Entry.{HasPlace, entry_with}
 use Rattle.tl_bank.specs.Head.{asked_by, first_cap}
 use Rattle.tl_bank.specs.Link.{HasRoom, IsHead}
@@ -71,7 +68,7 @@ probe-allowed v t share none =
       head = head-allowed v t B any_body (client-is v t.client range.0) place.0 f.1.1.0 f.1.1.1.1.0;
       count = share-is v t.client share range.1 place.1;
       wait = not-pending (client_at v t.client (block_named v t B)).wait f.1.1.1.1.1.0;
-      place = grind (arith, nat_tests)
+      place = grind (arith, nat_tests);
     }
 
 probe-begins : (bs : List ProbeCap) (body : Body) (zs : List Body) → map ProbeBlock bs ≡ body ∷ zs
@@ -90,7 +87,7 @@ probed-is v h t m ok =
     let list = probe-begins (client_at v t.client (block_named v t B)).b x.body (bodies_of x.block ok.first.1) (head-list v h t B any_body m ok) in
     record {
       rest = list.0;
-      list = list.1 ∙ ap (λ cap. cap ∷ list.0) (sym (ap first_cap ok.first.2))
+      list = list.1 ∙ ap (λ cap. cap ∷ list.0) (sym (ap first_cap ok.first.2));
     }
 
 -- ## The step
@@ -123,7 +120,7 @@ probe-step v h t share block m ok p is =
       here = own.1;
       later = tt;
       client = λ x. ap (λ (bs : List ProbeCap). cond (x == t.client) (answered k bs) (client_at v x at)) p.list;
-      recorded = refl
+      recorded = refl;
     } in
     subst (λ b. ClientStep v (AnswerProbe t.client b) t.client (done v t p b)) (sym is) step
 
@@ -135,23 +132,23 @@ probe-head v h t share m none = is-head v h t B any_body m (probe-allowed v t sh
 pub probe-room : (v : View) (h : Layers) (t : Ticket) (share : Holding) (between : Table) → Means v h
     → first_of (answer_probe_cases v t share) ≡ None → length v.log < 2 ^ 63 → SameLinks h.links between
     → ((x : ℕ) (l : Channel) → lane_in between x l
-        ≡ (if is_here t.client t.channel x l then without_first (lane_in h.links x l) else lane_in h.links x l))
+    ≡ (if is_here t.client t.channel x l then without_first (lane_in h.links x l) else lane_in h.links x l))
     → HasRoom between t.client C
 probe-room v h t share between m none small same took =
     let ok = probe-allowed v t share none in
     let Took : Channel → Type 0 = λ k. (x : ℕ) (l : Channel) → lane_in between x l
-        ≡ (if is_here t.client k x l then without_first (lane_in h.links x l) else lane_in h.links x l) in
+    ≡ (if is_here t.client k x l then without_first (lane_in h.links x l) else lane_in h.links x l) in
     let from_b : Took B = subst Took ok.head.channel took in
     let elsewhere : is_here t.client B t.client C ≡ false = rw (eq-eqb t.client t.client refl) refl in
     let lane : lane_in between t.client C ≡ lane_at v t.client C =
-        from_b t.client C
-            ∙ (ap (λ here. cond here (without_first (lane_in h.links t.client C)) (lane_in h.links t.client C)) elsewhere
-            ∙ m.lanes t.client C ok.head.client) in
+    from_b t.client C
+    ∙ (ap (λ here. cond here (without_first (lane_in h.links t.client C)) (lane_in h.links t.client C)) elsewhere
+    ∙ m.lanes t.client C ok.head.client) in
     let counted : sent (lane_at v t.client C) ≤ length v.log = m.lawful.counted t.client C in
     record {
       client = rw (same.clients, m.links_clients) ok.head.client;
       place = rw lane ok.place;
-      counted = rw lane (omega arith)
+      counted = rw lane (omega arith);
     }
 
 fewer-entries : (copy : CachedCopy) (to : Perm) (wait : Wait) → has_entry_for (reduced copy to) wait ≡ true → has_entry_for copy wait ≡ true
@@ -167,12 +164,12 @@ pub probe-place : (v : View) (h : Layers) (t : Ticket) (share : Holding) (block 
 probe-place v h t share block cap copy wait before answer m answers =
     let ok = probe-allowed v t share answers.allowed in
     let own : IsOwn v.geometry v.number block =
-        subst (λ b. IsOwn v.geometry v.number b) (sym answers.block_is) (head-own v h t B any_body m ok.head) in
+    subst (λ b. IsOwn v.geometry v.number b) (sym answers.block_is) (head-own v h t B any_body m ok.head) in
     let k : Client = client_at v t.client block in
     place-there v h t.client block copy wait m ok.head.client own.0
-        (λ need. fewer-entries k.held (probe_perm cap) k.wait
-            (subst (λ (w : Wait). has_entry_for (reduced k.held (probe_perm cap)) w ≡ true) answers.wait_is
-                (subst (λ (p : CachedCopy). has_entry_for p wait ≡ true) answers.copy_is need)))
+    (λ need. fewer-entries k.held (probe_perm cap) k.wait
+    (subst (λ (w : Wait). has_entry_for (reduced k.held (probe_perm cap)) w ≡ true) answers.wait_is
+    (subst (λ (p : CachedCopy). has_entry_for p wait ≡ true) answers.copy_is need)))
 
 copy-done : (v : View) (t : Ticket) (share : Holding) (block : ℕ) (cap : ProbeCap) (copy : CachedCopy) (wait : Wait)
     (before : Perm) (answer : ProbeAnswer) (p : Probed v t) → Answers v t share block cap copy wait before answer
@@ -188,21 +185,21 @@ post-is : (v : View) (t : Ticket) (share : Holding) (block : ℕ) (cap : ProbeCa
 post-is v t share block cap copy wait before answer p answers =
     let k : Client = client_at v t.client block in
     let list : k.b ≡ first_cap (lane_at v t.client B).messages ∷ p.rest =
-        subst (λ b. (client_at v t.client b).b ≡ first_cap (lane_at v t.client B).messages ∷ p.rest) (sym answers.block_is) p.list in
+    subst (λ b. (client_at v t.client b).b ≡ first_cap (lane_at v t.client B).messages ∷ p.rest) (sym answers.block_is) p.list in
     let is : answer ≡ probe_answer (perm_of k.held) (first_cap (lane_at v t.client B).messages) (dirty_bytes k.held) =
-        answers.answer_is ∙ ap (λ c. probe_answer (perm_of k.held) c (dirty_bytes k.held)) answers.cap_is in
+    answers.answer_is ∙ ap (λ c. probe_answer (perm_of k.held) c (dirty_bytes k.held)) answers.cap_is in
     ap (λ (a : ProbeAnswer). Some (record { client = t.client; channel = C; body = b_Upward (ProbeAck a) })) is
-        ∙ sym (ap (λ (bs : List ProbeCap). answer_post t.client k bs) list)
+    ∙ sym (ap (λ (bs : List ProbeCap). answer_post t.client k bs) list)
 
 pub probe-keeps : (v : View) (h : Layers) (t : Ticket) (share : Holding) (block : ℕ) (cap : ProbeCap) (copy : CachedCopy) (wait : Wait)
     (before : Perm) (answer : ProbeAnswer) (room : ℕ) (between links : Table) (tables : Tables)
     → Means v h → Answers v t share block cap copy wait before answer → SameLinks h.links between
     → ((x : ℕ) (l : Channel) → lane_in between x l
-        ≡ (if is_here t.client t.channel x l then without_first (lane_in h.links x l) else lane_in h.links x l))
+    ≡ (if is_here t.client t.channel x l then without_first (lane_in h.links x l) else lane_in h.links x l))
     → SameLinks between links
     → ((x : ℕ) (l : Channel) → lane_in links x l
-        ≡ (if is_here t.client C x l then with_message (lane_in between x l) (record { block = block; body = b_Upward (ProbeAck answer) })
-            else lane_in between x l))
+    ≡ (if is_here t.client C x l then with_message (lane_in between x l) (record { block = block; body = b_Upward (ProbeAck answer) })
+    else lane_in between x l))
     → SameCopies h.copies tables
     → ((x y : ℕ) → held_at tables x y ≡ (if is_cell t.client block x y then entry_with copy wait else held_at h.copies x y))
     → Means (record v { log = v.log ++ AnswerProbe t.client block ∷ []; room = room }) (record h { links = links; copies = tables })
@@ -210,26 +207,26 @@ probe-keeps v h t share block cap copy wait before answer room between links tab
     let ok = probe-allowed v t share answers.allowed in
     let p : Probed v t = probed-is v h t m ok.head in
     let Took : Channel → Type 0 = λ k. (x : ℕ) (l : Channel) → lane_in between x l
-        ≡ (if is_here t.client k x l then without_first (lane_in h.links x l) else lane_in h.links x l) in
+    ≡ (if is_here t.client k x l then without_first (lane_in h.links x l) else lane_in h.links x l) in
     let from_b : Took B = subst Took ok.head.channel took in
     means-step v h (record h { links = links; copies = tables }) (AnswerProbe t.client block) t.client (done v t p block) room m
-        (probe-step v h t share block m ok p answers.block_is)
-        (record {
-          lanes = λ x l.
-              sends x l
-                  ∙ ap (λ (lane : Lane). cond (is_here t.client C x l)
-                          (with_message lane (record { block = block; body = b_Upward (ProbeAck answer) })) lane) (from_b x l)
-                  ∙ ap (λ post. sent_to post block x l (cond (is_here t.client B x l) (without_first (lane_in h.links x l)) (lane_in h.links x l)))
-                      (post-is v t share block cap copy wait before answer p answers);
-          copies =
-              put-is h.copies tables t.client block copy (done v t p block).held wait (client_at v t.client block).wait
-                  (copy-done v t share block cap copy wait before answer p answers) answers.wait_is after;
-          links_size = record { bank = second.bank ∙ first.bank; clients = second.clients ∙ first.clients };
-          copies_size = same;
-          home = refl;
-          limit = refl;
-          clock = refl
-        })
+    (probe-step v h t share block m ok p answers.block_is)
+    (record {
+      lanes = λ x l.
+          sends x l
+          ∙ ap (λ (lane : Lane). cond (is_here t.client C x l)
+          (with_message lane (record { block = block; body = b_Upward (ProbeAck answer) })) lane) (from_b x l)
+          ∙ ap (λ post. sent_to post block x l (cond (is_here t.client B x l) (without_first (lane_in h.links x l)) (lane_in h.links x l)))
+          (post-is v t share block cap copy wait before answer p answers);
+      copies =
+          put-is h.copies tables t.client block copy (done v t p block).held wait (client_at v t.client block).wait
+          (copy-done v t share block cap copy wait before answer p answers) answers.wait_is after;
+      links_size = record { bank = second.bank ∙ first.bank; clients = second.clients ∙ first.clients };
+      copies_size = same;
+      home = refl;
+      limit = refl;
+      clock = refl;
+    })
 
 -- ## The share
 
@@ -239,7 +236,7 @@ pub probe-enough : (v : View) (h : Layers) (t : Ticket) (share : Holding) (block
 probe-enough v h t share block cap copy wait before answer m answers =
     let ok = probe-allowed v t share answers.allowed in
     let own : IsOwn v.geometry v.number block =
-        subst (λ b. IsOwn v.geometry v.number b) (sym answers.block_is) (head-own v h t B any_body m ok.head) in
+    subst (λ b. IsOwn v.geometry v.number b) (sym answers.block_is) (head-own v h t B any_body m ok.head) in
     let enough = share-enough v t.client block share m.geometry own.0 ok.count in
     (λ some. enough.0 (sym (ap is_none answers.before_is) ∙ some), enough.1)
 
@@ -252,8 +249,8 @@ probe-later v h t share block cap copy wait before answer room m answers =
     let ok = probe-allowed v t share answers.allowed in
     let p : Probed v t = probed-is v h t m ok.head in
     ap perm_of (copy-done v t share block cap copy wait before answer p answers)
-        ∙ sym (step-perm v (AnswerProbe t.client block) t.client (done v t p block) room
-            (probe-step v h t share block m ok p answers.block_is))
+    ∙ sym (step-perm v (AnswerProbe t.client block) t.client (done v t p block) room
+    (probe-step v h t share block m ok p answers.block_is))
 
 -- and the share counts the client's copies afterwards
 pub probe-count : (v : View) (h : Layers) (t : Ticket) (share : Holding) (block : ℕ) (cap : ProbeCap) (copy : CachedCopy) (wait : Wait)
@@ -265,5 +262,5 @@ probe-count v h t share block cap copy wait before answer room m answers =
     let ok = probe-allowed v t share answers.allowed in
     let p : Probed v t = probed-is v h t m ok.head in
     share-count v (AnswerProbe t.client block) t.client (done v t p block) room share before (perm_of copy)
-        (probe-step v h t share block m ok p answers.block_is) ok.count answers.before_is
-        (ap perm_of (copy-done v t share block cap copy wait before answer p answers))
+    (probe-step v h t share block m ok p answers.block_is) ok.count answers.before_is
+    (ap perm_of (copy-done v t share block cap copy wait before answer p answers))

@@ -1,5 +1,5 @@
 -- A client's share, where a call changes one of its copies.
-use Rattle.std.proofs.Common.{◌≡◌, ℕ, ◌<◌, ◌^◌, ◌||◌, ◌==◌, not, Bool, false, [], ◌∷◌, ◌++◌, sym, ◌∙◌, ap}
+use Rattle.std.proofs.Common.{◌≡◌, ℕ, ◌<◌, ◌^◌, false, [], ◌∷◌, ◌++◌, sym, ◌∙◌, ap}
 use Rattle.tl_types.specs.declared.permission.Perm.{Perm}
 use Rattle.tl_map.specs.Numbers.{IsLawful}
 use Rattle.tl_protocol.specs.Copy.{perm_of}
@@ -8,7 +8,7 @@ use Rattle.tl_protocol.specs.declared.client.Client.{Client}
 use Rattle.tl_protocol.specs.declared.event.Event.{Event}
 use Rattle.tl_bank_spec.specs.Share.{Holding, recount}
 use Rattle.tl_bank_spec.specs.View.{View, shape_of, copies_at, perm_at}
-use Rattle.tl_bank.proofs.Counts.{step-count, step-perm, counts-one, copies-few}
+use Rattle.tl_bank.proofs.Counts.{step-count, counts-one, copies-few}
 use Rattle.tl_bank.proofs.Keep.{ClientStep}
 
 -- a share with the number of the client's copies can lose one that is there, and gain one
@@ -22,6 +22,6 @@ pub share-count : (v : View) (e : Event) (c : ℕ) (k : Client) (room : ℕ) (sh
     → recount before later share.count ≡ copies_at (record v { log = v.log ++ e ∷ []; room = room }) c
 share-count v e c k room share before later step is from to =
     ap (λ p. recount p later share.count) from
-        ∙ ap (λ p. recount (perm_at v c (block_of (shape_of v.geometry) e)) p share.count) to
-        ∙ ap (recount (perm_at v c (block_of (shape_of v.geometry) e)) (perm_of k.held)) is
-        ∙ sym (step-count v e c k room step)
+    ∙ ap (λ p. recount (perm_at v c (block_of (shape_of v.geometry) e)) p share.count) to
+    ∙ ap (recount (perm_at v c (block_of (shape_of v.geometry) e)) (perm_of k.held)) is
+    ∙ sym (step-count v e c k room step)

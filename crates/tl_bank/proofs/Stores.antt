@@ -1,25 +1,23 @@
 -- A store: the copy that it leaves, and what becomes of the bank.
-use Rattle.std.proofs.Common.{◌≡◌, ◌≢◌, ℕ, ◌+◌, ◌-◌, ◌^◌, ◌/◌, ◌%◌, ◌<◌, ◌≤◌, ◌==◌, Bool, true, false, if◌then◌else◌, List, [], ◌∷◌, ◌++◌, length, Option, Some, None, is_some, refl, sym, ◌∙◌, ap, subst, arith}
+use Rattle.std.proofs.Common.{◌≡◌, ◌≢◌, ℕ, ◌+◌, ◌/◌, ◌%◌, if◌then◌else◌, List, [], ◌∷◌, ◌++◌, length, None, refl, ◌∙◌, ap, subst}
 use Rattle.tl_types.specs.declared.permission.Perm.TheVariants.{None as p_None, Tip}
 use Rattle.tl_types.specs.declared.wait.Wait.{Wait}
-use Rattle.tl_protocol.specs.Copy.{perm_of, bytes_of, stored_in}
+use Rattle.tl_protocol.specs.Copy.{perm_of, stored_in}
 use Rattle.tl_protocol.specs.Client.{stored}
-use Rattle.tl_protocol.specs.Protocol.{Block}
 use Rattle.tl_protocol.specs.declared.client.Client.{Client}
 use Rattle.tl_protocol.specs.declared.copy.CachedCopy.{CachedCopy}
 use Rattle.tl_protocol.specs.declared.copy.CachedCopy.TheVariants.{Absent, Readable, Writable}
 use Rattle.tl_protocol.specs.declared.event.Access.{Access}
 use Rattle.tl_protocol.specs.declared.event.Event.TheVariants.{Store}
-use Rattle.tl_copies.specs.Copies.{Tables, clients_of, entries, held_at, is_cell, SameSize}
-use Rattle.tl_copies.specs.declared.held.Held.{Held}
+use Rattle.tl_copies.specs.Copies.{Tables, held_at, is_cell, SameSize}
 use Rattle.tl_bank_spec.specs.Calls.{store_cases}
 use Rattle.tl_bank_spec.specs.Refusal.{first_of}
-use Rattle.tl_bank_spec.specs.View.{View, has_entry_for, has_entry, shape_of, block_at, client_at, clock_of, latest, perm_at}
+use Rattle.tl_bank_spec.specs.View.{View, client_at, clock_of, latest}
 use Rattle.tl_bank.specs.Entry.{HasPlace, entry_with}
 use Rattle.tl_bank.specs.Layers.{Layers}
 use Rattle.tl_bank.specs.Means.{Means}
-use Rattle.tl_bank.proofs.Allowed.{AccessAllowed, store-allowed}
-use Rattle.tl_bank.proofs.Entries.{is_some-entry, put-is}
+use Rattle.tl_bank.proofs.Allowed.{store-allowed}
+use Rattle.tl_bank.proofs.Entries.{put-is}
 use Rattle.tl_bank.proofs.Keep.{means-step}
 use Rattle.tl_bank.proofs.Places.{entry-there, place-there}
 use Rattle.tl_bank.proofs.Loads.{later-is}
@@ -35,7 +33,7 @@ store-place v h c address len clock copy wait m none =
     let block : ℕ = address / v.geometry.block_bytes in
     let ok = store-allowed v c address len clock none in
     place-there v h c block copy wait m ok.0.client ok.0.block
-        (λ need. entry-there (client_at v c block).held (client_at v c block).wait (tip-some (client_at v c block).held ok.1))
+    (λ need. entry-there (client_at v c block).held (client_at v c block).wait (tip-some (client_at v c block).held ok.1))
 
 -- what a store shows of the bank before it
 pub record Writes (v : View) (c address : ℕ) (bytes : List ℕ) (clock block : ℕ) (copy : CachedCopy) (wait : Wait) (stamp : ℕ) : Type 0 where
@@ -50,11 +48,11 @@ pub store-keeps : (v : View) (h : Layers) (c address : ℕ) (bytes : List ℕ) (
     (stamp index room : ℕ) (tables : Tables)
     → Means v h → Writes v c address bytes clock block copy wait stamp → SameSize h.copies tables
     → ((x y : ℕ) → held_at tables x y
-        ≡ (if is_cell c block x y then entry_with copy wait else held_at h.copies x y))
+    ≡ (if is_cell c block x y then entry_with copy wait else held_at h.copies x y))
     → Means (record v {
-          log = v.log ++ Store (record { client = c; address = address; bytes = bytes; stamp = stamp; index = index }) ∷ [];
-          room = room
-        }) (record h { copies = tables; clock = stamp })
+      log = v.log ++ Store (record { client = c; address = address; bytes = bytes; stamp = stamp; index = index }) ∷ [];
+      room = room;
+    }) (record h { copies = tables; clock = stamp })
 store-keeps v h c address bytes clock block copy wait stamp index room tables m writes same after =
     let own : ℕ = address / v.geometry.block_bytes in
     let at : ℕ = address % v.geometry.block_bytes in
@@ -62,25 +60,25 @@ store-keeps v h c address bytes clock block copy wait stamp index room tables m 
     let k : Client = client_at v c own in
     let ok = store-allowed v c address (length bytes) clock writes.allowed in
     means-step v h (record h { copies = tables; clock = stamp }) (Store access) c (stored k at bytes) room m
-        (record {
-          may = (ok.0.block, (ok.0.client, ((ok.0.some, ok.0.few, ok.0.fits), ok.1)));
-          first = tt;
-          leaves = refl;
-          here = ok.0.here;
-          later = later-is (clock_of v.log) clock stamp writes.stamp_is;
-          client = λ x. refl;
-          recorded = refl
-        })
-        (record {
-          lanes = λ x l. refl;
-          copies =
-              put-is h.copies tables c own copy (stored_in at bytes k.held) wait k.wait writes.copy_is
-                  (writes.wait_is ∙ ap (λ b. (client_at v c b).wait) writes.block_is)
-                  (subst (λ b. (x y : ℕ) → held_at tables x y ≡ (if is_cell c b x y then entry_with copy wait else held_at h.copies x y))
-                      writes.block_is after);
-          links_size = record { bank = refl; clients = refl };
-          copies_size = same;
-          home = refl;
-          limit = refl;
-          clock = refl
-        })
+    (record {
+      may = (ok.0.block, (ok.0.client, ((ok.0.some, ok.0.few, ok.0.fits), ok.1)));
+      first = tt;
+      leaves = refl;
+      here = ok.0.here;
+      later = later-is (clock_of v.log) clock stamp writes.stamp_is;
+      client = λ x. refl;
+      recorded = refl;
+    })
+    (record {
+      lanes = λ x l. refl;
+      copies =
+          put-is h.copies tables c own copy (stored_in at bytes k.held) wait k.wait writes.copy_is
+          (writes.wait_is ∙ ap (λ b. (client_at v c b).wait) writes.block_is)
+          (subst (λ b. (x y : ℕ) → held_at tables x y ≡ (if is_cell c b x y then entry_with copy wait else held_at h.copies x y))
+          writes.block_is after);
+      links_size = record { bank = refl; clients = refl };
+      copies_size = same;
+      home = refl;
+      limit = refl;
+      clock = refl;
+    })

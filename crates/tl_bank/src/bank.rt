@@ -22,8 +22,8 @@ use tl_registers::Registers;
 use tl_rules::Log;
 use tl_types::{BankNo, BlockNo, ClientId, Perm};
 
-mod refusals;
 mod client_calls;
+mod refusals;
 
 /// A bank can't be made for want of memory alone.
 pub type BankError = AllocError;

@@ -80,7 +80,10 @@ pub(crate) fn granted_by(body: &Body, own: CachedCopy) -> CachedCopy
             cap.perm(),
             bytes.copied(),
         ),
-        Body::Downward(Downward::Grant(cap, None)) => CachedCopy::clean(cap.perm(), own.into_bytes()),
+        Body::Downward(Downward::Grant(cap, None)) => CachedCopy::clean(
+            cap.perm(),
+            own.into_bytes(),
+        ),
         _ => CachedCopy::Absent,
     }
 }

@@ -11,9 +11,8 @@ ghost use Rattle.tl_bank_spec.specs.Share.{recounted};
 ghost use Rattle.tl_bank_spec.specs.View.{Appends, client_at, copies_at, latest, next_ticket, perm_at};
 
 use crate::bank::Bank;
-use crate::entry;
-use crate::link;
 use crate::share::Share;
+use crate::{entry, link};
 use tl_bank_spec::{Loaded, Refusal, When};
 use tl_protocol::{Access, CachedCopy, Event};
 use tl_types::{
@@ -35,12 +34,16 @@ impl Bank {
         ensures permitted { OnOk result (first_of (load_cases self.old client address len when.clock) ≡ None) }
         ensures appends { IfOk result
             (λ loaded. Appends self.old self.new (Event.Load (record {
-              client = client; address = address; bytes = loaded.bytes; stamp = loaded.stamp; index = when.index;
+              client = client;
+              address = address;
+              bytes = loaded.bytes;
+              stamp = loaded.stamp;
+              index = when.index;
             }))) }
         ensures bytes { IfOk result
             (λ loaded. loaded.bytes
             ≡ slice_range (bytes_of (client_at self.old client (block_of_address self.old.geometry address)).held)
-                (offset_of self.old.geometry address) (offset_of self.old.geometry address + len)) }
+            (offset_of self.old.geometry address) (offset_of self.old.geometry address + len)) }
         ensures stamp { IfOk result (λ loaded. loaded.stamp ≡ latest self.old when.clock + 1) }
     {
         if let Some(refusal) = self.load_refusal(client, address, len, when.clock) {
@@ -73,7 +76,11 @@ impl Bank {
         ensures permitted { OnOk result (first_of (store_cases self.old client address (length bytes.now) when.clock) ≡ None) }
         ensures appends { IfOk result
             (λ stamp. Appends self.old self.new (Event.Store (record {
-              client = client; address = address; bytes = bytes.now; stamp = stamp; index = when.index;
+              client = client;
+              address = address;
+              bytes = bytes.now;
+              stamp = stamp;
+              index = when.index;
             }))) }
         ensures stamp { IfOk result (λ stamp. stamp ≡ latest self.old when.clock + 1) }
     {
@@ -190,7 +197,7 @@ impl Bank {
         ensures share { OnOk result
             (share.new
             ≡ recounted (perm_at self.old ticket.client (block_named self.old ticket Channel.B))
-                (perm_at self.new ticket.client (block_named self.old ticket Channel.B)) share.old) }
+            (perm_at self.new ticket.client (block_named self.old ticket Channel.B)) share.old) }
         ensures counted { OnOk result (share.new.count ≡ copies_at self.new ticket.client) }
     {
         if let Some(refusal) = self.answer_probe_refusal(&ticket, share) {
@@ -207,7 +214,12 @@ impl Bank {
         self.make_room()?;
         link::discard(&mut self.links, ticket);
         let body = Body::Upward(Upward::ProbeAck(answer));
-        let sent = link::send(&mut self.links, ticket.client, Channel::C, Message { block, body });
+        let sent = link::send(
+            &mut self.links,
+            ticket.client,
+            Channel::C,
+            Message { block, body },
+        );
         entry::put(&mut self.copies, ticket.client, block, copy, wait);
         self.log.append(Event::AnswerProbe(ticket.client, block));
         share.recount(before, later);
@@ -226,7 +238,7 @@ impl Bank {
         ensures share { OnOk result
             (share.new
             ≡ recounted (perm_at self.old ticket.client (block_named self.old ticket Channel.D))
-                (perm_at self.new ticket.client (block_named self.old ticket Channel.D)) share.old) }
+            (perm_at self.new ticket.client (block_named self.old ticket Channel.D)) share.old) }
         ensures counted { OnOk result (share.new.count ≡ copies_at self.new ticket.client) }
     {
         if let Some(refusal) = self.take_grant_refusal(&ticket, share) {
@@ -240,7 +252,12 @@ impl Bank {
         self.make_room()?;
         link::discard(&mut self.links, ticket);
         let body = Body::GrantAck;
-        let sent = link::send(&mut self.links, ticket.client, Channel::E, Message { block, body });
+        let sent = link::send(
+            &mut self.links,
+            ticket.client,
+            Channel::E,
+            Message { block, body },
+        );
         entry::put(&mut self.copies, ticket.client, block, copy, Wait::Nothing);
         self.log.append(Event::TakeGrant(ticket.client, block));
         share.recount(before, later);
@@ -248,17 +265,11 @@ impl Bank {
     }
 
     /// The copy that a store leaves which may take place.
-    fn stored(
-        &self,
-        client: ClientId,
-        address: u32,
-        access: &AccessBytes,
-        clock: u64,
-    ) -> CachedCopy
+    fn stored(&self, client: ClientId, address: u32, access: &AccessBytes, clock: u64) -> CachedCopy
         requires { first_of (store_cases self.now client address (length access.now) clock) ≡ None }
         ensures { result
             ≡ stored_in (offset_of self.now.geometry address) access.now
-                (client_at self.now client (block_of_address self.now.geometry address)).held }
+            (client_at self.now client (block_of_address self.now.geometry address)).held }
     {
         let _ = clock;
         let mut copy = self.copy(client, self.geometry.block_at(address));
@@ -271,7 +282,7 @@ impl Bank {
         requires { first_of (load_cases self.now client address len clock) ≡ None }
         ensures { result
             ≡ slice_range (bytes_of (client_at self.now client (block_of_address self.now.geometry address)).held)
-                (offset_of self.now.geometry address) (offset_of self.now.geometry address + len) }
+            (offset_of self.now.geometry address) (offset_of self.now.geometry address + len) }
     {
         let _ = clock;
         let copy = self.copy(client, self.geometry.block_at(address));

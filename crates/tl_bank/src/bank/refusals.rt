@@ -338,7 +338,9 @@ impl Bank {
         let Some(message) = self.links.first(ticket.client, Channel::D) else {
             return Some(Refusal::NothingThere);
         };
-        if ticket.serial != self.links.taken(ticket.client, Channel::D) || !is_grant(&message.body) {
+        if ticket.serial != self.links.taken(ticket.client, Channel::D)
+            || !is_grant(&message.body)
+        {
             return Some(Refusal::NotHead);
         }
         if self.is_link_full(ticket.client, Channel::E) {

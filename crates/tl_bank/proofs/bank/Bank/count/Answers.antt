@@ -8,4 +8,4 @@ pub returns : goal.returns
 returns c =
     let lt : c.args.client < (shown c.self.inside).geometry.clients = rw (← c.self.view_is) at c.requires in
     subst (λ (v : View). c.count.result ≡ copies_at v c.args.client) c.self.view_is
-        (c.count.ensures.value ∙ copies-is (shown c.self.inside) (layers c.self.inside) c.args.client c.self.invariant lt)
+    (c.count.ensures.value ∙ copies-is (shown c.self.inside) (layers c.self.inside) c.args.client c.self.invariant lt)
