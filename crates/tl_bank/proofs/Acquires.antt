@@ -1,0 +1,66 @@
+-- An Acquire, and what it leaves.
+use Rattle.std.proofs.Common.{◌≡◌, ℕ, [], ◌∷◌, ◌++◌, None, if◌then◌else◌, refl}
+use Rattle.tl_types.specs.Lane.{is_here, with_message}
+use Rattle.tl_types.specs.declared.channel.Channel.{Channel}
+use Rattle.tl_types.specs.declared.channel.Channel.TheVariants.{A}
+use Rattle.tl_types.specs.declared.message.Body.TheVariants.{AcquireBlock}
+use Rattle.tl_types.specs.declared.permission.Grow.{Grow}
+use Rattle.tl_types.specs.declared.wait.Wait.TheVariants.{ForGrant}
+use Rattle.tl_protocol.specs.Client.{sent_acquire}
+use Rattle.tl_protocol.specs.declared.client.Client.{Client}
+use Rattle.tl_protocol.specs.declared.copy.CachedCopy.{CachedCopy}
+use Rattle.tl_protocol.specs.declared.event.Event.TheVariants.{SendAcquire}
+use Rattle.tl_links.specs.Table.{Table, lane_in, SameSize as SameLinks}
+use Rattle.tl_copies.specs.Copies.{Tables, held_at, is_cell, SameSize as SameCopies}
+use Rattle.tl_bank_spec.specs.Calls.{acquire_cases}
+use Rattle.tl_bank_spec.specs.Refusal.{first_of}
+use Rattle.tl_bank_spec.specs.View.{View, client_at}
+use Rattle.tl_bank.specs.Entry.{HasPlace, entry_with}
+use Rattle.tl_bank.specs.Layers.{Layers}
+use Rattle.tl_bank.specs.Means.{Means}
+use Rattle.tl_bank.proofs.Allowed.{AcquireAllowed, acquire-allowed}
+use Rattle.tl_bank.proofs.Entries.{put-is}
+use Rattle.tl_bank.proofs.Keep.{means-step}
+use Rattle.tl_bank.proofs.Places.{place-free}
+
+pub acquire-place : (v : View) (h : Layers) (c b : ℕ) (grow : Grow) (copy : CachedCopy) → Means v h
+    → first_of (acquire_cases v c b grow) ≡ None → HasPlace h.copies c b copy ForGrant
+acquire-place v h c b grow copy m none =
+    let ok : AcquireAllowed v c b grow = acquire-allowed v c b grow none in
+    place-free v h c b copy ForGrant m ok.client ok.block ok.place
+
+-- what an Acquire shows of the bank before it
+pub record Asks (v : View) (c b : ℕ) (grow : Grow) (copy : CachedCopy) : Type 0 where
+  pub allowed : first_of (acquire_cases v c b grow) ≡ None
+  pub copy_is : copy ≡ (client_at v c b).held
+
+pub acquire-keeps : (v : View) (h : Layers) (c b : ℕ) (grow : Grow) (copy : CachedCopy) (room : ℕ) (links : Table) (tables : Tables)
+    → Means v h → Asks v c b grow copy → SameLinks h.links links
+    → ((x : ℕ) (l : Channel) → lane_in links x l
+    ≡ (if is_here c A x l then with_message (lane_in h.links x l) (record { block = b; body = AcquireBlock grow })
+    else lane_in h.links x l))
+    → SameCopies h.copies tables
+    → ((x y : ℕ) → held_at tables x y ≡ (if is_cell c b x y then entry_with copy ForGrant else held_at h.copies x y))
+    → Means (record v { log = v.log ++ SendAcquire c b grow ∷ []; room = room }) (record h { links = links; copies = tables })
+acquire-keeps v h c b grow copy room links tables m asks same_links sends same after =
+    let k : Client = client_at v c b in
+    let ok : AcquireAllowed v c b grow = acquire-allowed v c b grow asks.allowed in
+    means-step v h (record h { links = links; copies = tables }) (SendAcquire c b grow) c (sent_acquire k grow) room m
+    (record {
+      may = (ok.block, (ok.client, (ok.wait, ok.from)));
+      first = tt;
+      leaves = refl;
+      here = ok.here;
+      later = tt;
+      client = λ x. refl;
+      recorded = refl;
+    })
+    (record {
+      lanes = sends;
+      copies = put-is h.copies tables c b copy k.held ForGrant ForGrant asks.copy_is refl after;
+      links_size = same_links;
+      copies_size = same;
+      home = refl;
+      limit = refl;
+      clock = refl;
+    })

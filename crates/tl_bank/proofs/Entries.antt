@@ -1,0 +1,104 @@
+-- What an entry says is what it was made of.
+use Rattle.std.proofs.Common.{◌≡◌, ℕ, ◌<◌, cond, Option, is_some, refl, ap, ◌∙◌}
+use Rattle.tl_types.specs.Count.{count_below}
+use Rattle.tl_types.proofs.Counts.{count_below-same}
+use Rattle.tl_types.specs.declared.wait.Wait.{Wait}
+use Rattle.tl_types.specs.declared.wait.Wait.TheVariants.{Nothing, ForGrant, ForReleaseAck}
+use Rattle.tl_protocol.specs.Copy.{perm_of, bytes_of}
+use Rattle.tl_protocol.specs.Ledger.{has_copy}
+use Rattle.tl_protocol.specs.declared.client.Client.{Client}
+use Rattle.tl_protocol.specs.declared.copy.CachedCopy.{CachedCopy}
+use Rattle.tl_protocol.specs.declared.copy.CachedCopy.TheVariants.{Absent, Readable, Writable}
+use Rattle.tl_copies.specs.Copies.{Tables, held_at, is_cell, entries, copies}
+use Rattle.tl_copies.specs.Held.{has_copy as table_has_copy}
+use Rattle.tl_copies.specs.declared.held.Held.{Held}
+use Rattle.tl_bank_spec.specs.View.{View, has_entry_for, client_at, entries_at, copies_at, perm_at, has_entry}
+use Rattle.tl_bank.specs.Entry.{entry_with, copy_in, wait_in, perm_in, bytes_in}
+use Rattle.tl_bank.specs.Layers.{Layers}
+use Rattle.tl_bank.specs.Means.{Means}
+
+pub copy_in-entry : (copy : CachedCopy) (wait : Wait) → copy_in (entry_with copy wait) ≡ copy
+copy_in-entry Absent Nothing = refl
+copy_in-entry Absent ForGrant = refl
+copy_in-entry Absent ForReleaseAck = refl
+copy_in-entry (Readable bytes) wait = refl
+copy_in-entry (Writable bytes dirty) wait = refl
+
+pub wait_in-entry : (copy : CachedCopy) (wait : Wait) → wait_in (entry_with copy wait) ≡ wait
+wait_in-entry Absent Nothing = refl
+wait_in-entry Absent ForGrant = refl
+wait_in-entry Absent ForReleaseAck = refl
+wait_in-entry (Readable bytes) wait = refl
+wait_in-entry (Writable bytes dirty) wait = refl
+
+pub perm_in-entry : (copy : CachedCopy) (wait : Wait) → perm_in (entry_with copy wait) ≡ perm_of copy
+perm_in-entry Absent Nothing = refl
+perm_in-entry Absent ForGrant = refl
+perm_in-entry Absent ForReleaseAck = refl
+perm_in-entry (Readable bytes) wait = refl
+perm_in-entry (Writable bytes dirty) wait = refl
+
+pub bytes_in-entry : (copy : CachedCopy) (wait : Wait) → bytes_in (entry_with copy wait) ≡ bytes_of copy
+bytes_in-entry Absent Nothing = refl
+bytes_in-entry Absent ForGrant = refl
+bytes_in-entry Absent ForReleaseAck = refl
+bytes_in-entry (Readable bytes) wait = refl
+bytes_in-entry (Writable bytes dirty) wait = refl
+
+pub is_some-entry : (copy : CachedCopy) (wait : Wait) → is_some (entry_with copy wait) ≡ has_entry_for copy wait
+is_some-entry Absent Nothing = refl
+is_some-entry Absent ForGrant = refl
+is_some-entry Absent ForReleaseAck = refl
+is_some-entry (Readable bytes) wait = refl
+is_some-entry (Writable bytes dirty) wait = refl
+
+pub has_copy-entry : (k : Client) (copy : CachedCopy) (wait : Wait) → table_has_copy (entry_with copy wait) ≡ has_copy (record k { held = copy })
+has_copy-entry k Absent Nothing = refl
+has_copy-entry k Absent ForGrant = refl
+has_copy-entry k Absent ForReleaseAck = refl
+has_copy-entry k (Readable bytes) wait = refl
+has_copy-entry k (Writable bytes dirty) wait = refl
+
+-- ## What the tables show of a client
+
+pub entries-is : (v : View) (h : Layers) (c : ℕ) → Means v h → c < v.geometry.clients → entries h.copies c ≡ entries_at v c
+entries-is v h c m lt =
+    ap (λ n. count_below (λ b. is_some (held_at h.copies c b)) n) m.copies_blocks
+    ∙ count_below-same (λ b. is_some (held_at h.copies c b)) (λ b. has_entry (client_at v c b)) v.geometry.memory_blocks
+    (λ b l. ap (λ (o : Option Held). is_some o) (m.copies c b lt l) ∙ is_some-entry (client_at v c b).held (client_at v c b).wait)
+
+pub copies-is : (v : View) (h : Layers) (c : ℕ) → Means v h → c < v.geometry.clients → copies h.copies c ≡ copies_at v c
+copies-is v h c m lt =
+    ap (λ n. count_below (λ b. table_has_copy (held_at h.copies c b)) n) m.copies_blocks
+    ∙ count_below-same (λ b. table_has_copy (held_at h.copies c b)) (λ b. has_copy (client_at v c b)) v.geometry.memory_blocks
+    (λ b l. ap (λ (o : Option Held). table_has_copy o) (m.copies c b lt l)
+    ∙ has_copy-entry (client_at v c b) (client_at v c b).held (client_at v c b).wait)
+
+pub copy-is : (v : View) (h : Layers) (c b : ℕ) → Means v h → c < v.geometry.clients → b < v.geometry.memory_blocks
+    → copy_in (held_at h.copies c b) ≡ (client_at v c b).held
+copy-is v h c b m lt l = ap copy_in (m.copies c b lt l) ∙ copy_in-entry (client_at v c b).held (client_at v c b).wait
+
+pub wait-is : (v : View) (h : Layers) (c b : ℕ) → Means v h → c < v.geometry.clients → b < v.geometry.memory_blocks
+    → wait_in (held_at h.copies c b) ≡ (client_at v c b).wait
+wait-is v h c b m lt l = ap wait_in (m.copies c b lt l) ∙ wait_in-entry (client_at v c b).held (client_at v c b).wait
+
+pub perm-is : (v : View) (h : Layers) (c b : ℕ) → Means v h → c < v.geometry.clients → b < v.geometry.memory_blocks
+    → perm_in (held_at h.copies c b) ≡ perm_at v c b
+perm-is v h c b m lt l = ap perm_in (m.copies c b lt l) ∙ perm_in-entry (client_at v c b).held (client_at v c b).wait
+
+pub bytes-is : (v : View) (h : Layers) (c b : ℕ) → Means v h → c < v.geometry.clients → b < v.geometry.memory_blocks
+    → bytes_in (held_at h.copies c b) ≡ bytes_of (client_at v c b).held
+bytes-is v h c b m lt l = ap bytes_in (m.copies c b lt l) ∙ bytes_in-entry (client_at v c b).held (client_at v c b).wait
+
+-- the tables after a copy was put in, said of another name of that copy
+pub put-is : (old new : Tables) (c b : ℕ) (copy later : CachedCopy) (wait next : Wait) → copy ≡ later → wait ≡ next
+    → ((x y : ℕ) → held_at new x y ≡ cond (is_cell c b x y) (entry_with copy wait) (held_at old x y))
+    → (x y : ℕ) → held_at new x y ≡ cond (is_cell c b x y) (entry_with later next) (held_at old x y)
+put-is old new c b copy later wait next e f after x y =
+    after x y
+    ∙ ap (λ (p : CachedCopy). cond (is_cell c b x y) (entry_with p wait) (held_at old x y)) e
+    ∙ ap (λ (w : Wait). cond (is_cell c b x y) (entry_with later w) (held_at old x y)) f
+
+pub has_entry-is : (v : View) (h : Layers) (c b : ℕ) → Means v h → c < v.geometry.clients → b < v.geometry.memory_blocks
+    → is_some (held_at h.copies c b) ≡ has_entry (client_at v c b)
+has_entry-is v h c b m lt l = ap (λ (o : Option Held). is_some o) (m.copies c b lt l) ∙ is_some-entry (client_at v c b).held (client_at v c b).wait

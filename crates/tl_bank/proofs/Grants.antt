@@ -1,0 +1,211 @@
+-- Taking a Grant, and what it leaves.
+use Rattle.std.proofs.Common.{◌≡◌, ℕ, ◌<◌, ◌^◌, ◌==◌, not, true, false, cond, List, [], ◌∷◌, ◌++◌, map, Option, None, if◌then◌else◌, refl, sym, ◌∙◌, ap, subst}
+use Rattle.tl_types.specs.Lane.{Lane, is_here, with_message, without_first, bodies_of}
+use Rattle.tl_types.specs.Permission.{grant_perm}
+use Rattle.tl_types.specs.declared.channel.Channel.{Channel}
+use Rattle.tl_types.specs.declared.channel.Channel.TheVariants.{D, E}
+use Rattle.tl_types.specs.declared.message.Body.{Body}
+use Rattle.tl_types.specs.declared.message.Body.TheVariants.{AcquireBlock, ProbeBlock, Upward as b_Upward, Downward as b_Downward, GrantAck}
+use Rattle.tl_types.specs.declared.message.Downward.{Downward}
+use Rattle.tl_types.specs.declared.message.Downward.TheVariants.{Grant, ReleaseAck}
+use Rattle.tl_types.specs.declared.message.Message.{Message}
+use Rattle.tl_types.specs.declared.permission.GrantCap.{GrantCap}
+use Rattle.tl_types.specs.declared.permission.Perm.{Perm}
+use Rattle.tl_types.specs.declared.ticket.Ticket.{Ticket}
+use Rattle.tl_types.specs.declared.wait.Wait.{Wait}
+use Rattle.tl_types.specs.declared.wait.Wait.TheVariants.{Nothing, ForGrant}
+use Rattle.tl_protocol.specs.Client.{bytes_or, took_grant}
+use Rattle.tl_protocol.specs.Copy.{bytes_of, clean_copy, perm_of}
+use Rattle.tl_protocol.specs.Protocol.{is_none}
+use Rattle.tl_protocol.specs.declared.client.Client.{Client}
+use Rattle.tl_protocol.specs.declared.copy.CachedCopy.{CachedCopy}
+use Rattle.tl_protocol.specs.declared.copy.CachedCopy.TheVariants.{Absent, Readable, Writable}
+use Rattle.tl_protocol.specs.declared.event.Event.TheVariants.{TakeGrant}
+use Rattle.tl_protocol.proofs.Pending.{every_run_keeps_messages}
+use Rattle.tl_links.specs.Table.{Table, lane_in, SameSize as SameLinks}
+use Rattle.tl_copies.specs.Copies.{Tables, held_at, is_cell, SameSize as SameCopies}
+use Rattle.tl_bank_spec.specs.Calls.{take_grant_cases}
+use Rattle.tl_bank_spec.specs.Cases.{bad_share, block_named, is_a_grant, no_client, other_share}
+use Rattle.tl_bank_spec.specs.Refusal.{first_of}
+use Rattle.tl_bank_spec.specs.Share.{Holding, recount}
+use Rattle.tl_bank_spec.specs.View.{View, IsOwn, has_entry_for, is_waiting, shape_of, client_at, copies_at, lane_at, perm_at}
+use Rattle.tl_bank.specs.Entry.{HasPlace, entry_with}
+use Rattle.tl_bank.specs.Head.{first_granted, granted_by}
+use Rattle.tl_bank.specs.Layers.{Layers}
+use Rattle.tl_bank.specs.Means.{Means}
+use Rattle.tl_bank.proofs.Allowed.{AllFalse, all-false, client-is, or-false, share-is}
+use Rattle.tl_bank.proofs.Counts.{step-perm}
+use Rattle.tl_bank.proofs.Entries.{put-is}
+use Rattle.tl_bank.proofs.Heads.{HeadAllowed, head-allowed, head-first, head-list, head-own}
+use Rattle.tl_bank.proofs.Keep.{ClientStep, means-step}
+use Rattle.tl_bank.proofs.Places.{place-there}
+use Rattle.tl_bank.proofs.Shares.{share-count, share-enough}
+
+-- ## The Grant that is there
+
+pub grant-allowed : (v : View) (t : Ticket) (share : Holding) → first_of (take_grant_cases v t share) ≡ None
+    → HeadAllowed v t D is_a_grant × (share.count ≡ copies_at v t.client)
+grant-allowed v t share none =
+    let f : AllFalse (take_grant_cases v t share) = all-false (take_grant_cases v t share) none in
+    let range = or-false (no_client v t.client) (bad_share v t.client share) f.0 in
+    let place = or-false (not (t.bank == v.number)) (other_share v share) f.1.0 in (
+      head-allowed v t D is_a_grant (client-is v t.client range.0) place.0 f.1.1.0 f.1.1.1.1.0,
+      share-is v t.client share range.1 place.1,
+    )
+
+grant-body : (body : Body) → is_a_grant body ≡ true → (cap : GrantCap) × (bytes : Option (List ℕ)) × (body ≡ b_Downward (Grant cap bytes))
+grant-body (AcquireBlock grow) h = cc
+grant-body (ProbeBlock cap) h = cc
+grant-body (b_Upward message) h = cc
+grant-body (b_Downward (Grant cap bytes)) h = (cap, bytes, refl)
+grant-body (b_Downward ReleaseAck) h = cc
+grant-body GrantAck h = cc
+
+grant-begins : (ds : List Downward) (zs : List Body) (cap : GrantCap) (bytes : Option (List ℕ))
+    → map b_Downward ds ≡ b_Downward (Grant cap bytes) ∷ zs → (rest : List Downward) × (ds ≡ Grant cap bytes ∷ rest)
+grant-begins [] zs cap bytes e = cc
+grant-begins (Grant c b ∷ ds) zs cap bytes e = (ds, cc)
+grant-begins (ReleaseAck ∷ ds) zs cap bytes e = cc
+
+-- the client's list on D begins with a Grant, and the copy that it makes is this
+pub record Granted (v : View) (t : Ticket) : Type 0 where
+  pub cap : GrantCap
+  pub bytes : Option (List ℕ)
+  pub rest : List Downward
+  pub list : (client_at v t.client (block_named v t D)).d ≡ Grant cap bytes ∷ rest
+  pub makes :
+      (own : CachedCopy) → first_granted (lane_at v t.client D).messages own ≡ clean_copy (grant_perm cap) (bytes_or bytes (bytes_of own))
+
+granted-is : (v : View) (h : Layers) (t : Ticket) → Means v h → HeadAllowed v t D is_a_grant → Granted v t
+granted-is v h t m ok =
+    let x : Message = ok.first.0 in
+    let body = grant-body x.body ok.first.3 in
+    let list = grant-begins (client_at v t.client (block_named v t D)).d (bodies_of x.block ok.first.1) body.0 body.1
+    (head-list v h t D is_a_grant m ok ∙ ap (λ (b : Body). b ∷ bodies_of x.block ok.first.1) body.2) in
+    record {
+      cap = body.0;
+      bytes = body.1;
+      rest = list.0;
+      list = list.1;
+      makes = λ own.
+          ap (λ (ms : List Message). first_granted ms own) ok.first.2 ∙ ap (λ (b : Body). granted_by b own) body.2;
+    }
+
+-- ## The step
+
+-- what taking a Grant shows of the bank before it
+pub record Takes (v : View) (t : Ticket) (share : Holding) (block : ℕ) (before : Perm) (copy : CachedCopy) : Type 0 where
+  pub allowed : first_of (take_grant_cases v t share) ≡ None
+  pub block_is : block ≡ block_named v t D
+  pub before_is : before ≡ perm_at v t.client block
+  pub copy_is : copy ≡ first_granted (lane_at v t.client D).messages (client_at v t.client block).held
+
+-- the client's part of a block once it took that Grant
+abbrev taken : (v : View) (t : Ticket) → Granted v t → ℕ → Client
+taken v t g block = took_grant (client_at v t.client block) (Grant g.cap g.bytes ∷ g.rest)
+
+grant-step : (v : View) (h : Layers) (t : Ticket) (share : Holding) (block : ℕ) → Means v h → first_of (take_grant_cases v t share) ≡ None
+    → (g : Granted v t) → block ≡ block_named v t D → ClientStep v (TakeGrant t.client block) t.client (taken v t g block)
+grant-step v h t share block m none g is =
+    let ok = (grant-allowed v t share none).0 in
+    let at : ℕ = block_named v t D in
+    let own : IsOwn v.geometry v.number at = head-own v h t D is_a_grant m ok in
+    let k : Client = client_at v t.client at in
+    let step : ClientStep v (TakeGrant t.client at) t.client (taken v t g at) = record {
+      may = (own.0, (ok.client, (g.cap, g.bytes, g.rest, g.list)));
+      first = head-first v t D is_a_grant ok;
+      leaves = refl;
+      here = own.1;
+      later = tt;
+      client = λ x. ap (λ (ds : List Downward). cond (x == t.client) (took_grant k ds) (client_at v x at)) g.list;
+      recorded = refl;
+    } in
+    subst (λ b. ClientStep v (TakeGrant t.client b) t.client (taken v t g b)) (sym is) step
+
+waiting-entry : (copy : CachedCopy) (wait : Wait) → wait ≡ ForGrant → has_entry_for copy wait ≡ true
+waiting-entry Absent wait e = ap is_waiting e
+waiting-entry (Readable bytes) wait e = refl
+waiting-entry (Writable bytes dirty) wait e = refl
+
+pub grant-place : (v : View) (h : Layers) (t : Ticket) (share : Holding) (block : ℕ) (before : Perm) (copy : CachedCopy) → Means v h
+    → Takes v t share block before copy → HasPlace h.copies t.client block copy Nothing
+grant-place v h t share block before copy m takes =
+    let ok = (grant-allowed v t share takes.allowed).0 in
+    let g : Granted v t = granted-is v h t m ok in
+    let own = head-own v h t D is_a_grant m ok in
+    let at : ℕ = block_named v t D in
+    let waits = ((every_run_keeps_messages (shape_of v.geometry) v.image v.log m.lawful.run at t.client).granted g.cap g.bytes g.rest g.list).0 in
+    subst (λ b. HasPlace h.copies t.client b copy Nothing) (sym takes.block_is)
+    (place-there v h t.client at copy Nothing m ok.client own.0
+    (λ need. waiting-entry (client_at v t.client at).held (client_at v t.client at).wait waits))
+
+copy-taken : (v : View) (t : Ticket) (share : Holding) (block : ℕ) (before : Perm) (copy : CachedCopy) (g : Granted v t)
+    → Takes v t share block before copy → copy ≡ (taken v t g block).held
+copy-taken v t share block before copy g takes = takes.copy_is ∙ g.makes (client_at v t.client block).held
+
+pub grant-keeps : (v : View) (h : Layers) (t : Ticket) (share : Holding) (block : ℕ) (before : Perm) (copy : CachedCopy) (room : ℕ)
+    (between links : Table) (tables : Tables)
+    → Means v h → Takes v t share block before copy → SameLinks h.links between
+    → ((x : ℕ) (l : Channel) → lane_in between x l
+    ≡ (if is_here t.client t.channel x l then without_first (lane_in h.links x l) else lane_in h.links x l))
+    → SameLinks between links
+    → ((x : ℕ) (l : Channel) → lane_in links x l
+    ≡ (if is_here t.client E x l then with_message (lane_in between x l) (record { block = block; body = GrantAck })
+    else lane_in between x l))
+    → SameCopies h.copies tables
+    → ((x y : ℕ) → held_at tables x y ≡ (if is_cell t.client block x y then entry_with copy Nothing else held_at h.copies x y))
+    → Means (record v { log = v.log ++ TakeGrant t.client block ∷ []; room = room }) (record h { links = links; copies = tables })
+grant-keeps v h t share block before copy room between links tables m takes first took second sends same after =
+    let ok = (grant-allowed v t share takes.allowed).0 in
+    let g : Granted v t = granted-is v h t m ok in
+    let Took : Channel → Type 0 = λ k. (x : ℕ) (l : Channel) → lane_in between x l
+    ≡ (if is_here t.client k x l then without_first (lane_in h.links x l) else lane_in h.links x l) in
+    let from_d : Took D = subst Took ok.channel took in
+    means-step v h (record h { links = links; copies = tables }) (TakeGrant t.client block) t.client (taken v t g block) room m
+    (grant-step v h t share block m takes.allowed g takes.block_is)
+    (record {
+      lanes = λ x l.
+          sends x l
+          ∙ ap (λ (lane : Lane). cond (is_here t.client E x l) (with_message lane (record { block = block; body = GrantAck })) lane)
+          (from_d x l);
+      copies =
+          put-is h.copies tables t.client block copy (taken v t g block).held Nothing Nothing
+          (copy-taken v t share block before copy g takes) refl after;
+      links_size = record { bank = second.bank ∙ first.bank; clients = second.clients ∙ first.clients };
+      copies_size = same;
+      home = refl;
+      limit = refl;
+      clock = refl;
+    })
+
+-- ## The share
+
+pub grant-enough : (v : View) (h : Layers) (t : Ticket) (share : Holding) (block : ℕ) (before : Perm) (copy : CachedCopy) → Means v h
+    → Takes v t share block before copy → (is_none before ≡ false → 0 < share.count) × (share.count < 2 ^ 31)
+grant-enough v h t share block before copy m takes =
+    let both = grant-allowed v t share takes.allowed in
+    let own : IsOwn v.geometry v.number block =
+    subst (λ b. IsOwn v.geometry v.number b) (sym takes.block_is) (head-own v h t D is_a_grant m both.0) in
+    let enough = share-enough v t.client block share m.geometry own.0 both.1 in
+    (λ some. enough.0 (sym (ap is_none takes.before_is) ∙ some), enough.1)
+
+-- the copy is what the client holds afterwards
+pub grant-later : (v : View) (h : Layers) (t : Ticket) (share : Holding) (block : ℕ) (before : Perm) (copy : CachedCopy) (room : ℕ)
+    → Means v h → Takes v t share block before copy
+    → perm_of copy ≡ perm_at (record v { log = v.log ++ TakeGrant t.client block ∷ []; room = room }) t.client block
+grant-later v h t share block before copy room m takes =
+    let g : Granted v t = granted-is v h t m (grant-allowed v t share takes.allowed).0 in
+    ap perm_of (copy-taken v t share block before copy g takes)
+    ∙ sym (step-perm v (TakeGrant t.client block) t.client (taken v t g block) room
+    (grant-step v h t share block m takes.allowed g takes.block_is))
+
+-- and the share counts the client's copies afterwards
+pub grant-count : (v : View) (h : Layers) (t : Ticket) (share : Holding) (block : ℕ) (before : Perm) (copy : CachedCopy) (room : ℕ)
+    → Means v h → Takes v t share block before copy
+    → recount before (perm_of copy) share.count ≡ copies_at (record v { log = v.log ++ TakeGrant t.client block ∷ []; room = room }) t.client
+grant-count v h t share block before copy room m takes =
+    let both = grant-allowed v t share takes.allowed in
+    let g : Granted v t = granted-is v h t m both.0 in
+    share-count v (TakeGrant t.client block) t.client (taken v t g block) room share before (perm_of copy)
+    (grant-step v h t share block m takes.allowed g takes.block_is) both.1 takes.before_is
+    (ap perm_of (copy-taken v t share block before copy g takes))

@@ -1,0 +1,15 @@
+pub mod Acquires
+pub mod Allowed
+pub mod Counts
+pub mod Entries
+pub mod Fresh
+pub mod Grants
+pub mod Heads
+pub mod Keep
+pub mod Loads
+pub mod Places
+pub mod Probes
+pub mod ReleaseAcks
+pub mod Releases
+pub mod Shares
+pub mod Stores

@@ -1,0 +1,266 @@
+-- Answering a Probe, and what it leaves.
+use Rattle.std.proofs.Common.{◌≡◌, ◌≢◌, ℕ, ◌<◌, ◌≤◌, ◌^◌, ◌==◌, not, true, false, cond, length, List, [], ◌∷◌, ◌++◌, map, Some, None, if◌then◌else◌, refl, sym, ◌∙◌, ap, subst, arith, eq-eqb}
+use Rattle.std.proofs.lemmas.Bool.Decides.{nat_tests}
+use Rattle.tl_types.specs.Lane.{Lane, sent, is_here, with_message, without_first, bodies_of}
+use Rattle.tl_types.specs.Message.{probe_answer}
+use Rattle.tl_types.specs.Permission.{probe_perm}
+use Rattle.tl_types.specs.declared.channel.Channel.{Channel}
+use Rattle.tl_types.specs.declared.channel.Channel.TheVariants.{B, C}
+use Rattle.tl_types.specs.declared.message.Body.{Body}
+use Rattle.tl_types.specs.declared.message.Body.TheVariants.{ProbeBlock, Upward as b_Upward}
+use Rattle.tl_types.specs.declared.message.Message.{Message}
+use Rattle.tl_types.specs.declared.message.ProbeAnswer.{ProbeAnswer}
+use Rattle.tl_types.specs.declared.message.Upward.TheVariants.{ProbeAck}
+use Rattle.tl_types.specs.declared.permission.ProbeCap.{ProbeCap}
+use Rattle.tl_types.specs.declared.permission.Perm.{Perm}
+use Rattle.tl_types.specs.declared.permission.Perm.TheVariants.{None as p_None, Branch, Tip}
+use Rattle.tl_types.specs.declared.ticket.Ticket.{Ticket}
+use Rattle.tl_types.specs.declared.wait.Wait.{Wait}
+use Rattle.tl_types.specs.declared.wait.Wait.TheVariants.{Nothing, ForGrant, ForReleaseAck}
+use Rattle.tl_protocol.specs.Client.{answered}
+use Rattle.tl_protocol.specs.Copy.{dirty_bytes, perm_of, reduced}
+use Rattle.tl_protocol.specs.Protocol.{is_none}
+use Rattle.tl_protocol.specs.declared.client.Client.{Client}
+use Rattle.tl_protocol.specs.declared.copy.CachedCopy.{CachedCopy}
+use Rattle.tl_protocol.specs.declared.copy.CachedCopy.TheVariants.{Absent, Readable, Writable}
+use Rattle.tl_protocol.specs.declared.event.Event.TheVariants.{AnswerProbe}
+use Rattle.tl_lanes.specs.Lanes.{answer_post, sent_to}
+use Rattle.tl_links.specs.Table.{Table, lane_in, SameSize as SameLinks}
+use Rattle.tl_copies.specs.Copies.{Tables, held_at, is_cell, SameSize as SameCopies}
+use Rattle.tl_bank_spec.specs.Calls.{answer_probe_cases}
+use Rattle.tl_bank_spec.specs.Cases.{any_body, awaits_release_ack, bad_share, block_named, link_full, no_client, other_share}
+use Rattle.tl_bank_spec.specs.Refusal.{first_of}
+use Rattle.tl_bank_spec.specs.Share.{Holding, recount}
+use Rattle.tl_bank_spec.specs.View.{View, IsOwn, has_entry_for, client_at, copies_at, lane_at, perm_at}
+use Rattle.tl_bank.specs.Entry.{HasPlace, entry_with}
+use Rattle.tl_bank.specs.Head.{asked_by, first_cap}
+use Rattle.tl_bank.specs.Link.{HasRoom, IsHead}
+use Rattle.tl_bank.specs.Layers.{Layers}
+use Rattle.tl_bank.specs.Means.{Means}
+use Rattle.tl_bank.proofs.Allowed.{AllFalse, all-false, client-is, or-false, share-is}
+use Rattle.tl_bank.proofs.Counts.{step-perm}
+use Rattle.tl_bank.proofs.Entries.{put-is}
+use Rattle.tl_bank.proofs.Heads.{HeadAllowed, head-allowed, head-first, head-list, head-own, is-head}
+use Rattle.tl_bank.proofs.Keep.{ClientStep, means-step}
+use Rattle.tl_bank.proofs.Places.{place-there}
+use Rattle.tl_bank.proofs.Shares.{share-count, share-enough}
+
+-- ## The Probe that is there
+
+not-pending : (wait : Wait) → awaits_release_ack wait ≡ false → wait ≢ ForReleaseAck
+not-pending Nothing h = λ e. cc
+not-pending ForGrant h = λ e. cc
+not-pending ForReleaseAck h = cc
+
+pub record ProbeAllowed (v : View) (t : Ticket) (share : Holding) : Type 0 where
+  pub head : HeadAllowed v t B any_body
+  pub count : share.count ≡ copies_at v t.client
+  pub wait : (client_at v t.client (block_named v t B)).wait ≢ ForReleaseAck
+  pub place : length (lane_at v t.client C).messages < 64
+
+probe-allowed : (v : View) (t : Ticket) (share : Holding) → first_of (answer_probe_cases v t share) ≡ None → ProbeAllowed v t share
+probe-allowed v t share none =
+    let f : AllFalse (answer_probe_cases v t share) = all-false (answer_probe_cases v t share) none in
+    let range = or-false (no_client v t.client) (bad_share v t.client share) f.0 in
+    let place = or-false (not (t.bank == v.number)) (other_share v share) f.1.0 in
+    let free : link_full v t.client C ≡ false = f.1.1.1.1.1.1.0 in
+    record {
+      head = head-allowed v t B any_body (client-is v t.client range.0) place.0 f.1.1.0 f.1.1.1.1.0;
+      count = share-is v t.client share range.1 place.1;
+      wait = not-pending (client_at v t.client (block_named v t B)).wait f.1.1.1.1.1.0;
+      place = grind (arith, nat_tests);
+    }
+
+probe-begins : (bs : List ProbeCap) (body : Body) (zs : List Body) → map ProbeBlock bs ≡ body ∷ zs
+    → (rest : List ProbeCap) × (bs ≡ asked_by body ∷ rest)
+probe-begins [] body zs e = cc
+probe-begins (cap ∷ bs) body zs e = let h : body ≡ ProbeBlock cap = cc in (bs, rw h refl)
+
+-- the client's list on B begins with a Probe, which asks for this
+pub record Probed (v : View) (t : Ticket) : Type 0 where
+  pub rest : List ProbeCap
+  pub list : (client_at v t.client (block_named v t B)).b ≡ first_cap (lane_at v t.client B).messages ∷ rest
+
+probed-is : (v : View) (h : Layers) (t : Ticket) → Means v h → HeadAllowed v t B any_body → Probed v t
+probed-is v h t m ok =
+    let x : Message = ok.first.0 in
+    let list = probe-begins (client_at v t.client (block_named v t B)).b x.body (bodies_of x.block ok.first.1) (head-list v h t B any_body m ok) in
+    record {
+      rest = list.0;
+      list = list.1 ∙ ap (λ cap. cap ∷ list.0) (sym (ap first_cap ok.first.2));
+    }
+
+-- ## The step
+
+-- what answering a Probe shows of the bank before it
+pub record Answers (v : View) (t : Ticket) (share : Holding) (block : ℕ) (cap : ProbeCap) (copy : CachedCopy) (wait : Wait)
+    (before : Perm) (answer : ProbeAnswer) : Type 0 where
+  pub allowed : first_of (answer_probe_cases v t share) ≡ None
+  pub block_is : block ≡ block_named v t B
+  pub cap_is : cap ≡ first_cap (lane_at v t.client B).messages
+  pub copy_is : copy ≡ reduced (client_at v t.client block).held (probe_perm cap)
+  pub wait_is : wait ≡ (client_at v t.client block).wait
+  pub before_is : before ≡ perm_at v t.client block
+  pub answer_is : answer ≡ probe_answer (perm_at v t.client block) cap (dirty_bytes (client_at v t.client block).held)
+
+-- the client's part of a block once it answered that Probe
+abbrev done : (v : View) (t : Ticket) → Probed v t → ℕ → Client
+done v t p block = answered (client_at v t.client block) (first_cap (lane_at v t.client B).messages ∷ p.rest)
+
+probe-step : (v : View) (h : Layers) (t : Ticket) (share : Holding) (block : ℕ) → Means v h → ProbeAllowed v t share
+    → (p : Probed v t) → block ≡ block_named v t B → ClientStep v (AnswerProbe t.client block) t.client (done v t p block)
+probe-step v h t share block m ok p is =
+    let at : ℕ = block_named v t B in
+    let own : IsOwn v.geometry v.number at = head-own v h t B any_body m ok.head in
+    let k : Client = client_at v t.client at in
+    let step : ClientStep v (AnswerProbe t.client at) t.client (done v t p at) = record {
+      may = (own.0, (ok.head.client, ((first_cap (lane_at v t.client B).messages, p.rest, p.list), ok.wait)));
+      first = head-first v t B any_body ok.head;
+      leaves = refl;
+      here = own.1;
+      later = tt;
+      client = λ x. ap (λ (bs : List ProbeCap). cond (x == t.client) (answered k bs) (client_at v x at)) p.list;
+      recorded = refl;
+    } in
+    subst (λ b. ClientStep v (AnswerProbe t.client b) t.client (done v t p b)) (sym is) step
+
+pub probe-head : (v : View) (h : Layers) (t : Ticket) (share : Holding) → Means v h → first_of (answer_probe_cases v t share) ≡ None
+    → IsHead h.links t
+probe-head v h t share m none = is-head v h t B any_body m (probe-allowed v t share none).head
+
+-- channel C has a place for the answer
+pub probe-room : (v : View) (h : Layers) (t : Ticket) (share : Holding) (between : Table) → Means v h
+    → first_of (answer_probe_cases v t share) ≡ None → length v.log < 2 ^ 63 → SameLinks h.links between
+    → ((x : ℕ) (l : Channel) → lane_in between x l
+    ≡ (if is_here t.client t.channel x l then without_first (lane_in h.links x l) else lane_in h.links x l))
+    → HasRoom between t.client C
+probe-room v h t share between m none small same took =
+    let ok = probe-allowed v t share none in
+    let Took : Channel → Type 0 = λ k. (x : ℕ) (l : Channel) → lane_in between x l
+    ≡ (if is_here t.client k x l then without_first (lane_in h.links x l) else lane_in h.links x l) in
+    let from_b : Took B = subst Took ok.head.channel took in
+    let elsewhere : is_here t.client B t.client C ≡ false = rw (eq-eqb t.client t.client refl) refl in
+    let lane : lane_in between t.client C ≡ lane_at v t.client C =
+    from_b t.client C
+    ∙ (ap (λ here. cond here (without_first (lane_in h.links t.client C)) (lane_in h.links t.client C)) elsewhere
+    ∙ m.lanes t.client C ok.head.client) in
+    let counted : sent (lane_at v t.client C) ≤ length v.log = m.lawful.counted t.client C in
+    record {
+      client = rw (same.clients, m.links_clients) ok.head.client;
+      place = rw lane ok.place;
+      counted = rw lane (omega arith);
+    }
+
+fewer-entries : (copy : CachedCopy) (to : Perm) (wait : Wait) → has_entry_for (reduced copy to) wait ≡ true → has_entry_for copy wait ≡ true
+fewer-entries Absent p_None wait h = h
+fewer-entries Absent Branch wait h = h
+fewer-entries Absent Tip wait h = h
+fewer-entries (Readable bytes) to wait h = refl
+fewer-entries (Writable bytes dirty) to wait h = refl
+
+pub probe-place : (v : View) (h : Layers) (t : Ticket) (share : Holding) (block : ℕ) (cap : ProbeCap) (copy : CachedCopy) (wait : Wait)
+    (before : Perm) (answer : ProbeAnswer) → Means v h
+    → Answers v t share block cap copy wait before answer → HasPlace h.copies t.client block copy wait
+probe-place v h t share block cap copy wait before answer m answers =
+    let ok = probe-allowed v t share answers.allowed in
+    let own : IsOwn v.geometry v.number block =
+    subst (λ b. IsOwn v.geometry v.number b) (sym answers.block_is) (head-own v h t B any_body m ok.head) in
+    let k : Client = client_at v t.client block in
+    place-there v h t.client block copy wait m ok.head.client own.0
+    (λ need. fewer-entries k.held (probe_perm cap) k.wait
+    (subst (λ (w : Wait). has_entry_for (reduced k.held (probe_perm cap)) w ≡ true) answers.wait_is
+    (subst (λ (p : CachedCopy). has_entry_for p wait ≡ true) answers.copy_is need)))
+
+copy-done : (v : View) (t : Ticket) (share : Holding) (block : ℕ) (cap : ProbeCap) (copy : CachedCopy) (wait : Wait)
+    (before : Perm) (answer : ProbeAnswer) (p : Probed v t) → Answers v t share block cap copy wait before answer
+    → copy ≡ (done v t p block).held
+copy-done v t share block cap copy wait before answer p answers =
+    answers.copy_is ∙ ap (λ c. reduced (client_at v t.client block).held (probe_perm c)) answers.cap_is
+
+-- what the event sends is the answer
+post-is : (v : View) (t : Ticket) (share : Holding) (block : ℕ) (cap : ProbeCap) (copy : CachedCopy) (wait : Wait)
+    (before : Perm) (answer : ProbeAnswer) (p : Probed v t) → Answers v t share block cap copy wait before answer
+    → Some (record { client = t.client; channel = C; body = b_Upward (ProbeAck answer) })
+    ≡ answer_post t.client (client_at v t.client block) (client_at v t.client block).b
+post-is v t share block cap copy wait before answer p answers =
+    let k : Client = client_at v t.client block in
+    let list : k.b ≡ first_cap (lane_at v t.client B).messages ∷ p.rest =
+    subst (λ b. (client_at v t.client b).b ≡ first_cap (lane_at v t.client B).messages ∷ p.rest) (sym answers.block_is) p.list in
+    let is : answer ≡ probe_answer (perm_of k.held) (first_cap (lane_at v t.client B).messages) (dirty_bytes k.held) =
+    answers.answer_is ∙ ap (λ c. probe_answer (perm_of k.held) c (dirty_bytes k.held)) answers.cap_is in
+    ap (λ (a : ProbeAnswer). Some (record { client = t.client; channel = C; body = b_Upward (ProbeAck a) })) is
+    ∙ sym (ap (λ (bs : List ProbeCap). answer_post t.client k bs) list)
+
+pub probe-keeps : (v : View) (h : Layers) (t : Ticket) (share : Holding) (block : ℕ) (cap : ProbeCap) (copy : CachedCopy) (wait : Wait)
+    (before : Perm) (answer : ProbeAnswer) (room : ℕ) (between links : Table) (tables : Tables)
+    → Means v h → Answers v t share block cap copy wait before answer → SameLinks h.links between
+    → ((x : ℕ) (l : Channel) → lane_in between x l
+    ≡ (if is_here t.client t.channel x l then without_first (lane_in h.links x l) else lane_in h.links x l))
+    → SameLinks between links
+    → ((x : ℕ) (l : Channel) → lane_in links x l
+    ≡ (if is_here t.client C x l then with_message (lane_in between x l) (record { block = block; body = b_Upward (ProbeAck answer) })
+    else lane_in between x l))
+    → SameCopies h.copies tables
+    → ((x y : ℕ) → held_at tables x y ≡ (if is_cell t.client block x y then entry_with copy wait else held_at h.copies x y))
+    → Means (record v { log = v.log ++ AnswerProbe t.client block ∷ []; room = room }) (record h { links = links; copies = tables })
+probe-keeps v h t share block cap copy wait before answer room between links tables m answers first took second sends same after =
+    let ok = probe-allowed v t share answers.allowed in
+    let p : Probed v t = probed-is v h t m ok.head in
+    let Took : Channel → Type 0 = λ k. (x : ℕ) (l : Channel) → lane_in between x l
+    ≡ (if is_here t.client k x l then without_first (lane_in h.links x l) else lane_in h.links x l) in
+    let from_b : Took B = subst Took ok.head.channel took in
+    means-step v h (record h { links = links; copies = tables }) (AnswerProbe t.client block) t.client (done v t p block) room m
+    (probe-step v h t share block m ok p answers.block_is)
+    (record {
+      lanes = λ x l.
+          sends x l
+          ∙ ap (λ (lane : Lane). cond (is_here t.client C x l)
+          (with_message lane (record { block = block; body = b_Upward (ProbeAck answer) })) lane) (from_b x l)
+          ∙ ap (λ post. sent_to post block x l (cond (is_here t.client B x l) (without_first (lane_in h.links x l)) (lane_in h.links x l)))
+          (post-is v t share block cap copy wait before answer p answers);
+      copies =
+          put-is h.copies tables t.client block copy (done v t p block).held wait (client_at v t.client block).wait
+          (copy-done v t share block cap copy wait before answer p answers) answers.wait_is after;
+      links_size = record { bank = second.bank ∙ first.bank; clients = second.clients ∙ first.clients };
+      copies_size = same;
+      home = refl;
+      limit = refl;
+      clock = refl;
+    })
+
+-- ## The share
+
+pub probe-enough : (v : View) (h : Layers) (t : Ticket) (share : Holding) (block : ℕ) (cap : ProbeCap) (copy : CachedCopy) (wait : Wait)
+    (before : Perm) (answer : ProbeAnswer) → Means v h
+    → Answers v t share block cap copy wait before answer → (is_none before ≡ false → 0 < share.count) × (share.count < 2 ^ 31)
+probe-enough v h t share block cap copy wait before answer m answers =
+    let ok = probe-allowed v t share answers.allowed in
+    let own : IsOwn v.geometry v.number block =
+    subst (λ b. IsOwn v.geometry v.number b) (sym answers.block_is) (head-own v h t B any_body m ok.head) in
+    let enough = share-enough v t.client block share m.geometry own.0 ok.count in
+    (λ some. enough.0 (sym (ap is_none answers.before_is) ∙ some), enough.1)
+
+-- the copy is what the client holds afterwards
+pub probe-later : (v : View) (h : Layers) (t : Ticket) (share : Holding) (block : ℕ) (cap : ProbeCap) (copy : CachedCopy) (wait : Wait)
+    (before : Perm) (answer : ProbeAnswer) (room : ℕ) → Means v h
+    → Answers v t share block cap copy wait before answer
+    → perm_of copy ≡ perm_at (record v { log = v.log ++ AnswerProbe t.client block ∷ []; room = room }) t.client block
+probe-later v h t share block cap copy wait before answer room m answers =
+    let ok = probe-allowed v t share answers.allowed in
+    let p : Probed v t = probed-is v h t m ok.head in
+    ap perm_of (copy-done v t share block cap copy wait before answer p answers)
+    ∙ sym (step-perm v (AnswerProbe t.client block) t.client (done v t p block) room
+    (probe-step v h t share block m ok p answers.block_is))
+
+-- and the share counts the client's copies afterwards
+pub probe-count : (v : View) (h : Layers) (t : Ticket) (share : Holding) (block : ℕ) (cap : ProbeCap) (copy : CachedCopy) (wait : Wait)
+    (before : Perm) (answer : ProbeAnswer) (room : ℕ) → Means v h
+    → Answers v t share block cap copy wait before answer
+    → recount before (perm_of copy) share.count
+    ≡ copies_at (record v { log = v.log ++ AnswerProbe t.client block ∷ []; room = room }) t.client
+probe-count v h t share block cap copy wait before answer room m answers =
+    let ok = probe-allowed v t share answers.allowed in
+    let p : Probed v t = probed-is v h t m ok.head in
+    share-count v (AnswerProbe t.client block) t.client (done v t p block) room share before (perm_of copy)
+    (probe-step v h t share block m ok p answers.block_is) ok.count answers.before_is
+    (ap perm_of (copy-done v t share block cap copy wait before answer p answers))

@@ -1,0 +1,14 @@
+use Rattle.std.proofs.Common.{◌≡◌, ◌<◌, ◌∙◌, ap, subst}
+use Rattle.tl_bank_spec.specs.View.{View, client_at}
+use Rattle.tl_bank.specs.Entry.{wait_in}
+use Rattle.tl_bank.specs.Shown.{shown, layers}
+use Rattle.tl_bank.proofs.Entries.{wait-is}
+use Rattle.tl_bank.proofs.bank.Bank.wait.Goals as goal
+
+pub returns : goal.returns
+returns c =
+    let lt : c.args.client < (shown c.self.inside).geometry.clients = rw (← c.self.view_is) at c.requires.client in
+    let lb : c.args.block < (shown c.self.inside).geometry.memory_blocks = rw (← c.self.view_is) at c.requires.block in
+    subst (λ (v : View). c.wait_in.result ≡ (client_at v c.args.client c.args.block).wait) c.self.view_is
+    (c.wait_in.ensures ∙ ap wait_in c.of.ensures
+    ∙ wait-is (shown c.self.inside) (layers c.self.inside) c.args.client c.args.block c.self.invariant lt lb)

@@ -1,0 +1,59 @@
+-- What a client's table has of a block (this project's own).
+use Rattle.std.specs.Prelude.{◌≡◌, ℕ, ◌<◌, Bool, true, false, List, [], Option, Some, None, if◌then◌else◌}
+use Rattle.tl_types.specs.declared.permission.Perm.{Perm}
+use Rattle.tl_types.specs.declared.permission.Perm.TheVariants.{None as p_None, Branch, Tip}
+use Rattle.tl_types.specs.declared.wait.Wait.{Wait}
+use Rattle.tl_types.specs.declared.wait.Wait.TheVariants.{Nothing}
+use Rattle.tl_protocol.specs.Copy.{perm_of, bytes_of}
+use Rattle.tl_protocol.specs.declared.client.Client.{Client}
+use Rattle.tl_protocol.specs.declared.copy.CachedCopy.{CachedCopy}
+use Rattle.tl_protocol.specs.declared.copy.CachedCopy.TheVariants.{Absent, Readable, Writable}
+use Rattle.tl_copies.specs.Copies.{Tables, clients_of, entries, held_at}
+use Rattle.tl_copies.specs.declared.held.Held.{Held}
+use Rattle.tl_bank_spec.specs.View.{has_entry_for}
+
+abbrev pub is_dirty : CachedCopy → Bool
+is_dirty Absent = false
+is_dirty (Readable bytes) = false
+is_dirty (Writable bytes dirty) = dirty
+
+-- a copy with the answer that its client waits for, as a table keeps them
+abbrev pub held_as : CachedCopy → Wait → Held
+held_as copy wait = record { perm = perm_of copy; dirty = is_dirty copy; bytes = bytes_of copy; wait = wait }
+
+-- the entry: there is one while there is a copy or the client waits
+abbrev pub entry_with : CachedCopy → Wait → Option Held
+entry_with copy wait = if has_entry_for copy wait then Some (held_as copy wait) else None
+
+-- the entry of a client's part of a block
+abbrev pub entry_of : Client → Option Held
+entry_of k = entry_with k.held k.wait
+
+-- a client's table has a place for a copy of a block: it has an entry of it, or room for one more, or needs none
+pub record HasPlace (tables : Tables) (c block : ℕ) (copy : CachedCopy) (wait : Wait) : Type 0 where
+  pub client : c < clients_of tables
+  pub inside : block < tables.blocks
+  pub room : has_entry_for copy wait ≡ true → held_at tables c block ≡ None → entries tables c < tables.limit
+
+-- ## What an entry says
+
+abbrev pub copy_with : Perm → List ℕ → Bool → CachedCopy
+copy_with p_None bytes dirty = Absent
+copy_with Branch bytes dirty = Readable bytes
+copy_with Tip bytes dirty = Writable bytes dirty
+
+abbrev pub copy_in : Option Held → CachedCopy
+copy_in None = Absent
+copy_in (Some held) = copy_with held.perm held.bytes held.dirty
+
+abbrev pub wait_in : Option Held → Wait
+wait_in None = Nothing
+wait_in (Some held) = held.wait
+
+abbrev pub perm_in : Option Held → Perm
+perm_in None = p_None
+perm_in (Some held) = held.perm
+
+abbrev pub bytes_in : Option Held → List ℕ
+bytes_in None = []
+bytes_in (Some held) = held.bytes

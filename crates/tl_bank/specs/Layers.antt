@@ -1,0 +1,14 @@
+-- The layers of a bank, each as its own contracts see it. No public clause cites this module.
+use Rattle.std.specs.Prelude.{ℕ}
+use Rattle.tl_links.specs.Table.{Table}
+use Rattle.tl_copies.specs.Copies.{Tables}
+use Rattle.tl_bank.specs.Home.{HomeState}
+
+pub record Layers : Type 0 where
+  pub links : Table
+  pub copies : Tables
+  pub home : HomeState
+  -- how many registers there may be
+  pub limit : ℕ
+  -- the stamp of the last access
+  pub clock : ℕ

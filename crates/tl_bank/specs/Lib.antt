@@ -1,0 +1,7 @@
+pub mod Entry
+pub mod Head
+pub mod Home
+pub mod Layers
+pub mod Link
+pub mod Means
+pub mod Shown

@@ -1,0 +1,300 @@
+//! The calls of clients.
+ghost use Rattle.std.specs.Prelude.{◌≡◌, ◌+◌, None, false, IfErr, IfOk, OnErr, OnOk, length, slice_range};
+ghost use Rattle.tl_types.specs.declared.channel.Channel.{Channel};
+ghost use Rattle.tl_map.specs.Places.{block_at as block_of_address, offset_of};
+ghost use Rattle.tl_protocol.specs.Copy.{bytes_of, stored_in};
+ghost use Rattle.tl_protocol.specs.declared.event.Event.{Event};
+ghost use Rattle.tl_bank_spec.specs.Calls.{load_cases, store_cases, acquire_cases, release_cases, answer_probe_cases, take_grant_cases, take_release_ack_cases};
+ghost use Rattle.tl_bank_spec.specs.Cases.{block_named, clock_full};
+ghost use Rattle.tl_bank_spec.specs.Refusal.{IsRefused, first_of};
+ghost use Rattle.tl_bank_spec.specs.Share.{recounted};
+ghost use Rattle.tl_bank_spec.specs.View.{Appends, client_at, copies_at, latest, next_ticket, perm_at};
+
+use crate::bank::Bank;
+use crate::share::Share;
+use crate::{entry, link};
+use tl_bank_spec::{Loaded, Refusal, When};
+use tl_protocol::{Access, CachedCopy, Event};
+use tl_types::{
+    AccessBytes, BlockNo, Body, Channel, ClientId, Grow, Message, ProbeAnswer, Prune, Surrender,
+    Ticket, Upward, Wait,
+};
+
+impl Bank {
+    /// Reads `len` bytes of a client's copy from an address on: one to eight, in one block.
+    pub fn load(
+        &mut self,
+        client: ClientId,
+        address: u32,
+        len: usize,
+        when: When,
+    ) -> Result<Loaded, Refusal>
+        ensures refused { IfErr result (λ r. IsRefused (first_of (load_cases self.old client address len when.clock)) self.old.room r) }
+        ensures unchanged { OnErr result (self.new ≡ self.old) }
+        ensures permitted { OnOk result (first_of (load_cases self.old client address len when.clock) ≡ None) }
+        ensures appends { IfOk result
+            (λ loaded. Appends self.old self.new (Event.Load (record {
+              client = client;
+              address = address;
+              bytes = loaded.bytes;
+              stamp = loaded.stamp;
+              index = when.index;
+            }))) }
+        ensures bytes { IfOk result
+            (λ loaded. loaded.bytes
+            ≡ slice_range (bytes_of (client_at self.old client (block_of_address self.old.geometry address)).held)
+            (offset_of self.old.geometry address) (offset_of self.old.geometry address + len)) }
+        ensures stamp { IfOk result (λ loaded. loaded.stamp ≡ latest self.old when.clock + 1) }
+    {
+        if let Some(refusal) = self.load_refusal(client, address, len, when.clock) {
+            return Err(refusal);
+        }
+        let bytes = self.read(client, address, len, when.clock);
+        let stamp = self.next_stamp(when.clock);
+        self.make_room()?;
+        self.clock = stamp;
+        self.log.append(Event::Load(Access {
+            client,
+            address,
+            bytes: bytes.copied(),
+            stamp,
+            index: when.index,
+        }));
+        Ok(Loaded { bytes, stamp })
+    }
+
+    /// Writes one to eight bytes over a client's copy, from an address on, in one block. The answer is the stamp.
+    pub fn store(
+        &mut self,
+        client: ClientId,
+        address: u32,
+        bytes: &[u8],
+        when: When,
+    ) -> Result<u64, Refusal>
+        ensures refused { IfErr result (λ r. IsRefused (first_of (store_cases self.old client address (length bytes.now) when.clock)) self.old.room r) }
+        ensures unchanged { OnErr result (self.new ≡ self.old) }
+        ensures permitted { OnOk result (first_of (store_cases self.old client address (length bytes.now) when.clock) ≡ None) }
+        ensures appends { IfOk result
+            (λ stamp. Appends self.old self.new (Event.Store (record {
+              client = client;
+              address = address;
+              bytes = bytes.now;
+              stamp = stamp;
+              index = when.index;
+            }))) }
+        ensures stamp { IfOk result (λ stamp. stamp ≡ latest self.old when.clock + 1) }
+    {
+        if let Some(refusal) = self.store_refusal(client, address, bytes.len(), when.clock) {
+            return Err(refusal);
+        }
+        let block = self.geometry.block_at(address);
+        let access = entry::access_of(bytes);
+        let copy = self.stored(client, address, &access, when.clock);
+        let wait = self.wait(client, block);
+        let stamp = self.next_stamp(when.clock);
+        self.make_room()?;
+        entry::put(&mut self.copies, client, block, copy, wait);
+        self.clock = stamp;
+        self.log.append(Event::Store(Access {
+            client,
+            address,
+            bytes: access,
+            stamp,
+            index: when.index,
+        }));
+        Ok(stamp)
+    }
+
+    /// Asks home for a copy, or for a better one.
+    pub fn acquire(
+        &mut self,
+        client: ClientId,
+        block: BlockNo,
+        grow: Grow,
+    ) -> Result<Ticket, Refusal>
+        ensures refused { IfErr result (λ r. IsRefused (first_of (acquire_cases self.old client block grow)) self.old.room r) }
+        ensures unchanged { OnErr result (self.new ≡ self.old) }
+        ensures permitted { OnOk result (first_of (acquire_cases self.old client block grow) ≡ None) }
+        ensures appends { OnOk result (Appends self.old self.new (Event.SendAcquire client block grow)) }
+        ensures ticket { IfOk result (λ ticket. ticket ≡ next_ticket self.old client Channel.A) }
+    {
+        if let Some(refusal) = self.acquire_refusal(client, block, grow) {
+            return Err(refusal);
+        }
+        let copy = self.copy(client, block);
+        self.make_room()?;
+        let body = Body::AcquireBlock(grow);
+        let ticket = link::send(&mut self.links, client, Channel::A, Message { block, body });
+        entry::put(&mut self.copies, client, block, copy, Wait::ForGrant);
+        self.log.append(Event::SendAcquire(client, block, grow));
+        Ok(ticket)
+    }
+
+    /// Gives up a part of a copy, or all of it.
+    pub fn release(
+        &mut self,
+        client: ClientId,
+        block: BlockNo,
+        prune: Prune,
+        share: &mut Share,
+    ) -> Result<Ticket, Refusal>
+        ensures refused { IfErr result (λ r. IsRefused (first_of (release_cases self.old client block prune share.old)) self.old.room r) }
+        ensures unchanged { OnErr result (self.new ≡ self.old) }
+        ensures share_unchanged { OnErr result (share.new ≡ share.old) }
+        ensures permitted { OnOk result (first_of (release_cases self.old client block prune share.old) ≡ None) }
+        ensures appends { OnOk result (Appends self.old self.new (Event.SendRelease client block prune)) }
+        ensures ticket { IfOk result (λ ticket. ticket ≡ next_ticket self.old client Channel.C) }
+        ensures share { OnOk result
+            (share.new ≡ recounted (perm_at self.old client block) (perm_at self.new client block) share.old) }
+        ensures counted { OnOk result (share.new.count ≡ copies_at self.new client) }
+    {
+        if let Some(refusal) = self.release_refusal(client, block, prune, share) {
+            return Err(refusal);
+        }
+        let mut copy = self.copy(client, block);
+        let before = copy.perm();
+        let given = Surrender::of(prune, copy.dirty_bytes());
+        copy.reduce(prune.to());
+        let later = copy.perm();
+        self.make_room()?;
+        let body = Body::Upward(Upward::Release(given));
+        let ticket = link::send(&mut self.links, client, Channel::C, Message { block, body });
+        entry::put(&mut self.copies, client, block, copy, Wait::ForReleaseAck);
+        self.log.append(Event::SendRelease(client, block, prune));
+        share.recount(before, later);
+        Ok(ticket)
+    }
+
+    /// Takes home's answer to a Release.
+    pub fn take_release_ack(&mut self, ticket: Ticket) -> Result<(), Refusal>
+        ensures refused { IfErr result (λ r. IsRefused (first_of (take_release_ack_cases self.old ticket)) self.old.room r) }
+        ensures unchanged { OnErr result (self.new ≡ self.old) }
+        ensures permitted { OnOk result (first_of (take_release_ack_cases self.old ticket) ≡ None) }
+        ensures appends { OnOk result
+            (Appends self.old self.new (Event.TakeReleaseAck ticket.client (block_named self.old ticket Channel.D))) }
+    {
+        if let Some(refusal) = self.take_release_ack_refusal(&ticket) {
+            return Err(refusal);
+        }
+        let block = self.first_block(ticket.client, Channel::D);
+        let copy = self.copy(ticket.client, block);
+        self.make_room()?;
+        link::discard(&mut self.links, ticket);
+        entry::put(&mut self.copies, ticket.client, block, copy, Wait::Nothing);
+        self.log.append(Event::TakeReleaseAck(ticket.client, block));
+        Ok(())
+    }
+
+    /// Answers the first Probe on its way to a client.
+    pub fn answer_probe(&mut self, ticket: Ticket, share: &mut Share) -> Result<Ticket, Refusal>
+        ensures refused { IfErr result (λ r. IsRefused (first_of (answer_probe_cases self.old ticket share.old)) self.old.room r) }
+        ensures unchanged { OnErr result (self.new ≡ self.old) }
+        ensures share_unchanged { OnErr result (share.new ≡ share.old) }
+        ensures permitted { OnOk result (first_of (answer_probe_cases self.old ticket share.old) ≡ None) }
+        ensures appends { OnOk result
+            (Appends self.old self.new (Event.AnswerProbe ticket.client (block_named self.old ticket Channel.B))) }
+        ensures ticket { IfOk result (λ sent. sent ≡ next_ticket self.old ticket.client Channel.C) }
+        ensures share { OnOk result
+            (share.new
+            ≡ recounted (perm_at self.old ticket.client (block_named self.old ticket Channel.B))
+            (perm_at self.new ticket.client (block_named self.old ticket Channel.B)) share.old) }
+        ensures counted { OnOk result (share.new.count ≡ copies_at self.new ticket.client) }
+    {
+        if let Some(refusal) = self.answer_probe_refusal(&ticket, share) {
+            return Err(refusal);
+        }
+        let block = self.first_block(ticket.client, Channel::B);
+        let cap = self.first_cap(ticket.client);
+        let mut copy = self.copy(ticket.client, block);
+        let wait = self.wait(ticket.client, block);
+        let before = copy.perm();
+        let answer = ProbeAnswer::of(before, cap, copy.dirty_bytes());
+        copy.reduce(cap.perm());
+        let later = copy.perm();
+        self.make_room()?;
+        link::discard(&mut self.links, ticket);
+        let body = Body::Upward(Upward::ProbeAck(answer));
+        let sent = link::send(
+            &mut self.links,
+            ticket.client,
+            Channel::C,
+            Message { block, body },
+        );
+        entry::put(&mut self.copies, ticket.client, block, copy, wait);
+        self.log.append(Event::AnswerProbe(ticket.client, block));
+        share.recount(before, later);
+        Ok(sent)
+    }
+
+    /// Takes the Grant that is first on its way to a client, and sends the GrantAck.
+    pub fn take_grant(&mut self, ticket: Ticket, share: &mut Share) -> Result<Ticket, Refusal>
+        ensures refused { IfErr result (λ r. IsRefused (first_of (take_grant_cases self.old ticket share.old)) self.old.room r) }
+        ensures unchanged { OnErr result (self.new ≡ self.old) }
+        ensures share_unchanged { OnErr result (share.new ≡ share.old) }
+        ensures permitted { OnOk result (first_of (take_grant_cases self.old ticket share.old) ≡ None) }
+        ensures appends { OnOk result
+            (Appends self.old self.new (Event.TakeGrant ticket.client (block_named self.old ticket Channel.D))) }
+        ensures ticket { IfOk result (λ sent. sent ≡ next_ticket self.old ticket.client Channel.E) }
+        ensures share { OnOk result
+            (share.new
+            ≡ recounted (perm_at self.old ticket.client (block_named self.old ticket Channel.D))
+            (perm_at self.new ticket.client (block_named self.old ticket Channel.D)) share.old) }
+        ensures counted { OnOk result (share.new.count ≡ copies_at self.new ticket.client) }
+    {
+        if let Some(refusal) = self.take_grant_refusal(&ticket, share) {
+            return Err(refusal);
+        }
+        let block = self.first_block(ticket.client, Channel::D);
+        let own = self.copy(ticket.client, block);
+        let before = own.perm();
+        let copy = self.first_granted(ticket.client, own);
+        let later = copy.perm();
+        self.make_room()?;
+        link::discard(&mut self.links, ticket);
+        let body = Body::GrantAck;
+        let sent = link::send(
+            &mut self.links,
+            ticket.client,
+            Channel::E,
+            Message { block, body },
+        );
+        entry::put(&mut self.copies, ticket.client, block, copy, Wait::Nothing);
+        self.log.append(Event::TakeGrant(ticket.client, block));
+        share.recount(before, later);
+        Ok(sent)
+    }
+
+    /// The copy that a store leaves which may take place.
+    fn stored(&self, client: ClientId, address: u32, access: &AccessBytes, clock: u64) -> CachedCopy
+        requires { first_of (store_cases self.now client address (length access.now) clock) ≡ None }
+        ensures { result
+            ≡ stored_in (offset_of self.now.geometry address) access.now
+            (client_at self.now client (block_of_address self.now.geometry address)).held }
+    {
+        let _ = clock;
+        let mut copy = self.copy(client, self.geometry.block_at(address));
+        copy.store(self.geometry.offset(address) as usize, access);
+        copy
+    }
+
+    /// The bytes of a load that may take place.
+    fn read(&self, client: ClientId, address: u32, len: usize, clock: u64) -> AccessBytes
+        requires { first_of (load_cases self.now client address len clock) ≡ None }
+        ensures { result
+            ≡ slice_range (bytes_of (client_at self.now client (block_of_address self.now.geometry address)).held)
+            (offset_of self.now.geometry address) (offset_of self.now.geometry address + len) }
+    {
+        let _ = clock;
+        let copy = self.copy(client, self.geometry.block_at(address));
+        let offset = self.geometry.offset(address);
+        copy.into_bytes().access_at(offset, len as u32).unwrap()
+    }
+
+    /// The stamp of the next access.
+    fn next_stamp(&self, clock: u64) -> u64
+        requires { clock_full self.now clock ≡ false }
+        ensures { result ≡ latest self.now clock + 1 }
+    {
+        self.clock.max(clock) + 1
+    }
+}

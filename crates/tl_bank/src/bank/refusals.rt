@@ -1,0 +1,394 @@
+//! Why the calls of clients are refused, and what these tests look at.
+ghost use Rattle.std.specs.Prelude.{◌≡◌, ◌<◌, ◌||◌};
+ghost use Rattle.tl_types.specs.declared.channel.Channel.{Channel};
+ghost use Rattle.tl_bank.specs.Head.{first_cap, first_granted};
+ghost use Rattle.tl_bank_spec.specs.Calls.{load_cases, store_cases, acquire_cases, release_cases, answer_probe_cases, take_grant_cases, take_release_ack_cases};
+ghost use Rattle.tl_bank_spec.specs.Cases.{no_client, no_block, bad_access, bad_share, elsewhere, waits, copies_full, link_full, clock_full, first_block, release_pending, is_a_grant, is_a_release_ack};
+ghost use Rattle.tl_bank_spec.specs.Refusal.{first_of};
+ghost use Rattle.tl_bank_spec.specs.View.{client_at, lane_at, perm_at, has_entry, entries_at, copies_at};
+
+use crate::bank::Bank;
+use crate::entry;
+use crate::share::Share;
+use tl_bank_spec::Refusal;
+use tl_protocol::CachedCopy;
+use tl_types::{BlockNo, Body, Channel, ClientId, Grow, Perm, ProbeCap, Prune, Ticket, Wait};
+
+/// How many bytes an access has at most.
+const MOST: usize = 8;
+
+/// How many messages may be on a channel.
+const PLACES: usize = 64;
+
+impl Bank {
+    /// A client's copy of a block.
+    pub(super) fn copy(&self, client: ClientId, block: BlockNo) -> CachedCopy
+        requires client { client < self.now.geometry.clients }
+        requires block { block < self.now.geometry.memory_blocks }
+        ensures { result ≡ (client_at self.now client block).held }
+    {
+        entry::copy_in(self.copies.of(client, block))
+    }
+
+    /// The answer about a block that a client waits for.
+    pub(super) fn wait(&self, client: ClientId, block: BlockNo) -> Wait
+        requires client { client < self.now.geometry.clients }
+        requires block { block < self.now.geometry.memory_blocks }
+        ensures { result ≡ (client_at self.now client block).wait }
+    {
+        entry::wait_in(self.copies.of(client, block))
+    }
+
+    /// What a client may do with a block.
+    pub(super) fn perm_of(&self, client: ClientId, block: BlockNo) -> Perm
+        requires client { client < self.now.geometry.clients }
+        requires block { block < self.now.geometry.memory_blocks }
+        ensures { result ≡ perm_at self.now client block }
+    {
+        entry::perm_in(self.copies.of(client, block))
+    }
+
+    /// How many copies a client has.
+    pub(super) fn count(&self, client: ClientId) -> u32
+        requires { client < self.now.geometry.clients }
+        ensures { result ≡ copies_at self.now client }
+    {
+        self.copies.count(client)
+    }
+
+    /// How many entries a client's table has.
+    fn entries(&self, client: ClientId) -> u32
+        requires { client < self.now.geometry.clients }
+        ensures { result ≡ entries_at self.now client }
+    {
+        self.copies.entries(client)
+    }
+
+    /// Whether an access is of a client that is not there, or of bytes that are not there.
+    fn is_bad_access(&self, client: ClientId, address: u32, len: usize) -> bool
+        ensures { result ≡ (no_client self.now client || bad_access self.now address len) }
+    {
+        client.number() >= self.geometry.clients()
+            || len == 0
+            || len > MOST
+            || !self.geometry.has_bytes(address, len)
+    }
+
+    /// Whether a block is of another bank.
+    fn is_elsewhere(&self, block: BlockNo) -> bool
+        requires { block < self.now.geometry.memory_blocks }
+        ensures { result ≡ elsewhere self.now block }
+    {
+        self.geometry.place(block).bank.number() != self.number.number()
+    }
+
+    /// Whether the clocks stand at their end.
+    fn is_clock_full(&self, clock: u64) -> bool
+        ensures { result ≡ clock_full self.now clock }
+    {
+        self.clock.max(clock) == u64::MAX
+    }
+
+    pub(super) fn load_refusal(
+        &self,
+        client: ClientId,
+        address: u32,
+        len: usize,
+        clock: u64,
+    ) -> Option<Refusal>
+        ensures { result ≡ first_of (load_cases self.now client address len clock) }
+    {
+        if self.is_bad_access(client, address, len) {
+            return Some(Refusal::OutOfRange);
+        }
+        let block = self.geometry.block_at(address);
+        if self.is_elsewhere(block) {
+            return Some(Refusal::WrongBank);
+        }
+        if self.perm_of(client, block) == Perm::None {
+            return Some(Refusal::NoPermission);
+        }
+        if self.is_clock_full(clock) {
+            return Some(Refusal::ClockFull);
+        }
+        None
+    }
+
+    pub(super) fn store_refusal(
+        &self,
+        client: ClientId,
+        address: u32,
+        len: usize,
+        clock: u64,
+    ) -> Option<Refusal>
+        ensures { result ≡ first_of (store_cases self.now client address len clock) }
+    {
+        if self.is_bad_access(client, address, len) {
+            return Some(Refusal::OutOfRange);
+        }
+        let block = self.geometry.block_at(address);
+        if self.is_elsewhere(block) {
+            return Some(Refusal::WrongBank);
+        }
+        if self.perm_of(client, block) != Perm::Tip {
+            return Some(Refusal::NoPermission);
+        }
+        if self.is_clock_full(clock) {
+            return Some(Refusal::ClockFull);
+        }
+        None
+    }
+
+    /// Whether a block is not of the memory, or its client is not there.
+    fn is_absent(&self, client: ClientId, block: BlockNo) -> bool
+        ensures { result ≡ (no_client self.now client || no_block self.now block) }
+    {
+        client.number() >= self.geometry.clients() || !self.geometry.has(block)
+    }
+
+    /// Whether an Acquire or a Release of a block is unanswered.
+    fn waits(&self, client: ClientId, block: BlockNo) -> bool
+        requires client { client < self.now.geometry.clients }
+        requires block { block < self.now.geometry.memory_blocks }
+        ensures { result ≡ waits self.now client block }
+    {
+        self.wait(client, block) != Wait::Nothing
+    }
+
+    /// Whether a client's table has an entry of a block.
+    fn has_entry(&self, client: ClientId, block: BlockNo) -> bool
+        requires client { client < self.now.geometry.clients }
+        requires block { block < self.now.geometry.memory_blocks }
+        ensures { result ≡ has_entry (client_at self.now client block) }
+    {
+        self.copies.of(client, block).is_some()
+    }
+
+    /// Whether a client's table is full and has no entry of a block.
+    fn is_full(&self, client: ClientId, block: BlockNo) -> bool
+        requires client { client < self.now.geometry.clients }
+        requires block { block < self.now.geometry.memory_blocks }
+        ensures { result ≡ copies_full self.now client block }
+    {
+        !self.has_entry(client, block) && self.entries(client) >= self.geometry.copies()
+    }
+
+    /// Whether 64 messages are on a channel.
+    fn is_link_full(&self, client: ClientId, channel: Channel) -> bool
+        requires { client < self.now.geometry.clients }
+        ensures { result ≡ link_full self.now client channel }
+    {
+        self.links.waiting(client, channel) >= PLACES
+    }
+
+    /// Whether a share is of another client, or of this bank with another count than the client's copies.
+    fn is_bad_share(&self, client: ClientId, share: &Share) -> bool
+        requires { client < self.now.geometry.clients }
+        ensures { result ≡ bad_share self.now client share.now }
+    {
+        share.client().number() != client.number()
+            || share.bank().number() == self.number.number() && share.count() != self.count(client)
+    }
+
+    pub(super) fn acquire_refusal(
+        &self,
+        client: ClientId,
+        block: BlockNo,
+        grow: Grow,
+    ) -> Option<Refusal>
+        ensures { result ≡ first_of (acquire_cases self.now client block grow) }
+    {
+        if self.is_absent(client, block) {
+            return Some(Refusal::OutOfRange);
+        }
+        if self.is_elsewhere(block) {
+            return Some(Refusal::WrongBank);
+        }
+        if self.waits(client, block) {
+            return Some(Refusal::Waiting);
+        }
+        if self.perm_of(client, block) != grow.from() {
+            return Some(Refusal::WrongFrom);
+        }
+        if self.is_full(client, block) {
+            return Some(Refusal::CopiesFull);
+        }
+        if self.is_link_full(client, Channel::A) {
+            return Some(Refusal::LinkFull);
+        }
+        None
+    }
+
+    pub(super) fn release_refusal(
+        &self,
+        client: ClientId,
+        block: BlockNo,
+        prune: Prune,
+        share: &Share,
+    ) -> Option<Refusal>
+        ensures { result ≡ first_of (release_cases self.now client block prune share.now) }
+    {
+        if self.is_absent(client, block) || self.is_bad_share(client, share) {
+            return Some(Refusal::OutOfRange);
+        }
+        if self.is_elsewhere(block) || share.bank().number() != self.number.number() {
+            return Some(Refusal::WrongBank);
+        }
+        if self.waits(client, block) {
+            return Some(Refusal::Waiting);
+        }
+        if self.perm_of(client, block) != prune.from() {
+            return Some(Refusal::WrongFrom);
+        }
+        if self.is_link_full(client, Channel::C) {
+            return Some(Refusal::LinkFull);
+        }
+        None
+    }
+
+    /// The block that the first message on a channel speaks of; block 0 where none waits.
+    pub(super) fn first_block(&self, client: ClientId, channel: Channel) -> BlockNo
+        requires { client < self.now.geometry.clients }
+        ensures value { result ≡ first_block (lane_at self.now client channel).messages }
+        ensures inside { result < self.now.geometry.memory_blocks }
+    {
+        match self.links.first(client, channel) {
+            Some(message) => message.block,
+            None => BlockNo::new(0),
+        }
+    }
+
+    /// What the first Probe on its way to a client leaves at most.
+    pub(super) fn first_cap(&self, client: ClientId) -> ProbeCap
+        requires { client < self.now.geometry.clients }
+        ensures { result ≡ first_cap (lane_at self.now client Channel.B).messages }
+    {
+        match self.links.first(client, Channel::B) {
+            Some(message) => entry::asked_by(&message.body),
+            None => ProbeCap::ToN,
+        }
+    }
+
+    /// The copy that the Grant which is first on its way to a client makes of the client's own.
+    pub(super) fn first_granted(&self, client: ClientId, own: CachedCopy) -> CachedCopy
+        requires { client < self.now.geometry.clients }
+        ensures { result ≡ first_granted (lane_at self.now client Channel.D).messages own }
+    {
+        match self.links.first(client, Channel::D) {
+            Some(message) => entry::granted_by(&message.body, own),
+            None => CachedCopy::Absent,
+        }
+    }
+
+    pub(super) fn answer_probe_refusal(&self, ticket: &Ticket, share: &Share) -> Option<Refusal>
+        ensures { result ≡ first_of (answer_probe_cases self.now ticket.now share.now) }
+    {
+        if ticket.client.number() >= self.geometry.clients()
+            || self.is_bad_share(ticket.client, share)
+        {
+            return Some(Refusal::OutOfRange);
+        }
+        if ticket.bank.number() != self.number.number()
+            || share.bank().number() != self.number.number()
+        {
+            return Some(Refusal::WrongBank);
+        }
+        if ticket.channel.index() != Channel::B.index() {
+            return Some(Refusal::NotHead);
+        }
+        if self.links.waiting(ticket.client, Channel::B) == 0 {
+            return Some(Refusal::NothingThere);
+        }
+        if ticket.serial != self.links.taken(ticket.client, Channel::B) {
+            return Some(Refusal::NotHead);
+        }
+        if self.is_release_pending(ticket.client) {
+            return Some(Refusal::ReleasePending);
+        }
+        if self.is_link_full(ticket.client, Channel::C) {
+            return Some(Refusal::LinkFull);
+        }
+        None
+    }
+
+    /// Whether the client of the first Probe on its way has a Release of its block unanswered.
+    fn is_release_pending(&self, client: ClientId) -> bool
+        requires { client < self.now.geometry.clients }
+        ensures { result ≡ release_pending self.now client (first_block (lane_at self.now client Channel.B).messages) }
+    {
+        self.wait(client, self.first_block(client, Channel::B)) == Wait::ForReleaseAck
+    }
+
+    pub(super) fn take_grant_refusal(&self, ticket: &Ticket, share: &Share) -> Option<Refusal>
+        ensures { result ≡ first_of (take_grant_cases self.now ticket.now share.now) }
+    {
+        if ticket.client.number() >= self.geometry.clients()
+            || self.is_bad_share(ticket.client, share)
+        {
+            return Some(Refusal::OutOfRange);
+        }
+        if ticket.bank.number() != self.number.number()
+            || share.bank().number() != self.number.number()
+        {
+            return Some(Refusal::WrongBank);
+        }
+        if ticket.channel.index() != Channel::D.index() {
+            return Some(Refusal::NotHead);
+        }
+        let Some(message) = self.links.first(ticket.client, Channel::D) else {
+            return Some(Refusal::NothingThere);
+        };
+        if ticket.serial != self.links.taken(ticket.client, Channel::D)
+            || !is_grant(&message.body)
+        {
+            return Some(Refusal::NotHead);
+        }
+        if self.is_link_full(ticket.client, Channel::E) {
+            return Some(Refusal::LinkFull);
+        }
+        None
+    }
+
+    pub(super) fn take_release_ack_refusal(&self, ticket: &Ticket) -> Option<Refusal>
+        ensures { result ≡ first_of (take_release_ack_cases self.now ticket.now) }
+    {
+        if ticket.client.number() >= self.geometry.clients() {
+            return Some(Refusal::OutOfRange);
+        }
+        if ticket.bank.number() != self.number.number() {
+            return Some(Refusal::WrongBank);
+        }
+        if ticket.channel.index() != Channel::D.index() {
+            return Some(Refusal::NotHead);
+        }
+        let Some(message) = self.links.first(ticket.client, Channel::D) else {
+            return Some(Refusal::NothingThere);
+        };
+        if ticket.serial != self.links.taken(ticket.client, Channel::D)
+            || !is_release_ack(&message.body)
+        {
+            return Some(Refusal::NotHead);
+        }
+        None
+    }
+}
+
+/// Whether a message is a ReleaseAck.
+fn is_release_ack(body: &Body) -> bool
+    ensures { result ≡ is_a_release_ack body.now }
+{
+    match body {
+        Body::Downward(message) => !message.is_grant(),
+        _ => false,
+    }
+}
+
+/// Whether a message is a Grant.
+fn is_grant(body: &Body) -> bool
+    ensures { result ≡ is_a_grant body.now }
+{
+    match body {
+        Body::Downward(message) => message.is_grant(),
+        _ => false,
+    }
+}

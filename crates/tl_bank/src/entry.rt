@@ -1,0 +1,129 @@
+//! The entries of the clients' tables, as copies of the protocol.
+ghost use Rattle.std.specs.Prelude.{◌≡◌, ◌≤◌, ℕ, length, if◌then◌else◌};
+ghost use Rattle.std.specs.Option.{option_copied};
+ghost use Rattle.tl_bank.specs.Entry.{HasPlace, entry_with, held_as, copy_in, wait_in, perm_in};
+ghost use Rattle.tl_bank.specs.Head.{asked_by, granted_by};
+ghost use Rattle.tl_bank_spec.specs.View.{has_entry_for};
+ghost use Rattle.tl_copies.specs.Copies.{held_at, is_cell, SameSize};
+
+use tl_copies::{Copies, Held};
+use tl_protocol::CachedCopy;
+use tl_types::{AccessBytes, BlockNo, Body, ClientId, Downward, Perm, ProbeCap, Wait};
+
+/// The copy that an entry keeps.
+pub(crate) fn copy_in(held: Option<&Held>) -> CachedCopy
+    ensures { result ≡ copy_in (option_copied held.entry) }
+{
+    let Some(held) = held else {
+        return CachedCopy::Absent;
+    };
+    match held.perm {
+        Perm::None => CachedCopy::Absent,
+        Perm::Branch => CachedCopy::Readable(held.bytes.copied()),
+        Perm::Tip => CachedCopy::Writable(held.bytes.copied(), held.dirty),
+    }
+}
+
+/// The answer that the client waits for.
+pub(crate) fn wait_in(held: Option<&Held>) -> Wait
+    ensures { result ≡ wait_in (option_copied held.entry) }
+{
+    match held {
+        Some(held) => held.wait,
+        None => Wait::Nothing,
+    }
+}
+
+/// What the client may do with the block.
+pub(crate) fn perm_in(held: Option<&Held>) -> Perm
+    ensures { result ≡ perm_in (option_copied held.entry) }
+{
+    match held {
+        Some(held) => held.perm,
+        None => Perm::None,
+    }
+}
+
+/// A copy as a table keeps it.
+fn held_as(copy: CachedCopy, wait: Wait) -> Held
+    ensures { result ≡ held_as copy wait }
+{
+    let perm = copy.perm();
+    let dirty = match &copy {
+        CachedCopy::Writable(_, dirty) => *dirty,
+        _ => false,
+    };
+    Held {
+        perm,
+        dirty,
+        bytes: copy.into_bytes(),
+        wait,
+    }
+}
+
+/// What a Probe leaves at most.
+pub(crate) fn asked_by(body: &Body) -> ProbeCap
+    ensures { result ≡ asked_by body.now }
+{
+    match body {
+        Body::ProbeBlock(cap) => *cap,
+        _ => ProbeCap::ToN,
+    }
+}
+
+/// The copy that a Grant makes of a client's own.
+pub(crate) fn granted_by(body: &Body, own: CachedCopy) -> CachedCopy
+    ensures { result ≡ granted_by body.now own }
+{
+    match body {
+        Body::Downward(Downward::Grant(cap, Some(bytes))) => CachedCopy::clean(
+            cap.perm(),
+            bytes.copied(),
+        ),
+        Body::Downward(Downward::Grant(cap, None)) => CachedCopy::clean(
+            cap.perm(),
+            own.into_bytes(),
+        ),
+        _ => CachedCopy::Absent,
+    }
+}
+
+/// The bytes of an access, which are at most eight.
+pub(crate) fn access_of(bytes: &[u8]) -> AccessBytes
+    requires { length bytes.now ≤ 8 }
+    ensures { result ≡ bytes.now }
+{
+    AccessBytes::from_slice(bytes).unwrap()
+}
+
+/// Whether a table has an entry for such a copy.
+fn has_entry_for(copy: &CachedCopy, wait: Wait) -> bool
+    ensures { result ≡ has_entry_for copy.now wait }
+{
+    match copy {
+        CachedCopy::Absent => wait != Wait::Nothing,
+        _ => true,
+    }
+}
+
+/// Puts a client's copy of a block, with the answer that it waits for, into its table, where there is room for its entry.
+pub(crate) fn put(
+    copies: &mut Copies,
+    client: ClientId,
+    block: BlockNo,
+    copy: CachedCopy,
+    wait: Wait,
+)
+    requires { HasPlace copies.old client block copy wait }
+    ensures same { SameSize copies.old copies.new }
+    ensures after { (x y : ℕ)
+        → held_at copies.new x y ≡ (if is_cell client block x y then entry_with copy wait else held_at copies.old x y) }
+{
+    if has_entry_for(&copy, wait) {
+        let Ok(()) = copies.keep(client, block, held_as(copy, wait)) else {
+            unreachable!()
+        };
+    } else {
+        copies.clear(client, block);
+    }
+}
