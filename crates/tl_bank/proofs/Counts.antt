@@ -2,7 +2,7 @@
 use Rattle.std.proofs.Common.{◌≡◌, ◌≢◌, ℕ, zero, suc, ◌+◌, ◌^◌, ◌<◌, ◌≤◌, ◌==◌, ◌&&◌, not, Bool, true, false, cond, if◌then◌else◌, [], ◌∷◌, ◌++◌, refl, sym, ◌∙◌, ap, arith, eq-eqb}
 use Rattle.std.proofs.lemmas.Bool.Decides.{nat_tests}
 use Rattle.tl_types.specs.Count.{count_below}
-use Rattle.tl_types.proofs.Counts.{count_below-one_more}
+use Rattle.tl_types.proofs.Counts.{count_below-change}
 use Rattle.tl_types.specs.declared.permission.Perm.{Perm}
 use Rattle.tl_types.specs.declared.permission.Perm.TheVariants.{None as p_None, Branch, Tip}
 use Rattle.tl_map.specs.Numbers.{IsLawful}
@@ -15,18 +15,6 @@ use Rattle.tl_lanes.proofs.Cells.{client-append}
 use Rattle.tl_bank_spec.specs.Share.{recount}
 use Rattle.tl_bank_spec.specs.View.{View, shape_of, client_at, copies_at, perm_at}
 use Rattle.tl_bank.proofs.Keep.{ClientStep}
-
--- counts of tests that differ at one number alone
-count-change : (p q : ℕ → Bool) (n at : ℕ) → at < n → ((k : ℕ) → k ≢ at → p k ≡ q k)
-    → count_below p n + (if q at then 1 else 0) ≡ count_below q n + (if p at then 1 else 0)
-count-change p q n at l same =
-    let r : ℕ → Bool = λ k. if k == at then false else p k in
-    let gone : r at ≡ false = rw (eq-eqb at at refl) refl in
-    let other : (k : ℕ) → k ≢ at → p k ≡ r k = λ k ne. let no : (k == at) ≡ false = grind (arith, nat_tests) in rw no refl in
-    let before : count_below p n ≡ count_below r n + (if p at then 1 else 0) = count_below-one_more p r n at l gone other in
-    let later : count_below q n ≡ count_below r n + (if q at then 1 else 0) =
-    count_below-one_more q r n at l gone (λ k ne. sym (same k ne) ∙ other k ne) in
-    omega arith
 
 recount-is : (before later : Perm) (n m : ℕ)
     → n + (if not (is_none later) then 1 else 0) ≡ m + (if not (is_none before) then 1 else 0) → m ≡ recount before later n
@@ -79,7 +67,7 @@ step-count v e c k room step =
     ∙ at-other (c == c) (b == block) k (client_at v c b) no)) in
     let change : count_below p v.geometry.memory_blocks + (if q block then 1 else 0)
     ≡ count_below q v.geometry.memory_blocks + (if p block then 1 else 0) =
-    count-change p q v.geometry.memory_blocks block step.may.0 same in
+    count_below-change p q v.geometry.memory_blocks block step.may.0 same in
     recount-is (perm_at v c block) (perm_of k.held) (count_below p v.geometry.memory_blocks) (count_below q v.geometry.memory_blocks)
     (rw here at change)
 
@@ -92,7 +80,7 @@ counts-one v c b l some =
     let gone : q b ≡ false = rw (eq-eqb b b refl) refl in
     let change : count_below p v.geometry.memory_blocks + (if q b then 1 else 0)
     ≡ count_below q v.geometry.memory_blocks + (if p b then 1 else 0) =
-    count-change p q v.geometry.memory_blocks b l
+    count_below-change p q v.geometry.memory_blocks b l
     (λ y other. let no : (y == b) ≡ false = grind (arith, nat_tests) in rw no refl) in
     let one : count_below p v.geometry.memory_blocks + 0 ≡ count_below q v.geometry.memory_blocks + 1 = rw (gone, at) at change in
     omega arith
