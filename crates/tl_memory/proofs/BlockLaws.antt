@@ -1,24 +1,31 @@
 -- The blocks of a memory after it is made, and after one is written.
 use Rattle.std.proofs.Common.{◌≡◌, ◌⊎◌, ℕ, zero, suc, ◌+◌, ◌*◌, ◌/◌, ◌%◌, ◌<◌, ◌≤◌, ◌==◌, true, false, List, [], ◌∷◌, ◌++◌, length, take, drop, get_or, replicate, if◌then◌else◌, refl, sym, ◌∙◌, ap, arith, add-one, eq-eqb, inl, inr, length-append, length-take, length-drop, ◌-◌, ◌^◌, subst}
 use Rattle.std.specs.Fork.{slice_chunk}
-use Rattle.std.specs.Prelude.{IsTrue}
 use Rattle.std.proofs.lemmas.Bool.{cases_order}
 use Rattle.std.proofs.lemmas.Bool.Decides.{nat_tests}
 use Rattle.std.proofs.lemmas.List.{take_at, take_all, length-replicate, drop-take}
 use Rattle.std.proofs.lemmas.Slice.{take-put_mid_below, drop-put_mid, between-put_mid}
-use Rattle.std.proofs.Math.Nat.{mul-le-mul_right, mul-mod_left, mul-div_cancel}
+use Rattle.std.proofs.Math.Nat.{mul-le-mul_right, mul-mod_left, mul-div_cancel, pow-suc}
 use Rattle.std.proofs.Math.Pow.{pow-lt}
 use Rattle.std.proofs.Math.Seq.{drop-cons}
 use borrow.Rule.Slice.PartMut.{put_mid}
 use Rattle.tl_types.specs.Bytes.{image_bytes}
-use Rattle.tl_map.specs.Limits.{is_value, block_sizes}
-use Rattle.tl_map.specs.Numbers.{Numbers}
+use Rattle.tl_map.specs.Numbers.{Numbers, IsPowerBetween}
 use Rattle.tl_map.specs.Places.{block_at}
 use Rattle.tl_memory.specs.Blocks.{Contents, block_in, IsAddress}
 
 -- whole beats make a block, and a block has a byte
-pub whole_beats : (n : ℕ) → IsTrue (is_value block_sizes n) → (n % 8 ≡ 0) × (0 < n)
-whole_beats n h = (grind (arith, nat_tests), grind (arith, nat_tests))
+pub whole_beats : (n : ℕ) → IsPowerBetween 8 64 n → (n % 8 ≡ 0) × (0 < n)
+whole_beats n h = by_exponent h.exponent n h.power h.least
+  where
+    by_exponent : (k n : ℕ) → n ≡ 2 ^ k → 8 ≤ n → (n % 8 ≡ 0) × (0 < n)
+    by_exponent zero n is least = absurd (omega arith)
+    by_exponent (suc zero) n is least = absurd (omega arith)
+    by_exponent (suc (suc zero)) n is least = absurd (omega arith)
+    by_exponent (suc (suc (suc k))) n is least =
+        let eight : 2 ^ (suc (suc (suc k))) ≡ 2 ^ k * 2 * 2 * 2 =
+        pow-suc 2 (suc (suc k)) ∙ ap (λ x. x * 2) (pow-suc 2 (suc k)) ∙ ap (λ x. x * 2 * 2) (pow-suc 2 k) in
+        (omega (arith, is, eight), omega arith)
 
 -- a size has one logarithm
 pub logarithm_is : (a b n : ℕ) → 2 ^ a ≡ n → 2 ^ b ≡ n → a ≡ b

@@ -1,0 +1,5 @@
+pub mod LowestLaws
+pub mod DirectoryLaws
+pub mod MoveLaws
+pub mod CrossingLaws
+pub mod BackingLaws
