@@ -15,7 +15,7 @@ use Rattle.tl_links.specs.Table.{lane_in}
 use Rattle.tl_copies.specs.Copies.{held_at, clients_of}
 use Rattle.tl_map.specs.Numbers.{Numbers, IsLawful}
 use Rattle.tl_bank_spec.specs.View.{IsOwn, shape_of}
-use Rattle.tl_bank.specs.Home.{line_in, recorded_in, outward_in, memory_in}
+use Rattle.tl_home.specs.Homes.{bank_in, geometry_in, line_in, recorded_in, outward_in, memory_in}
 use Rattle.tl_bank.specs.Layers.{Layers}
 use Rattle.tl_bank.specs.Means.{Means}
 
@@ -26,9 +26,9 @@ pub means-fresh : (g : Numbers) (number : ℕ) (image : List ℕ) (room : ℕ) (
     → ((b : ℕ) → line_in h.home b ≡ None) → ((c b : ℕ) → recorded_in h.home c b ≡ p_None) → ((b : ℕ) → outward_in h.home b ≡ Quiet)
     → ((b : ℕ) → b < g.memory_blocks → memory_in h.home b ≡ image_bytes image (b * g.block_bytes) g.block_bytes)
     → h.clock ≡ 0 → h.links.bank ≡ number → h.links.clients ≡ g.clients → clients_of h.copies ≡ g.clients
-    → h.copies.blocks ≡ g.memory_blocks → h.copies.limit ≡ g.copies → h.limit ≡ g.registers
+    → h.copies.blocks ≡ g.memory_blocks → h.copies.limit ≡ g.copies → geometry_in h.home ≡ g → bank_in h.home ≡ number → h.limit ≡ g.registers
     → Means (record { geometry = g; number = number; image = image; log = []; room = room; registers = [] }) h
-means-fresh g number image room h lawful lanes copies line recorded outward memory clock lb lc cc' cb cl limit =
+means-fresh g number image room h lawful lanes copies line recorded outward memory clock lb lc cc' cb cl hg hn limit =
     let empty = empty_is_lawful (shape_of g) image in
     record {
       lawful = empty.0;
@@ -46,5 +46,7 @@ means-fresh g number image room h lawful lanes copies line recorded outward memo
       copies_clients = cc';
       copies_blocks = cb;
       copies_limit = cl;
+      home_geometry = hg;
+      home_bank = hn;
       limit = limit;
     }

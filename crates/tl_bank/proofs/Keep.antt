@@ -22,7 +22,7 @@ use Rattle.tl_copies.specs.Copies.{held_at, is_cell, SameSize as SameCopies}
 use Rattle.tl_copies.specs.declared.held.Held.{Held}
 use Rattle.tl_bank_spec.specs.View.{View, IsOwn, IsLater, StampsRiseFrom, shape_of, block_at, client_at, stamped, clock_from, clock_of}
 use Rattle.tl_bank.specs.Entry.{entry_of}
-use Rattle.tl_bank.specs.Home.{HomeState}
+use Rattle.tl_home.specs.Homes.{bank_in, geometry_in, HomeState}
 use Rattle.tl_bank.specs.Layers.{Layers}
 use Rattle.tl_bank.specs.Means.{Means, IsHome}
 
@@ -154,5 +154,7 @@ means-step v old new e c k room m step follow =
       copies_clients = follow.copies_size.clients ∙ m.copies_clients;
       copies_blocks = follow.copies_size.blocks ∙ m.copies_blocks;
       copies_limit = follow.copies_size.limit ∙ m.copies_limit;
+      home_geometry = ap geometry_in follow.home ∙ m.home_geometry;
+      home_bank = ap bank_in follow.home ∙ m.home_bank;
       limit = follow.limit ∙ m.limit;
     }

@@ -2,7 +2,7 @@
 use Rattle.std.specs.Prelude.{ℕ}
 use Rattle.tl_links.specs.Table.{Table}
 use Rattle.tl_copies.specs.Copies.{Tables}
-use Rattle.tl_bank.specs.Home.{HomeState}
+use Rattle.tl_home.specs.Homes.{HomeState}
 
 pub record Layers : Type 0 where
   pub links : Table

@@ -1,6 +1,5 @@
 pub mod Entry
 pub mod Head
-pub mod Home
 pub mod Layers
 pub mod Link
 pub mod Means

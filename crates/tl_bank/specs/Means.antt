@@ -14,7 +14,7 @@ use Rattle.tl_registers.specs.declared.register.Task.TheVariants.{Acquire, Repla
 use Rattle.tl_registers.specs.Registers.{register_of}
 use Rattle.tl_bank_spec.specs.View.{View, IsOwn, StampsRise, shape_of, block_at, client_at, lane_at, clock_of}
 use Rattle.tl_bank.specs.Entry.{entry_of}
-use Rattle.tl_bank.specs.Home.{HomeState, line_in, recorded_in, outward_in, memory_in}
+use Rattle.tl_home.specs.Homes.{HomeState, bank_in, geometry_in, line_in, recorded_in, outward_in, memory_in}
 use Rattle.tl_bank.specs.Layers.{Layers}
 
 -- ## The Acquire that home serves
@@ -61,4 +61,6 @@ pub record Means (v : View) (layers : Layers) : Type 0 where
   pub copies_clients : clients_of layers.copies ≡ v.geometry.clients
   pub copies_blocks : layers.copies.blocks ≡ v.geometry.memory_blocks
   pub copies_limit : layers.copies.limit ≡ v.geometry.copies
+  pub home_geometry : geometry_in layers.home ≡ v.geometry
+  pub home_bank : bank_in layers.home ≡ v.number
   pub limit : layers.limit ≡ v.geometry.registers

@@ -8,13 +8,13 @@ ghost use Rattle.tl_bank_spec.specs.Cases.{no_client, no_block};
 ghost use Rattle.tl_bank_spec.specs.Share.{first_shares};
 ghost use Rattle.tl_bank_spec.specs.View.{IsOwn, StampsRise, shape_of, perm_at, copies_at};
 
-use crate::home::Home;
 use crate::share::Share;
 use arrayvec::ArrayVec;
 use std::alloc::{AllocError, Global};
 use std::marker::Model;
 use tl_bank_spec::Refusal;
 use tl_copies::Copies;
+use tl_home::Home;
 use tl_links::Links;
 use tl_map::Geometry;
 use tl_protocol::Event;

@@ -3,7 +3,6 @@
 
 mod bank;
 mod entry;
-mod home;
 mod link;
 mod share;
 

@@ -17,4 +17,4 @@ invariant_of-bank c =
     c.in_ok-new-2.ensures.empty c.in_ok-new-3.ensures.lines c.in_ok-new-3.ensures.recorded c.in_ok-new-3.ensures.outward
     c.in_ok-new-3.ensures.memory refl c.in_ok-new.ensures.bank (c.in_ok-new.ensures.clients ∙ c.clients.ensures.is)
     c.in_ok-new-2.ensures.clients c.in_ok-new-2.ensures.blocks c.in_ok-new-2.ensures.limit
-    c.registers.ensures.is)
+    c.in_ok-new-3.ensures.geometry c.in_ok-new-3.ensures.bank c.registers.ensures.is)
