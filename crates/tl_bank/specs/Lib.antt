@@ -1,6 +1,1 @@
-pub mod Entry
-pub mod Head
-pub mod Layers
-pub mod Link
-pub mod Means
 pub mod Shown

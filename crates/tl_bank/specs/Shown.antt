@@ -1,7 +1,8 @@
 -- A bank's fields as contracts see them, and its layers.
+use Rattle.tl_home.specs.Homes.{way_in}
 use Rattle.tl_bank_spec.specs.View.{View}
 use Rattle.tl_bank.specs.declared.bank.Bank.TheInside.{Inside}
-use Rattle.tl_bank.specs.Layers.{Layers}
+use Rattle.tl_bank_laws.specs.Layers.{Layers}
 
 abbrev pub shown : Inside → View
 shown b = record {
@@ -11,6 +12,7 @@ shown b = record {
   log = b.log.events;
   room = b.log.room;
   registers = b.registers.open_registers;
+  ways = way_in b.home;
 }
 
 abbrev pub layers : Inside → Layers

@@ -48,7 +48,7 @@ impl Model for Bank {
 
     ghost Value = { View };
 
-    ghost use Rattle.tl_bank.specs.Means.{Means};
+    ghost use Rattle.tl_bank_laws.specs.Means.{Means};
     ghost use Rattle.tl_bank.specs.Shown.{shown, layers};
 
     ghost view = { shown };
@@ -69,7 +69,16 @@ impl Bank {
         requires image { length image.now ≤ geometry.memory_blocks * geometry.block_bytes }
         ensures bank { IfOk result
             (λ made. made.0
-            ≡ record { geometry = geometry; number = number; image = image.now; log = []; room = made.0.room; registers = [] }) }
+            ≡ record {
+              geometry = geometry;
+              number = number;
+              image = image.now;
+              log = [];
+              room = made.0.room;
+              registers = [];
+              ways = made.0.ways;
+            }) }
+        ensures empty { IfOk result (λ made. (block : ℕ) → made.0.ways block ≡ None) }
         ensures shares { IfOk result (λ made. made.1.items ≡ first_shares number geometry.clients) }
     {
         let bank = Bank {

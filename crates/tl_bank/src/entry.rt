@@ -1,8 +1,8 @@
 //! The entries of the clients' tables, as copies of the protocol.
 ghost use Rattle.std.specs.Prelude.{◌≡◌, ◌≤◌, ℕ, length, if◌then◌else◌};
 ghost use Rattle.std.specs.Option.{option_copied};
-ghost use Rattle.tl_bank.specs.Entry.{HasPlace, entry_with, held_as, copy_in, wait_in, perm_in};
-ghost use Rattle.tl_bank.specs.Head.{asked_by, granted_by};
+ghost use Rattle.tl_bank_laws.specs.Entry.{HasPlace, entry_with, held_as, copy_in, wait_in, perm_in};
+ghost use Rattle.tl_bank_laws.specs.Head.{asked_by, granted_by};
 ghost use Rattle.tl_bank_spec.specs.View.{has_entry_for};
 ghost use Rattle.tl_copies.specs.Copies.{held_at, is_cell, SameSize};
 

@@ -3,7 +3,7 @@ ghost use Rattle.std.specs.Prelude.{◌≡◌, ℕ, if◌then◌else◌};
 ghost use Rattle.tl_types.specs.Lane.{sent, is_here, with_message, without_first};
 ghost use Rattle.tl_types.specs.declared.channel.Channel.{Channel};
 ghost use Rattle.tl_links.specs.Table.{lane_in, SameSize};
-ghost use Rattle.tl_bank.specs.Link.{HasRoom, IsHead};
+ghost use Rattle.tl_bank_laws.specs.Link.{HasRoom, IsHead};
 
 use tl_links::Links;
 use tl_types::{Channel, ClientId, Message, Ticket};

@@ -1,5 +1,9 @@
 pub mod Calls
 pub mod Cases
+pub mod Effects
+pub mod HomeCalls
+pub mod HomeCases
 pub mod Refusal
 pub mod Share
 pub mod View
+pub mod Ways

@@ -1,6 +1,6 @@
 -- A bank as its callers see it: what it was made of, the log of what happened since, and its open registers. All that a bank
 -- holds follows from these (this project's own).
-use Rattle.std.specs.Prelude.{◌≡◌, ℕ, ◌+◌, ◌<◌, ◌≤◌, max, Bool, true, false, List, [], ◌∷◌, ◌++◌}
+use Rattle.std.specs.Prelude.{◌≡◌, ℕ, ◌+◌, ◌<◌, ◌≤◌, max, Bool, true, false, List, [], ◌∷◌, ◌++◌, Option}
 use Rattle.tl_types.specs.Count.{count_below}
 use Rattle.tl_types.specs.Lane.{Lane, sent}
 use Rattle.tl_types.specs.declared.channel.Channel.{Channel}
@@ -32,6 +32,8 @@ pub record View : Type 0 where
   pub room : ℕ
   -- the open registers, oldest first
   pub registers : List Register
+  -- in which way of its set each block lies, where home holds it
+  pub ways : ℕ → Option ℕ
 
 -- a block of the memory, of a bank
 abbrev pub IsOwn : Numbers → ℕ → ℕ → Type 0
@@ -126,9 +128,4 @@ latest v clock = max (clock_of v.log) clock
 -- One event at the log's end, and at most one from the room; nothing else changed.
 pub record Appends (old new : View) (event : Event) : Type 0 where
   pub is : new ≡ record old { log = old.log ++ event ∷ []; room = new.room }
-  pub room : old.room ≤ new.room + 1
-
--- The same, with other registers.
-pub record AppendsWith (old new : View) (event : Event) (registers : List Register) : Type 0 where
-  pub is : new ≡ record old { log = old.log ++ event ∷ []; room = new.room; registers = registers }
   pub room : old.room ≤ new.room + 1

@@ -3,8 +3,10 @@
 
 mod action;
 mod refusal;
+mod reply;
 mod when;
 
 pub use action::Action;
 pub use refusal::Refusal;
+pub use reply::Reply;
 pub use when::{Loaded, When};

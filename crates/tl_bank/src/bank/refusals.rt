@@ -1,7 +1,7 @@
 //! Why the calls of clients are refused, and what these tests look at.
 ghost use Rattle.std.specs.Prelude.{◌≡◌, ◌<◌, ◌||◌};
 ghost use Rattle.tl_types.specs.declared.channel.Channel.{Channel};
-ghost use Rattle.tl_bank.specs.Head.{first_cap, first_granted};
+ghost use Rattle.tl_bank_laws.specs.Head.{first_cap, first_granted};
 ghost use Rattle.tl_bank_spec.specs.Calls.{load_cases, store_cases, acquire_cases, release_cases, answer_probe_cases, take_grant_cases, take_release_ack_cases};
 ghost use Rattle.tl_bank_spec.specs.Cases.{no_client, no_block, bad_access, bad_share, elsewhere, waits, copies_full, link_full, clock_full, first_block, release_pending, is_a_grant, is_a_release_ack};
 ghost use Rattle.tl_bank_spec.specs.Refusal.{first_of};

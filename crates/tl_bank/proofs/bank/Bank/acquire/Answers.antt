@@ -1,7 +1,7 @@
 use Rattle.std.proofs.Common.{◌∙◌, sym, subst}
 use Rattle.tl_bank_spec.specs.View.{View}
 use Rattle.tl_bank.specs.Shown.{shown, layers}
-use Rattle.tl_bank.proofs.Acquires.{Asks, acquire-keeps, acquire-place}
+use Rattle.tl_bank_laws.proofs.Acquires.{Asks, acquire-keeps, acquire-place}
 use Rattle.tl_bank.proofs.bank.Bank.acquire.Goals as goal
 
 pub put-requires : goal.put-requires

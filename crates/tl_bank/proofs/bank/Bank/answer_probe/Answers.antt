@@ -3,7 +3,7 @@ use Rattle.tl_protocol.specs.Copy.{perm_of}
 use Rattle.tl_bank_spec.specs.Share.{Holding, recount, recounted}
 use Rattle.tl_bank_spec.specs.View.{View, perm_at}
 use Rattle.tl_bank.specs.Shown.{shown, layers}
-use Rattle.tl_bank.proofs.Probes.{Answers, probe-count, probe-enough, probe-head, probe-keeps, probe-later, probe-place, probe-room}
+use Rattle.tl_bank_laws.proofs.Probes.{Answers, probe-count, probe-enough, probe-head, probe-keeps, probe-later, probe-place, probe-room}
 use Rattle.tl_bank.proofs.bank.Bank.answer_probe.Goals as goal
 
 pub discard-requires : goal.discard-requires

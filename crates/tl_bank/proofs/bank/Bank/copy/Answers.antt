@@ -1,8 +1,8 @@
 use Rattle.std.proofs.Common.{◌≡◌, ◌<◌, ◌∙◌, ap, subst}
 use Rattle.tl_bank_spec.specs.View.{View, client_at}
-use Rattle.tl_bank.specs.Entry.{copy_in}
+use Rattle.tl_bank_laws.specs.Entry.{copy_in}
 use Rattle.tl_bank.specs.Shown.{shown, layers}
-use Rattle.tl_bank.proofs.Entries.{copy-is}
+use Rattle.tl_bank_laws.proofs.Entries.{copy-is}
 use Rattle.tl_bank.proofs.bank.Bank.copy.Goals as goal
 
 pub returns : goal.returns

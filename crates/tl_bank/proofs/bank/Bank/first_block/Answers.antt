@@ -1,8 +1,8 @@
 use Rattle.std.proofs.Common.{subst}
 use Rattle.tl_bank_spec.specs.View.{View}
-use Rattle.tl_bank.specs.Means.{Means}
+use Rattle.tl_bank_laws.specs.Means.{Means}
 use Rattle.tl_bank.specs.Shown.{layers}
-use Rattle.tl_bank.proofs.Heads.{first-inside}
+use Rattle.tl_bank_laws.proofs.Heads.{first-inside}
 use Rattle.tl_bank.proofs.bank.Bank.first_block.Goals as goal
 
 pub returns-in-Some-clause-inside : goal.returns-in-Some-clause-inside

@@ -1,7 +1,7 @@
 use Rattle.std.proofs.Common.{◌∙◌, sym, subst}
 use Rattle.tl_bank_spec.specs.View.{View}
 use Rattle.tl_bank.specs.Shown.{shown, layers}
-use Rattle.tl_bank.proofs.Loads.{Reads, load-keeps}
+use Rattle.tl_bank_laws.proofs.Loads.{Reads, load-keeps}
 use Rattle.tl_bank.proofs.bank.Bank.load.Goals as goal
 
 pub invariant_of-self : goal.invariant_of-self

@@ -1,6 +1,6 @@
 use Rattle.std.proofs.Common.{◌∙◌, refl}
-use Rattle.tl_bank.specs.Layers.{Layers}
-use Rattle.tl_bank.proofs.Fresh.{means-fresh}
+use Rattle.tl_bank_laws.specs.Layers.{Layers}
+use Rattle.tl_bank_laws.proofs.Fresh.{means-fresh}
 use Rattle.tl_bank.proofs.bank.Bank.new.Goals as goal
 
 pub invariant_of-bank : goal.invariant_of-bank

@@ -1,8 +1,8 @@
 use Rattle.std.proofs.Common.{◌≡◌, ◌<◌, ◌∙◌, ap, subst}
 use Rattle.tl_bank_spec.specs.View.{View, perm_at}
-use Rattle.tl_bank.specs.Entry.{perm_in}
+use Rattle.tl_bank_laws.specs.Entry.{perm_in}
 use Rattle.tl_bank.specs.Shown.{shown, layers}
-use Rattle.tl_bank.proofs.Entries.{perm-is}
+use Rattle.tl_bank_laws.proofs.Entries.{perm-is}
 use Rattle.tl_bank.proofs.bank.Bank.perm_of.Goals as goal
 
 pub returns : goal.returns

@@ -1,8 +1,8 @@
 use Rattle.std.proofs.Common.{◌≡◌, ap, subst}
 use Rattle.tl_bank_spec.specs.View.{View}
-use Rattle.tl_bank.specs.Means.{Means}
+use Rattle.tl_bank_laws.specs.Means.{Means}
 use Rattle.tl_bank.specs.Shown.{layers}
-use Rattle.tl_bank.proofs.Loads.{load-fits}
+use Rattle.tl_bank_laws.proofs.Loads.{load-fits}
 use Rattle.tl_bank.proofs.bank.Bank.read.Goals as goal
 
 pub unwrap-requires : goal.unwrap-requires

@@ -5,7 +5,7 @@ use Rattle.tl_protocol.specs.Protocol.{is_none}
 use Rattle.tl_bank_spec.specs.Share.{Holding, recount, recounted}
 use Rattle.tl_bank_spec.specs.View.{View, perm_at}
 use Rattle.tl_bank.specs.Shown.{shown, layers}
-use Rattle.tl_bank.proofs.Releases.{GivesUp, release-keeps, release-count, release-counted, release-later}
+use Rattle.tl_bank_laws.proofs.Releases.{GivesUp, release-keeps, release-count, release-counted, release-later}
 use Rattle.tl_bank.proofs.bank.Bank.release.Goals as goal
 
 pub recount-requires-clause-counted : goal.recount-requires-clause-counted

@@ -1,7 +1,7 @@
 use Rattle.std.proofs.Common.{◌/◌, ◌∙◌, sym, subst, ap}
 use Rattle.tl_bank_spec.specs.View.{View}
 use Rattle.tl_bank.specs.Shown.{shown, layers}
-use Rattle.tl_bank.proofs.Stores.{Writes, store-keeps}
+use Rattle.tl_bank_laws.proofs.Stores.{Writes, store-keeps}
 use Rattle.tl_bank.proofs.bank.Bank.store.Goals as goal
 
 pub invariant_of-self : goal.invariant_of-self

@@ -1,6 +1,6 @@
 use Rattle.std.proofs.Common.{◌≡◌, ◌+◌, ◌%◌, ◌≤◌, length, ap, arith}
 use Rattle.tl_bank_spec.specs.View.{View}
-use Rattle.tl_bank.proofs.Allowed.{store-allowed}
+use Rattle.tl_bank_laws.proofs.Allowed.{store-allowed}
 use Rattle.tl_bank.proofs.bank.Bank.stored.Goals as goal
 
 pub store-requires : goal.store-requires

@@ -3,7 +3,7 @@ use Rattle.tl_protocol.specs.Copy.{perm_of}
 use Rattle.tl_bank_spec.specs.Share.{Holding, recount, recounted}
 use Rattle.tl_bank_spec.specs.View.{View, perm_at}
 use Rattle.tl_bank.specs.Shown.{shown, layers}
-use Rattle.tl_bank.proofs.Grants.{Takes, grant-count, grant-enough, grant-keeps, grant-later, grant-place}
+use Rattle.tl_bank_laws.proofs.Grants.{Takes, grant-count, grant-enough, grant-keeps, grant-later, grant-place}
 use Rattle.tl_bank.proofs.bank.Bank.take_grant.Goals as goal
 
 pub put-requires : goal.put-requires

@@ -1,7 +1,7 @@
 use Rattle.std.proofs.Common.{◌∙◌, sym, subst}
 use Rattle.tl_bank_spec.specs.View.{View}
 use Rattle.tl_bank.specs.Shown.{shown, layers}
-use Rattle.tl_bank.proofs.ReleaseAcks.{Acks, ack-keeps, ack-place}
+use Rattle.tl_bank_laws.proofs.ReleaseAcks.{Acks, ack-keeps, ack-place}
 use Rattle.tl_bank.proofs.bank.Bank.take_release_ack.Goals as goal
 
 pub invariant_of-self : goal.invariant_of-self

@@ -1,8 +1,8 @@
 use Rattle.std.proofs.Common.{◌≡◌, ◌<◌, ◌∙◌, ap, subst}
 use Rattle.tl_bank_spec.specs.View.{View, client_at}
-use Rattle.tl_bank.specs.Entry.{wait_in}
+use Rattle.tl_bank_laws.specs.Entry.{wait_in}
 use Rattle.tl_bank.specs.Shown.{shown, layers}
-use Rattle.tl_bank.proofs.Entries.{wait-is}
+use Rattle.tl_bank_laws.proofs.Entries.{wait-is}
 use Rattle.tl_bank.proofs.bank.Bank.wait.Goals as goal
 
 pub returns : goal.returns

@@ -26,14 +26,14 @@ use Rattle.tl_bank_spec.specs.Calls.{release_cases}
 use Rattle.tl_bank_spec.specs.Refusal.{first_of}
 use Rattle.tl_bank_spec.specs.Share.{Holding, recount}
 use Rattle.tl_bank_spec.specs.View.{View, client_at, copies_at, perm_at}
-use Rattle.tl_bank.specs.Entry.{HasPlace, entry_with}
-use Rattle.tl_bank.specs.Layers.{Layers}
-use Rattle.tl_bank.specs.Means.{Means}
-use Rattle.tl_bank.proofs.Allowed.{ReleaseAllowed, release-allowed}
-use Rattle.tl_bank.proofs.Counts.{step-count, step-perm, counts-one, copies-few}
-use Rattle.tl_bank.proofs.Entries.{put-is}
-use Rattle.tl_bank.proofs.Keep.{ClientStep, means-step}
-use Rattle.tl_bank.proofs.Places.{entry-there, place-there}
+use Rattle.tl_bank_laws.specs.Entry.{HasPlace, entry_with}
+use Rattle.tl_bank_laws.specs.Layers.{Layers}
+use Rattle.tl_bank_laws.specs.Means.{Means}
+use Rattle.tl_bank_laws.proofs.Allowed.{ReleaseAllowed, release-allowed}
+use Rattle.tl_bank_laws.proofs.Counts.{step-count, step-perm, counts-one, copies-few}
+use Rattle.tl_bank_laws.proofs.Entries.{put-is}
+use Rattle.tl_bank_laws.proofs.Keep.{ClientStep, means-step}
+use Rattle.tl_bank_laws.proofs.Places.{entry-there, place-there}
 
 some-from : (prune : Prune) → prune_from prune ≢ p_None
 some-from TtoB = λ e. cc

@@ -14,7 +14,7 @@ use Rattle.tl_protocol.specs.declared.event.Event.{Event}
 use Rattle.tl_lanes.proofs.Cells.{client-append}
 use Rattle.tl_bank_spec.specs.Share.{recount}
 use Rattle.tl_bank_spec.specs.View.{View, shape_of, client_at, copies_at, perm_at}
-use Rattle.tl_bank.proofs.Keep.{ClientStep}
+use Rattle.tl_bank_laws.proofs.Keep.{ClientStep}
 
 recount-is : (before later : Perm) (n m : ℕ)
     → n + (if not (is_none later) then 1 else 0) ≡ m + (if not (is_none before) then 1 else 0) → m ≡ recount before later n

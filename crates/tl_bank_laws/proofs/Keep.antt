@@ -21,10 +21,10 @@ use Rattle.tl_links.specs.Table.{lane_in, SameSize as SameLinks}
 use Rattle.tl_copies.specs.Copies.{held_at, is_cell, SameSize as SameCopies}
 use Rattle.tl_copies.specs.declared.held.Held.{Held}
 use Rattle.tl_bank_spec.specs.View.{View, IsOwn, IsLater, StampsRiseFrom, shape_of, block_at, client_at, stamped, clock_from, clock_of}
-use Rattle.tl_bank.specs.Entry.{entry_of}
+use Rattle.tl_bank_laws.specs.Entry.{entry_of}
 use Rattle.tl_home.specs.Homes.{bank_in, geometry_in, HomeState}
-use Rattle.tl_bank.specs.Layers.{Layers}
-use Rattle.tl_bank.specs.Means.{Means, IsHome}
+use Rattle.tl_bank_laws.specs.Layers.{Layers}
+use Rattle.tl_bank_laws.specs.Means.{Means, IsHome}
 
 -- ## The clock
 

@@ -10,10 +10,10 @@ use Rattle.tl_copies.specs.Copies.{entries, held_at}
 use Rattle.tl_copies.specs.declared.held.Held.{Held}
 use Rattle.tl_bank_spec.specs.Cases.{copies_full}
 use Rattle.tl_bank_spec.specs.View.{View, has_entry_for, has_entry, client_at, entries_at}
-use Rattle.tl_bank.specs.Entry.{HasPlace}
-use Rattle.tl_bank.specs.Layers.{Layers}
-use Rattle.tl_bank.specs.Means.{Means}
-use Rattle.tl_bank.proofs.Entries.{entries-is, has_entry-is, is_some-entry}
+use Rattle.tl_bank_laws.specs.Entry.{HasPlace}
+use Rattle.tl_bank_laws.specs.Layers.{Layers}
+use Rattle.tl_bank_laws.specs.Means.{Means}
+use Rattle.tl_bank_laws.proofs.Entries.{entries-is, has_entry-is, is_some-entry}
 
 -- a copy above None has an entry
 pub entry-there : (copy : CachedCopy) (wait : Wait) → perm_of copy ≢ p_None → has_entry_for copy wait ≡ true

@@ -15,13 +15,13 @@ use Rattle.tl_copies.specs.Copies.{Tables, held_at, is_cell, SameSize as SameCop
 use Rattle.tl_bank_spec.specs.Calls.{acquire_cases}
 use Rattle.tl_bank_spec.specs.Refusal.{first_of}
 use Rattle.tl_bank_spec.specs.View.{View, client_at}
-use Rattle.tl_bank.specs.Entry.{HasPlace, entry_with}
-use Rattle.tl_bank.specs.Layers.{Layers}
-use Rattle.tl_bank.specs.Means.{Means}
-use Rattle.tl_bank.proofs.Allowed.{AcquireAllowed, acquire-allowed}
-use Rattle.tl_bank.proofs.Entries.{put-is}
-use Rattle.tl_bank.proofs.Keep.{means-step}
-use Rattle.tl_bank.proofs.Places.{place-free}
+use Rattle.tl_bank_laws.specs.Entry.{HasPlace, entry_with}
+use Rattle.tl_bank_laws.specs.Layers.{Layers}
+use Rattle.tl_bank_laws.specs.Means.{Means}
+use Rattle.tl_bank_laws.proofs.Allowed.{AcquireAllowed, acquire-allowed}
+use Rattle.tl_bank_laws.proofs.Entries.{put-is}
+use Rattle.tl_bank_laws.proofs.Keep.{means-step}
+use Rattle.tl_bank_laws.proofs.Places.{place-free}
 
 pub acquire-place : (v : View) (h : Layers) (c b : ℕ) (grow : Grow) (copy : CachedCopy) → Means v h
     → first_of (acquire_cases v c b grow) ≡ None → HasPlace h.copies c b copy ForGrant

@@ -8,8 +8,8 @@ use Rattle.tl_protocol.specs.declared.client.Client.{Client}
 use Rattle.tl_protocol.specs.declared.event.Event.{Event}
 use Rattle.tl_bank_spec.specs.Share.{Holding, recount}
 use Rattle.tl_bank_spec.specs.View.{View, shape_of, copies_at, perm_at}
-use Rattle.tl_bank.proofs.Counts.{step-count, counts-one, copies-few}
-use Rattle.tl_bank.proofs.Keep.{ClientStep}
+use Rattle.tl_bank_laws.proofs.Counts.{step-count, counts-one, copies-few}
+use Rattle.tl_bank_laws.proofs.Keep.{ClientStep}
 
 -- a share with the number of the client's copies can lose one that is there, and gain one
 pub share-enough : (v : View) (c b : ℕ) (share : Holding) → IsLawful v.geometry → b < v.geometry.memory_blocks → share.count ≡ copies_at v c

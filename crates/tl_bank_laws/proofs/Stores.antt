@@ -13,14 +13,14 @@ use Rattle.tl_copies.specs.Copies.{Tables, held_at, is_cell, SameSize}
 use Rattle.tl_bank_spec.specs.Calls.{store_cases}
 use Rattle.tl_bank_spec.specs.Refusal.{first_of}
 use Rattle.tl_bank_spec.specs.View.{View, client_at, clock_of, latest}
-use Rattle.tl_bank.specs.Entry.{HasPlace, entry_with}
-use Rattle.tl_bank.specs.Layers.{Layers}
-use Rattle.tl_bank.specs.Means.{Means}
-use Rattle.tl_bank.proofs.Allowed.{store-allowed}
-use Rattle.tl_bank.proofs.Entries.{put-is}
-use Rattle.tl_bank.proofs.Keep.{means-step}
-use Rattle.tl_bank.proofs.Places.{entry-there, place-there}
-use Rattle.tl_bank.proofs.Loads.{later-is}
+use Rattle.tl_bank_laws.specs.Entry.{HasPlace, entry_with}
+use Rattle.tl_bank_laws.specs.Layers.{Layers}
+use Rattle.tl_bank_laws.specs.Means.{Means}
+use Rattle.tl_bank_laws.proofs.Allowed.{store-allowed}
+use Rattle.tl_bank_laws.proofs.Entries.{put-is}
+use Rattle.tl_bank_laws.proofs.Keep.{means-step}
+use Rattle.tl_bank_laws.proofs.Places.{entry-there, place-there}
+use Rattle.tl_bank_laws.proofs.Loads.{later-is}
 
 tip-some : (copy : CachedCopy) → perm_of copy ≡ Tip → perm_of copy ≢ p_None
 tip-some Absent h = cc

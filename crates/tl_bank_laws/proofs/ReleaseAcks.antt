@@ -21,15 +21,15 @@ use Rattle.tl_bank_spec.specs.Calls.{take_release_ack_cases}
 use Rattle.tl_bank_spec.specs.Cases.{block_named, is_a_release_ack}
 use Rattle.tl_bank_spec.specs.Refusal.{first_of}
 use Rattle.tl_bank_spec.specs.View.{View, IsOwn, has_entry_for, client_at}
-use Rattle.tl_bank.specs.Entry.{HasPlace, entry_with}
-use Rattle.tl_bank.specs.Layers.{Layers}
-use Rattle.tl_bank.specs.Link.{IsHead}
-use Rattle.tl_bank.specs.Means.{Means}
-use Rattle.tl_bank.proofs.Allowed.{AllFalse, all-false, client-is}
-use Rattle.tl_bank.proofs.Entries.{put-is}
-use Rattle.tl_bank.proofs.Heads.{HeadAllowed, head-allowed, head-first, head-list, head-own, is-head}
-use Rattle.tl_bank.proofs.Keep.{means-step}
-use Rattle.tl_bank.proofs.Places.{place-there}
+use Rattle.tl_bank_laws.specs.Entry.{HasPlace, entry_with}
+use Rattle.tl_bank_laws.specs.Layers.{Layers}
+use Rattle.tl_bank_laws.specs.Link.{IsHead}
+use Rattle.tl_bank_laws.specs.Means.{Means}
+use Rattle.tl_bank_laws.proofs.Allowed.{AllFalse, all-false, client-is}
+use Rattle.tl_bank_laws.proofs.Entries.{put-is}
+use Rattle.tl_bank_laws.proofs.Heads.{HeadAllowed, head-allowed, head-first, head-list, head-own, is-head}
+use Rattle.tl_bank_laws.proofs.Keep.{means-step}
+use Rattle.tl_bank_laws.proofs.Places.{place-there}
 
 pub ack-allowed : (v : View) (t : Ticket) → first_of (take_release_ack_cases v t) ≡ None → HeadAllowed v t D is_a_release_ack
 ack-allowed v t none =

@@ -14,10 +14,10 @@ use Rattle.tl_lanes.proofs.Logs.{first_heads_its_list}
 use Rattle.tl_links.specs.Table.{lane_in}
 use Rattle.tl_bank_spec.specs.Cases.{begins, block_named, first_block, not_head, other_channel}
 use Rattle.tl_bank_spec.specs.View.{View, IsOwn, shape_of, client_at, lane_at}
-use Rattle.tl_bank.specs.Layers.{Layers}
-use Rattle.tl_bank.specs.Link.{IsHead}
-use Rattle.tl_bank.specs.Means.{Means}
-use Rattle.tl_bank.proofs.Allowed.{or-false, not-false}
+use Rattle.tl_bank_laws.specs.Layers.{Layers}
+use Rattle.tl_bank_laws.specs.Link.{IsHead}
+use Rattle.tl_bank_laws.specs.Means.{Means}
+use Rattle.tl_bank_laws.proofs.Allowed.{or-false, not-false}
 
 -- a ticket names the first message of a channel, which is of a kind
 pub record HeadAllowed (v : View) (t : Ticket) (k : Channel) (kind : Body → Bool) : Type 0 where

@@ -32,18 +32,18 @@ use Rattle.tl_bank_spec.specs.Cases.{any_body, awaits_release_ack, bad_share, bl
 use Rattle.tl_bank_spec.specs.Refusal.{first_of}
 use Rattle.tl_bank_spec.specs.Share.{Holding, recount}
 use Rattle.tl_bank_spec.specs.View.{View, IsOwn, has_entry_for, client_at, copies_at, lane_at, perm_at}
-use Rattle.tl_bank.specs.Entry.{HasPlace, entry_with}
-use Rattle.tl_bank.specs.Head.{asked_by, first_cap}
-use Rattle.tl_bank.specs.Link.{HasRoom, IsHead}
-use Rattle.tl_bank.specs.Layers.{Layers}
-use Rattle.tl_bank.specs.Means.{Means}
-use Rattle.tl_bank.proofs.Allowed.{AllFalse, all-false, client-is, or-false, share-is}
-use Rattle.tl_bank.proofs.Counts.{step-perm}
-use Rattle.tl_bank.proofs.Entries.{put-is}
-use Rattle.tl_bank.proofs.Heads.{HeadAllowed, head-allowed, head-first, head-list, head-own, is-head}
-use Rattle.tl_bank.proofs.Keep.{ClientStep, means-step}
-use Rattle.tl_bank.proofs.Places.{place-there}
-use Rattle.tl_bank.proofs.Shares.{share-count, share-enough}
+use Rattle.tl_bank_laws.specs.Entry.{HasPlace, entry_with}
+use Rattle.tl_bank_laws.specs.Head.{asked_by, first_cap}
+use Rattle.tl_bank_laws.specs.Link.{HasRoom, IsHead}
+use Rattle.tl_bank_laws.specs.Layers.{Layers}
+use Rattle.tl_bank_laws.specs.Means.{Means}
+use Rattle.tl_bank_laws.proofs.Allowed.{AllFalse, all-false, client-is, or-false, share-is}
+use Rattle.tl_bank_laws.proofs.Counts.{step-perm}
+use Rattle.tl_bank_laws.proofs.Entries.{put-is}
+use Rattle.tl_bank_laws.proofs.Heads.{HeadAllowed, head-allowed, head-first, head-list, head-own, is-head}
+use Rattle.tl_bank_laws.proofs.Keep.{ClientStep, means-step}
+use Rattle.tl_bank_laws.proofs.Places.{place-there}
+use Rattle.tl_bank_laws.proofs.Shares.{share-count, share-enough}
 
 -- ## The Probe that is there
 

@@ -18,11 +18,11 @@ use Rattle.tl_copies.specs.declared.held.Held.{Held}
 use Rattle.tl_bank_spec.specs.Calls.{load_cases}
 use Rattle.tl_bank_spec.specs.Refusal.{first_of}
 use Rattle.tl_bank_spec.specs.View.{View, shape_of, block_at, client_at, clock_of, latest}
-use Rattle.tl_bank.specs.Entry.{entry_of}
-use Rattle.tl_bank.specs.Layers.{Layers}
-use Rattle.tl_bank.specs.Means.{Means}
-use Rattle.tl_bank.proofs.Allowed.{load-allowed}
-use Rattle.tl_bank.proofs.Keep.{means-step}
+use Rattle.tl_bank_laws.specs.Entry.{entry_of}
+use Rattle.tl_bank_laws.specs.Layers.{Layers}
+use Rattle.tl_bank_laws.specs.Means.{Means}
+use Rattle.tl_bank_laws.proofs.Allowed.{load-allowed}
+use Rattle.tl_bank_laws.proofs.Keep.{means-step}
 
 -- a readable copy has a whole block
 whole-readable : (size : ℕ) (copy : CachedCopy) → perm_of copy ≢ p_None → IsWhole size (copy_bytes copy) → length (bytes_of copy) ≡ size

@@ -1,0 +1,5 @@
+pub mod Entry
+pub mod Head
+pub mod Layers
+pub mod Link
+pub mod Means

@@ -1,0 +1,154 @@
+-- What the calls of home and of the memory leave, and what they answer (this project's own).
+use Rattle.std.specs.Prelude.{◌≡◌, ℕ, ◌+◌, ◌==◌, ◌≤◌, Bool, List, [], ◌∷◌, ◌++◌, Option, Some, None, if◌then◌else◌}
+use Rattle.tl_types.specs.declared.channel.Channel.TheVariants.{A, B, C, D}
+use Rattle.tl_types.specs.declared.message.Body.{Body}
+use Rattle.tl_types.specs.declared.message.Body.TheVariants.{AcquireBlock, ProbeBlock, Upward as b_Upward, Downward as b_Downward, GrantAck}
+use Rattle.tl_types.specs.declared.message.Message.{Message}
+use Rattle.tl_types.specs.declared.permission.Grow.{Grow}
+use Rattle.tl_types.specs.declared.permission.Grow.TheVariants.{NtoB}
+use Rattle.tl_types.specs.declared.ticket.Ticket.{Ticket}
+use Rattle.tl_map.specs.Places.{set_of}
+use Rattle.tl_protocol.specs.declared.event.Event.{Event}
+use Rattle.tl_protocol.specs.declared.event.Event.TheVariants.{AcceptAcquire, TakeC, TakeData, TakePutAck}
+use Rattle.tl_protocol.specs.declared.home.Outward.{Outward}
+use Rattle.tl_protocol.specs.declared.home.Outward.TheVariants.{Quiet, Get, Data, Put, PutAck}
+use Rattle.tl_registers.specs.Fit.{event_of}
+use Rattle.tl_registers.specs.Register.{acquire_task, opened}
+use Rattle.tl_registers.specs.Registers.{ended, noted, register_of}
+use Rattle.tl_registers.specs.declared.due.Due.{Due}
+use Rattle.tl_registers.specs.declared.due.Due.TheVariants.{Probe as due_Probe, Grant as due_Grant, Get as due_Get, Put as due_Put, Drop as due_Drop}
+use Rattle.tl_registers.specs.declared.register.Register.{Register}
+use Rattle.tl_registers.specs.declared.register.Task.TheVariants.{Evict}
+use Rattle.tl_bank_spec.specs.Cases.{begins, block_named, is_a_release, waiting_at}
+use Rattle.tl_bank_spec.specs.HomeCases.{due_at}
+use Rattle.tl_bank_spec.specs.View.{View, block_at, next_ticket}
+use Rattle.tl_bank_spec.specs.Ways.{IsWayFor, victim_in, way_in_set}
+use Rattle.tl_bank_spec.specs.declared.action.Action.{Action}
+use Rattle.tl_bank_spec.specs.declared.action.Action.TheVariants.{Probe as did_Probe, Grant as did_Grant, Get as did_Get, Put as did_Put, Drop as did_Drop}
+use Rattle.tl_bank_spec.specs.declared.reply.Reply.{Reply}
+use Rattle.tl_bank_spec.specs.declared.reply.Reply.TheVariants.{AccessAckData, AccessAck}
+
+-- One event at the log's end, and at most one from the room; these registers are open and the blocks lie in these ways;
+-- nothing else changed.
+pub record Serves (old new : View) (event : Event) (open_then : List Register) (lies_then : ℕ → Option ℕ) : Type 0 where
+  pub is :
+      new ≡ record old { log = old.log ++ event ∷ []; room = new.room; registers = open_then; ways = new.ways }
+  pub room : old.room ≤ new.room + 1
+  pub ways : (block : ℕ) → new.ways block ≡ lies_then block
+
+-- ## accept
+
+abbrev pub grow_in : Body → Grow
+grow_in (AcquireBlock grow) = grow
+grow_in (ProbeBlock cap) = NtoB
+grow_in (b_Upward message) = NtoB
+grow_in (b_Downward message) = NtoB
+grow_in GrantAck = NtoB
+
+-- what the first message asks for, an AcquireBlock; any other is read as NtoB
+abbrev pub first_grow : List Message → Grow
+first_grow [] = NtoB
+first_grow (first ∷ rest) = grow_in first.body
+
+-- A register is open for the Acquire of a ticket, with the way that the rules say.
+pub record Accepts (old new : View) (ticket : Ticket) (block set : ℕ) : Type 0 where
+  pub way : ℕ
+  pub is_way : IsWayFor old set (old.ways block) way
+  pub serves :
+      Serves old new (AcceptAcquire ticket.client block)
+      (old.registers ++ opened block (way_in_set set way)
+      (acquire_task (record { client = ticket.client; grow = first_grow (waiting_at old ticket A) })
+      (victim_in old set (old.ways block) way)) ∷ []) old.ways
+
+-- ## evict
+
+-- A register is open that sends the block away, with its way.
+pub record Evicts (old new : View) (block : ℕ) : Type 0 where
+  pub way : ℕ
+  pub lies : old.ways block ≡ Some way
+  pub is :
+      new ≡ record old {
+        registers = old.registers ++ opened block (way_in_set (set_of old.geometry block) way) Evict ∷ [];
+      }
+
+-- ## advance
+
+-- what an action answers
+abbrev pub action_of : View → Due → Action
+action_of v (due_Probe client block cap) = did_Probe (next_ticket v client B)
+action_of v (due_Grant client) = did_Grant (next_ticket v client D)
+action_of v due_Get = did_Get
+action_of v (due_Put block) = did_Put block
+action_of v (due_Drop block) = did_Drop
+
+-- the registers after an action of the register of `own`: a Probe is noted, a drop ends the victim
+abbrev pub registers_after : ℕ → Due → List Register → List Register
+registers_after own (due_Probe client block cap) registers = noted own client registers
+registers_after own (due_Grant client) registers = registers
+registers_after own due_Get registers = registers
+registers_after own (due_Put block) registers = registers
+registers_after own (due_Drop block) registers = ended block registers
+
+-- one block lies in no way any more
+abbrev pub ways_without : ℕ → (ℕ → Option ℕ) → ℕ → Option ℕ
+ways_without gone ways block = if block == gone then None else ways block
+
+-- the ways after an action: a block that is put or dropped has left its way
+abbrev pub ways_after : Due → (ℕ → Option ℕ) → ℕ → Option ℕ
+ways_after (due_Probe client block cap) ways = ways
+ways_after (due_Grant client) ways = ways
+ways_after due_Get ways = ways
+ways_after (due_Put block) ways = ways_without block ways
+ways_after (due_Drop block) ways = ways_without block ways
+
+-- The register of `own` did what it had to do next.
+pub record Advances (old new : View) (own : ℕ) (action : Action) : Type 0 where
+  pub due : Due
+  pub is_due : due_at old own ≡ Some due
+  pub serves :
+      Serves old new (event_of own due) (registers_after own due old.registers) (ways_after due old.ways)
+  pub answer : action ≡ action_of old due
+
+-- ## take_c
+
+-- a Release is answered with a ReleaseAck
+abbrev pub answer_to : View → Ticket → Option Ticket
+answer_to v ticket = if begins is_a_release (waiting_at v ticket C) then Some (next_ticket v ticket.client D) else None
+
+-- ## The memory
+
+-- what the memory answers to a request
+abbrev pub reply_to : List ℕ → Outward → Reply
+reply_to memory Quiet = AccessAck
+reply_to memory Get = AccessAckData memory
+reply_to memory (Data bytes) = AccessAck
+reply_to memory (Put bytes) = AccessAck
+reply_to memory PutAck = AccessAck
+
+-- home takes a block's bytes, or the acknowledgement of a Put
+abbrev pub taking : ℕ → Outward → Event
+taking block Quiet = TakeData block
+taking block Get = TakeData block
+taking block (Data bytes) = TakeData block
+taking block (Put bytes) = TakeData block
+taking block PutAck = TakePutAck block
+
+-- the registers then: the acknowledgement ends the victim
+abbrev pub registers_then : ℕ → Outward → List Register → List Register
+registers_then block Quiet registers = registers
+registers_then block Get registers = registers
+registers_then block (Data bytes) registers = registers
+registers_then block (Put bytes) registers = registers
+registers_then block PutAck registers = ended block registers
+
+abbrev pub way_held_by : Option Register → Option ℕ
+way_held_by None = None
+way_held_by (Some register) = Some register.way.way
+
+-- the ways then: a block whose bytes came lies in the way that its register holds
+abbrev pub ways_then : ℕ → Outward → List Register → (ℕ → Option ℕ) → ℕ → Option ℕ
+ways_then came Quiet registers ways = ways
+ways_then came Get registers ways = ways
+ways_then came (Data bytes) registers ways = λ block. if block == came then way_held_by (register_of came registers) else ways block
+ways_then came (Put bytes) registers ways = ways
+ways_then came PutAck registers ways = ways

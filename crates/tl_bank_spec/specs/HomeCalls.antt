@@ -1,0 +1,49 @@
+-- The calls of home and of the memory: each with its refusals, in the order in which they are tested (this project's own).
+use Rattle.std.specs.Prelude.{ℕ, ◌++◌, Bool, List, [], ◌∷◌, is_none, not}
+use Rattle.tl_types.specs.declared.channel.Channel.TheVariants.{A, C, E}
+use Rattle.tl_types.specs.declared.ticket.Ticket.{Ticket}
+use Rattle.tl_bank_spec.specs.Calls.{ticket_cases}
+use Rattle.tl_bank_spec.specs.Cases.{no_block, elsewhere, any_body, block_named}
+use Rattle.tl_bank_spec.specs.HomeCases.{busy, lacks, no_register, due_at, due_full, answer_full, is_request, is_reply}
+use Rattle.tl_bank_spec.specs.View.{View, block_at}
+use Rattle.tl_bank_spec.specs.Ways.{registers_full}
+use Rattle.tl_bank_spec.specs.declared.refusal.Refusal.{Refusal}
+use Rattle.tl_bank_spec.specs.declared.refusal.Refusal.TheVariants.{NothingThere, NoRegister, BlockBusy, NotYet, OutOfRange, WrongBank, LinkFull}
+
+abbrev pub accept_cases : View → Ticket → List (Bool × Refusal)
+accept_cases v ticket =
+    ticket_cases v ticket A any_body
+    ++ (busy v (block_named v ticket A), BlockBusy) ∷ (no_register v (block_named v ticket A), NoRegister) ∷ []
+
+abbrev pub advance_cases : View → ℕ → List (Bool × Refusal)
+advance_cases v block =
+    (no_block v block, OutOfRange)
+    ∷ (elsewhere v block, WrongBank)
+    ∷ (is_none (due_at v block), NotYet)
+    ∷ (due_full v (due_at v block), LinkFull) ∷ []
+
+abbrev pub take_c_cases : View → Ticket → List (Bool × Refusal)
+take_c_cases v ticket = ticket_cases v ticket C any_body ++ (answer_full v ticket, LinkFull) ∷ []
+
+abbrev pub take_grant_ack_cases : View → Ticket → List (Bool × Refusal)
+take_grant_ack_cases v ticket = ticket_cases v ticket E any_body
+
+abbrev pub evict_cases : View → ℕ → List (Bool × Refusal)
+evict_cases v block =
+    (no_block v block, OutOfRange)
+    ∷ (elsewhere v block, WrongBank)
+    ∷ (busy v block, BlockBusy)
+    ∷ (lacks v block, NotYet)
+    ∷ (registers_full v, NoRegister) ∷ []
+
+abbrev pub serve_memory_cases : View → ℕ → List (Bool × Refusal)
+serve_memory_cases v block =
+    (no_block v block, OutOfRange)
+    ∷ (elsewhere v block, WrongBank)
+    ∷ (not (is_request (block_at v block).outward), NothingThere) ∷ []
+
+abbrev pub take_memory_cases : View → ℕ → List (Bool × Refusal)
+take_memory_cases v block =
+    (no_block v block, OutOfRange)
+    ∷ (elsewhere v block, WrongBank)
+    ∷ (not (is_reply (block_at v block).outward), NothingThere) ∷ []
