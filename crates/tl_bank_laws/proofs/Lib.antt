@@ -7,6 +7,7 @@ pub mod Grants
 pub mod Heads
 pub mod Keep
 pub mod Loads
+pub mod Next
 pub mod Places
 pub mod Probes
 pub mod ReleaseAcks
