@@ -1,3 +1,4 @@
+pub mod Accepted
 pub mod Acquires
 pub mod Allowed
 pub mod Counts

@@ -22,6 +22,7 @@ use Rattle.tl_home.specs.Homes.{SameBank}
 use Rattle.tl_bank_laws.specs.Entry.{entry_of}
 use Rattle.tl_bank_laws.specs.Layers.{Layers}
 use Rattle.tl_bank_laws.specs.Means.{Means, IsHome, RegistersFit, WaysFit}
+use Rattle.tl_bank_laws.proofs.Accepted.{accepted-by-agree}
 
 -- ## One more event
 
@@ -84,3 +85,89 @@ registers-next v e room registers ways agree few = record {
   agree = subst (λ (t : ℕ → Block). Agree (shape_of v.geometry) t registers) (sym (blocks-next v e room registers ways)) agree;
   few = few;
 }
+
+-- ## The clock
+
+-- the clock after one more event
+pub clock_from-append : (clock : ℕ) (log : List Event) (e : Event) → clock_from clock (log ++ e ∷ []) ≡ stamped (clock_from clock log) e
+clock_from-append clock [] e = refl
+clock_from-append clock (x ∷ log) e = clock_from-append (stamped clock x) log e
+
+-- stamps rise with one more event that is later
+pub stamps-append : (clock : ℕ) (log : List Event) (e : Event) → StampsRiseFrom clock log → IsLater (clock_from clock log) e
+    → StampsRiseFrom clock (log ++ e ∷ [])
+stamps-append clock [] e rise later = (later, tt)
+stamps-append clock (x ∷ log) e rise later = (rise.0, stamps-append (stamped clock x) log e rise.1 later)
+
+-- ## The messages that wait
+
+-- a message is of a block of which a fact holds
+abbrev Of : (ℕ → Type 0) → Message → Type 0
+Of P x = P x.block
+
+inside-first : (P : ℕ → Type 0) (taken : ℕ) (xs : List Message) → All (Of P) xs → All (Of P) (first_taken taken xs).messages
+inside-first P taken [] h = h
+inside-first P taken (x ∷ rest) h = All-tail (Of P) x rest h
+
+inside-here : (P : ℕ → Type 0) (lane : Lane) (t : Bool) → All (Of P) lane.messages → All (Of P) (cond t (without_first lane) lane).messages
+inside-here P lane true h = inside-first P lane.taken lane.messages h
+inside-here P lane false h = h
+
+inside-taken : (P : ℕ → Type 0) (place : Option Place) (x : ℕ) (l : Channel) (lane : Lane)
+    → All (Of P) lane.messages → All (Of P) (taken_from place x l lane).messages
+inside-taken P None x l lane h = h
+inside-taken P (Some place) x l lane h = inside-here P lane (is_here place.client place.channel x l) h
+
+inside-with : (P : ℕ → Type 0) (lane : Lane) (message : Message) (t : Bool) → P message.block
+    → All (Of P) lane.messages → All (Of P) (cond t (with_message lane message) lane).messages
+inside-with P lane message true p h =
+    All-append (Of P) lane.messages (message ∷ []) h (All-cons (Of P) message [] p (All-nil (Of P)))
+inside-with P lane message false p h = h
+
+inside-sent : (P : ℕ → Type 0) (post : Option Post) (block x : ℕ) (l : Channel) (lane : Lane) → P block
+    → All (Of P) lane.messages → All (Of P) (sent_to post block x l lane).messages
+inside-sent P None block x l lane p h = h
+inside-sent P (Some post) block x l lane p h =
+    inside-with P lane (record { block = block; body = post.body }) (is_here post.client post.channel x l) p h
+
+-- ## The bank after it
+
+pub means-next : MeansNext
+means-next v old new e room registers ways m next layers fit in_ways =
+    let g : Numbers = v.geometry in
+    let shape = shape_of g in
+    let image : List ℕ = v.image in
+    let log : List Event = v.log in
+    let block : ℕ = block_of shape e in
+    let s : Block = block_at v block in
+    let own : IsOwn g v.number block = (next.may.0, next.here) in
+    let then : block_at (next_view v e room registers ways) ≡ block_next v e = blocks-next v e room registers ways in
+    record {
+      lawful = lawful_grows_by_one shape image log e m.lawful next.may next.first;
+      own =
+          All-append (λ (e : Event). IsOwn g v.number (block_of shape e)) log (e ∷ []) m.own
+          (All-cons (λ (e : Event). IsOwn g v.number (block_of shape e)) e [] own (All-nil (λ (e : Event). IsOwn g v.number (block_of shape e))));
+      rising = stamps-append 0 log e m.rising next.later;
+      inside = λ x l.
+          subst (λ (lane : Lane). All (Of (IsOwn g v.number)) lane.messages) (sym (lanes_grow_by_one shape image log e x l))
+          (inside-sent (IsOwn g v.number) (post_of shape s e) block x l (taken_from (take_of e) x l (lane_of shape image log x l)) own
+          (inside-taken (IsOwn g v.number) (take_of e) x l (lane_of shape image log x l) (m.inside x l)));
+      lanes = λ x l h.
+          layers.lanes x l h ∙ ap (λ (lane : Lane). lane_after shape s e x l lane) (m.lanes x l h)
+          ∙ sym (lanes_grow_by_one shape image log e x l);
+      copies = λ x y h l. layers.copies x y h l ∙ ap (λ (t : ℕ → Block). entry_of ((t y).client x)) (sym then);
+      home = λ y o. subst (λ (t : ℕ → Block). IsHome g.clients new.home y (t y)) (sym then) (layers.home y o);
+      accepted = λ y. accepted-by-agree shape (block_at (next_view v e room registers ways)) registers fit.agree y;
+      registers = fit;
+      ways = in_ways;
+      clock = layers.clock ∙ ap (λ n. stamped n e) m.clock ∙ sym (clock_from-append 0 log e);
+      geometry = m.geometry;
+      links_bank = layers.links_size.bank ∙ m.links_bank;
+      links_clients = layers.links_size.clients ∙ m.links_clients;
+      copies_clients = layers.copies_size.clients ∙ m.copies_clients;
+      copies_blocks = layers.copies_size.blocks ∙ m.copies_blocks;
+      copies_limit = layers.copies_size.limit ∙ m.copies_limit;
+      home_geometry = layers.home_bank.geometry ∙ m.home_geometry;
+      home_bank = layers.home_bank.bank ∙ m.home_bank;
+      limit = layers.limit ∙ m.limit;
+    }
