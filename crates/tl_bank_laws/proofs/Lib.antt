@@ -10,6 +10,7 @@ pub mod Keep
 pub mod Loads
 pub mod Next
 pub mod Places
+pub mod Probed
 pub mod Probes
 pub mod ReleaseAcks
 pub mod Releases
