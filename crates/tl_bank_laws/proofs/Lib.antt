@@ -9,6 +9,8 @@ pub mod Heads
 pub mod Keep
 pub mod Loads
 pub mod Next
+pub mod Orders
+pub mod Pending
 pub mod Places
 pub mod Probed
 pub mod Probes
