@@ -18,3 +18,4 @@ pub mod ReleaseAcks
 pub mod Releases
 pub mod Shares
 pub mod Stores
+pub mod TakeC

@@ -13,6 +13,7 @@ ghost use Rattle.tl_bank_spec.specs.Cases.{block_named};
 ghost use Rattle.tl_bank_spec.specs.Effects.{Serves, answer_to};
 ghost use Rattle.tl_bank_spec.specs.HomeCalls.{take_c_cases, take_grant_ack_cases};
 ghost use Rattle.tl_bank_spec.specs.Refusal.{IsRefused, first_of};
+ghost use Rattle.tl_bank_spec.specs.View.{way_at};
 
 use crate::bank::Bank;
 use crate::bank::home_refusals::is_release;
@@ -30,7 +31,7 @@ impl Bank {
         ensures unchanged { OnErr result (self.new ≡ self.old) }
         ensures permitted { OnOk result (first_of (take_c_cases self.old ticket) ≡ None) }
         ensures serves { OnOk result
-            (Serves self.old self.new (Event.TakeC ticket.client (block_named self.old ticket Channel.C)) self.old.registers self.old.ways) }
+            (Serves self.old self.new (Event.TakeC ticket.client (block_named self.old ticket Channel.C)) self.old.registers (way_at self.old)) }
         ensures answer { IfOk result (λ sent. sent ≡ answer_to self.old ticket) }
     {
         if let Some(refusal) = self.take_c_refusal(&ticket) {
@@ -56,7 +57,7 @@ impl Bank {
         ensures permitted { OnOk result (first_of (take_grant_ack_cases self.old ticket) ≡ None) }
         ensures serves { OnOk result
             (Serves self.old self.new (Event.TakeGrantAck ticket.client (block_named self.old ticket Channel.E))
-            (closed (block_named self.old ticket Channel.E) self.old.registers) self.old.ways) }
+            (closed (block_named self.old ticket Channel.E) self.old.registers) (way_at self.old)) }
     {
         if let Some(refusal) = self.take_grant_ack_refusal(&ticket) {
             return Err(refusal);
