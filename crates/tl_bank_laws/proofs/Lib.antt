@@ -17,5 +17,7 @@ pub mod Probes
 pub mod ReleaseAcks
 pub mod Releases
 pub mod Shares
+pub mod Slots
 pub mod Stores
 pub mod TakeC
+pub mod Ways
