@@ -1,5 +1,5 @@
 -- Home takes a client's first message on channel C, and what that leaves.
-use Rattle.std.proofs.Common.{◌≡◌, ◌≢◌, ℕ, ◌<◌, ◌==◌, ◌&&◌, ◌||◌, Bool, true, false, cond, length, List, [], ◌∷◌, ◌++◌, IsSome, Option, Some, None, refl, sym, ◌∙◌, ap, subst, arith, eqb-true, eq-eqb}
+use Rattle.std.proofs.Common.{◌≡◌, ◌≢◌, ℕ, ◌<◌, ◌≤◌, ◌==◌, ◌&&◌, ◌||◌, Bool, true, false, cond, length, slice_index_or, List, [], ◌∷◌, ◌++◌, IsSome, Option, Some, None, refl, sym, ◌∙◌, ap, subst, arith, eqb-true, eq-eqb}
 use Rattle.std.specs.List.{list_any}
 use Rattle.tl_types.specs.Lane.{Lane, IsFirst, is_here, with_message, without_first, bodies_of}
 use Rattle.tl_types.specs.Message.{upward_bytes, upward_from, upward_to, is_probe_ack}
@@ -20,6 +20,7 @@ use Rattle.tl_protocol.specs.Client.{first_bytes, took_c_from}
 use Rattle.tl_protocol.specs.Pending.{IsOrderly, IsServiceAt}
 use Rattle.tl_protocol.specs.Protocol.{Block, home_after, took_c}
 use Rattle.tl_protocol.specs.declared.client.Client.{Client}
+use Rattle.tl_protocol.specs.declared.event.Event.{Event}
 use Rattle.tl_protocol.specs.declared.event.Event.TheVariants.{TakeC}
 use Rattle.tl_protocol.specs.declared.home.Line.{Line}
 use Rattle.tl_protocol.proofs.Messages.{to_le, to_not_tip}
@@ -29,7 +30,7 @@ use Rattle.tl_protocol.proofs.Runs.{cond_at}
 use Rattle.tl_lanes.specs.Lanes.{ack_post, lane_after, sent_to}
 use Rattle.tl_lanes.proofs.First.{every_first_is_first}
 use Rattle.tl_links.specs.Table.{Table, lane_in, SameSize as SameLinks}
-use Rattle.tl_home.specs.Homes.{HomeState, SameBank, SameMemory, SameOutward, SameWays, line_in, recorded_in}
+use Rattle.tl_home.specs.Homes.{HomeState, SameBank, SameMemory, SameOutward, SameWays, line_in, recorded_in, way_in}
 use Rattle.tl_registers.specs.Pending.{has_first, is_probed}
 use Rattle.tl_registers.proofs.Blocks.{first-from}
 use Rattle.tl_registers.proofs.Booleans.{or-true}
@@ -44,8 +45,9 @@ use Rattle.tl_bank_laws.specs.Link.{HasRoom, IsHead}
 use Rattle.tl_bank_laws.specs.Means.{Means, IsHome}
 use Rattle.tl_bank_laws.proofs.Allowed.{AllFalse, all-false, client-is}
 use Rattle.tl_bank_laws.proofs.Heads.{HeadAllowed, head-allowed, head-first, head-list, head-own, is-head}
-use Rattle.tl_bank_laws.proofs.Next.{NextEvent, NextLayers, block_next}
+use Rattle.tl_bank_laws.proofs.Next.{NextEvent, NextLayers, block_next, means-next, next_view}
 use Rattle.tl_bank_laws.proofs.Probed.{gone-is-unprobed}
+use Rattle.tl_bank_laws.proofs.Ways.{bank-steady, fit-stays, same-work, ways-stay}
 
 -- ## The message that comes
 
@@ -124,15 +126,15 @@ there-by v h t x (Release given) more m list from gone =
     cc
 
 line-is : (home : Option Line) → (home ≡ None → ⊥) → (line : Line) × (home ≡ Some line)
-line-is None no = absurd (no refl)
-line-is (Some line) no = (line, refl)
+line-is None there = absurd (there refl)
+line-is (Some line) there = (line, refl)
 
 -- so home holds the block
 pub take_c-held : (v : View) (h : Layers) (t : Ticket) (x : Message) → Means v h → Comes v t x → IsSome (line_in h.home x.block)
 take_c-held v h t x m comes =
     let there = line-is (block_at v x.block).home
     (there-by v h t x comes.message comes.more m comes.list (starts v h t x m comes)) in
-    rw ((m.home x.block comes.own).line, there.1) tt
+    rw ((m.home x.block comes.own).line, there.1) refl
 
 -- a message on C never leaves Tip
 left-below-tip : (body : Body) → left_by body ≢ Tip
@@ -203,6 +205,11 @@ home-here v h t x home m comes received =
       memory = received.memory x.block ∙ was.memory;
     }
 
+-- nobody's record of another block
+nobody : (t : Bool) (to p : Perm) → cond (t && false) to p ≡ p
+nobody true to p = refl
+nobody false to p = refl
+
 -- and of every other block what it had
 home-elsewhere : (old home : HomeState) (c b y : ℕ) (to : Perm) (bytes : Option (List ℕ)) (s : Block) → (y == b) ≡ false
     → Received old home c b to bytes → IsHome old y s → IsHome home y s
@@ -213,10 +220,6 @@ home-elsewhere old home c b y to bytes s apart received was = record {
   outward = (received.outward).outward y ∙ was.outward;
   memory = received.memory y ∙ was.memory;
 }
-
-nobody : (t : Bool) (to p : Perm) → cond (t && false) to p ≡ p
-nobody true to p = refl
-nobody false to p = refl
 
 home-next : (v : View) (h : Layers) (t : Ticket) (x : Message) (home : HomeState) → Means v h → Comes v t x
     → Received h.home home t.client x.block (left_by x.body) (brought_by x.body) → (y : ℕ) → IsOwn v.geometry v.number y
@@ -308,8 +311,24 @@ take_c-layers v h t x between links home m none comes passed received =
         bank = (passed.second).bank ∙ (passed.first).bank;
         clients = (passed.second).clients ∙ (passed.first).clients;
       };
-      copies_size = record { clients = refl; blocks = refl; limit = refl };
+      copies_size = record { bank = refl; clients = refl; blocks = refl; limit = refl };
       home_bank = received.bank;
       limit = refl;
       clock = refl;
     }
+
+-- the bank is kept once home took the message
+pub take_c-keeps : (v : View) (h : Layers) (t : Ticket) (x : Message) (between links : Table) (home : HomeState) (room : ℕ)
+    (ways : List (Option ℕ)) → Means v h → first_of (take_c_cases v t) ≡ None → Comes v t x
+    → Passed h.links between links t x.block (is_a_release x.body)
+    → Received h.home home t.client x.block (left_by x.body) (brought_by x.body)
+    → ((b : ℕ) → b < v.geometry.memory_blocks → slice_index_or ways b None ≡ way_in home b)
+    → Means (next_view v (TakeC t.client x.block) room v.registers ways) (record h { links = links; home = home })
+take_c-keeps v h t x between links home room ways m none comes passed received shown =
+    let e : Event = TakeC t.client x.block in
+    let steady = bank-steady v h m in
+    means-next v h (record h { links = links; home = home }) e room v.registers ways m
+    (take_c-event v h t x m none comes)
+    (take_c-layers v h t x between links home m none comes passed received)
+    (fit-stays v e room ways steady tt m.registers)
+    (ways-stay v e room v.registers ways h.home home steady tt tt (same-work v.registers) received.ways shown m.ways)
