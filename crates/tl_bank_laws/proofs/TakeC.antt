@@ -1,7 +1,8 @@
 -- Home takes a client's first message on channel C, and what that leaves.
-use Rattle.std.proofs.Common.{◌≡◌, ◌≢◌, ℕ, ◌<◌, ◌≤◌, ◌==◌, ◌&&◌, ◌||◌, Bool, true, false, cond, length, slice_index_or, List, [], ◌∷◌, ◌++◌, IsSome, Option, Some, None, refl, sym, ◌∙◌, ap, subst, arith, eqb-true, eq-eqb}
+use Rattle.std.proofs.Common.{◌≡◌, ◌≢◌, ℕ, ◌^◌, ◌<◌, ◌≤◌, ◌==◌, ◌&&◌, ◌||◌, Bool, true, false, cond, length, slice_index_or, List, [], ◌∷◌, ◌++◌, IsSome, Option, Some, None, refl, sym, ◌∙◌, ap, subst, arith, eqb-true, eq-eqb}
 use Rattle.std.specs.List.{list_any}
-use Rattle.tl_types.specs.Lane.{Lane, IsFirst, is_here, with_message, without_first, bodies_of}
+use Rattle.std.proofs.lemmas.Bool.Decides.{nat_tests}
+use Rattle.tl_types.specs.Lane.{Lane, IsFirst, is_here, sent, with_message, without_first, bodies_of}
 use Rattle.tl_types.specs.Message.{upward_bytes, upward_from, upward_to, is_probe_ack}
 use Rattle.tl_types.specs.Permission.{rank}
 use Rattle.tl_types.specs.declared.channel.Channel.{Channel}
@@ -34,7 +35,8 @@ use Rattle.tl_home.specs.Homes.{HomeState, SameBank, SameMemory, SameOutward, Sa
 use Rattle.tl_registers.specs.Pending.{has_first, is_probed}
 use Rattle.tl_registers.proofs.Blocks.{first-from}
 use Rattle.tl_registers.proofs.Booleans.{or-true}
-use Rattle.tl_bank_spec.specs.Cases.{any_body, block_named, first_block, is_a_release}
+use Rattle.tl_bank_spec.specs.Cases.{any_body, begins, block_named, first_block, is_a_release, link_full}
+use Rattle.tl_bank_spec.specs.Effects.{answer_to}
 use Rattle.tl_bank_spec.specs.HomeCalls.{take_c_cases}
 use Rattle.tl_bank_spec.specs.Refusal.{first_of}
 use Rattle.tl_bank_spec.specs.View.{View, IsOwn, shape_of, block_at, client_at, lane_at}
@@ -64,6 +66,7 @@ pub record Comes (v : View) (t : Ticket) (x : Message) : Type 0 where
   pub client : t.client < v.geometry.clients
   pub block : x.block ≡ block_named v t C
   pub own : IsOwn v.geometry v.number x.block
+  pub is_release : begins is_a_release (lane_at v t.client C).messages ≡ is_a_release x.body
   pub message : Upward
   pub more : List Upward
   pub body : x.body ≡ b_Upward message
@@ -85,6 +88,7 @@ take_c-comes v h t x rest m none there =
       client = ok.client;
       block = at;
       own = subst (λ (b : ℕ). IsOwn v.geometry v.number b) (sym at) (head-own v h t C any_body m ok);
+      is_release = ap (begins is_a_release) (sym lane ∙ there);
       message = list.0;
       more = list.1;
       body = ap (λ (y : Message). y.body) is ∙ list.2;
@@ -242,6 +246,60 @@ pub record Passed (old between links : Table) (t : Ticket) (block : ℕ) (is_rel
       (x : ℕ) (l : Channel) → lane_in links x l
       ≡ cond (is_release && is_here t.client D x l)
       (with_message (lane_in between x l) (record { block = block; body = b_Downward ReleaseAck })) (lane_in between x l)
+
+-- channel D is as it was until then
+lane-between : (v : View) (h : Layers) (t : Ticket) (between : Table) → Means v h → first_of (take_c_cases v t) ≡ None
+    → ((x : ℕ) (l : Channel) → lane_in between x l
+    ≡ cond (is_here t.client t.channel x l) (without_first (lane_in h.links x l)) (lane_in h.links x l))
+    → lane_in between t.client D ≡ lane_at v t.client D
+lane-between v h t between m none took =
+    let ok = take_c-allowed v t none in
+    let elsewhere : is_here t.client C t.client D ≡ false = rw (eq-eqb t.client t.client refl) refl in
+    took t.client D
+    ∙ ap (λ (c : Channel). cond (is_here t.client c t.client D) (without_first (lane_in h.links t.client D)) (lane_in h.links t.client D))
+    ok.channel
+    ∙ ap (λ here. cond here (without_first (lane_in h.links t.client D)) (lane_in h.links t.client D)) elsewhere
+    ∙ m.lanes t.client D ok.client
+
+place-there : (is_release full : Bool) → (is_release && full) ≡ false → is_release ≡ true → full ≡ false
+place-there true full h e = h
+place-there false full h e = cc
+
+-- a Release finds a place for its answer
+pub take_c-room : (v : View) (h : Layers) (t : Ticket) (x : Message) (between : Table) → Means v h
+    → first_of (take_c_cases v t) ≡ None → Comes v t x → length v.log < 2 ^ 63 → SameLinks h.links between
+    → ((y : ℕ) (l : Channel) → lane_in between y l
+    ≡ cond (is_here t.client t.channel y l) (without_first (lane_in h.links y l)) (lane_in h.links y l))
+    → is_a_release x.body ≡ true → HasRoom between t.client D
+take_c-room v h t x between m none comes small same took release =
+    let f : AllFalse (take_c_cases v t) = all-false (take_c_cases v t) none in
+    let free : link_full v t.client D ≡ false =
+    place-there (begins is_a_release (lane_at v t.client C).messages) (link_full v t.client D) f.1.1.1.1.1.0 (comes.is_release ∙ release) in
+    let lane = lane-between v h t between m none took in
+    let counted : sent (lane_at v t.client D) ≤ length v.log = m.lawful.counted t.client D in
+    record {
+      client = rw (same.clients, m.links_clients) comes.client;
+      place = rw lane (grind (arith, nat_tests));
+      counted = rw lane (omega arith);
+    }
+
+-- the ticket of the answer is the next on D
+pub take_c-answer : (v : View) (h : Layers) (t : Ticket) (x : Message) (between : Table) → Means v h
+    → first_of (take_c_cases v t) ≡ None → Comes v t x → SameLinks h.links between
+    → ((y : ℕ) (l : Channel) → lane_in between y l
+    ≡ cond (is_here t.client t.channel y l) (without_first (lane_in h.links y l)) (lane_in h.links y l))
+    → cond (is_a_release x.body)
+    (Some (record { bank = between.bank; client = t.client; channel = D; serial = sent (lane_in between t.client D) })) None
+    ≡ answer_to v t
+take_c-answer v h t x between m none comes same took =
+    ap (λ r. cond r (Some (record { bank = between.bank; client = t.client; channel = D; serial = sent (lane_in between t.client D) })) None)
+    (sym comes.is_release)
+    ∙ ap (λ (lane : Lane). cond (begins is_a_release (lane_at v t.client C).messages)
+    (Some (record { bank = between.bank; client = t.client; channel = D; serial = sent lane })) None)
+    (lane-between v h t between m none took)
+    ∙ ap (λ bank. cond (begins is_a_release (lane_at v t.client C).messages)
+    (Some (record { bank = bank; client = t.client; channel = D; serial = sent (lane_at v t.client D) })) None)
+    (same.bank ∙ m.links_bank)
 
 -- the answer is what the event sends
 answer-is : (c b x : ℕ) (l : Channel) (message : Upward) (more : List Upward) (lane : Lane)
