@@ -4,10 +4,12 @@ pub mod Allowed
 pub mod Counts
 pub mod Entries
 pub mod Fresh
+pub mod GrantAcks
 pub mod Grants
 pub mod Heads
 pub mod Keep
 pub mod Loads
+pub mod Narrow
 pub mod Next
 pub mod Orders
 pub mod Pending
