@@ -18,6 +18,7 @@ pub mod Probed
 pub mod Probes
 pub mod ReleaseAcks
 pub mod Releases
+pub mod Serves
 pub mod Shares
 pub mod Slots
 pub mod Stores
