@@ -1,10 +1,10 @@
 -- Room for more events is nothing that the layers hold.
-use Rattle.std.proofs.Common.{◌≡◌, ℕ, List, Option, is_none, refl, sym, ◌∙◌, ap, subst}
+use Rattle.std.proofs.Common.{ℕ, List, Option, is_none, refl, sym, ◌∙◌, ap, subst}
 use Rattle.tl_registers.specs.VictimWay.{IsInOrder}
 use Rattle.tl_home.specs.Homes.{HomeState, order_at}
 use Rattle.tl_bank_spec.specs.View.{View}
 use Rattle.tl_bank_laws.specs.Layers.{Layers}
-use Rattle.tl_bank_laws.specs.Means.{Means, RegistersFit, WaysFit, is_filling}
+use Rattle.tl_bank_laws.specs.Means.{Means, WaysFit, is_filling}
 use Rattle.tl_bank_laws.proofs.Ways.{each-holds-stay, same-work, slot-stays, slots-stay}
 
 ways-room : (v : View) (room : ℕ) (home : HomeState) → WaysFit v home → WaysFit (record v { room = room }) home
