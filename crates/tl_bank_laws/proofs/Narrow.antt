@@ -1,6 +1,5 @@
 -- Registers that are gone leave the ways fit, if the ways that they held are not filling.
-use Rattle.std.proofs.Common.{◌≡◌, ℕ, ◌<◌, ◌&&◌, ◌||◌, ◌==◌, Bool, true, false, List, [], ◌∷◌, filter, Option, is_none, refl, sym, ◌∙◌, ap, subst, inl, inr}
-use Rattle.std.specs.List.{list_any}
+use Rattle.std.proofs.Common.{◌≡◌, ℕ, ◌&&◌, ◌==◌, Bool, true, false, List, [], ◌∷◌, filter, Option, is_none, refl, sym, ◌∙◌, ap, subst, inl, inr}
 use Rattle.std.proofs.lemmas.Map.Views.{any-filter_same}
 use Rattle.tl_home.specs.Homes.{HomeState, order_at}
 use Rattle.tl_registers.specs.Agree.{Each}

@@ -1,11 +1,9 @@
 -- Home holds each block of which a Probe is pending.
-use Rattle.std.proofs.Common.{◌≡◌, ◌≢◌, ℕ, ◌<◌, ◌==◌, false, List, [], ◌∷◌, slice_index, Option, if◌then◌else◌, Some, None, refl, sym, ◌∙◌, ap, subst, arith, eqb-true}
+use Rattle.std.proofs.Common.{◌≡◌, ℕ, ◌<◌, ◌==◌, false, List, [], ◌∷◌, slice_index, Option, if◌then◌else◌, Some, None, refl, sym, ◌∙◌, ap, subst, arith, eqb-true}
 use Rattle.tl_types.specs.Permission.{rank, probe_perm}
 use Rattle.tl_types.specs.declared.permission.Grow.{Grow}
-use Rattle.tl_types.specs.declared.permission.Perm.TheVariants.{None as p_None}
 use Rattle.tl_types.specs.declared.permission.ProbeCap.{ProbeCap}
 use Rattle.tl_protocol.specs.Coherent.{byte_after}
-use Rattle.tl_protocol.specs.Client.{fresh_client}
 use Rattle.tl_protocol.specs.Pending.{IsOrderly, IsServiceAt}
 use Rattle.tl_protocol.specs.Protocol.{Block, MayOn, NoProbe, block_of, after, accepted_from, grants}
 use Rattle.tl_protocol.specs.Runs.{MayNext, after_next, IsRunFrom, IsRun, end_from, end_of, at_reset}
@@ -13,7 +11,6 @@ use Rattle.tl_protocol.specs.declared.client.Client.{Client}
 use Rattle.tl_protocol.specs.declared.event.Event.{Event}
 use Rattle.tl_protocol.specs.declared.event.Event.TheVariants.{Load, Store, SendAcquire, SendRelease, AnswerProbe, TakeGrant, TakeReleaseAck, AcceptAcquire, SendProbe, TakeC, SendGrant, TakeGrantAck, SendGet, Serve, TakeData, Drop, SendPut, TakePutAck}
 use Rattle.tl_protocol.specs.declared.home.Accepted.{Accepted}
-use Rattle.tl_protocol.specs.declared.home.Line.{Line}
 use Rattle.tl_protocol.specs.declared.shape.Shape.{Shape}
 use Rattle.tl_protocol.proofs.Blocks.{at_all, at_put}
 use Rattle.tl_protocol.proofs.Coherent.{AllKept, step_kept, reset_kept}

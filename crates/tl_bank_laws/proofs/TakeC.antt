@@ -1,9 +1,9 @@
 -- Home takes a client's first message on channel C, and what that leaves.
-use Rattle.std.proofs.Common.{◌≡◌, ◌≢◌, ℕ, ◌^◌, ◌<◌, ◌≤◌, ◌==◌, ◌&&◌, ◌||◌, Bool, true, false, cond, length, slice_index_or, List, [], ◌∷◌, ◌++◌, IsSome, Option, Some, None, refl, sym, ◌∙◌, ap, subst, arith, eqb-true, eq-eqb}
+use Rattle.std.proofs.Common.{◌≡◌, ◌≢◌, ℕ, ◌^◌, ◌<◌, ◌≤◌, ◌==◌, ◌&&◌, Bool, true, false, cond, length, slice_index_or, List, [], ◌∷◌, IsSome, Option, Some, None, refl, sym, ◌∙◌, ap, subst, arith, eqb-true, eq-eqb}
 use Rattle.std.specs.List.{list_any}
 use Rattle.std.proofs.lemmas.Bool.Decides.{nat_tests}
 use Rattle.tl_types.specs.Lane.{Lane, IsFirst, is_here, sent, with_message, without_first, bodies_of}
-use Rattle.tl_types.specs.Message.{upward_bytes, upward_from, upward_to, is_probe_ack}
+use Rattle.tl_types.specs.Message.{upward_from, upward_to, is_probe_ack}
 use Rattle.tl_types.specs.Permission.{rank}
 use Rattle.tl_types.specs.declared.channel.Channel.{Channel}
 use Rattle.tl_types.specs.declared.channel.Channel.TheVariants.{C, D}
