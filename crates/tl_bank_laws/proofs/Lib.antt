@@ -1,5 +1,6 @@
 pub mod Acquires
 pub mod Allowed
+pub mod Chosen
 pub mod Counts
 pub mod Entries
 pub mod Fresh
@@ -7,9 +8,11 @@ pub mod Grants
 pub mod Heads
 pub mod Keep
 pub mod Loads
+pub mod Opens
 pub mod Places
 pub mod Probes
 pub mod ReleaseAcks
 pub mod Releases
 pub mod Shares
+pub mod Slots
 pub mod Stores

@@ -1,0 +1,222 @@
+-- A register that opens holds a way of its own.
+use Rattle.std.proofs.Common.{◌≡◌, ◌≢◌, ℕ, ◌<◌, ◌==◌, ◌&&◌, ◌||◌, Bool, true, false, List, [], ◌∷◌, ◌++◌, length, Option, Some, None, refl, sym, ◌∙◌, ap, subst, arith, inl, inr, eqb-true, eq-eqb}
+use Rattle.std.specs.Prelude.{◌⊎◌, is_none}
+use Rattle.tl_map.specs.Places.{set_of}
+use Rattle.tl_protocol.specs.declared.event.Event.{Event}
+use Rattle.tl_protocol.specs.declared.home.Accepted.{Accepted}
+use Rattle.tl_protocol.specs.declared.home.Line.{Line}
+use Rattle.tl_registers.specs.Agree.{Each, IsFreeVictim}
+use Rattle.tl_registers.specs.Register.{acquire_task, opened, works_on}
+use Rattle.tl_registers.specs.Registers.{is_busy, is_held}
+use Rattle.tl_registers.specs.VictimWay.{IsChosen, IsFreeOrOldest, block_in, is_free, lowest_free}
+use Rattle.tl_registers.specs.declared.register.Register.{Register}
+use Rattle.tl_registers.specs.declared.register.Task.{Task}
+use Rattle.tl_registers.specs.declared.register.Task.TheVariants.{Acquire, Replace, Evict}
+use Rattle.tl_registers.specs.declared.way_of_set.WayOfSet.{WayOfSet}
+use Rattle.tl_registers.proofs.Booleans.{bool-cases, or-false, and-true}
+use Rattle.tl_registers.proofs.Tables.{each-end, each-follows}
+use Rattle.tl_bank_spec.specs.View.{View, IsOwn, block_at, shape_of}
+use Rattle.tl_bank_spec.specs.Ways.{IsWayFor, holds_way, lies_in, slot_at, slots_at, victim_in, way_in_set}
+use Rattle.tl_home.specs.Homes.{HomeState}
+use Rattle.tl_bank_laws.specs.Means.{HoldsWay, WaysApart, WaysFit}
+use Rattle.tl_bank_laws.proofs.Chosen.{Picks, picks-chosen}
+use Rattle.tl_bank_laws.proofs.Slots.{Lies, lies-of, of-lies, slot-lies, slot-of}
+
+-- ## The way is free to be held
+
+-- a register holds a way where a block lies only if it works on that block
+held-works : (v : View) (set way block : ℕ) (xs : List Register) → Each (HoldsWay v) xs → block < v.geometry.memory_blocks
+    → Lies v set way block → is_busy block xs ≡ false → is_held (way_in_set set way) xs ≡ false
+held-works v set way block [] held l lies free = refl
+held-works v set way block (r ∷ rest) held l lies free =
+    let parts = or-false (works_on r block) (is_busy block rest) free in
+    let more = held-works v set way block rest held.1 l lies parts.1 in
+    elim (bool-cases ((r.way.set == set) && (r.way.way == way))) [
+      | inl e ↦
+          let both = and-true (r.way.set == set) (r.way.way == way) e in
+          let in_set : set ≡ r.way.set = sym (eqb-true r.way.set set both.0) in
+          let in_way : way ≡ r.way.way = sym (eqb-true r.way.way way both.1) in
+          let there : Lies v r.way.set r.way.way block =
+          record { here = lies.here; in_set = lies.in_set ∙ in_set; lies = lies.lies ∙ ap Some in_way } in
+          let on : works_on r block ≡ true = held.0.alone block l (of-lies v r.way.set r.way.way block there) in
+          let off : works_on r block ≡ false = parts.0 in
+          let bad : true ≡ false = sym on ∙ off in
+          cc
+      | inr e ↦ rw e more
+    ]
+
+-- a register works on a block that lies in a way only if it holds the way
+works-held : (v : View) (set way block : ℕ) (xs : List Register) → Each (HoldsWay v) xs → Lies v set way block
+    → is_held (way_in_set set way) xs ≡ false → is_busy block xs ≡ false
+works-held v set way block [] held lies free = refl
+works-held v set way block (r ∷ rest) held lies free =
+    let parts = or-false ((r.way.set == set) && (r.way.way == way)) (is_held (way_in_set set way) rest) free in
+    let more = works-held v set way block rest held.1 lies parts.1 in
+    elim (bool-cases (works_on r block)) [
+      | inl on ↦
+          let in_set : r.way.set ≡ set = sym (held.0.own block on).1 ∙ lies.in_set in
+          let in_way : r.way.way ≡ way = sym (held.0.lies block way on lies.lies) in
+          let first = eq-eqb r.way.set set in_set in
+          let second = eq-eqb r.way.way way in_way in
+          let bad : true ≡ false = rw (first, second) at parts.0 in
+          cc
+      | inr off ↦ rw off more
+    ]
+
+-- A way that a register of a block may take, once its victim has left it.
+pub record MayHold (v : View) (block way : ℕ) (victim : Option ℕ) : Type 0 where
+  pub own : IsOwn v.geometry v.number block
+  pub inside : way < v.geometry.ways
+  pub not_held : holds_way v (set_of v.geometry block) way ≡ false
+  pub lies : (w : ℕ) → v.ways block ≡ Some w → w ≡ way
+  pub there : (b : ℕ) → victim ≡ Some b → (b < v.geometry.memory_blocks) × Lies v (set_of v.geometry block) way b
+  pub other : (b : ℕ) → victim ≡ Some b → v.ways block ≡ None
+  pub alone : (b : ℕ) → b < v.geometry.memory_blocks → Lies v (set_of v.geometry block) way b → (block ≡ b) ⊎ (victim ≡ Some b)
+
+-- the way that the rules say is one
+pub may-hold : (v : View) (home : HomeState) (block way : ℕ) (lies : Option ℕ) → WaysFit v home → IsOwn v.geometry v.number block
+    → is_busy block v.registers ≡ false → v.ways block ≡ lies → IsWayFor v (set_of v.geometry block) lies way
+    → MayHold v block way (victim_in v (set_of v.geometry block) lies way)
+may-hold v home block way (Some at) fit own free is way_is =
+    let set : ℕ = set_of v.geometry block in
+    let here : v.ways block ≡ Some way = is ∙ ap Some (sym way_is) in
+    let there : Lies v set way block = record { here = own.1; in_set = refl; lies = here } in
+    record {
+      own = own;
+      inside = fit.inside block way own here;
+      not_held = held-works v set way block v.registers fit.held own.0 there free;
+      lies = λ w e. let both : Some w ≡ Some way = sym e ∙ here in cc;
+      there = λ b e. cc;
+      other = λ b e. cc;
+      alone = λ b l lies. inl (fit.once block b way own (l, lies.here) (sym lies.in_set) here lies.lies);
+    }
+may-hold v home block way None fit own free is way_is =
+    let set : ℕ = set_of v.geometry block in
+    let picks : Picks v set way = picks-chosen v set way way_is in
+    record {
+      own = own;
+      inside = picks.inside;
+      not_held = picks.not_held;
+      lies = λ w e. let both : None ≡ Some w = sym is ∙ e in cc;
+      there = λ b e. slot-lies v set way b e;
+      other = λ b e. is;
+      alone = λ b l lies. inr (slot-of v set way b fit.once l lies);
+    }
+
+home-none : (home : Option Line) → is_none home ≡ true → home ≡ None
+home-none None h = refl
+home-none (Some line) h = cc
+
+-- the victim, where there is one, is a block that no register works on
+pub free-victim : (v : View) (home : HomeState) (block way : ℕ) (victim : Option ℕ) → WaysFit v home → MayHold v block way victim
+    → IsFreeVictim (shape_of v.geometry) (block_at v) v.registers block victim
+free-victim v home block way None fit may = tt
+free-victim v home block way (Some victim) fit may =
+    let there = may.there victim refl in
+    let none = may.other victim refl in (
+      there.0,
+      λ e. let both : Some way ≡ None = sym there.1.lies ∙ (ap v.ways e ∙ none) in cc,
+      works-held v (set_of v.geometry block) way victim v.registers fit.held there.1 may.not_held,
+      home-none (block_at v block).home (fit.holds block may.own ∙ ap is_none none),
+    )
+
+-- ## The register that opens
+
+-- a register works on its own block and its victim
+pub record WorksOn (r : Register) (victim : Option ℕ) : Type 0 where
+  pub only : (b : ℕ) → works_on r b ≡ true → (r.own ≡ b) ⊎ (victim ≡ Some b)
+  pub on : (b : ℕ) → (r.own ≡ b) ⊎ (victim ≡ Some b) → works_on r b ≡ true
+
+own-on : (own b : ℕ) (t : Bool) → own ≡ b → ((own == b) || t) ≡ true
+own-on own b t e = rw (eq-eqb own b e) refl
+
+or-right : (s t : Bool) → t ≡ true → (s || t) ≡ true
+or-right true t h = refl
+or-right false t h = h
+
+or-either : (s t : Bool) → (s || t) ≡ true → (s ≡ true) ⊎ (t ≡ true)
+or-either true t h = inl refl
+or-either false t h = inr h
+
+-- one that serves an Acquire
+pub acquire-works-on : (block : ℕ) (way : WayOfSet) (acquire : Accepted) (victim : Option ℕ)
+    → WorksOn (opened block way (acquire_task acquire victim)) victim
+acquire-works-on block way acquire None = record {
+  only = λ b h. elim (or-either (block == b) false h) [ inl e ↦ inl (eqb-true block b e) | inr e ↦ cc ];
+  on = λ b. elim [ inl e ↦ own-on block b false e | inr e ↦ cc ];
+}
+acquire-works-on block way acquire (Some victim) = record {
+  only = λ b h. elim (or-either (block == b) (victim == b) h) [
+    | inl e ↦ inl (eqb-true block b e)
+    | inr e ↦ inr (ap Some (eqb-true victim b e))
+  ];
+  on = λ b. elim [
+    | inl e ↦ own-on block b (victim == b) e
+    | inr e ↦ let same : victim ≡ b = cc in or-right (block == b) (victim == b) (eq-eqb victim b same)
+  ];
+}
+
+-- one that sends its block away
+pub evict-works-on : (block : ℕ) (way : WayOfSet) → WorksOn (opened block way Evict) None
+evict-works-on block way = record {
+  only = λ b h. elim (or-either (block == b) (block == b) h) [ inl e ↦ inl (eqb-true block b e) | inr e ↦ inl (eqb-true block b e) ];
+  on = λ b. elim [ inl e ↦ own-on block b (block == b) e | inr e ↦ cc ];
+}
+
+-- such a register holds its way
+pub new-holds : (v : View) (block way : ℕ) (task : Task) (victim : Option ℕ) → MayHold v block way victim
+    → WorksOn (opened block (way_in_set (set_of v.geometry block) way) task) victim
+    → HoldsWay v (opened block (way_in_set (set_of v.geometry block) way) task)
+new-holds v block way task victim may works = record {
+  inside = may.inside;
+  own = λ b on. elim (works.only b on) [
+    | inl e ↦ let P : ℕ → Type 0 = λ x. IsOwn v.geometry v.number x × (set_of v.geometry x ≡ set_of v.geometry block) in subst P e (may.own, refl)
+    | inr e ↦ let there = may.there b e in ((there.0, there.1.here), there.1.in_set)
+  ];
+  lies = λ b w on at. elim (works.only b on) [
+    | inl e ↦ may.lies w (ap v.ways e ∙ at)
+    | inr e ↦ let there = may.there b e in let both : Some w ≡ Some way = sym at ∙ there.1.lies in cc
+  ];
+  alone = λ b l lies. works.on b (may.alone b l (lies-of v (set_of v.geometry block) way b lies));
+}
+
+-- ## The other registers
+
+differs-back : (s t : WayOfSet) → ((s.set == t.set) && (s.way == t.way)) ≡ false → ((t.set == s.set) && (t.way == s.way)) ≡ false
+differs-back s t h =
+    elim (bool-cases ((t.set == s.set) && (t.way == s.way))) [
+      | inl e ↦
+          let both = and-true (t.set == s.set) (t.way == s.way) e in
+          let first = eq-eqb s.set t.set (sym (eqb-true t.set s.set both.0)) in
+          let second = eq-eqb s.way t.way (sym (eqb-true t.way s.way both.1)) in
+          let bad : true ≡ false = rw (first, second) at h in
+          cc
+      | inr e ↦ e
+    ]
+
+held-end : (way : WayOfSet) (xs : List Register) (r : Register) → is_held way xs ≡ false
+    → ((r.way.set == way.set) && (r.way.way == way.way)) ≡ false → is_held way (xs ++ r ∷ []) ≡ false
+held-end way [] r h one = rw one refl
+held-end way (x ∷ rest) r h one =
+    let parts = or-false ((x.way.set == way.set) && (x.way.way == way.way)) (is_held way rest) h in
+    rw parts.0 (held-end way rest r parts.1 one)
+
+-- registers whose ways are apart stay so with one more whose way is not held
+pub ways-apart-end : (xs : List Register) (r : Register) → WaysApart xs → is_held r.way xs ≡ false → WaysApart (xs ++ r ∷ [])
+ways-apart-end [] r apart free = (refl, tt)
+ways-apart-end (x ∷ rest) r apart free =
+    let parts = or-false ((x.way.set == r.way.set) && (x.way.way == r.way.way)) (is_held r.way rest) free in
+    (held-end x.way rest r apart.0 (differs-back x.way r.way parts.0), ways-apart-end rest r apart.1 parts.1)
+
+-- what a register holds does not rest on the log, the room or the registers
+pub holds-still : (v : View) (log : List Event) (room : ℕ) (registers : List Register) (r : Register) → HoldsWay v r
+    → HoldsWay (record v { log = log; room = room; registers = registers }) r
+holds-still v log room registers r h = record { inside = h.inside; own = h.own; lies = h.lies; alone = h.alone }
+
+-- one more register that holds a way
+pub each-holds : (v : View) (log : List Event) (room : ℕ) (r : Register) → Each (HoldsWay v) v.registers → HoldsWay v r
+    → Each (HoldsWay (record v { log = log; room = room; registers = v.registers ++ r ∷ [] })) (v.registers ++ r ∷ [])
+each-holds v log room r held new =
+    let later : View = record v { log = log; room = room; registers = v.registers ++ r ∷ [] } in
+    each-follows (HoldsWay v) (HoldsWay later) (v.registers ++ r ∷ []) (λ q h. holds-still v log room (v.registers ++ r ∷ []) q h)
+    (each-end (HoldsWay v) v.registers r held new)
