@@ -1,3 +1,4 @@
+pub mod Accepted
 pub mod Acquires
 pub mod Allowed
 pub mod Chosen
@@ -9,6 +10,9 @@ pub mod Heads
 pub mod Keep
 pub mod Loads
 pub mod Opens
+pub mod Next
+pub mod Orders
+pub mod Pending
 pub mod Places
 pub mod Probes
 pub mod ReleaseAcks
