@@ -4,6 +4,7 @@ pub mod Allowed
 pub mod Chosen
 pub mod Counts
 pub mod Entries
+pub mod Evicts
 pub mod Fresh
 pub mod Grants
 pub mod Heads

@@ -1,6 +1,7 @@
 -- A register that opens holds a way of its own.
 use Rattle.std.proofs.Common.{◌≡◌, ◌≢◌, ℕ, ◌<◌, ◌==◌, ◌&&◌, ◌||◌, Bool, true, false, List, [], ◌∷◌, ◌++◌, length, Option, Some, None, refl, sym, ◌∙◌, ap, subst, arith, inl, inr, eqb-true, eq-eqb}
 use Rattle.std.specs.Prelude.{◌⊎◌, is_none}
+use Rattle.std.specs.List.{list_any}
 use Rattle.tl_map.specs.Places.{set_of}
 use Rattle.tl_protocol.specs.declared.event.Event.{Event}
 use Rattle.tl_protocol.specs.declared.home.Accepted.{Accepted}
@@ -8,17 +9,17 @@ use Rattle.tl_protocol.specs.declared.home.Line.{Line}
 use Rattle.tl_registers.specs.Agree.{Each, IsFreeVictim}
 use Rattle.tl_registers.specs.Register.{acquire_task, opened, works_on}
 use Rattle.tl_registers.specs.Registers.{is_busy, is_held}
-use Rattle.tl_registers.specs.VictimWay.{IsChosen, IsFreeOrOldest, block_in, is_free, lowest_free}
+use Rattle.tl_registers.specs.VictimWay.{IsInOrder}
 use Rattle.tl_registers.specs.declared.register.Register.{Register}
 use Rattle.tl_registers.specs.declared.register.Task.{Task}
 use Rattle.tl_registers.specs.declared.register.Task.TheVariants.{Acquire, Replace, Evict}
 use Rattle.tl_registers.specs.declared.way_of_set.WayOfSet.{WayOfSet}
 use Rattle.tl_registers.proofs.Booleans.{bool-cases, or-false, and-true}
 use Rattle.tl_registers.proofs.Tables.{each-end, each-follows}
-use Rattle.tl_bank_spec.specs.View.{View, IsOwn, block_at, shape_of}
+use Rattle.tl_bank_spec.specs.View.{View, IsOwn, block_at, shape_of, way_at}
 use Rattle.tl_bank_spec.specs.Ways.{IsWayFor, holds_way, lies_in, slot_at, slots_at, victim_in, way_in_set}
-use Rattle.tl_home.specs.Homes.{HomeState}
-use Rattle.tl_bank_laws.specs.Means.{HoldsWay, WaysApart, WaysFit}
+use Rattle.tl_home.specs.Homes.{HomeState, order_at}
+use Rattle.tl_bank_laws.specs.Means.{HoldsWay, WaysApart, WaysFit, is_filling}
 use Rattle.tl_bank_laws.proofs.Chosen.{Picks, picks-chosen}
 use Rattle.tl_bank_laws.proofs.Slots.{Lies, lies-of, of-lies, slot-lies, slot-of}
 
@@ -68,18 +69,18 @@ pub record MayHold (v : View) (block way : ℕ) (victim : Option ℕ) : Type 0 w
   pub own : IsOwn v.geometry v.number block
   pub inside : way < v.geometry.ways
   pub not_held : holds_way v (set_of v.geometry block) way ≡ false
-  pub lies : (w : ℕ) → v.ways block ≡ Some w → w ≡ way
+  pub lies : (w : ℕ) → way_at v block ≡ Some w → w ≡ way
   pub there : (b : ℕ) → victim ≡ Some b → (b < v.geometry.memory_blocks) × Lies v (set_of v.geometry block) way b
-  pub other : (b : ℕ) → victim ≡ Some b → v.ways block ≡ None
+  pub other : (b : ℕ) → victim ≡ Some b → way_at v block ≡ None
   pub alone : (b : ℕ) → b < v.geometry.memory_blocks → Lies v (set_of v.geometry block) way b → (block ≡ b) ⊎ (victim ≡ Some b)
 
 -- the way that the rules say is one
 pub may-hold : (v : View) (home : HomeState) (block way : ℕ) (lies : Option ℕ) → WaysFit v home → IsOwn v.geometry v.number block
-    → is_busy block v.registers ≡ false → v.ways block ≡ lies → IsWayFor v (set_of v.geometry block) lies way
+    → is_busy block v.registers ≡ false → way_at v block ≡ lies → IsWayFor v (set_of v.geometry block) lies way
     → MayHold v block way (victim_in v (set_of v.geometry block) lies way)
 may-hold v home block way (Some at) fit own free is way_is =
     let set : ℕ = set_of v.geometry block in
-    let here : v.ways block ≡ Some way = is ∙ ap Some (sym way_is) in
+    let here : way_at v block ≡ Some way = is ∙ ap Some (sym way_is) in
     let there : Lies v set way block = record { here = own.1; in_set = refl; lies = here } in
     record {
       own = own;
@@ -115,7 +116,7 @@ free-victim v home block way (Some victim) fit may =
     let there = may.there victim refl in
     let none = may.other victim refl in (
       there.0,
-      λ e. let both : Some way ≡ None = sym there.1.lies ∙ (ap v.ways e ∙ none) in cc,
+      λ e. let both : Some way ≡ None = sym there.1.lies ∙ (ap (way_at v) e ∙ none) in cc,
       works-held v (set_of v.geometry block) way victim v.registers fit.held there.1 may.not_held,
       home-none (block_at v block).home (fit.holds block may.own ∙ ap is_none none),
     )
@@ -174,7 +175,7 @@ new-holds v block way task victim may works = record {
     | inr e ↦ let there = may.there b e in ((there.0, there.1.here), there.1.in_set)
   ];
   lies = λ b w on at. elim (works.only b on) [
-    | inl e ↦ may.lies w (ap v.ways e ∙ at)
+    | inl e ↦ may.lies w (ap (way_at v) e ∙ at)
     | inr e ↦ let there = may.there b e in let both : Some w ≡ Some way = sym at ∙ there.1.lies in cc
   ];
   alone = λ b l lies. works.on b (may.alone b l (lies-of v (set_of v.geometry block) way b lies));
@@ -220,3 +221,34 @@ each-holds v log room r held new =
     let later : View = record v { log = log; room = room; registers = v.registers ++ r ∷ [] } in
     each-follows (HoldsWay v) (HoldsWay later) (v.registers ++ r ∷ []) (λ q h. holds-still v log room (v.registers ++ r ∷ []) q h)
     (each-end (HoldsWay v) v.registers r held new)
+
+-- a test that an element passes, one that follows from it passes of a longer list
+pub any-follows : (p q : Register → Bool) (xs : List Register) (r : Register) → ((x : Register) → p x ≡ true → q x ≡ true)
+    → list_any p xs ≡ true → list_any q (xs ++ r ∷ []) ≡ true
+any-follows p q [] r f h = cc
+any-follows p q (x ∷ rest) r f h =
+    elim (or-either (p x) (list_any p rest) h) [
+      | inl e ↦ rw (f x e) refl
+      | inr e ↦ or-right (q x) (list_any q (rest ++ r ∷ [])) (any-follows p q rest r f e)
+    ]
+
+-- the view once a register is open
+abbrev pub opened_view : View → List Event → ℕ → Register → View
+opened_view v log room r = record v { log = log; room = room; registers = v.registers ++ r ∷ [] }
+
+-- the ways fit the new view, where home holds the same blocks and the orders are those of the new log
+pub ways-open : (v : View) (home : HomeState) (log : List Event) (room : ℕ) (r : Register) → WaysFit v home → HoldsWay v r
+    → is_held r.way v.registers ≡ false
+    → ((b : ℕ) → is_none (block_at (opened_view v log room r) b).home ≡ is_none (block_at v b).home)
+    → ((set : ℕ) → set < v.geometry.sets → IsInOrder (slots_at v set) (is_filling (opened_view v log room r) set) log (order_at home set))
+    → WaysFit (opened_view v log room r) home
+ways-open v home log room r fit new free holds orders = record {
+  shown = fit.shown;
+  inside = fit.inside;
+  once = fit.once;
+  holds = λ b own. holds b ∙ fit.holds b own;
+  free = fit.free;
+  held = each-holds v log room r fit.held new;
+  apart = ways-apart-end v.registers r fit.apart free;
+  orders = orders;
+}

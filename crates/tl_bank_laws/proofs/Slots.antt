@@ -8,7 +8,7 @@ use Rattle.tl_map.specs.Numbers.{Numbers}
 use Rattle.tl_map.specs.Places.{bank_of, set_of}
 use Rattle.tl_registers.specs.Register.{lowest, or_this}
 use Rattle.tl_registers.specs.VictimWay.{block_in}
-use Rattle.tl_bank_spec.specs.View.{View, IsOwn}
+use Rattle.tl_bank_spec.specs.View.{View, IsOwn, way_at}
 use Rattle.tl_bank_spec.specs.Ways.{is_way, lies_in, slot_at, slots_at, slots_below}
 
 -- ## Tests
@@ -94,16 +94,16 @@ both-true false t h = cc
 pub record Lies (v : View) (set way block : ℕ) : Type 0 where
   pub here : bank_of v.geometry block ≡ v.number
   pub in_set : set_of v.geometry block ≡ set
-  pub lies : v.ways block ≡ Some way
+  pub lies : way_at v block ≡ Some way
 
 pub lies-of : (v : View) (set way block : ℕ) → lies_in v set way block ≡ true → Lies v set way block
 lies-of v set way block h =
-    let first = both-true (bank_of v.geometry block == v.number) ((set_of v.geometry block == set) && is_way way (v.ways block)) h in
-    let second = both-true (set_of v.geometry block == set) (is_way way (v.ways block)) first.1 in
+    let first = both-true (bank_of v.geometry block == v.number) ((set_of v.geometry block == set) && is_way way (way_at v block)) h in
+    let second = both-true (set_of v.geometry block == set) (is_way way (way_at v block)) first.1 in
     record {
       here = eqb-true (bank_of v.geometry block) v.number first.0;
       in_set = eqb-true (set_of v.geometry block) set second.0;
-      lies = is_way-some way (v.ways block) second.1;
+      lies = is_way-some way (way_at v block) second.1;
     }
 
 pub of-lies : (v : View) (set way block : ℕ) → Lies v set way block → lies_in v set way block ≡ true
@@ -119,7 +119,7 @@ of-lies v set way block l =
 abbrev pub Once : View → Type 0
 Once v =
     (a b w : ℕ) → IsOwn v.geometry v.number a → IsOwn v.geometry v.number b → set_of v.geometry a ≡ set_of v.geometry b
-    → v.ways a ≡ Some w → v.ways b ≡ Some w → a ≡ b
+    → way_at v a ≡ Some w → way_at v b ≡ Some w → a ≡ b
 
 -- the block in a slot is of the memory, and lies there
 pub slot-lies : (v : View) (set way block : ℕ) → slot_at v set way ≡ Some block → (block < v.geometry.memory_blocks) × Lies v set way block
@@ -188,180 +188,3 @@ slot-in v set (suc n) way l =
 -- what is in a way of the list
 pub slots_at-in : (v : View) (set way : ℕ) → way < v.geometry.ways → block_in (slots_at v set) way ≡ slot_at v set way
 slots_at-in v set way l = slot-in v set v.geometry.ways way l
-
-past-end : (xs : List (Option ℕ)) (i : ℕ) → length xs ≤ i → block_in xs i ≡ None
-past-end [] i l = refl
-past-end (x ∷ xs) zero l = absurd (omega arith)
-past-end (x ∷ xs) (suc i) l = past-end xs i (omega arith)
-
--- what is in the list is in one of the ways
-pub slots_at-some : (v : View) (set way block : ℕ) → block_in (slots_at v set) way ≡ Some block
-    → (way < v.geometry.ways) × (slot_at v set way ≡ Some block)
-slots_at-some v set way block h =
-    elim (cases_lt way v.geometry.ways) [
-      | inl l ↦ (l, sym (slots_at-in v set way l) ∙ h)
-      | inr m ↦
-          let long = slots_at-length v set in
-          let none : block_in (slots_at v set) way ≡ None = past-end (slots_at v set) way (omega (arith, long)) in
-          cc
-    ]
-
-slots-same : (v w : View) (set n : ℕ) → ((way : ℕ) → way < n → slot_at w set way ≡ slot_at v set way)
-    → slots_below w set n ≡ slots_below v set n
-slots-same v w set zero same = refl
-slots-same v w set (suc n) same = rw (slots-same v w set n (λ way l. same way (omega arith)), same n (omega arith)) refl
-
-slots-one : (v w : View) (s n way : ℕ) (x : Option ℕ) → way < n → slot_at w s way ≡ x
-    → ((other : ℕ) → other ≢ way → slot_at w s other ≡ slot_at v s other)
-    → slots_below w s n ≡ set (slots_below v s n) way x
-slots-one v w s zero way x l here same = absurd (omega arith)
-slots-one v w s (suc n) way x l here same =
-    let xs : List (Option ℕ) = slots_below v s n in
-    let long : length xs ≡ n = slots-length v s n in
-    elim (cases_eq way n) [
-      | inl q ↦
-          let below : slots_below w s n ≡ xs = slots-same v w s n (λ other m. same other (λ e. absurd (omega (arith, e, q, m)))) in
-          let last : slot_at w s n ≡ x = ap (slot_at w s) (sym q) ∙ here in
-          let at : way ≡ length xs = q ∙ sym long in
-          rw (below, last, at) (sym (set-append_seam xs (slot_at v s n) [] x))
-      | inr q ↦
-          let inside : way < length xs = omega (arith, long) in
-          let below : slots_below w s n ≡ set xs way x = slots-one v w s n way x (omega arith) here same in
-          let last : slot_at w s n ≡ slot_at v s n = same n (λ e. q (sym e)) in
-          rw (below, last) (sym (set-append_left xs (slot_at v s n ∷ []) way x inside))
-    ]
-
--- ## One block comes or goes
-
--- a block lies there, and each other where it lay
-abbrev pub moved : View → ℕ → Option ℕ → View
-moved v block at = record v { ways = λ b. if b == block then at else v.ways b }
-
-moved-here : (v : View) (block : ℕ) (at : Option ℕ) → (moved v block at).ways block ≡ at
-moved-here v block at = let same : (block == block) ≡ true = eq-eqb block block refl in rw same refl
-
-moved-other : (v : View) (block b : ℕ) (at : Option ℕ) → b ≢ block → (moved v block at).ways b ≡ v.ways b
-moved-other v block b at ne =
-    elim (test-cases (b == block)) [ inl is ↦ absurd (ne (eqb-true b block is)) | inr fails ↦ rw fails refl ]
-
--- a block that lies in a way still lies there, unless it is the one that moved
-pub moved-lies : (v : View) (block b : ℕ) (at : Option ℕ) (s way : ℕ) → b ≢ block → Lies (moved v block at) s way b → Lies v s way b
-moved-lies v block b at s way ne l =
-    record { here = l.here; in_set = l.in_set; lies = sym (moved-other v block b at ne) ∙ l.lies }
-
-lies-moved : (v : View) (block b : ℕ) (at : Option ℕ) (s way : ℕ) → b ≢ block → Lies v s way b → Lies (moved v block at) s way b
-lies-moved v block b at s way ne l =
-    record { here = l.here; in_set = l.in_set; lies = moved-other v block b at ne ∙ l.lies }
-
--- a slot in which the block neither lay nor lies is as it was
-pub slot-stays : (v : View) (block : ℕ) (at : Option ℕ) (s way : ℕ) → (Lies v s way block → ⊥) → (Lies (moved v block at) s way block → ⊥)
-    → slot_at (moved v block at) s way ≡ slot_at v s way
-slot-stays v block at s way lay lies =
-    lowest-same (lies_in (moved v block at) s way) (lies_in v s way) v.geometry.memory_blocks
-    (λ b l. tests-agree (lies_in (moved v block at) s way b) (lies_in v s way b)
-    (λ is. let there : Lies (moved v block at) s way b = lies-of (moved v block at) s way b is in
-    elim (cases_eq b block) [
-      | inl q ↦ absurd (lies (subst (λ (x : ℕ). Lies (moved v block at) s way x) q there))
-      | inr ne ↦ of-lies v s way b (moved-lies v block b at s way ne there)
-    ])
-    (λ is. let there : Lies v s way b = lies-of v s way b is in
-    elim (cases_eq b block) [
-      | inl q ↦ absurd (lay (subst (λ (x : ℕ). Lies v s way x) q there))
-      | inr ne ↦ of-lies (moved v block at) s way b (lies-moved v block b at s way ne there)
-    ]))
-
--- ## A block comes into a free way
-
--- A block of the bank, which lay nowhere, comes into a way where no block lay.
-pub record Comes (v : View) (block way : ℕ) : Type 0 where
-  pub inside : block < v.geometry.memory_blocks
-  pub here : bank_of v.geometry block ≡ v.number
-  pub nowhere : v.ways block ≡ None
-  pub free : slot_at v (set_of v.geometry block) way ≡ None
-
-nowhere-lies : (v : View) (block s way : ℕ) → v.ways block ≡ None → Lies v s way block → ⊥
-nowhere-lies v block s way none l = let bad : None ≡ Some way = sym none ∙ l.lies in cc
-
--- its slot has it then
-pub slot-comes : (v : View) (block way : ℕ) → Comes v block way
-    → slot_at (moved v block (Some way)) (set_of v.geometry block) way ≡ Some block
-slot-comes v block way c =
-    let s : ℕ = set_of v.geometry block in
-    slot-only (moved v block (Some way)) s way block c.inside
-    (record { here = c.here; in_set = refl; lies = moved-here v block (Some way) })
-    (λ other l there. elim (cases_eq other block) [
-      | inl q ↦ q
-      | inr ne ↦ absurd (slot-empty v s way other c.free l (moved-lies v block other (Some way) s way ne there))
-    ])
-
--- each other slot is as it was
-pub slot-comes-other : (v : View) (block way s other : ℕ) → Comes v block way → ((s ≡ set_of v.geometry block) × (other ≡ way) → ⊥)
-    → slot_at (moved v block (Some way)) s other ≡ slot_at v s other
-slot-comes-other v block way s other c ne =
-    slot-stays v block (Some way) s other (nowhere-lies v block s other c.nowhere)
-    (λ l.
-    let same : Some way ≡ Some other = sym (moved-here v block (Some way)) ∙ l.lies in
-    let is : other ≡ way = cc in
-    ne (sym l.in_set, is))
-
--- the slots of its set then
-pub slots-come : (v : View) (block way : ℕ) → Comes v block way → way < v.geometry.ways
-    → slots_at (moved v block (Some way)) (set_of v.geometry block) ≡ set (slots_at v (set_of v.geometry block)) way (Some block)
-slots-come v block way c l =
-    slots-one v (moved v block (Some way)) (set_of v.geometry block) v.geometry.ways way (Some block) l (slot-comes v block way c)
-    (λ other ne. slot-comes-other v block way (set_of v.geometry block) other c (λ both. ne both.1))
-
--- those of another set are as they were
-pub slots-come-other : (v : View) (block way s : ℕ) → Comes v block way → s ≢ set_of v.geometry block
-    → slots_at (moved v block (Some way)) s ≡ slots_at v s
-slots-come-other v block way s c ne =
-    slots-same v (moved v block (Some way)) s v.geometry.ways
-    (λ other l. slot-comes-other v block way s other c (λ both. ne both.0))
-
--- ## A block leaves its way
-
--- A block of the bank lies in a way, alone.
-pub record Goes (v : View) (block way : ℕ) : Type 0 where
-  pub once : Once v
-  pub inside : block < v.geometry.memory_blocks
-  pub here : bank_of v.geometry block ≡ v.number
-  pub lies : v.ways block ≡ Some way
-
--- its slot is empty then
-pub slot-goes : (v : View) (block way : ℕ) → Goes v block way → slot_at (moved v block None) (set_of v.geometry block) way ≡ None
-slot-goes v block way g =
-    let s : ℕ = set_of v.geometry block in
-    slot-none (moved v block None) s way
-    (λ other l there. elim (cases_eq other block) [
-      | inl q ↦
-          let gone : (moved v block None).ways other ≡ None = ap (moved v block None).ways q ∙ moved-here v block None in
-          nowhere-lies (moved v block None) other s way gone there
-      | inr ne ↦
-          let lay = moved-lies v block other None s way ne there in
-          ne (g.once other block way (l, lay.here) (g.inside, g.here) lay.in_set lay.lies g.lies)
-    ])
-
--- each other slot is as it was
-pub slot-goes-other : (v : View) (block way s other : ℕ) → Goes v block way → ((s ≡ set_of v.geometry block) × (other ≡ way) → ⊥)
-    → slot_at (moved v block None) s other ≡ slot_at v s other
-slot-goes-other v block way s other g ne =
-    slot-stays v block None s other
-    (λ l.
-    let same : Some way ≡ Some other = sym g.lies ∙ l.lies in
-    let is : other ≡ way = cc in
-    ne (sym l.in_set, is))
-    (nowhere-lies (moved v block None) block s other (moved-here v block None))
-
--- the slots of its set then
-pub slots-go : (v : View) (block way : ℕ) → Goes v block way → way < v.geometry.ways
-    → slots_at (moved v block None) (set_of v.geometry block) ≡ set (slots_at v (set_of v.geometry block)) way None
-slots-go v block way g l =
-    slots-one v (moved v block None) (set_of v.geometry block) v.geometry.ways way None l (slot-goes v block way g)
-    (λ other ne. slot-goes-other v block way (set_of v.geometry block) other g (λ both. ne both.1))
-
--- those of another set are as they were
-pub slots-go-other : (v : View) (block way s : ℕ) → Goes v block way → s ≢ set_of v.geometry block
-    → slots_at (moved v block None) s ≡ slots_at v s
-slots-go-other v block way s g ne =
-    slots-same v (moved v block None) s v.geometry.ways
-    (λ other l. slot-goes-other v block way s other g (λ both. ne both.0))

@@ -8,7 +8,7 @@ ghost use Rattle.tl_bank_spec.specs.Effects.{Accepts, Evicts, first_grow, grow_i
 ghost use Rattle.tl_bank_spec.specs.HomeCalls.{accept_cases, evict_cases};
 ghost use Rattle.tl_bank_spec.specs.HomeCases.{lacks, no_register};
 ghost use Rattle.tl_bank_spec.specs.Refusal.{IsRefused, first_of};
-ghost use Rattle.tl_bank_spec.specs.View.{IsOwn, lane_at};
+ghost use Rattle.tl_bank_spec.specs.View.{IsOwn, lane_at, way_at};
 ghost use Rattle.tl_bank_spec.specs.Ways.{IsWayFor, registers_full, victim_in, way_in_set, ways_held};
 
 use crate::bank::Bank;
@@ -141,7 +141,7 @@ impl Bank {
     /// holds.
     fn way_for(&self, block: BlockNo) -> Option<Way>
         requires { IsOwn self.now.geometry self.now.number block }
-        ensures is { IfSome result (λ way. IsWayFor self.now (set_of self.now.geometry block) (self.now.ways block) way) }
+        ensures is { IfSome result (λ way. IsWayFor self.now (set_of self.now.geometry block) (way_at self.now block) way) }
         ensures inside { IfSome result (λ way. way < self.now.geometry.ways) }
         ensures none { is_none result ≡ (lacks self.now block && ways_held self.now (set_of self.now.geometry block)) }
     {
@@ -167,7 +167,7 @@ impl Bank {
     fn victim_in(&self, block: BlockNo, way: Way) -> Option<BlockNo>
         requires own { IsOwn self.now.geometry self.now.number block }
         requires inside { way < self.now.geometry.ways }
-        ensures { result ≡ victim_in self.now (set_of self.now.geometry block) (self.now.ways block) way }
+        ensures { result ≡ victim_in self.now (set_of self.now.geometry block) (way_at self.now block) way }
     {
         if self.home.way(block).is_some() {
             return None;
