@@ -1,4 +1,5 @@
 pub mod Accepted
+pub mod Accepts
 pub mod Acquires
 pub mod Allowed
 pub mod Chosen
