@@ -22,3 +22,4 @@ pub mod Releases
 pub mod Shares
 pub mod Slots
 pub mod Stores
+pub mod Ways
