@@ -33,12 +33,13 @@ use Rattle.tl_bank_laws.specs.Layers.{Layers}
 use Rattle.tl_bank_laws.specs.Link.{IsHead}
 use Rattle.tl_bank_laws.specs.Means.{IsHome, Means, WaysFit, is_filling, is_filling_by}
 use Rattle.tl_bank_laws.proofs.Allowed.{AllFalse, all-false, client-is, or-false}
-use Rattle.tl_bank_laws.proofs.Evicts.{few-clients, one-more, steady-is}
+use Rattle.tl_bank_laws.proofs.Evicts.{few-clients, one-more}
 use Rattle.tl_bank_laws.proofs.Heads.{HeadAllowed, head-allowed, head-first, head-list, head-own, is-head}
 use Rattle.tl_bank_laws.proofs.Next.{NextEvent, NextLayers, block_next, blocks-next, means-next, next_view, registers-next}
 use Rattle.tl_bank_laws.proofs.Opens.{MayHold, acquire-works-on, any-follows, free-victim, may-hold, new-holds, opened_view, ways-open}
 use Rattle.tl_bank_laws.proofs.Orders.{order-next}
 use Rattle.tl_bank_laws.proofs.Pending.{no-grant-comes, home-holds-on}
+use Rattle.tl_bank_laws.proofs.Ways.{bank-steady}
 
 -- ## The Acquire that is there
 
@@ -206,7 +207,7 @@ accept-ways v h t block grow way victim room m may =
     let later : View = opened_view v log room r in
     let shape = shape_of v.geometry in
     let after : block_at later ≡ block_next v e = blocks-next v e room (v.registers ++ r ∷ []) v.ways in
-    let steady = steady-is v h m in
+    let steady = bank-steady v h m in
     let pending : (b : ℕ) → grant_pending shape (block_at v b) ≡ false → grant_pending shape (block_at later b) ≡ false =
     λ b none. ap (λ (s : ℕ → Block). grant_pending shape (s b)) after ∙ no-grant-comes shape (block_at v) e b steady tt none in
     ways-open v h.home log room r m.ways
@@ -243,7 +244,7 @@ accept-core v h t way room links m none way_is same takes =
     let may : MayHold v block way victim = may-hold v h.home block way (way_at v block) m.ways own ok.free refl way_is in
     let r : Register = accepting v t block grow way victim in
     let agree = accepting-keeps-agreement shape (block_at v) v.registers t.client block grow asked.rest (way_in_set set way) victim
-    (steady-is v h m) m.registers.agree (few-clients v.geometry m.geometry) event.may asked.list ok.free
+    (bank-steady v h m) m.registers.agree (few-clients v.geometry m.geometry) event.may asked.list ok.free
     (free-victim v h.home block way victim m.ways may) in
     means-next v h (record h { links = links }) e room (v.registers ++ r ∷ []) v.ways m event
     (accept-layers v h t.client block links m same takes)

@@ -14,7 +14,7 @@ use Rattle.tl_bank_spec.specs.View.{View}
 use Rattle.tl_bank_spec.specs.Ways.{IsWayFor, holds_way, slot_at, slots_at, way_in_set, ways_held}
 use Rattle.tl_home.specs.Homes.{HomeState, free_at, order_at}
 use Rattle.tl_bank_laws.specs.Means.{WaysFit, is_filling, is_filling_by}
-use Rattle.tl_bank_laws.proofs.Slots.{lowest-fails, lowest-passes, lowest-none, lowest-same, slots_at-in, slots_at-length}
+use Rattle.tl_bank_laws.proofs.Slots.{lowest-none, lowest-same, lowest-some, none-lowest, slots-in, slots-length}
 
 -- ## The ways that are busy
 
@@ -111,10 +111,10 @@ picks-free : (v : View) (set way : ℕ) (order : List ℕ) (free : Option ℕ)
 picks-free v set way order (Some first) is ordered h =
     let same : first ≡ way = cc in
     let test : ℕ → Bool = λ w. is_free (block_in (slots_at v set) w) && not (holds_way v set w) in
-    let found = lowest-passes test (length (slots_at v set)) way (is ∙ h) in
+    let found = lowest-some test (length (slots_at v set)) way (is ∙ h) in
     let parts = and-true (is_free (block_in (slots_at v set) way)) (not (holds_way v set way)) found.1 in
     record {
-      inside = let long = slots_at-length v set in omega (arith, long, found.0);
+      inside = let long = slots-length v set in omega (arith, long, found.0);
       not_held = not-true (holds_way v set way) parts.1;
       is = subst (λ (x : Option ℕ). IsFreeOrOldest x (slots_at v set) (holds_way v set) v.log way) (sym is) (sym same);
     }
@@ -122,7 +122,7 @@ picks-free v set way order None is ordered h =
     let oldest = first-in-order-is-oldest (slots_at v set) (holds_way v set) (is_filling v set) v.log order way ordered
     (λ w filled. filling-is-held v set w v.registers filled) h in
     record {
-      inside = let long = slots_at-length v set in omega (arith, long, oldest.inside);
+      inside = let long = slots-length v set in omega (arith, long, oldest.inside);
       not_held = oldest.not_held;
       is = subst (λ (x : Option ℕ). IsFreeOrOldest x (slots_at v set) (holds_way v set) v.log way) (sym is) oldest;
     }
@@ -132,8 +132,8 @@ chosen-of : (v : View) (home : HomeState) (set : ℕ) → WaysFit v home → set
     ≡ or_else (lowest_free (slots_at v set) (holds_way v set)) (first_not_held (holds_way v set) (order_at home set))
 chosen-of v home set fit l =
     chosen-is (λ way. free_at home set way) (order_at home set) (held_in set v.registers) (slots_at v set) (holds_way v set) v.geometry.ways
-    (slots_at-length v set)
-    (λ way k. fit.free set way l k ∙ sym (free-is (slot_at v set way)) ∙ ap is_free (sym (slots_at-in v set way k)))
+    (slots-length v set)
+    (λ way k. fit.free set way l k ∙ sym (free-is (slot_at v set way)) ∙ ap is_free (sym (slots-in v set way k)))
     (λ way. busy-is-held set way v.registers)
 
 -- what home chooses of the ways that no register holds
@@ -149,7 +149,7 @@ picks-held v set way p =
     some-lowest (λ w. not (holds_way v set w)) v.geometry.ways way p.inside (ap not p.not_held) (lowest (λ w. not (holds_way v set w)) v.geometry.ways) refl
   where
     some-lowest : (test : ℕ → Bool) (n i : ℕ) → i < n → test i ≡ true → (x : Option ℕ) → lowest test n ≡ x → is_none x ≡ false
-    some-lowest test n i l passes None is = let fails = lowest-fails test n is i l in let bad : true ≡ false = sym passes ∙ fails in cc
+    some-lowest test n i l passes None is = let fails = lowest-none test n i is l in let bad : true ≡ false = sym passes ∙ fails in cc
     some-lowest test n i l passes (Some j) is = refl
 
 -- where home chooses none, all are held
@@ -157,10 +157,10 @@ pub none-held : (v : View) (home : HomeState) (set : ℕ) → WaysFit v home →
     → chosen (λ w. free_at home set w) v.geometry.ways (order_at home set) (held_in set v.registers) ≡ None → ways_held v set ≡ true
 none-held v home set fit l h =
     let none = sym (chosen-of v home set fit l) ∙ h in
-    ap is_none (lowest-none (λ w. not (holds_way v set w)) v.geometry.ways
+    ap is_none (none-lowest (λ w. not (holds_way v set w)) v.geometry.ways
     (λ w k. ap not (none-first (holds_way v set) (order_at home set) w
     (second (lowest_free (slots_at v set) (holds_way v set)) (first_not_held (holds_way v set) (order_at home set)) none)
-    ((fit.orders set l).all w (let long = slots_at-length v set in omega (arith, long))))))
+    ((fit.orders set l).all w (let long = slots-length v set in omega (arith, long))))))
   where
     second : (x y : Option ℕ) → or_else x y ≡ None → y ≡ None
     second None y is = is
@@ -170,15 +170,15 @@ picks-by : (v : View) (set way : ℕ) (free : Option ℕ) → lowest_free (slots
     → IsFreeOrOldest free (slots_at v set) (holds_way v set) v.log way → Picks v set way
 picks-by v set way (Some first) is h =
     let test : ℕ → Bool = λ w. is_free (block_in (slots_at v set) w) && not (holds_way v set w) in
-    let found = lowest-passes test (length (slots_at v set)) way (is ∙ ap Some (sym h)) in
+    let found = lowest-some test (length (slots_at v set)) way (is ∙ ap Some (sym h)) in
     let parts = and-true (is_free (block_in (slots_at v set) way)) (not (holds_way v set way)) found.1 in
     record {
-      inside = let long = slots_at-length v set in omega (arith, long, found.0);
+      inside = let long = slots-length v set in omega (arith, long, found.0);
       not_held = not-true (holds_way v set way) parts.1;
       is = subst (λ (x : Option ℕ). IsFreeOrOldest x (slots_at v set) (holds_way v set) v.log way) (sym is) h;
     }
 picks-by v set way None is h = record {
-  inside = let long = slots_at-length v set in omega (arith, long, h.inside);
+  inside = let long = slots-length v set in omega (arith, long, h.inside);
   not_held = h.not_held;
   is = subst (λ (x : Option ℕ). IsFreeOrOldest x (slots_at v set) (holds_way v set) v.log way) (sym is) h;
 }

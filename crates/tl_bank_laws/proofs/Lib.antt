@@ -11,8 +11,8 @@ pub mod Grants
 pub mod Heads
 pub mod Keep
 pub mod Loads
-pub mod Opens
 pub mod Next
+pub mod Opens
 pub mod Orders
 pub mod Pending
 pub mod Places

@@ -2,7 +2,7 @@
 use Rattle.std.proofs.Common.{◌≡◌, ◌≢◌, ℕ, ◌<◌, ◌==◌, ◌&&◌, ◌||◌, Bool, true, false, List, [], ◌∷◌, ◌++◌, length, Option, Some, None, refl, sym, ◌∙◌, ap, subst, arith, inl, inr, eqb-true, eq-eqb}
 use Rattle.std.specs.Prelude.{◌⊎◌, is_none}
 use Rattle.std.specs.List.{list_any}
-use Rattle.tl_map.specs.Places.{set_of}
+use Rattle.tl_map.specs.Places.{bank_of, set_of}
 use Rattle.tl_protocol.specs.declared.event.Event.{Event}
 use Rattle.tl_protocol.specs.declared.home.Accepted.{Accepted}
 use Rattle.tl_protocol.specs.declared.home.Line.{Line}
@@ -21,9 +21,17 @@ use Rattle.tl_bank_spec.specs.Ways.{IsWayFor, holds_way, lies_in, slot_at, slots
 use Rattle.tl_home.specs.Homes.{HomeState, order_at}
 use Rattle.tl_bank_laws.specs.Means.{HoldsWay, WaysApart, WaysFit, is_filling}
 use Rattle.tl_bank_laws.proofs.Chosen.{Picks, picks-chosen}
-use Rattle.tl_bank_laws.proofs.Slots.{Lies, lies-of, of-lies, slot-lies, slot-of}
+use Rattle.tl_bank_laws.proofs.Slots.{lies-slot, lies-true, slot-lies, true-lies}
 
 -- ## The way is free to be held
+
+-- a block of the bank and of the set lies in the way
+abbrev pub Lies : View → ℕ → ℕ → ℕ → Type 0
+Lies v set way block =
+    (bank_of v.geometry block ≡ v.number) × (set_of v.geometry block ≡ set) × (way_at v block ≡ Some way)
+
+slot-block : (v : View) (set way block : ℕ) → slot_at v set way ≡ Some block → (block < v.geometry.memory_blocks) × Lies v set way block
+slot-block v set way block h = let there = slot-lies v set way block h in (there.0.0, (there.0.1, there.1, there.2))
 
 -- a register holds a way where a block lies only if it works on that block
 held-works : (v : View) (set way block : ℕ) (xs : List Register) → Each (HoldsWay v) xs → block < v.geometry.memory_blocks
@@ -38,8 +46,8 @@ held-works v set way block (r ∷ rest) held l lies free =
           let in_set : set ≡ r.way.set = sym (eqb-true r.way.set set both.0) in
           let in_way : way ≡ r.way.way = sym (eqb-true r.way.way way both.1) in
           let there : Lies v r.way.set r.way.way block =
-          record { here = lies.here; in_set = lies.in_set ∙ in_set; lies = lies.lies ∙ ap Some in_way } in
-          let on : works_on r block ≡ true = held.0.alone block l (of-lies v r.way.set r.way.way block there) in
+          (lies.0, lies.1 ∙ in_set, lies.2 ∙ ap Some in_way) in
+          let on : works_on r block ≡ true = held.0.alone block l (true-lies v r.way.set r.way.way block there.0 there.1 there.2) in
           let off : works_on r block ≡ false = parts.0 in
           let bad : true ≡ false = sym on ∙ off in
           cc
@@ -55,8 +63,8 @@ works-held v set way block (r ∷ rest) held lies free =
     let more = works-held v set way block rest held.1 lies parts.1 in
     elim (bool-cases (works_on r block)) [
       | inl on ↦
-          let in_set : r.way.set ≡ set = sym (held.0.own block on).1 ∙ lies.in_set in
-          let in_way : r.way.way ≡ way = sym (held.0.lies block way on lies.lies) in
+          let in_set : r.way.set ≡ set = sym (held.0.own block on).1 ∙ lies.1 in
+          let in_way : r.way.way ≡ way = sym (held.0.lies block way on lies.2) in
           let first = eq-eqb r.way.set set in_set in
           let second = eq-eqb r.way.way way in_way in
           let bad : true ≡ false = rw (first, second) at parts.0 in
@@ -81,7 +89,7 @@ pub may-hold : (v : View) (home : HomeState) (block way : ℕ) (lies : Option �
 may-hold v home block way (Some at) fit own free is way_is =
     let set : ℕ = set_of v.geometry block in
     let here : way_at v block ≡ Some way = is ∙ ap Some (sym way_is) in
-    let there : Lies v set way block = record { here = own.1; in_set = refl; lies = here } in
+    let there : Lies v set way block = (own.1, refl, here) in
     record {
       own = own;
       inside = fit.inside block way own here;
@@ -89,7 +97,7 @@ may-hold v home block way (Some at) fit own free is way_is =
       lies = λ w e. let both : Some w ≡ Some way = sym e ∙ here in cc;
       there = λ b e. cc;
       other = λ b e. cc;
-      alone = λ b l lies. inl (fit.once block b way own (l, lies.here) (sym lies.in_set) here lies.lies);
+      alone = λ b l lies. inl (fit.once block b way own (l, lies.0) (sym lies.1) here lies.2);
     }
 may-hold v home block way None fit own free is way_is =
     let set : ℕ = set_of v.geometry block in
@@ -99,9 +107,10 @@ may-hold v home block way None fit own free is way_is =
       inside = picks.inside;
       not_held = picks.not_held;
       lies = λ w e. let both : None ≡ Some w = sym is ∙ e in cc;
-      there = λ b e. slot-lies v set way b e;
+      there = λ b e. slot-block v set way b e;
       other = λ b e. is;
-      alone = λ b l lies. inr (slot-of v set way b fit.once l lies);
+      alone = λ b l lies. inr (lies-slot v set way b (l, lies.0) lies.1 lies.2
+          (λ a own_a in_a at_a. fit.once a b way own_a (l, lies.0) (in_a ∙ sym lies.1) at_a lies.2));
     }
 
 home-none : (home : Option Line) → is_none home ≡ true → home ≡ None
@@ -116,7 +125,7 @@ free-victim v home block way (Some victim) fit may =
     let there = may.there victim refl in
     let none = may.other victim refl in (
       there.0,
-      λ e. let both : Some way ≡ None = sym there.1.lies ∙ (ap (way_at v) e ∙ none) in cc,
+      λ e. let both : Some way ≡ None = sym there.1.2 ∙ (ap (way_at v) e ∙ none) in cc,
       works-held v (set_of v.geometry block) way victim v.registers fit.held there.1 may.not_held,
       home-none (block_at v block).home (fit.holds block may.own ∙ ap is_none none),
     )
@@ -172,13 +181,13 @@ new-holds v block way task victim may works = record {
   inside = may.inside;
   own = λ b on. elim (works.only b on) [
     | inl e ↦ let P : ℕ → Type 0 = λ x. IsOwn v.geometry v.number x × (set_of v.geometry x ≡ set_of v.geometry block) in subst P e (may.own, refl)
-    | inr e ↦ let there = may.there b e in ((there.0, there.1.here), there.1.in_set)
+    | inr e ↦ let there = may.there b e in ((there.0, there.1.0), there.1.1)
   ];
   lies = λ b w on at. elim (works.only b on) [
     | inl e ↦ may.lies w (ap (way_at v) e ∙ at)
-    | inr e ↦ let there = may.there b e in let both : Some w ≡ Some way = sym at ∙ there.1.lies in cc
+    | inr e ↦ let there = may.there b e in let both : Some w ≡ Some way = sym at ∙ there.1.2 in cc
   ];
-  alone = λ b l lies. works.on b (may.alone b l (lies-of v (set_of v.geometry block) way b lies));
+  alone = λ b l lies. works.on b (may.alone b l (lies-true v (set_of v.geometry block) way b lies));
 }
 
 -- ## The other registers
