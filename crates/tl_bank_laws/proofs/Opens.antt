@@ -1,14 +1,15 @@
 -- A register that opens holds a way of its own.
 use Rattle.std.proofs.Common.{◌≡◌, ◌≢◌, ℕ, ◌<◌, ◌==◌, ◌&&◌, ◌||◌, Bool, true, false, List, [], ◌∷◌, ◌++◌, length, Option, Some, None, refl, sym, ◌∙◌, ap, subst, arith, inl, inr, eqb-true, eq-eqb}
-use Rattle.std.specs.Prelude.{◌⊎◌, is_none}
+use Rattle.std.specs.Prelude.{◌⊎◌, IfSome, is_none}
 use Rattle.std.specs.List.{list_any}
+use Rattle.tl_map.specs.Numbers.{Numbers}
 use Rattle.tl_map.specs.Places.{bank_of, set_of}
 use Rattle.tl_protocol.specs.declared.event.Event.{Event}
 use Rattle.tl_protocol.specs.declared.home.Accepted.{Accepted}
 use Rattle.tl_protocol.specs.declared.home.Line.{Line}
 use Rattle.tl_registers.specs.Agree.{Each, IsFreeVictim}
 use Rattle.tl_registers.specs.Register.{acquire_task, opened, works_on}
-use Rattle.tl_registers.specs.Registers.{is_busy, is_held}
+use Rattle.tl_registers.specs.Registers.{held_in, is_busy, is_held}
 use Rattle.tl_registers.specs.VictimWay.{IsInOrder}
 use Rattle.tl_registers.specs.declared.register.Register.{Register}
 use Rattle.tl_registers.specs.declared.register.Task.{Task}
@@ -16,11 +17,15 @@ use Rattle.tl_registers.specs.declared.register.Task.TheVariants.{Acquire, Repla
 use Rattle.tl_registers.specs.declared.way_of_set.WayOfSet.{WayOfSet}
 use Rattle.tl_registers.proofs.Booleans.{bool-cases, or-false, and-true}
 use Rattle.tl_registers.proofs.Tables.{each-end, each-follows}
+use Rattle.tl_ways.specs.Orders.{chosen}
+use Rattle.tl_bank_spec.specs.HomeCases.{lacks}
 use Rattle.tl_bank_spec.specs.View.{View, IsOwn, block_at, shape_of, way_at}
-use Rattle.tl_bank_spec.specs.Ways.{IsWayFor, holds_way, lies_in, slot_at, slots_at, victim_in, way_in_set}
-use Rattle.tl_home.specs.Homes.{HomeState, order_at}
-use Rattle.tl_bank_laws.specs.Means.{HoldsWay, WaysApart, WaysFit, is_filling}
-use Rattle.tl_bank_laws.proofs.Chosen.{Picks, picks-chosen}
+use Rattle.tl_bank_spec.specs.Ways.{IsWayFor, holds_way, lies_in, slot_at, slots_at, victim_in, way_in_set, ways_held}
+use Rattle.tl_home.specs.Homes.{HomeState, bank_in, free_at, geometry_in, order_at, way_in}
+use Rattle.tl_home.proofs.DirectoryLaws.{IsThere-of}
+use Rattle.tl_bank_laws.specs.Means.{HoldsWay, Means, WaysApart, WaysFit, is_filling}
+use Rattle.tl_bank_laws.specs.Layers.{Layers}
+use Rattle.tl_bank_laws.proofs.Chosen.{Picks, chosen-picks, none-held, picks-chosen, picks-held}
 use Rattle.tl_bank_laws.proofs.Slots.{lies-slot, lies-true, slot-lies, true-lies}
 
 -- ## The way is free to be held
@@ -261,3 +266,87 @@ ways-open v home log room r fit new free holds orders = record {
   apart = ways-apart-end v.registers r fit.apart free;
   orders = orders;
 }
+
+-- ## What home finds in a way
+
+-- a block that lies somewhere at home is one of home's bank
+lies-here : (home : HomeState) (block way : ℕ) → way_in home block ≡ Some way → bank_of (geometry_in home) block ≡ bank_in home
+unfolding way_in geometry_in bank_in
+lies-here home block way e = (IsThere-of home.directory block way e).own
+
+none-is : (slot : Option ℕ) → is_none slot ≡ true → slot ≡ None
+none-is None h = refl
+none-is (Some block) h = cc
+
+slot-found : (v : View) (h : Layers) (set way : ℕ) (found : Option ℕ) → Means v h → set < v.geometry.sets → way < v.geometry.ways
+    → IfSome found (λ b. b < (geometry_in h.home).memory_blocks) → IfSome found (λ b. set_of (geometry_in h.home) b ≡ set)
+    → IfSome found (λ b. way_in h.home b ≡ Some way) → is_none found ≡ free_at h.home set way → found ≡ slot_at v set way
+slot-found v h set way None m l k inside in_set lies free =
+    sym (none-is (slot_at v set way) (sym (m.ways.free set way l k) ∙ sym free))
+slot-found v h set way (Some b) m l k inside in_set lies free =
+    let g = m.home_geometry in
+    let here : bank_of (geometry_in h.home) b ≡ bank_in h.home = lies-here h.home b way lies in
+    let own : IsOwn v.geometry v.number b =
+    (subst (λ (n : Numbers). b < n.memory_blocks) g inside, subst (λ (n : Numbers). bank_of n b ≡ v.number) g (here ∙ m.home_bank)) in
+    let there : set_of v.geometry b ≡ set = subst (λ (n : Numbers). set_of n b ≡ set) g in_set in
+    let at : way_at v b ≡ Some way = m.ways.shown b own.0 ∙ lies in
+    sym (lies-slot v set way b own there at (λ a own_a in_a at_a. m.ways.once a b way own_a own (in_a ∙ sym there) at_a at))
+
+-- of a block that home lacks, the block that home finds in its way is the victim
+pub victim-found : (v : View) (h : Layers) (block way : ℕ) (found : Option ℕ) → Means v h → block < v.geometry.memory_blocks
+    → set_of v.geometry block < v.geometry.sets → way < v.geometry.ways → way_in h.home block ≡ None
+    → IfSome found (λ b. b < (geometry_in h.home).memory_blocks)
+    → IfSome found (λ b. set_of (geometry_in h.home) b ≡ set_of v.geometry block)
+    → IfSome found (λ b. way_in h.home b ≡ Some way) → is_none found ≡ free_at h.home (set_of v.geometry block) way
+    → found ≡ victim_in v (set_of v.geometry block) (way_at v block) way
+victim-found v h block way found m known l k away inside in_set lies free =
+    let none : way_at v block ≡ None = m.ways.shown block known ∙ away in
+    subst (λ (o : Option ℕ). found ≡ victim_in v (set_of v.geometry block) o way) (sym none)
+    (slot-found v h (set_of v.geometry block) way found m l k inside in_set lies free)
+
+-- ## The way that home offers
+
+-- home's copy of a block lies where the rules say
+pub offers-own : (v : View) (h : Layers) (block way : ℕ) → Means v h → IsOwn v.geometry v.number block → way_in h.home block ≡ Some way
+    → IsWayFor v (set_of v.geometry block) (way_at v block) way × (way < v.geometry.ways)
+    × ((lacks v block && ways_held v (set_of v.geometry block)) ≡ false)
+offers-own v h block way m own lies =
+    let set : ℕ = set_of v.geometry block in
+    let at : way_at v block ≡ Some way = m.ways.shown block own.0 ∙ lies in
+    let held : lacks v block ≡ false = m.ways.holds block own ∙ ap is_none at in (
+      subst (λ (o : Option ℕ). IsWayFor v set o way) (sym at) refl,
+      m.ways.inside block way own at,
+      rw held refl,
+    )
+
+-- and where it lacks the block, the way that it chooses is the one that the rules say
+pub offers-chosen : (v : View) (h : Layers) (block way : ℕ) → Means v h → IsOwn v.geometry v.number block
+    → set_of v.geometry block < v.geometry.sets → way_in h.home block ≡ None
+    → chosen (λ w. free_at h.home (set_of v.geometry block) w) v.geometry.ways (order_at h.home (set_of v.geometry block))
+    (held_in (set_of v.geometry block) v.registers) ≡ Some way
+    → IsWayFor v (set_of v.geometry block) (way_at v block) way × (way < v.geometry.ways)
+    × ((lacks v block && ways_held v (set_of v.geometry block)) ≡ false)
+offers-chosen v h block way m own l away is =
+    let set : ℕ = set_of v.geometry block in
+    let none : way_at v block ≡ None = m.ways.shown block own.0 ∙ away in
+    let picks : Picks v set way = chosen-picks v h.home set way m.ways l is in (
+      subst (λ (o : Option ℕ). IsWayFor v set o way) (sym none) picks.is,
+      picks.inside,
+      rw (picks-held v set way picks) (and-off (lacks v block)),
+    )
+  where
+    and-off : (t : Bool) → (t && false) ≡ false
+    and-off true = refl
+    and-off false = refl
+
+-- where it chooses none, home lacks the block and every way is held
+pub offers-none : (v : View) (h : Layers) (block : ℕ) → Means v h → IsOwn v.geometry v.number block
+    → set_of v.geometry block < v.geometry.sets → way_in h.home block ≡ None
+    → chosen (λ w. free_at h.home (set_of v.geometry block) w) v.geometry.ways (order_at h.home (set_of v.geometry block))
+    (held_in (set_of v.geometry block) v.registers) ≡ None
+    → (lacks v block && ways_held v (set_of v.geometry block)) ≡ true
+offers-none v h block m own l away is =
+    let none : way_at v block ≡ None = m.ways.shown block own.0 ∙ away in
+    let away_is : lacks v block ≡ true = m.ways.holds block own ∙ ap is_none none in
+    let held : ways_held v (set_of v.geometry block) ≡ true = none-held v h.home (set_of v.geometry block) m.ways l is in
+    rw (away_is, held) refl
