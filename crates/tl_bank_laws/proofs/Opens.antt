@@ -1,6 +1,6 @@
 -- A register that opens holds a way of its own.
 use Rattle.std.proofs.Common.{◌≡◌, ◌≢◌, ℕ, ◌<◌, ◌==◌, ◌&&◌, ◌||◌, Bool, true, false, List, [], ◌∷◌, ◌++◌, length, Option, Some, None, refl, sym, ◌∙◌, ap, subst, arith, inl, inr, eqb-true, eq-eqb}
-use Rattle.std.specs.Prelude.{◌⊎◌, IfSome, is_none}
+use Rattle.std.specs.Prelude.{◌⊎◌, IfSome, is_none, is_some}
 use Rattle.std.specs.List.{list_any}
 use Rattle.tl_map.specs.Numbers.{Numbers}
 use Rattle.tl_map.specs.Places.{bank_of, set_of}
@@ -306,20 +306,7 @@ victim-found v h block way found m known l k away inside in_set lies free =
 
 -- ## The way that home offers
 
--- home's copy of a block lies where the rules say
-pub offers-own : (v : View) (h : Layers) (block way : ℕ) → Means v h → IsOwn v.geometry v.number block → way_in h.home block ≡ Some way
-    → IsWayFor v (set_of v.geometry block) (way_at v block) way × (way < v.geometry.ways)
-    × ((lacks v block && ways_held v (set_of v.geometry block)) ≡ false)
-offers-own v h block way m own lies =
-    let set : ℕ = set_of v.geometry block in
-    let at : way_at v block ≡ Some way = m.ways.shown block own.0 ∙ lies in
-    let held : lacks v block ≡ false = m.ways.holds block own ∙ ap is_none at in (
-      subst (λ (o : Option ℕ). IsWayFor v set o way) (sym at) refl,
-      m.ways.inside block way own at,
-      rw held refl,
-    )
-
--- and where it lacks the block, the way that it chooses is the one that the rules say
+-- where home lacks the block, the way that it chooses is the one that the rules say
 pub offers-chosen : (v : View) (h : Layers) (block way : ℕ) → Means v h → IsOwn v.geometry v.number block
     → set_of v.geometry block < v.geometry.sets → way_in h.home block ≡ None
     → chosen (λ w. free_at h.home (set_of v.geometry block) w) v.geometry.ways (order_at h.home (set_of v.geometry block))
@@ -350,3 +337,24 @@ offers-none v h block m own l away is =
     let away_is : lacks v block ≡ true = m.ways.holds block own ∙ ap is_none none in
     let held : ways_held v (set_of v.geometry block) ≡ true = none-held v h.home (set_of v.geometry block) m.ways l is in
     rw (away_is, held) refl
+
+-- a way that is not there
+pub not-some : (way : Option ℕ) → is_some way ≡ false → way ≡ None
+not-some None h = refl
+not-some (Some way) h = cc
+
+-- what home offers for a block that it lacks is a way that the rules say, or else every way is held
+pub record Offered (v : View) (block : ℕ) (found : Option ℕ) : Type 0 where
+  pub is : IfSome found (λ way. IsWayFor v (set_of v.geometry block) (way_at v block) way)
+  pub none : is_none found ≡ (lacks v block && ways_held v (set_of v.geometry block))
+
+pub offered : (v : View) (h : Layers) (block : ℕ) (found : Option ℕ) → Means v h → IsOwn v.geometry v.number block
+    → set_of v.geometry block < v.geometry.sets → way_in h.home block ≡ None
+    → found ≡ chosen (λ w. free_at h.home (set_of v.geometry block) w) v.geometry.ways (order_at h.home (set_of v.geometry block))
+    (held_in (set_of v.geometry block) v.registers)
+    → Offered v block found
+offered v h block None m own l away is =
+    record { is = tt; none = sym (offers-none v h block m own l away (sym is)) }
+offered v h block (Some way) m own l away is =
+    let chosen_is = offers-chosen v h block way m own l away (sym is) in
+    record { is = chosen_is.0; none = sym chosen_is.2 }

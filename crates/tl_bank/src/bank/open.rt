@@ -40,10 +40,10 @@ impl Bank {
         let block = self.first_block(client, Channel::A);
         let grow = self.first_grow(client);
         let way = self.way_for(block).unwrap();
+        let held = self.way_in_set(block, way);
         let victim = self.victim_in(block, way);
         self.make_room()?;
         link::discard(&mut self.links, ticket);
-        let held = self.way_in_set(block, way);
         self.registers
             .open_acquire(block, Accepted { client, grow }, held, victim);
         self.log.append(Event::AcceptAcquire(client, block));
