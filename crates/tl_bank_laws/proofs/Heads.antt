@@ -95,6 +95,14 @@ first-own v h c k x rest m lt is =
     let Q : List Message → Type 0 = λ ys. All (λ y. IsOwn v.geometry v.number y.block) ys in
     All-head (λ (y : Message). IsOwn v.geometry v.number y.block) x rest (subst Q e (m.inside c k))
 
+-- which is the one that the channel's first message speaks of
+pub named-own : (v : View) (h : Layers) (c : ℕ) (k : Channel) (x : Message) (rest : List Message) → Means v h
+    → c < v.geometry.clients → (lane_in h.links c k).messages ≡ x ∷ rest
+    → IsOwn v.geometry v.number (first_block (lane_at v c k).messages)
+named-own v h c k x rest m lt is =
+    own-first (IsOwn v.geometry v.number) (lane_at v c k).messages x rest
+    (ap (λ (l : Lane). l.messages) (sym (m.lanes c k lt)) ∙ is) (m.inside c k)
+
 -- so of a block of the memory
 pub first-inside : (v : View) (h : Layers) (c : ℕ) (k : Channel) (x : Message) (rest : List Message) → Means v h
     → c < v.geometry.clients → (lane_in h.links c k).messages ≡ x ∷ rest → x.block < v.geometry.memory_blocks

@@ -1,5 +1,5 @@
 //! Home opens miss registers: to serve an Acquire, and to send a block away.
-ghost use Rattle.std.specs.Prelude.{◌≡◌, ◌<◌, ◌&&◌, None, IfErr, IfSome, OnErr, OnOk, is_none};
+ghost use Rattle.std.specs.Prelude.{◌≡◌, ◌<◌, ◌&&◌, None, IfErr, IfNone, IfSome, OnErr, OnOk, is_none};
 ghost use Rattle.tl_types.specs.declared.channel.Channel.{Channel};
 ghost use Rattle.tl_map.specs.Places.{set_of};
 ghost use Rattle.tl_registers.specs.Registers.{held_in};
@@ -67,7 +67,8 @@ impl Bank {
     }
 
     fn accept_refusal(&self, ticket: &Ticket) -> Option<Refusal>
-        ensures { result ≡ first_of (accept_cases self.now ticket.now) }
+        ensures is { result ≡ first_of (accept_cases self.now ticket.now) }
+        ensures own { IfNone result (IsOwn self.now.geometry self.now.number (block_named self.now ticket.now Channel.A)) }
     {
         if ticket.client.number() >= self.geometry.clients() {
             return Some(Refusal::OutOfRange);
