@@ -1,8 +1,11 @@
 pub mod Accepted
+pub mod Accepts
 pub mod Acquires
 pub mod Allowed
+pub mod Chosen
 pub mod Counts
 pub mod Entries
+pub mod Evicts
 pub mod Fresh
 pub mod GrantAcks
 pub mod Grants
@@ -11,6 +14,7 @@ pub mod Keep
 pub mod Loads
 pub mod Narrow
 pub mod Next
+pub mod Opens
 pub mod Orders
 pub mod Pending
 pub mod Places
