@@ -1,5 +1,5 @@
 -- A register opens for an Acquire that home accepts, and what it leaves.
-use Rattle.std.proofs.Common.{◌≡◌, ℕ, ◌<◌, ◌==◌, ◌||◌, ◌&&◌, not, Bool, true, false, List, [], ◌∷◌, ◌++◌, map, Option, Some, None, is_none, if◌then◌else◌, refl, sym, ◌∙◌, ap, subst, inl, inr, eqb-true}
+use Rattle.std.proofs.Common.{◌≡◌, ℕ, ◌==◌, ◌&&◌, not, Bool, true, false, List, [], ◌∷◌, ◌++◌, map, Option, None, is_none, if◌then◌else◌, refl, sym, ◌∙◌, ap, subst, inl, inr, eqb-true}
 use Rattle.tl_types.specs.Lane.{is_here, without_first, bodies_of}
 use Rattle.tl_types.specs.declared.channel.Channel.{Channel}
 use Rattle.tl_types.specs.declared.channel.Channel.TheVariants.{A}
@@ -28,14 +28,14 @@ use Rattle.tl_bank_spec.specs.Refusal.{first_of}
 use Rattle.tl_bank_spec.specs.View.{View, IsOwn, block_at, client_at, lane_at, shape_of, way_at}
 use Rattle.tl_bank_spec.specs.Ways.{IsWayFor, registers_full, slots_at, victim_in, way_in_set, ways_held}
 use Rattle.tl_home.specs.Homes.{order_at}
-use Rattle.tl_bank_laws.specs.Entry.{entry_of, entry_with}
+use Rattle.tl_bank_laws.specs.Entry.{entry_of}
 use Rattle.tl_bank_laws.specs.Layers.{Layers}
 use Rattle.tl_bank_laws.specs.Link.{IsHead}
-use Rattle.tl_bank_laws.specs.Means.{IsHome, Means, WaysFit, is_filling, is_filling_by}
+use Rattle.tl_bank_laws.specs.Means.{Means, WaysFit, is_filling, is_filling_by}
 use Rattle.tl_bank_laws.proofs.Allowed.{AllFalse, all-false, client-is, or-false}
 use Rattle.tl_bank_laws.proofs.Evicts.{few-clients, one-more}
 use Rattle.tl_bank_laws.proofs.Heads.{HeadAllowed, head-allowed, head-first, head-list, head-own, is-head}
-use Rattle.tl_bank_laws.proofs.Next.{NextEvent, NextLayers, block_next, blocks-next, means-next, next_view, registers-next}
+use Rattle.tl_bank_laws.proofs.Next.{NextEvent, NextLayers, block_next, blocks-next, means-next, registers-next}
 use Rattle.tl_bank_laws.proofs.Opens.{MayHold, acquire-works-on, any-follows, free-victim, may-hold, new-holds, opened_view, ways-open}
 use Rattle.tl_bank_laws.proofs.Orders.{order-next}
 use Rattle.tl_bank_laws.proofs.Pending.{no-grant-comes, home-holds-on}

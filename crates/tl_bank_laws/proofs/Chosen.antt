@@ -1,17 +1,16 @@
 -- The way that home chooses is the one that the rules say.
-use Rattle.std.proofs.Common.{◌≡◌, ◌≢◌, ℕ, zero, suc, ◌<◌, ◌==◌, ◌&&◌, ◌||◌, not, Bool, true, false, List, [], ◌∷◌, length, map, filter, Option, Some, None, if◌then◌else◌, cond, refl, sym, ◌∙◌, ap, subst, arith, inl, inr, eqb-true, eq-eqb}
-use Rattle.std.specs.Prelude.{◌⊎◌, find, is_none}
+use Rattle.std.proofs.Common.{◌≡◌, ℕ, zero, suc, ◌<◌, ◌==◌, ◌&&◌, ◌||◌, not, Bool, true, false, List, [], ◌∷◌, length, Option, Some, None, if◌then◌else◌, refl, sym, ◌∙◌, ap, subst, arith, inl, inr}
+use Rattle.std.specs.Prelude.{find, is_none}
 use Rattle.std.specs.List.{list_any}
 use Rattle.tl_registers.specs.Register.{lowest, or_this}
 use Rattle.tl_registers.specs.Registers.{held_in, is_held}
 use Rattle.tl_registers.specs.VictimWay.{IsChosen, IsFreeOrOldest, IsInOrder, IsAmong, block_in, first_not_held, is_free, lowest_free}
 use Rattle.tl_registers.specs.declared.register.Register.{Register}
-use Rattle.tl_registers.specs.declared.way_of_set.WayOfSet.{WayOfSet}
 use Rattle.tl_registers.proofs.Booleans.{bool-cases, and-true, not-true}
 use Rattle.tl_registers.proofs.Order.{first-in-order-is-oldest}
 use Rattle.tl_ways.specs.Orders.{chosen, is_busy, lowest as lowest_way, or_else}
 use Rattle.tl_bank_spec.specs.View.{View}
-use Rattle.tl_bank_spec.specs.Ways.{IsWayFor, holds_way, slot_at, slots_at, way_in_set, ways_held}
+use Rattle.tl_bank_spec.specs.Ways.{holds_way, slot_at, slots_at, way_in_set, ways_held}
 use Rattle.tl_home.specs.Homes.{HomeState, free_at, order_at}
 use Rattle.tl_bank_laws.specs.Means.{WaysFit, is_filling, is_filling_by}
 use Rattle.tl_bank_laws.proofs.Slots.{lowest-none, lowest-same, lowest-some, none-lowest, slots-in, slots-length}

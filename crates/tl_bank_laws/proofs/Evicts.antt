@@ -1,24 +1,22 @@
 -- A register opens that sends a block away, and what it leaves.
-use Rattle.std.proofs.Common.{◌≡◌, ℕ, ◌+◌, ◌<◌, ◌≤◌, ◌==◌, Bool, true, false, List, [], ◌∷◌, ◌++◌, length, Option, Some, None, is_none, refl, sym, ◌∙◌, ap, subst, arith, nat_le, length-append}
+use Rattle.std.proofs.Common.{◌≡◌, ℕ, ◌+◌, ◌<◌, ◌≤◌, false, [], ◌∷◌, ◌++◌, length, Option, Some, None, is_none, refl, sym, ◌∙◌, arith, length-append}
 use Rattle.std.proofs.lemmas.Bool.Decides.{nat_tests}
 use Rattle.tl_map.specs.Numbers.{Numbers, IsLawful}
 use Rattle.tl_map.specs.Limits.{most_clients}
 use Rattle.tl_map.specs.Places.{set_of}
-use Rattle.tl_protocol.specs.declared.event.Event.{Event}
-use Rattle.tl_registers.specs.Agree.{Agree, IsSteady}
+use Rattle.tl_registers.specs.Agree.{Agree}
 use Rattle.tl_registers.specs.Register.{opened}
-use Rattle.tl_registers.specs.Registers.{is_busy, is_held}
+use Rattle.tl_registers.specs.Registers.{is_busy}
 use Rattle.tl_registers.specs.declared.register.Register.{Register}
 use Rattle.tl_registers.specs.declared.register.Task.TheVariants.{Evict}
-use Rattle.tl_registers.specs.declared.way_of_set.WayOfSet.{WayOfSet}
 use Rattle.tl_registers.proofs.Opening.{evicting-keeps-agreement}
 use Rattle.tl_bank_spec.specs.HomeCalls.{evict_cases}
 use Rattle.tl_bank_spec.specs.Refusal.{first_of}
 use Rattle.tl_bank_spec.specs.View.{View, IsOwn, block_at, shape_of, way_at}
-use Rattle.tl_bank_spec.specs.Ways.{IsWayFor, registers_full, way_in_set, slots_at}
-use Rattle.tl_home.specs.Homes.{HomeState, order_at}
+use Rattle.tl_bank_spec.specs.Ways.{registers_full, way_in_set, slots_at}
+use Rattle.tl_home.specs.Homes.{order_at}
 use Rattle.tl_bank_laws.specs.Layers.{Layers}
-use Rattle.tl_bank_laws.specs.Means.{HoldsWay, Means, RegistersFit, WaysFit, is_filling, is_filling_by}
+use Rattle.tl_bank_laws.specs.Means.{Means, WaysFit, is_filling, is_filling_by}
 use Rattle.tl_bank_laws.proofs.Accepted.{accepted-by-agree}
 use Rattle.tl_bank_laws.proofs.Allowed.{AllFalse, all-false, block-is, here-is}
 use Rattle.tl_bank_laws.proofs.Opens.{MayHold, any-follows, evict-works-on, may-hold, new-holds, opened_view, ways-open}

@@ -1,5 +1,5 @@
 -- A register that opens holds a way of its own.
-use Rattle.std.proofs.Common.{◌≡◌, ◌≢◌, ℕ, ◌<◌, ◌==◌, ◌&&◌, ◌||◌, Bool, true, false, List, [], ◌∷◌, ◌++◌, length, Option, Some, None, refl, sym, ◌∙◌, ap, subst, arith, inl, inr, eqb-true, eq-eqb}
+use Rattle.std.proofs.Common.{◌≡◌, ℕ, ◌<◌, ◌==◌, ◌&&◌, ◌||◌, Bool, true, false, List, [], ◌∷◌, ◌++◌, Option, Some, None, refl, sym, ◌∙◌, ap, subst, inl, inr, eqb-true, eq-eqb}
 use Rattle.std.specs.Prelude.{◌⊎◌, IfSome, is_none, is_some}
 use Rattle.std.specs.List.{list_any}
 use Rattle.tl_map.specs.Numbers.{Numbers}
@@ -13,14 +13,14 @@ use Rattle.tl_registers.specs.Registers.{held_in, is_busy, is_held}
 use Rattle.tl_registers.specs.VictimWay.{IsInOrder}
 use Rattle.tl_registers.specs.declared.register.Register.{Register}
 use Rattle.tl_registers.specs.declared.register.Task.{Task}
-use Rattle.tl_registers.specs.declared.register.Task.TheVariants.{Acquire, Replace, Evict}
+use Rattle.tl_registers.specs.declared.register.Task.TheVariants.{Evict}
 use Rattle.tl_registers.specs.declared.way_of_set.WayOfSet.{WayOfSet}
 use Rattle.tl_registers.proofs.Booleans.{bool-cases, or-false, and-true}
 use Rattle.tl_registers.proofs.Tables.{each-end, each-follows}
 use Rattle.tl_ways.specs.Orders.{chosen}
 use Rattle.tl_bank_spec.specs.HomeCases.{lacks}
 use Rattle.tl_bank_spec.specs.View.{View, IsOwn, block_at, shape_of, way_at}
-use Rattle.tl_bank_spec.specs.Ways.{IsWayFor, holds_way, lies_in, slot_at, slots_at, victim_in, way_in_set, ways_held}
+use Rattle.tl_bank_spec.specs.Ways.{IsWayFor, holds_way, slot_at, slots_at, victim_in, way_in_set, ways_held}
 use Rattle.tl_home.specs.Homes.{HomeState, bank_in, free_at, geometry_in, order_at, way_in}
 use Rattle.tl_home.proofs.DirectoryLaws.{IsThere-of}
 use Rattle.tl_bank_laws.specs.Means.{HoldsWay, Means, WaysApart, WaysFit, is_filling}

@@ -1,4 +1,4 @@
-use Rattle.std.proofs.Common.{◌≡◌, ℕ, List, [], ◌∷◌, ◌++◌, Some, None, sym, ◌∙◌, ap, subst}
+use Rattle.std.proofs.Common.{◌≡◌, ℕ, [], ◌∷◌, ◌++◌, Some, None, sym, ◌∙◌, subst}
 use Rattle.tl_map.specs.Places.{set_of}
 use Rattle.tl_registers.specs.Register.{opened}
 use Rattle.tl_registers.specs.declared.register.Task.TheVariants.{Evict}
