@@ -23,6 +23,7 @@ use tl_rules::Log;
 use tl_types::{BankNo, BlockNo, ClientId, Perm};
 
 mod client_calls;
+mod memory_calls;
 mod refusals;
 
 /// A bank can't be made for want of memory alone.
