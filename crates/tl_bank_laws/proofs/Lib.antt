@@ -12,4 +12,5 @@ pub mod Probes
 pub mod ReleaseAcks
 pub mod Releases
 pub mod Shares
+pub mod Slots
 pub mod Stores
