@@ -6,6 +6,7 @@ pub mod Entries
 pub mod Fresh
 pub mod Grants
 pub mod Heads
+pub mod HomeSteps
 pub mod Keep
 pub mod Loads
 pub mod Next
@@ -15,6 +16,8 @@ pub mod Places
 pub mod Probes
 pub mod ReleaseAcks
 pub mod Releases
+pub mod SameWays
+pub mod Serves
 pub mod Shares
 pub mod Slots
 pub mod Stores
