@@ -21,3 +21,4 @@ pub mod Serves
 pub mod Shares
 pub mod Slots
 pub mod Stores
+pub mod TakesPutAck
