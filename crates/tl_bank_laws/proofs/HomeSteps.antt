@@ -1,5 +1,5 @@
 -- An event of home and the memory alone: no message is sent or taken, and each client is as it was.
-use Rattle.std.proofs.Common.{◌≡◌, ◌≢◌, ℕ, ◌<◌, ◌==◌, Bool, true, false, List, if◌then◌else◌, refl, sym, ◌∙◌, ap, subst, inl, inr, eqb-true, eq-eqb}
+use Rattle.std.proofs.Common.{◌≡◌, ◌≢◌, ℕ, ◌<◌, ◌==◌, Bool, true, false, List, refl, sym, ◌∙◌, ap, subst, inl, inr}
 use Rattle.std.proofs.lemmas.Bool.{cases_eq}
 use Rattle.tl_types.specs.Lane.{Lane}
 use Rattle.tl_types.specs.declared.channel.Channel.{Channel}
@@ -14,7 +14,6 @@ use Rattle.tl_protocol.specs.Protocol.{Block, block_of, after, served, took_data
 use Rattle.tl_protocol.specs.Runs.{MayNext, after_next}
 use Rattle.tl_lanes.specs.Lanes.{lane_after}
 use Rattle.tl_lanes.specs.Lawful.{TakesFirst}
-use Rattle.tl_registers.proofs.Booleans.{neqb-of}
 use Rattle.tl_registers.proofs.Opening.{elsewhere, here}
 use Rattle.tl_bank_spec.specs.View.{View, IsOwn, IsLater, shape_of, block_at, client_at, stamped}
 use Rattle.tl_home.specs.Homes.{HomeState, SameBank, line_in, recorded_in, outward_in, memory_in}
@@ -22,16 +21,6 @@ use Rattle.tl_bank_laws.specs.Entry.{entry_of}
 use Rattle.tl_bank_laws.specs.Layers.{Layers}
 use Rattle.tl_bank_laws.specs.Means.{Means, IsHome}
 use Rattle.tl_bank_laws.proofs.Next.{NextEvent, NextLayers, block_next}
-
--- ## What changes at one block
-
--- the value of the block
-pub at-block : {X : Type 0} (block : ℕ) (x y : X) → (if block == block then x else y) ≡ x
-at-block block x y = let same : (block == block) ≡ true = eq-eqb block block refl in rw same refl
-
--- the value of another
-pub at-other : {X : Type 0} (block b : ℕ) (x y : X) → b ≢ block → (if b == block then x else y) ≡ y
-at-other block b x y ne = let fails : (b == block) ≡ false = neqb-of b block ne in rw fails refl
 
 -- ## The events
 
@@ -125,31 +114,34 @@ pub record SameAt (old new : HomeState) (b : ℕ) : Type 0 where
   pub outward : outward_in new b ≡ outward_in old b
   pub memory : memory_in new b ≡ memory_in old b
 
-same-home : (clients : ℕ) (old new : HomeState) (b : ℕ) (s : Block) → SameAt old new b → IsHome clients old b s → IsHome clients new b s
-same-home clients old new b s same h = record {
+same-home : (old new : HomeState) (b : ℕ) (s : Block) → SameAt old new b → IsHome old b s → IsHome new b s
+same-home old new b s same h = record {
   line = same.line ∙ h.line;
-  recorded = λ c l. same.recorded c ∙ h.recorded c l;
+  recorded = λ c. same.recorded c ∙ h.recorded c;
   outward = same.outward ∙ h.outward;
   memory = same.memory ∙ h.memory;
 }
 
--- Home's part of each block follows, where that of the event's own does and the others are as they were.
-pub home-follows : (v : View) (h : Layers) (home : HomeState) (e : Event) → Means v h
-    → IsHome v.geometry.clients home (block_of (shape_of v.geometry) e) (after (shape_of v.geometry) (block_at v (block_of (shape_of v.geometry) e)) e)
-    → ((b : ℕ) → b ≢ block_of (shape_of v.geometry) e → SameAt h.home home b)
-    → (b : ℕ) → IsOwn v.geometry v.number b → IsHome v.geometry.clients home b (block_next v e b)
-home-follows v h home e m at_block at_others b own =
+-- What became of home: its part of the event's block follows, and it has of each other block what it had.
+pub record HomeFollows (v : View) (e : Event) (old new : HomeState) : Type 0 where
+  pub bank : SameBank old new
+  pub here : IsHome new (block_of (shape_of v.geometry) e) (after (shape_of v.geometry) (block_at v (block_of (shape_of v.geometry) e)) e)
+  pub others : (b : ℕ) → b ≢ block_of (shape_of v.geometry) e → SameAt old new b
+
+home-follows : (v : View) (h : Layers) (home : HomeState) (e : Event) → Means v h → HomeFollows v e h.home home → (b : ℕ)
+    → IsOwn v.geometry v.number b → IsHome home b (block_next v e b)
+home-follows v h home e m follows b own =
     let shape : Shape = shape_of v.geometry in
     let block : ℕ = block_of shape e in
     elim (cases_eq b block) [
       | inl q ↦
           let here_is : block_next v e block ≡ after shape (block_at v block) e = here shape (block_at v) e block refl in
-          let there : IsHome v.geometry.clients home block (block_next v e block) =
-          subst (λ (s : Block). IsHome v.geometry.clients home block s) (sym here_is) at_block in
-          subst (λ (y : ℕ). IsHome v.geometry.clients home y (block_next v e y)) (sym q) there
+          let there : IsHome home block (block_next v e block) =
+          subst (λ (s : Block). IsHome home block s) (sym here_is) follows.here in
+          subst (λ (y : ℕ). IsHome home y (block_next v e y)) (sym q) there
       | inr ne ↦
-          subst (λ (s : Block). IsHome v.geometry.clients home b s) (sym (elsewhere shape (block_at v) e b ne))
-          (same-home v.geometry.clients h.home home b (block_at v b) (at_others b ne) (m.home b own))
+          subst (λ (s : Block). IsHome home b s) (sym (elsewhere shape (block_at v) e b ne))
+          (same-home h.home home b (block_at v b) (follows.others b ne) (m.home b own))
     ]
 
 -- ## One more such event
@@ -165,16 +157,17 @@ homes-event v e is may at = record {
 }
 
 -- home alone changed
-pub homes-layers : (v : View) (h : Layers) (home : HomeState) (e : Event) → Means v h → IsHomes e → SameBank h.home home
-    → ((b : ℕ) → IsOwn v.geometry v.number b → IsHome v.geometry.clients home b (block_next v e b))
+pub homes-layers : (v : View) (h : Layers) (home : HomeState) (e : Event) → Means v h → IsHomes e
+    → IsOwn v.geometry v.number (block_of (shape_of v.geometry) e) → HomeFollows v e h.home home
     → NextLayers v e h (record h { home = home })
-homes-layers v h home e m is same follows = record {
+homes-layers v h home e m is own follows = record {
   lanes = λ x l inside. sym (homes-lane (shape_of v.geometry) (block_at v (block_of (shape_of v.geometry) e)) e x l _ is);
   copies = λ x y k l. m.copies x y k l ∙ ap entry_of (sym (homes-client v e y x is));
-  home = follows;
+  home = home-follows v h home e m follows;
+  quiet = λ b no. (follows.others b (λ q. no (subst (λ (y : ℕ). IsOwn v.geometry v.number y) (sym q) own))).outward;
   links_size = record { bank = refl; clients = refl };
   copies_size = record { bank = refl; limit = refl; blocks = refl; clients = refl };
-  home_bank = same;
+  home_bank = follows.bank;
   limit = refl;
   clock = homes-clock h.clock e is;
 }

@@ -9,6 +9,7 @@ pub mod Heads
 pub mod HomeSteps
 pub mod Keep
 pub mod Loads
+pub mod Moves
 pub mod Next
 pub mod Orders
 pub mod Pending
@@ -16,9 +17,9 @@ pub mod Places
 pub mod Probes
 pub mod ReleaseAcks
 pub mod Releases
-pub mod SameWays
 pub mod Serves
 pub mod Shares
 pub mod Slots
 pub mod Stores
 pub mod TakesPutAck
+pub mod Ways

@@ -18,7 +18,7 @@ use Rattle.tl_copies.specs.Copies.{held_at, SameSize as SameCopies}
 use Rattle.tl_registers.specs.declared.register.Register.{Register}
 use Rattle.tl_registers.specs.Agree.{Agree}
 use Rattle.tl_bank_spec.specs.View.{View, IsOwn, IsLater, StampsRiseFrom, shape_of, block_at, stamped, clock_from, clock_of}
-use Rattle.tl_home.specs.Homes.{SameBank}
+use Rattle.tl_home.specs.Homes.{SameBank, outward_in}
 use Rattle.tl_bank_laws.specs.Entry.{entry_of}
 use Rattle.tl_bank_laws.specs.Layers.{Layers}
 use Rattle.tl_bank_laws.specs.Means.{Means, IsHome, RegistersFit, WaysFit}
@@ -27,7 +27,7 @@ use Rattle.tl_bank_laws.proofs.Accepted.{accepted-by-agree}
 -- ## One more event
 
 -- the view after one more event
-abbrev pub next_view : View → Event → ℕ → List Register → (ℕ → Option ℕ) → View
+abbrev pub next_view : View → Event → ℕ → List Register → List (Option ℕ) → View
 next_view v e room registers ways = record v { log = v.log ++ e ∷ []; room = room; registers = registers; ways = ways }
 
 -- what is held of each block then
@@ -49,7 +49,8 @@ pub record NextLayers (v : View) (e : Event) (old new : Layers) : Type 0 where
   pub copies :
       (x y : ℕ) → x < v.geometry.clients → y < v.geometry.memory_blocks → held_at new.copies x y
       ≡ entry_of ((block_next v e y).client x)
-  pub home : (b : ℕ) → IsOwn v.geometry v.number b → IsHome v.geometry.clients new.home b (block_next v e b)
+  pub home : (b : ℕ) → IsOwn v.geometry v.number b → IsHome new.home b (block_next v e b)
+  pub quiet : (b : ℕ) → (IsOwn v.geometry v.number b → ⊥) → outward_in new.home b ≡ outward_in old.home b
   pub links_size : SameLinks old.links new.links
   pub copies_size : SameCopies old.copies new.copies
   pub home_bank : SameBank old.home new.home
@@ -59,7 +60,7 @@ pub record NextLayers (v : View) (e : Event) (old new : Layers) : Type 0 where
 -- One more event keeps a bank, where the registers and the ways fit the new view.
 abbrev pub MeansNext : Type 0
 MeansNext =
-    (v : View) (old new : Layers) (e : Event) (room : ℕ) (registers : List Register) (ways : ℕ → Option ℕ)
+    (v : View) (old new : Layers) (e : Event) (room : ℕ) (registers : List Register) (ways : List (Option ℕ))
     → Means v old → NextEvent v e → NextLayers v e old new
     → RegistersFit (next_view v e room registers ways) → WaysFit (next_view v e room registers ways) new.home
     → Means (next_view v e room registers ways) new
@@ -67,14 +68,14 @@ MeansNext =
 -- Registers that agree with what the event leaves fit the new view.
 abbrev pub RegistersNext : Type 0
 RegistersNext =
-    (v : View) (e : Event) (room : ℕ) (registers : List Register) (ways : ℕ → Option ℕ)
+    (v : View) (e : Event) (room : ℕ) (registers : List Register) (ways : List (Option ℕ))
     → Agree (shape_of v.geometry) (block_next v e) registers → length registers ≤ v.geometry.registers
     → RegistersFit (next_view v e room registers ways)
 
 -- what is held of each block of the new view
 abbrev pub BlocksNext : Type 0
 BlocksNext =
-    (v : View) (e : Event) (room : ℕ) (registers : List Register) (ways : ℕ → Option ℕ)
+    (v : View) (e : Event) (room : ℕ) (registers : List Register) (ways : List (Option ℕ))
     → block_at (next_view v e room registers ways) ≡ block_next v e
 
 pub blocks-next : BlocksNext
@@ -156,7 +157,8 @@ means-next v old new e room registers ways m next layers fit in_ways =
           layers.lanes x l h ∙ ap (λ (lane : Lane). lane_after shape s e x l lane) (m.lanes x l h)
           ∙ sym (lanes_grow_by_one shape image log e x l);
       copies = λ x y h l. layers.copies x y h l ∙ ap (λ (t : ℕ → Block). entry_of ((t y).client x)) (sym then);
-      home = λ y o. subst (λ (t : ℕ → Block). IsHome g.clients new.home y (t y)) (sym then) (layers.home y o);
+      home = λ y o. subst (λ (t : ℕ → Block). IsHome new.home y (t y)) (sym then) (layers.home y o);
+      quiet = λ y no. layers.quiet y no ∙ m.quiet y no;
       accepted = λ y. accepted-by-agree shape (block_at (next_view v e room registers ways)) registers fit.agree y;
       registers = fit;
       ways = in_ways;

@@ -9,20 +9,21 @@ use Rattle.tl_protocol.specs.declared.event.Event.TheVariants.{Serve}
 use Rattle.tl_protocol.specs.declared.home.Outward.{Outward}
 use Rattle.tl_protocol.specs.declared.home.Outward.TheVariants.{Quiet, Get, Data, Put, PutAck}
 use Rattle.tl_protocol.proofs.Coherent.{every_run_keeps_sizes}
-use Rattle.tl_registers.proofs.Agreement.{events-leave-registers}
 use Rattle.tl_home.specs.Homes.{HomeState, SameBank, SameHome, memory_in, outward_in, served_memory, served_outward, way_in}
 use Rattle.tl_bank_spec.specs.Effects.{reply_to}
 use Rattle.tl_bank_spec.specs.HomeCalls.{serve_memory_cases}
 use Rattle.tl_bank_spec.specs.HomeCases.{is_request}
 use Rattle.tl_bank_spec.specs.Refusal.{first_of}
-use Rattle.tl_bank_spec.specs.View.{View, IsOwn, block_at, shape_of}
+use Rattle.tl_bank_spec.specs.View.{View, IsOwn, block_at, shape_of, ways_below}
 use Rattle.tl_bank_laws.specs.Layers.{Layers}
 use Rattle.tl_bank_laws.specs.Means.{IsHome, Means}
 use Rattle.tl_bank_laws.specs.Memory.{answered}
 use Rattle.tl_bank_laws.proofs.Allowed.{AllFalse, all-false, block-is, here-is, not-false}
-use Rattle.tl_bank_laws.proofs.HomeSteps.{SameAt, at-block, at-other, home-follows, homes-event, homes-layers}
-use Rattle.tl_bank_laws.proofs.Next.{means-next, next_view, registers-next}
-use Rattle.tl_bank_laws.proofs.SameWays.{same-ways-fit, steady-of, still-held}
+use Rattle.tl_bank_laws.proofs.HomeSteps.{SameAt, homes-event, homes-layers}
+use Rattle.tl_bank_laws.proofs.Moves.{at-block, at-other}
+use Rattle.tl_bank_laws.proofs.Next.{means-next, next_view}
+use Rattle.tl_bank_laws.proofs.Slots.{below-at}
+use Rattle.tl_bank_laws.proofs.Ways.{bank-steady, fit-stays, same-work, ways-stay}
 
 -- ## What may be answered
 
@@ -107,11 +108,11 @@ pub record Served (old new : HomeState) (block : ℕ) : Type 0 where
       (b : ℕ) → memory_in new b
       ≡ (if b == block then served_memory (memory_in old block) (outward_in old block) else memory_in old b)
 
-serve-home : (clients : ℕ) (old new : HomeState) (block : ℕ) (s : Block) → Served old new block → IsHome clients old block s
-    → IsHome clients new block (served s s.outward)
-serve-home clients old new block s did h = record {
+serve-home : (old new : HomeState) (block : ℕ) (s : Block) → Served old new block → IsHome old block s
+    → IsHome new block (served s s.outward)
+serve-home old new block s did h = record {
   line = did.home.lines block ∙ h.line ∙ sym (served-home s s.outward);
-  recorded = λ c l. did.home.recorded c block ∙ h.recorded c l ∙ sym (served-client s s.outward c);
+  recorded = λ c. did.home.recorded c block ∙ h.recorded c ∙ sym (served-client s s.outward c);
   outward =
       did.outward block ∙ at-block block (served_outward (memory_in old block) (outward_in old block)) (outward_in old block)
       ∙ ap (λ out. served_outward (memory_in old block) out) h.outward
@@ -133,19 +134,22 @@ serve-others old new block did b ne = record {
 -- The bank after the memory answered.
 pub serve-keeps : (v : View) (h : Layers) (home : HomeState) (block room : ℕ) → Means v h
     → first_of (serve_memory_cases v block) ≡ None → Served h.home home block
-    → Means (next_view v (Serve block) room v.registers (way_in home)) (record h { home = home })
+    → Means (next_view v (Serve block) room v.registers (ways_below (way_in home) v.geometry.memory_blocks)) (record h { home = home })
 serve-keeps v h home block room m none did =
     let ok = serve-allowed v block none in
     let e = Serve block in
-    means-next v h (record h { home = home }) e room v.registers (way_in home) m
+    let ways : List (Option ℕ) = ways_below (way_in home) v.geometry.memory_blocks in
+    let steady = bank-steady v h m in
+    means-next v h (record h { home = home }) e room v.registers ways m
     (homes-event v e tt (ok.own.0, ok.request) ok.own.1)
-    (homes-layers v h home e m tt did.bank
-    (home-follows v h home e m
-    (serve-home v.geometry.clients h.home home block (block_at v block) did (m.home block ok.own))
-    (serve-others h.home home block did)))
-    (registers-next v e room v.registers (way_in home)
-    (events-leave-registers (shape_of v.geometry) (block_at v) v.registers e tt (steady-of v h m) m.registers.agree) m.registers.few)
-    (same-ways-fit v h home e room v.registers m did.home.ways tt tt (still-held v h e room m tt))
+    (homes-layers v h home e m tt ok.own (record {
+      bank = did.bank;
+      here = serve-home h.home home block (block_at v block) did (m.home block ok.own);
+      others = serve-others h.home home block did;
+    }))
+    (fit-stays v e room ways steady tt m.registers)
+    (ways-stay v e room v.registers ways h.home home steady tt tt (same-work v.registers) did.home.ways
+    (below-at (way_in home) v.geometry.memory_blocks) m.ways)
 
 -- ## The reply
 

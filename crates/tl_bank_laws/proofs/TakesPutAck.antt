@@ -21,19 +21,21 @@ use Rattle.tl_registers.specs.Registers.{ended, is_evict, is_held, task_without,
 use Rattle.tl_registers.proofs.Booleans.{bool-cases, or-else, or-false, or-true, not-false, and-true, neq-of}
 use Rattle.tl_registers.proofs.Closing.{ending-keeps-agreement}
 use Rattle.tl_registers.proofs.Tables.{each-filter, each-follows, each-map}
-use Rattle.tl_home.specs.Homes.{HomeState, SameBank, SameHome, SameMemory, outward_in, way_in}
+use Rattle.tl_home.specs.Homes.{HomeState, SameBank, SameHome, SameMemory, order_at, outward_in, way_in}
 use Rattle.tl_bank_spec.specs.HomeCalls.{take_memory_cases}
 use Rattle.tl_bank_spec.specs.HomeCases.{is_reply}
 use Rattle.tl_bank_spec.specs.Refusal.{first_of}
-use Rattle.tl_bank_spec.specs.View.{View, IsOwn, block_at, shape_of}
-use Rattle.tl_bank_spec.specs.Ways.{lies_in, slot_at}
+use Rattle.tl_bank_spec.specs.View.{View, IsOwn, block_at, shape_of, way_at, ways_below}
+use Rattle.tl_bank_spec.specs.Ways.{lies_in, slot_at, slots_at}
 use Rattle.tl_bank_laws.specs.Layers.{Layers}
 use Rattle.tl_bank_laws.specs.Means.{HoldsWay, IsHome, Means, WaysApart, WaysFit, is_filling, is_filling_by}
 use Rattle.tl_bank_laws.proofs.Allowed.{AllFalse, all-false, block-is, here-is}
-use Rattle.tl_bank_laws.proofs.HomeSteps.{SameAt, at-block, at-other, home-follows, homes-event, homes-layers}
+use Rattle.tl_bank_laws.proofs.HomeSteps.{SameAt, homes-event, homes-layers}
+use Rattle.tl_bank_laws.proofs.Moves.{Lies, at-block, at-other, lies-of}
 use Rattle.tl_bank_laws.proofs.Next.{means-next, next_view, registers-next}
-use Rattle.tl_bank_laws.proofs.SameWays.{StillHeld, fills-on, same-ways-fit, steady-of}
-use Rattle.tl_bank_laws.proofs.Slots.{Lies, lies-of, of-lies, slot-lies}
+use Rattle.tl_bank_laws.proofs.Orders.{order-fills}
+use Rattle.tl_bank_laws.proofs.Slots.{below-at, slot-lies, slots-some, true-lies}
+use Rattle.tl_bank_laws.proofs.Ways.{bank-steady, same-work, ways-stay}
 
 -- ## What may be taken
 
@@ -50,7 +52,7 @@ lacks-home shape s (Some line) kept is busy = absurd (busy (kept.quiet line is))
 -- home lacks a block of which something passes
 pub passing-lacks : (v : View) (h : Layers) (block : ℕ) → Means v h → ((block_at v block).outward ≡ Quiet → ⊥) → (block_at v block).home ≡ None
 passing-lacks v h block m busy =
-    lacks-home (shape_of v.geometry) (block_at v block) (block_at v block).home ((steady-of v h m).service block) refl busy
+    lacks-home (shape_of v.geometry) (block_at v block) (block_at v block).home ((bank-steady v h m).service block) refl busy
 
 none-of : (x : Option ℕ) → is_none x ≡ true → x ≡ None
 none-of None h = refl
@@ -58,10 +60,10 @@ none-of (Some y) h = cc
 
 -- so it lies nowhere
 pub passing-nowhere : (v : View) (h : Layers) (block : ℕ) → Means v h → IsOwn v.geometry v.number block
-    → ((block_at v block).outward ≡ Quiet → ⊥) → v.ways block ≡ None
+    → ((block_at v block).outward ≡ Quiet → ⊥) → way_at v block ≡ None
 passing-nowhere v h block m own busy =
     let lacks = passing-lacks v h block m busy in
-    none-of (v.ways block) (sym (m.ways.holds block own) ∙ ap is_none lacks)
+    none-of (way_at v block) (sym (m.ways.holds block own) ∙ ap is_none lacks)
 
 -- ## Home
 
@@ -72,11 +74,11 @@ pub record TookPutAck (old new : HomeState) (block : ℕ) : Type 0 where
   pub outward : (b : ℕ) → outward_in new b ≡ (if b == block then Quiet else outward_in old b)
   pub memory : SameMemory old new
 
-put_ack-home : (clients : ℕ) (old new : HomeState) (block : ℕ) (s : Block) → TookPutAck old new block → IsHome clients old block s
-    → IsHome clients new block (record s { outward = Quiet })
-put_ack-home clients old new block s did h = record {
+put_ack-home : (old new : HomeState) (block : ℕ) (s : Block) → TookPutAck old new block → IsHome old block s
+    → IsHome new block (record s { outward = Quiet })
+put_ack-home old new block s did h = record {
   line = did.home.lines block ∙ h.line;
-  recorded = λ c l. did.home.recorded c block ∙ h.recorded c l;
+  recorded = λ c. did.home.recorded c block ∙ h.recorded c;
   outward = did.outward block ∙ at-block block Quiet (outward_in old block);
   memory = did.memory block ∙ h.memory;
 }
@@ -155,17 +157,21 @@ evict-own own b Evict is h =
 
 -- ## The ways that they hold
 
+-- the view once the victim is gone
+abbrev pub ended_view : View → ℕ → View
+ended_view v block = record v { registers = ended block v.registers }
+
 -- a register still holds its way, where the victim lies nowhere
-ended-holds : (v : View) (h : Layers) (block room : ℕ) (registers : List Register) (q : Register) → v.ways block ≡ None → HoldsWay v q
-    → HoldsWay (next_view v (TakePutAck block) room registers v.ways) (without_victim block q)
-ended-holds v h block room registers q nowhere holds = record {
+ended-holds : (v : View) (block : ℕ) (q : Register) → way_at v block ≡ None → HoldsWay v q
+    → HoldsWay (ended_view v block) (without_victim block q)
+ended-holds v block q nowhere holds = record {
   inside = holds.inside;
   own = λ b on. holds.own b (fewer q.own block b q.task on);
   lies = λ b w on at. holds.lies b w (fewer q.own block b q.task on) at;
   alone = λ b l lies.
-      let there : Lies v q.way.set q.way.way b = lies-of v q.way.set q.way.way b lies in
+      let there : Lies v q.way.set q.way.way b = lies-of v q.way.set q.way.way b l lies in
       still q.own block b q.task
-      (λ is. let bad : None ≡ Some q.way.way = sym nowhere ∙ (ap v.ways (sym is) ∙ there.lies) in cc)
+      (λ is. let bad : None ≡ Some q.way.way = sym nowhere ∙ (ap (way_at v) (sym is) ∙ there.lies) in cc)
       (holds.alone b l lies);
 }
 
@@ -204,20 +210,15 @@ any-ended P Q block (q ∷ rest) f h =
           ]
     ]
 
--- ## The bank then
-
--- the way of a register that goes on, and its own block, are as they were
-ended-fills : (v : View) (h : Layers) (block room : ℕ) (set way b : ℕ) → Means v h → v.ways block ≡ None → slot_at v set way ≡ Some b
-    → is_filling v set way ≡ true
-    → is_filling (next_view v (TakePutAck block) room (ended block v.registers) v.ways) set way ≡ true
-ended-fills v h block room s way b m nowhere lies fills =
-    let w : View = next_view v (TakePutAck block) room (ended block v.registers) v.ways in
-    let steady = steady-of v h m in
-    let slot = slot-lies v s way b lies in
-    any-ended (is_filling_by v s way) (is_filling_by w s way) block v.registers
+-- a way that a register fills, in which a block lies, is still filled
+ended-fills : (v : View) (block set way b : ℕ) → Each (HoldsWay v) v.registers → way_at v block ≡ None → slot_at v set way ≡ Some b
+    → is_filling v set way ≡ true → is_filling (ended_view v block) set way ≡ true
+ended-fills v block s way b held nowhere at fills =
+    let slot = slot-lies v s way b at in
+    any-ended (is_filling_by v s way) (is_filling_by (ended_view v block) s way) block v.registers
     (each-follows (HoldsWay v)
     (λ q. is_filling_by v s way q ≡ true
-    → ((is_evict q.task && (q.own == block)) ≡ false) × (is_filling_by w s way (without_victim block q) ≡ true))
+    → ((is_evict q.task && (q.own == block)) ≡ false) × (is_filling_by (ended_view v block) s way (without_victim block q) ≡ true))
     v.registers
     (λ q holds by. (
       elim (bool-cases (is_evict q.task && (q.own == block))) [
@@ -225,36 +226,43 @@ ended-fills v h block room s way b m nowhere lies fills =
         | inl e ↦
             let gone = and-true (is_evict q.task) (q.own == block) e in
             let parts = and-true ((q.way.set == s) && (q.way.way == way)) _ by in
-            let at = and-true (q.way.set == s) (q.way.way == way) parts.0 in
-            let set_is : s ≡ q.way.set = sym (eqb-true q.way.set s at.0) in
-            let way_is : way ≡ q.way.way = sym (eqb-true q.way.way way at.1) in
+            let in_way = and-true (q.way.set == s) (q.way.way == way) parts.0 in
+            let set_is : s ≡ q.way.set = sym (eqb-true q.way.set s in_way.0) in
+            let way_is : way ≡ q.way.way = sym (eqb-true q.way.way way in_way.1) in
             let there : lies_in v q.way.set q.way.way b ≡ true =
-            of-lies v q.way.set q.way.way b
-            (record { here = slot.1.here; in_set = slot.1.in_set ∙ set_is; lies = slot.1.lies ∙ ap Some way_is }) in
-            let is : b ≡ block = evict-own q.own b q.task gone.0 (holds.alone b slot.0 there) ∙ eqb-true q.own block gone.1 in
-            let bad : None ≡ Some way = sym nowhere ∙ (ap v.ways (sym is) ∙ slot.1.lies) in
+            true-lies v q.way.set q.way.way b slot.0.1 (slot.1 ∙ set_is) (slot.2 ∙ ap Some way_is) in
+            let is : b ≡ block = evict-own q.own b q.task gone.0 (holds.alone b slot.0.0 there) ∙ eqb-true q.own block gone.1 in
+            let bad : None ≡ Some way = sym nowhere ∙ (ap (way_at v) (sym is) ∙ slot.2) in
             absurd (cc)
       ],
-      fills-on v (TakePutAck block) room (ended block v.registers) v.ways s way q (without_victim block q) steady tt refl refl by,
+      by,
     ))
-    m.ways.held)
+    held)
     fills
 
-ended-held : (v : View) (h : Layers) (block room : ℕ) → Means v h → v.ways block ≡ None
-    → StillHeld v (TakePutAck block) room (ended block v.registers)
-ended-held v h block room m nowhere =
-    let e = TakePutAck block in
-    let registers : List Register = ended block v.registers in
+-- the ways fit the registers that go on
+ended-fits : (v : View) (home : HomeState) (block : ℕ) → way_at v block ≡ None → WaysFit v home → WaysFit (ended_view v block) home
+ended-fits v home block nowhere fit =
     let test : Register → Bool = λ q. not (is_evict q.task && (q.own == block)) in
-    let P : Register → Type 0 = HoldsWay (next_view v e room registers v.ways) in
+    let w : View = ended_view v block in
     record {
-      held = each-map P (without_victim block) (filter test v.registers)
-          (each-filter (λ q. P (without_victim block q)) test v.registers
-          (each-follows (HoldsWay v) (λ q. test q ≡ true → P (without_victim block q)) v.registers
-          (λ q holds stays. ended-holds v h block room registers q nowhere holds) m.ways.held));
-      apart = ended-apart block v.registers m.ways.apart;
-      filling = λ s way b lies fills. ended-fills v h block room s way b m nowhere lies fills;
+      shown = fit.shown;
+      inside = fit.inside;
+      once = fit.once;
+      holds = fit.holds;
+      free = fit.free;
+      held = each-map (HoldsWay w) (without_victim block) (filter test v.registers)
+          (each-filter (λ q. HoldsWay w (without_victim block q)) test v.registers
+          (each-follows (HoldsWay v) (λ q. test q ≡ true → HoldsWay w (without_victim block q)) v.registers
+          (λ q holds stays. ended-holds v block q nowhere holds) fit.held));
+      apart = ended-apart block v.registers fit.apart;
+      orders = λ s k.
+          order-fills (slots_at v s) (is_filling v s) (is_filling w s) v.log (order_at home s)
+          (λ way b lies fills. ended-fills v block s way b fit.held nowhere (slots-some v s way b lies).1 fills)
+          (fit.orders s k);
     }
+
+-- ## The bank then
 
 put_ack-busy : (out : Outward) → out ≡ PutAck → out ≡ Quiet → ⊥
 put_ack-busy out is quiet = let bad : PutAck ≡ Quiet = sym is ∙ quiet in cc
@@ -262,25 +270,29 @@ put_ack-busy out is quiet = let bad : PutAck ≡ Quiet = sym is ∙ quiet in cc
 -- The bank after home took the acknowledgement.
 pub put_ack-keeps : (v : View) (h : Layers) (home : HomeState) (block room : ℕ) → Means v h
     → first_of (take_memory_cases v block) ≡ None → (block_at v block).outward ≡ PutAck → TookPutAck h.home home block
-    → Means (next_view v (TakePutAck block) room (ended block v.registers) (way_in home)) (record h { home = home })
+    → Means (next_view v (TakePutAck block) room (ended block v.registers) (ways_below (way_in home) v.geometry.memory_blocks))
+    (record h { home = home })
 put_ack-keeps v h home block room m none is did =
     let own = take-own v block none in
     let e = TakePutAck block in
-    let shape : Shape = shape_of v.geometry in
     let registers : List Register = ended block v.registers in
+    let ways : List (Option ℕ) = ways_below (way_in home) v.geometry.memory_blocks in
     let nowhere = passing-nowhere v h block m own (put_ack-busy (block_at v block).outward is) in
+    let steady = bank-steady v h m in
     let few = ended-few block v.registers in
     let were = m.registers.few in
-    means-next v h (record h { home = home }) e room registers (way_in home) m
+    means-next v h (record h { home = home }) e room registers ways m
     (homes-event v e tt (own.0, is) own.1)
-    (homes-layers v h home e m tt did.bank
-    (home-follows v h home e m
-    (put_ack-home v.geometry.clients h.home home block (block_at v block) did (m.home block own))
-    (put_ack-others h.home home block did)))
-    (registers-next v e room registers (way_in home)
-    (ending-keeps-agreement shape (block_at v) v.registers block (steady-of v h m) m.registers.agree (own.0, is))
+    (homes-layers v h home e m tt own (record {
+      bank = did.bank;
+      here = put_ack-home h.home home block (block_at v block) did (m.home block own);
+      others = put_ack-others h.home home block did;
+    }))
+    (registers-next v e room registers ways
+    (ending-keeps-agreement (shape_of v.geometry) (block_at v) v.registers block steady m.registers.agree (own.0, is))
     (omega (arith, few, were)))
-    (same-ways-fit v h home e room registers m did.home.ways tt tt (ended-held v h block room m nowhere))
+    (ways-stay (ended_view v block) e room registers ways h.home home steady tt tt (same-work registers) did.home.ways
+    (below-at (way_in home) v.geometry.memory_blocks) (ended-fits v h.home block nowhere m.ways))
 
 -- what home holds of it is the acknowledgement
 pub put_ack-waits : (v : View) (h : Layers) (block : ℕ) → Means v h → first_of (take_memory_cases v block) ≡ None
