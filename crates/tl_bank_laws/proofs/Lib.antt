@@ -3,6 +3,7 @@ pub mod Acquires
 pub mod Allowed
 pub mod Counts
 pub mod Entries
+pub mod Fetched
 pub mod Fresh
 pub mod Grants
 pub mod Heads
