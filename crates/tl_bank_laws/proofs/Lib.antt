@@ -22,5 +22,6 @@ pub mod Serves
 pub mod Shares
 pub mod Slots
 pub mod Stores
+pub mod TakesData
 pub mod TakesPutAck
 pub mod Ways

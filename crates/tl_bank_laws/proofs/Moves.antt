@@ -92,7 +92,7 @@ pub moved-here : (v : View) (ways : List (Option ℕ)) (block : ℕ) (at : Optio
     → way_at (with_ways v ways) block ≡ at
 moved-here v ways block at m l = m block l ∙ at-block block at (way_at v block)
 
-moved-other : (v : View) (ways : List (Option ℕ)) (block b : ℕ) (at : Option ℕ) → Moves v ways block at → b < v.geometry.memory_blocks
+pub moved-other : (v : View) (ways : List (Option ℕ)) (block b : ℕ) (at : Option ℕ) → Moves v ways block at → b < v.geometry.memory_blocks
     → b ≢ block → way_at (with_ways v ways) b ≡ way_at v b
 moved-other v ways block b at m l ne = m b l ∙ at-other block b at (way_at v b) ne
 

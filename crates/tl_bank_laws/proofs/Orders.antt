@@ -60,10 +60,13 @@ pub order-fills : (slots : List (Option ℕ)) (filling filling_then : ℕ → Bo
     → IsInOrder slots filling log order → IsInOrder slots filling_then log order
 order-fills slots filling filling_then log order fills h =
     order-transfers slots slots filling filling_then log order refl
-    (λ w block here f. (here, elim (bool-cases (filling w)) [
-      | inl t ↦ let bad : true ≡ false = sym (fills w block here t) ∙ f in cc
-      | inr t ↦ t
-    ]))
+    (λ w block here f. (
+      here,
+      elim (bool-cases (filling w)) [
+        | inl t ↦ let bad : true ≡ false = sym (fills w block here t) ∙ f in cc
+        | inr t ↦ t
+      ],
+    ))
     h
 
 -- An event that grants nothing keeps it.
