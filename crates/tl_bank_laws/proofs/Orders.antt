@@ -1,8 +1,8 @@
 -- What keeps the order of a set's ways.
-use Rattle.std.proofs.Common.{◌≡◌, ℕ, ◌<◌, ◌≤◌, ◌==◌, Bool, true, false, List, [], ◌∷◌, ◌++◌, length, Option, Some, None, refl, sym, ◌∙◌, ap, subst, arith, inl, inr}
+use Rattle.std.proofs.Common.{◌≡◌, ℕ, Bool, true, false, List, [], ◌∷◌, ◌++◌, length, Option, Some, refl, sym, ◌∙◌, arith, inl, inr}
 use Rattle.tl_protocol.specs.declared.event.Event.{Event}
 use Rattle.tl_protocol.specs.declared.event.Event.TheVariants.{Load, Store, SendAcquire, SendRelease, AnswerProbe, TakeGrant, TakeReleaseAck, AcceptAcquire, SendProbe, TakeC, SendGrant, TakeGrantAck, SendGet, Serve, TakeData, Drop, SendPut, TakePutAck}
-use Rattle.tl_registers.specs.VictimWay.{grants_block, last_grant, block_in, EachBefore, IsNoLater, IsInOrder}
+use Rattle.tl_registers.specs.VictimWay.{grants_block, block_in, EachBefore, IsNoLater, IsInOrder}
 use Rattle.tl_registers.proofs.Booleans.{bool-cases}
 use Rattle.tl_registers.proofs.Order.{other-events-keep-order}
 
