@@ -19,6 +19,7 @@ pub mod Probes
 pub mod ReleaseAcks
 pub mod Releases
 pub mod Serves
+pub mod Rooms
 pub mod Shares
 pub mod Slots
 pub mod Stores
