@@ -18,8 +18,8 @@ pub mod Places
 pub mod Probes
 pub mod ReleaseAcks
 pub mod Releases
-pub mod Serves
 pub mod Rooms
+pub mod Serves
 pub mod Shares
 pub mod Slots
 pub mod Stores

@@ -4,12 +4,13 @@ use Rattle.std.specs.Prelude.{◌⊎◌}
 use Rattle.std.specs.List.{list_any}
 use Rattle.std.proofs.lemmas.Bool.{cases_eq}
 use Rattle.tl_map.specs.Places.{set_of}
+use Rattle.tl_protocol.specs.Home.{IsData}
 use Rattle.tl_protocol.specs.Pending.{IsServiceAt}
 use Rattle.tl_protocol.specs.Protocol.{Block}
 use Rattle.tl_protocol.specs.declared.event.Event.TheVariants.{TakePutAck}
 use Rattle.tl_protocol.specs.declared.home.Line.{Line}
 use Rattle.tl_protocol.specs.declared.home.Outward.{Outward}
-use Rattle.tl_protocol.specs.declared.home.Outward.TheVariants.{Quiet, PutAck}
+use Rattle.tl_protocol.specs.declared.home.Outward.TheVariants.{Quiet, Get, Data, Put, PutAck}
 use Rattle.tl_protocol.specs.declared.shape.Shape.{Shape}
 use Rattle.tl_registers.specs.declared.register.Register.{Register}
 use Rattle.tl_registers.specs.declared.register.Task.{Task}
@@ -44,6 +45,20 @@ pub take-own : (v : View) (block : ℕ) → first_of (take_memory_cases v block)
 take-own v block none =
     let f : AllFalse (take_memory_cases v block) = all-false (take_memory_cases v block) none in
     (block-is v block f.0, here-is v block f.1.0)
+
+data-is : (out : Outward) → is_reply out ≡ true → (out ≡ PutAck → ⊥) → IsData out
+data-is Quiet h other = cc
+data-is Get h other = cc
+data-is (Data bytes) h other = (bytes, refl)
+data-is (Put bytes) h other = cc
+data-is PutAck h other = absurd (other refl)
+
+-- what may be taken, and is no acknowledgement, is the bytes of a Get
+pub take-data : (v : View) (block : ℕ) → first_of (take_memory_cases v block) ≡ None → ((block_at v block).outward ≡ PutAck → ⊥)
+    → IsData (block_at v block).outward
+take-data v block none other =
+    let f : AllFalse (take_memory_cases v block) = all-false (take_memory_cases v block) none in
+    data-is (block_at v block).outward (not-false (is_reply (block_at v block).outward) f.1.1.0) other
 
 lacks-home : (shape : Shape) (s : Block) (home : Option Line) → IsServiceAt shape s → s.home ≡ home → (s.outward ≡ Quiet → ⊥) → s.home ≡ None
 lacks-home shape s None kept is busy = is
