@@ -20,6 +20,7 @@ pub mod ReleaseAcks
 pub mod Releases
 pub mod Rooms
 pub mod Serves
+pub mod ServesMemory
 pub mod Shares
 pub mod Slots
 pub mod Stores
