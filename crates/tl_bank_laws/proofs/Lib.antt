@@ -13,3 +13,4 @@ pub mod ReleaseAcks
 pub mod Releases
 pub mod Shares
 pub mod Stores
+pub mod Views

@@ -1,5 +1,5 @@
 -- What the views of a bank show (this project's own).
-use Rattle.std.specs.Prelude.{◌≡◌, ◌≢◌, ◌×◌, ℕ, zero, suc, ◌<◌, ◌==◌, ◌||◌, not, Bool, List, [], ◌∷◌, map, slice_get, Option, Some, None, if◌then◌else◌}
+use Rattle.std.specs.Prelude.{◌≡◌, ◌≢◌, ℕ, zero, suc, ◌<◌, ◌==◌, ◌||◌, not, Bool, List, [], ◌∷◌, map, slice_get, Option, Some, None, if◌then◌else◌}
 use Rattle.std.specs.Option.{option_map}
 use Rattle.tl_types.specs.declared.channel.Channel.{Channel}
 use Rattle.tl_types.specs.declared.permission.Perm.{Perm}
@@ -76,13 +76,19 @@ own_blocks v = map (λ (r : Register). r.own) v.registers
 
 -- ## Nothing is under way
 
+-- no message waits on a channel of a client
+abbrev pub HasNoMessage : View → ℕ → Type 0
+HasNoMessage v client = (channel : Channel) → (lane_at v client channel).messages ≡ []
+
+-- a client waits for no answer about a block of the bank
+abbrev pub AwaitsNothing : View → ℕ → Type 0
+AwaitsNothing v client = (block : ℕ) → IsOwn v.geometry v.number block → (client_at v client block).wait ≡ Nothing
+
 -- No register is open, no message waits, no client waits for an answer, and nothing passes between home and the memory.
 pub record IsQuiet (v : View) : Type 0 where
   pub registers : v.registers ≡ []
-  pub lanes : (client : ℕ) (channel : Channel) → client < v.geometry.clients → (lane_at v client channel).messages ≡ []
-  pub waits :
-      (client block : ℕ) → client < v.geometry.clients → IsOwn v.geometry v.number block
-      → (client_at v client block).wait ≡ Nothing
+  pub messages : (client : ℕ) → client < v.geometry.clients → HasNoMessage v client
+  pub waits : (client : ℕ) → client < v.geometry.clients → AwaitsNothing v client
   pub outward : (block : ℕ) → IsOwn v.geometry v.number block → (block_at v block).outward ≡ Quiet
 
 -- ## Counts

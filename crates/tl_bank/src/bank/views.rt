@@ -1,14 +1,12 @@
 //! What a bank shows of its end, besides what its clients may do. No view takes memory.
-ghost use Rattle.std.specs.Prelude.{◌≡◌, ◌≢◌, ◌↔◌, ◌×◌, ◌+◌, ◌<◌, ◌≤◌, ◌||◌, ℕ, IfSome, IsSome, IsTrue, None, Some, not, if◌then◌else◌};
+ghost use Rattle.std.specs.Prelude.{◌≡◌, ◌≢◌, ◌↔◌, ◌+◌, ◌<◌, ◌≤◌, ℕ, IfSome, IsSome, IsTrue, None, Some, length, map, if◌then◌else◌};
 ghost use Rattle.std.specs.List.Sorted.{IsNonDecreasing, IsPermutation};
-ghost use Rattle.tl_types.specs.Lane.{message_at};
 ghost use Rattle.tl_types.specs.Permission.{rank};
 ghost use Rattle.tl_types.specs.declared.permission.Perm.{Perm};
 ghost use Rattle.tl_protocol.specs.Coherent.{last};
 ghost use Rattle.tl_protocol.specs.Ledger.{count_clients, has_copy, is_recorded, is_under_way};
-ghost use Rattle.tl_bank_spec.specs.Cases.{no_client, other_bank};
-ghost use Rattle.tl_bank_spec.specs.View.{IsOwn, block_at, lane_at, perm_at};
-ghost use Rattle.tl_bank_spec.specs.Views.{not_own, no_part, recorded_at, peeked, MayRead, MayWrite, dirty_at, outward_at, own_blocks, IsQuiet, pairs_at};
+ghost use Rattle.tl_bank_spec.specs.View.{IsOwn, block_at, perm_at};
+ghost use Rattle.tl_bank_spec.specs.Views.{not_own, no_part, recorded_at, peeked, MayRead, MayWrite, dirty_at, outward_at, own_blocks, HasNoMessage, AwaitsNothing, IsQuiet, pairs_at};
 
 use crate::bank::Bank;
 use arrayvec::ArrayVec;
@@ -17,7 +15,11 @@ use tl_types::{BlockNo, Channel, ClientId, Perm, Wait};
 impl Bank {
     /// The permission that home records for a client of a block: None also where there is no such client, and where the block is
     /// not of the memory or of another bank.
-    pub fn directory(&self, client: ClientId, block: BlockNo) -> Perm {
+    pub fn directory(&self, client: ClientId, block: BlockNo) -> Perm
+        ensures value { result ≡ recorded_at self.now client block }
+        ensures covers { client < self.now.geometry.clients → IsOwn self.now.geometry self.now.number block
+            → rank (perm_at self.now client block) ≤ rank result }
+    {
         if self.has_no_part(client, block) {
             return Perm::None;
         }
@@ -26,7 +28,11 @@ impl Bank {
 
     /// The byte at an address of a client's copy, where that may be read. None also where there is no such client, and where the
     /// address is not of the memory or of another bank.
-    pub fn peek(&self, client: ClientId, address: u32) -> Option<u8> {
+    pub fn peek(&self, client: ClientId, address: u32) -> Option<u8>
+        ensures value { result ≡ peeked self.now client address }
+        ensures readable { IsSome result ↔ MayRead self.now client address }
+        ensures newest { IfSome result (λ byte. byte ≡ last self.now.image self.now.log address) }
+    {
         let block = self.geometry.block_at(address);
         if self.has_no_part(client, block) {
             return None;
@@ -38,7 +44,10 @@ impl Bank {
 
     /// The client whose copy of a block may be written, if there is one. None also where the block is not of the memory or of
     /// another bank.
-    pub fn writer(&self, block: BlockNo) -> Option<ClientId> {
+    pub fn writer(&self, block: BlockNo) -> Option<ClientId>
+        ensures writes { (client : ℕ) → (result ≡ Some client) ↔ MayWrite self.now client block }
+        ensures alone { IfSome result (λ client. (other : ℕ) → other ≢ client → perm_at self.now other block ≡ Perm.None) }
+    {
         if self.is_not_own(block) {
             return None;
         }
@@ -53,7 +62,9 @@ impl Bank {
 
     /// Whether home's copy of a block is dirty, where home has one. None also where the block is not of the memory or of another
     /// bank.
-    pub fn home(&self, block: BlockNo) -> Option<bool> {
+    pub fn home(&self, block: BlockNo) -> Option<bool>
+        ensures { result ≡ dirty_at self.now block }
+    {
         if self.is_not_own(block) {
             return None;
         }
@@ -61,21 +72,26 @@ impl Bank {
     }
 
     /// The own blocks of the open registers, by rising number.
-    pub fn open_blocks(&self) -> ArrayVec<BlockNo, 8> {
+    pub fn open_blocks(&self) -> ArrayVec<BlockNo, 8>
+        ensures blocks { IsPermutation (own_blocks self.now) result.items }
+        ensures rising { IsNonDecreasing result.items }
+    {
         let mut numbers = self.open_numbers();
         numbers.as_mut_slice().sort_unstable();
         blocks_of(numbers.as_slice())
     }
 
     /// Whether nothing is under way: no register is open, no message waits, no client waits for an answer, and nothing passes
-    /// between home and the memory.
-    pub fn is_quiet(&self) -> bool {
+    /// between home and the memory. (What passes is a register's, so with no register nothing does.)
+    pub fn is_quiet(&self) -> bool
+        ensures { IsTrue result ↔ IsQuiet self.now }
+    {
         if !self.registers.is_empty() {
             return false;
         }
         for number in 0..self.geometry.clients() {
             let client = ClientId::new(number);
-            if self.has_message(client) || self.is_waiting(client) {
+            if !self.has_no_message(client) || !self.awaits_nothing(client) {
                 return false;
             }
         }
@@ -83,41 +99,54 @@ impl Bank {
     }
 
     /// How many pairs there are of a client and a block of this bank of which the client has a copy.
-    pub fn held(&self) -> u64 {
+    pub fn held(&self) -> u64
+        ensures { result ≡ pairs_at has_copy self.now }
+    {
         let mut count = 0;
         for number in 0..self.geometry.memory_blocks() {
             let block = BlockNo::new(number);
             if !self.is_not_own(block) {
-                count += self.holders(block);
+                count += u64::from(self.holders(block));
             }
         }
         count
     }
 
-    /// How many pairs there are of a client and a block of this bank that home has recorded above None.
-    pub fn outstanding(&self) -> u64 {
+    /// How many pairs there are of a client and a block of this bank that home has recorded above None: as many as are held and
+    /// under way together, and as are held where nothing is under way.
+    pub fn outstanding(&self) -> u64
+        ensures value { result ≡ pairs_at is_recorded self.now }
+        ensures ledger { result ≡ pairs_at has_copy self.now + pairs_at is_under_way self.now }
+        ensures quiet { IsQuiet self.now → result ≡ pairs_at has_copy self.now }
+    {
         let mut count = 0;
         for number in 0..self.geometry.memory_blocks() {
             let block = BlockNo::new(number);
             if !self.is_not_own(block) {
-                count += self.sharers(block);
+                count += u64::from(self.sharers(block));
             }
         }
         count
     }
 
     /// Whether a block is not of the memory, or of another bank.
-    fn is_not_own(&self, block: BlockNo) -> bool {
+    fn is_not_own(&self, block: BlockNo) -> bool
+        ensures { result ≡ not_own self.now block }
+    {
         !self.geometry.has(block) || self.is_elsewhere(block)
     }
 
     /// Whether a client is not there, or a block not of the memory or of another bank.
-    fn has_no_part(&self, client: ClientId, block: BlockNo) -> bool {
+    fn has_no_part(&self, client: ClientId, block: BlockNo) -> bool
+        ensures { result ≡ no_part self.now client block }
+    {
         client.number() >= self.geometry.clients() || self.is_not_own(block)
     }
 
     /// The numbers of the open registers' own blocks, the oldest register first.
-    fn open_numbers(&self) -> ArrayVec<u32, 8> {
+    fn open_numbers(&self) -> ArrayVec<u32, 8>
+        ensures { result.items ≡ own_blocks self.now }
+    {
         let mut numbers = ArrayVec::new();
         for register in self.registers.as_slice() {
             numbers.push(register.own.number());
@@ -125,34 +154,37 @@ impl Bank {
         numbers
     }
 
-    /// Whether a message waits on a channel of a client.
-    fn has_message(&self, client: ClientId) -> bool
+    /// Whether no message waits on a channel of a client.
+    fn has_no_message(&self, client: ClientId) -> bool
         requires { client < self.now.geometry.clients }
+        ensures { IsTrue result ↔ HasNoMessage self.now client }
     {
-        for channel in &Channel::ALL {
-            if self.links.waiting(client, *channel) != 0 {
-                return true;
-            }
-        }
-        false
+        self.links.waiting(client, Channel::A) == 0
+            && self.links.waiting(client, Channel::B) == 0
+            && self.links.waiting(client, Channel::C) == 0
+            && self.links.waiting(client, Channel::D) == 0
+            && self.links.waiting(client, Channel::E) == 0
     }
 
-    /// Whether a client waits for an answer about a block of this bank.
-    fn is_waiting(&self, client: ClientId) -> bool
+    /// Whether a client waits for no answer about a block of this bank.
+    fn awaits_nothing(&self, client: ClientId) -> bool
         requires { client < self.now.geometry.clients }
+        ensures { IsTrue result ↔ AwaitsNothing self.now client }
     {
         for number in 0..self.geometry.memory_blocks() {
             let block = BlockNo::new(number);
             if !self.is_not_own(block) && self.wait(client, block) != Wait::Nothing {
-                return true;
+                return false;
             }
         }
-        false
+        true
     }
 
     /// How many clients have a copy of a block.
-    fn holders(&self, block: BlockNo) -> u64
+    fn holders(&self, block: BlockNo) -> u32
         requires { block < self.now.geometry.memory_blocks }
+        ensures value { result ≡ count_clients has_copy self.now.geometry.clients (block_at self.now block).client }
+        ensures few { result ≤ 16 }
     {
         let mut count = 0;
         for number in 0..self.geometry.clients() {
@@ -163,9 +195,11 @@ impl Bank {
         count
     }
 
-    /// For how many clients home has recorded a permission of a block above None.
-    fn sharers(&self, block: BlockNo) -> u64
-        requires { block < self.now.geometry.memory_blocks }
+    /// For how many clients home has recorded a permission of a block of this bank above None.
+    fn sharers(&self, block: BlockNo) -> u32
+        requires { IsOwn self.now.geometry self.now.number block }
+        ensures value { result ≡ count_clients is_recorded self.now.geometry.clients (block_at self.now block).client }
+        ensures few { result ≤ 16 }
     {
         let mut count = 0;
         for number in 0..self.geometry.clients() {
@@ -180,6 +214,7 @@ impl Bank {
 /// The blocks with these numbers.
 fn blocks_of(numbers: &[u32]) -> ArrayVec<BlockNo, 8>
     requires { length numbers.now ≤ 8 }
+    ensures { result.items ≡ numbers.now }
 {
     let mut blocks = ArrayVec::new();
     for number in numbers {
