@@ -56,9 +56,8 @@ part-not v c b lt own = or-both (no_client v c) (not_own v b) (grind (arith, nat
 
 -- ## The directory
 
-pub recorded-is : (v : View) (h : Layers) (c b : ℕ) → Means v h → c < v.geometry.clients → IsOwn v.geometry v.number b
-    → recorded_in h.home c b ≡ (client_at v c b).recorded
-recorded-is v h c b m lt own = (m.home b own).recorded c lt
+pub recorded-is : (v : View) (h : Layers) (c b : ℕ) → Means v h → IsOwn v.geometry v.number b → recorded_in h.home c b ≡ (client_at v c b).recorded
+recorded-is v h c b m own = (m.home b own).recorded c
 
 -- a copy is at most what is recorded
 pub recorded-covers : (v : View) (h : Layers) (c b : ℕ) → Means v h → c < v.geometry.clients → IsOwn v.geometry v.number b

@@ -1,9 +1,12 @@
 -- What the views of a bank show (this project's own).
 use Rattle.std.specs.Prelude.{◌≡◌, ◌≢◌, ℕ, zero, suc, ◌<◌, ◌==◌, ◌||◌, not, Bool, List, [], ◌∷◌, map, slice_get, Option, Some, None, if◌then◌else◌}
 use Rattle.std.specs.Option.{option_map}
+use Rattle.tl_types.specs.Lane.{message_at}
 use Rattle.tl_types.specs.declared.channel.Channel.{Channel}
+use Rattle.tl_types.specs.declared.message.Message.{Message}
 use Rattle.tl_types.specs.declared.permission.Perm.{Perm}
 use Rattle.tl_types.specs.declared.permission.Perm.TheVariants.{None as p_None, Tip}
+use Rattle.tl_types.specs.declared.ticket.Ticket.{Ticket}
 use Rattle.tl_types.specs.declared.wait.Wait.TheVariants.{Nothing}
 use Rattle.tl_map.specs.Places.{block_at as block_of_address, offset_of}
 use Rattle.tl_protocol.specs.Copy.{bytes_of}
@@ -51,6 +54,12 @@ MayRead v client address =
 -- a client of the bank has a copy of one of its blocks that may be written
 abbrev pub MayWrite : View → ℕ → ℕ → Type 0
 MayWrite v client block = (client < v.geometry.clients) × IsOwn v.geometry v.number block × (perm_at v client block ≡ Tip)
+
+-- the message that a ticket names, where it waits; None where the ticket is of no client that is there, or of another bank
+abbrev pub in_flight_at : View → Ticket → Option Message
+in_flight_at v ticket =
+    if no_client v ticket.client || not (ticket.bank == v.number) then None
+    else message_at (lane_at v ticket.client ticket.channel) ticket.serial
 
 -- ## Home
 

@@ -6,11 +6,12 @@ ghost use Rattle.tl_types.specs.declared.permission.Perm.{Perm};
 ghost use Rattle.tl_protocol.specs.Coherent.{last};
 ghost use Rattle.tl_protocol.specs.Ledger.{count_clients, has_copy, is_recorded, is_under_way};
 ghost use Rattle.tl_bank_spec.specs.View.{IsOwn, block_at, perm_at};
-ghost use Rattle.tl_bank_spec.specs.Views.{not_own, no_part, recorded_at, peeked, MayRead, MayWrite, dirty_at, outward_at, own_blocks, HasNoMessage, AwaitsNothing, IsQuiet, pairs_at};
+ghost use Rattle.tl_bank_spec.specs.Views.{not_own, no_part, recorded_at, peeked, MayRead, MayWrite, in_flight_at, dirty_at, outward_at, own_blocks, HasNoMessage, AwaitsNothing, IsQuiet, pairs_at};
 
 use crate::bank::Bank;
 use arrayvec::ArrayVec;
-use tl_types::{BlockNo, Channel, ClientId, Perm, Wait};
+use tl_protocol::Outward;
+use tl_types::{BlockNo, Channel, ClientId, Message, Perm, Ticket, Wait};
 
 impl Bank {
     /// The permission that home records for a client of a block: None also where there is no such client, and where the block is
@@ -60,6 +61,19 @@ impl Bank {
         None
     }
 
+    /// The message that a ticket names, where it still waits, wherever in its channel's line. None also where the ticket is of a
+    /// client that is not there or of another bank.
+    pub fn in_flight(&self, ticket: Ticket) -> Option<Message>
+        ensures { result ≡ in_flight_at self.now ticket }
+    {
+        if ticket.client.number() >= self.geometry.clients()
+            || ticket.bank.number() != self.number.number()
+        {
+            return None;
+        }
+        Some(self.links.message(ticket)?.copied())
+    }
+
     /// Whether home's copy of a block is dirty, where home has one. None also where the block is not of the memory or of another
     /// bank.
     pub fn home(&self, block: BlockNo) -> Option<bool>
@@ -69,6 +83,17 @@ impl Bank {
             return None;
         }
         self.home.is_dirty(block)
+    }
+
+    /// What passes of a block between home and the memory, if anything does. None also where the block is not of the memory or of
+    /// another bank.
+    pub fn outward(&self, block: BlockNo) -> Option<Outward>
+        ensures { result ≡ outward_at self.now block }
+    {
+        if self.is_not_own(block) {
+            return None;
+        }
+        Some(self.home.outward(block)?.copied())
     }
 
     /// The own blocks of the open registers, by rising number.
