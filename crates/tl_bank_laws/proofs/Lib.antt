@@ -13,6 +13,7 @@ pub mod Orders
 pub mod Pending
 pub mod Places
 pub mod Probes
+pub mod Quiet
 pub mod ReleaseAcks
 pub mod Releases
 pub mod Shares
