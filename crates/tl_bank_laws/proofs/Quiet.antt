@@ -1,5 +1,6 @@
 -- When a bank is quiet, and what its counts add up to.
-use Rattle.std.proofs.Common.{◌≡◌, ◌≢◌, ℕ, zero, suc, ◌+◌, ◌*◌, ◌<◌, ◌≤◌, Bool, true, false, List, [], ◌∷◌, map, length, if◌then◌else◌, cond, refl, sym, ◌∙◌, ap, arith, subst, add-one}
+use Rattle.std.proofs.Common.{◌≡◌, ◌≢◌, ℕ, zero, suc, ◌+◌, ◌*◌, ◌<◌, ◌≤◌, Bool, true, false, List, [], ◌∷◌, map, length, if◌then◌else◌, ◌==◌, cond, refl, sym, ◌∙◌, ap, arith, subst, eqb-true}
+use Rattle.std.proofs.lemmas.Bool.Decides.{nat_tests}
 use Rattle.tl_types.specs.Lane.{Lane, bodies_of}
 use Rattle.tl_types.specs.declared.channel.Channel.{Channel}
 use Rattle.tl_types.specs.declared.channel.Channel.TheVariants.{A, B, C, D, E}
@@ -29,21 +30,6 @@ quiet-is v h m none each = record {
   outward = λ b own. (m.registers.agree.at_rest b (ap (λ rs. is_busy b rs) none)).quiet;
 }
 
-empty-is : (xs : List Message) → length xs ≡ 0 → xs ≡ []
-empty-is [] h = refl
-empty-is (x ∷ rest) h = absurd (omega arith)
-
--- a channel of a link has no message where its list has length 0
-pub lane-empty : (v : View) (h : Layers) (c : ℕ) (k : Channel) → Means v h → c < v.geometry.clients
-    → length (lane_in h.links c k).messages ≡ 0 → (lane_at v c k).messages ≡ []
-lane-empty v h c k m lt none =
-    ap (λ (l : Lane). l.messages) (sym (m.lanes c k lt)) ∙ empty-is (lane_in h.links c k).messages none
-
--- and its list has length 0 where it has none
-pub lane-zero : (v : View) (h : Layers) (c : ℕ) (k : Channel) → Means v h → c < v.geometry.clients
-    → (lane_at v c k).messages ≡ [] → length (lane_in h.links c k).messages ≡ 0
-lane-zero v h c k m lt none = ap (λ (l : Lane). length l.messages) (m.lanes c k lt) ∙ ap length none
-
 map-empty : {X Y : Type 0} (f : X → Y) (xs : List X) → map f xs ≡ [] → xs ≡ []
 map-empty f [] h = refl
 map-empty f (x ∷ rest) h = cc
@@ -64,6 +50,24 @@ quiet-silent v h m quiet (suc n) =
     ] in
     split (not_own v n)
 
+-- what holds of each number below n and of n holds below n + 1
+pub below-more : (P : ℕ → Type 0) (n : ℕ) → ((x : ℕ) → x < n → P x) → P n → (x : ℕ) → x < n + 1 → P x
+below-more P n before here x lt =
+    let split : (t : Bool) → (x == n) ≡ t → P x =
+    λ t. elim t as (λ t. (x == n) ≡ t → P x) [
+      | true ↦ λ e. subst P (sym (eqb-true x n e)) here
+      | false ↦ λ e. before x (grind (arith, nat_tests))
+    ] in
+    split (x == n) refl
+
+no-registers : (rs : List Register) → (length rs == 0) ≡ true → rs ≡ []
+no-registers [] h = refl
+no-registers (r ∷ rest) h = absurd (grind (arith, nat_tests))
+
+-- no register is open where the list of them has length 0
+pub registers-none : (v : View) (rs : List Register) → rs ≡ v.registers → (length rs == 0) ≡ true → v.registers ≡ []
+registers-none v rs same h = sym same ∙ no-registers rs h
+
 -- ## The ledger
 
 -- what home has recorded is what the clients hold, and what is under way
@@ -76,31 +80,3 @@ pub ledger-quiet : (v : View) (h : Layers) → Means v h → IsQuiet v → pairs
 ledger-quiet v h m quiet =
     (every_ledger_adds_up (shape_of v.geometry) v.image v.log (blocks_below v v.geometry.memory_blocks) m.lawful.run).1
     (quiet-silent v h m quiet v.geometry.memory_blocks)
-
--- ## Counting
-
--- one more client
-pub clients-more : (test : Client → Bool) (n : ℕ) (client : ℕ → Client) → test (client n) ≡ true
-    → count_clients test (n + 1) client ≡ count_clients test n client + 1
-clients-more test n client h =
-    ap (λ k. count_clients test k client) (add-one n)
-    ∙ ap (λ t. one_if t + count_clients test n client) h ∙ omega arith
-
-pub clients-same : (test : Client → Bool) (n : ℕ) (client : ℕ → Client) → test (client n) ≡ false
-    → count_clients test (n + 1) client ≡ count_clients test n client
-clients-same test n client h =
-    ap (λ k. count_clients test k client) (add-one n)
-    ∙ ap (λ t. one_if t + count_clients test n client) h ∙ omega arith
-
--- one more block, of this bank or not
-pub pairs-more : (test : Client → Bool) (v : View) (n : ℕ) → not_own v n ≡ false
-    → pairs_below test v (n + 1) ≡ pairs_below test v n + count_clients test v.geometry.clients (block_at v n).client
-pairs-more test v n h =
-    ap (λ k. pairs_below test v k) (add-one n)
-    ∙ ap (λ t. count_pairs test (shape_of v.geometry) (block_at v) (cond t (blocks_below v n) (n ∷ blocks_below v n))) h
-    ∙ omega arith
-
-pub pairs-same : (test : Client → Bool) (v : View) (n : ℕ) → not_own v n ≡ true → pairs_below test v (n + 1) ≡ pairs_below test v n
-pairs-same test v n h =
-    ap (λ k. pairs_below test v k) (add-one n)
-    ∙ ap (λ t. count_pairs test (shape_of v.geometry) (block_at v) (cond t (blocks_below v n) (n ∷ blocks_below v n))) h

@@ -7,18 +7,20 @@ use Rattle.tl_types.specs.Permission.{rank}
 use Rattle.tl_types.specs.declared.permission.Perm.{Perm}
 use Rattle.tl_types.specs.declared.permission.Perm.TheVariants.{None as p_None, Branch, Tip}
 use Rattle.tl_map.specs.Numbers.{IsLawful}
-use Rattle.tl_map.specs.Places.{bank_of}
+use Rattle.tl_map.specs.Places.{bank_of, block_at as block_of_address}
 use Rattle.tl_protocol.specs.Coherent.{last, AreLast}
 use Rattle.tl_protocol.specs.Copy.{perm_of, bytes_of}
 use Rattle.tl_protocol.specs.declared.copy.CachedCopy.{CachedCopy}
 use Rattle.tl_protocol.specs.declared.copy.CachedCopy.TheVariants.{Absent, Readable, Writable}
+use Rattle.tl_protocol.specs.declared.home.Outward.{Outward}
+use Rattle.tl_protocol.specs.declared.home.Outward.TheVariants.{Quiet, Get, Data, Put, PutAck}
 use Rattle.tl_protocol.specs.declared.event.Access.{Access}
 use Rattle.tl_protocol.specs.declared.event.Event.TheVariants.{Load}
 use Rattle.tl_protocol.proofs.Coherent.{every_run_keeps_copies, every_run_reads_last}
-use Rattle.tl_home.specs.Homes.{recorded_in}
+use Rattle.tl_home.specs.Homes.{recorded_in, outward_in}
 use Rattle.tl_bank_spec.specs.Cases.{no_client, no_block, elsewhere}
-use Rattle.tl_bank_spec.specs.View.{View, IsOwn, shape_of, client_at, perm_at}
-use Rattle.tl_bank_spec.specs.Views.{not_own, no_part, recorded_at, peeked, MayRead, MayWrite}
+use Rattle.tl_bank_spec.specs.View.{View, IsOwn, shape_of, block_at, client_at, perm_at}
+use Rattle.tl_bank_spec.specs.Views.{not_own, no_part, byte_at, peeked, MayRead, MayWrite, passing, outward_at}
 use Rattle.tl_bank_laws.specs.Layers.{Layers}
 use Rattle.tl_bank_laws.specs.Means.{Means}
 use Rattle.tl_bank_laws.proofs.Allowed.{or-false, not-false, client-is, block-is, here-is}
@@ -54,10 +56,24 @@ pub recorded-is : (v : View) (h : Layers) (c b : ℕ) → Means v h → IsOwn v.
 recorded-is v h c b m own = (m.home b own).recorded c
 
 -- a copy is at most what is recorded
-pub recorded-covers : (v : View) (h : Layers) (c b : ℕ) → Means v h → c < v.geometry.clients → IsOwn v.geometry v.number b
-    → rank (perm_at v c b) ≤ rank (recorded_at v c b)
-recorded-covers v h c b m lt own =
-    rw (part-not v c b lt own) ((every_run_keeps_copies (shape_of v.geometry) v.image v.log m.lawful.run b).recorded c)
+pub recorded-covers : (v : View) (h : Layers) (c b : ℕ) → Means v h → rank (perm_at v c b) ≤ rank (client_at v c b).recorded
+recorded-covers v h c b m = (every_run_keeps_copies (shape_of v.geometry) v.image v.log m.lawful.run b).recorded c
+
+-- ## What passes
+
+passing-is : (x : Outward) → x ≢ Quiet → passing x ≡ Some x
+passing-is Quiet some = absurd (some refl)
+passing-is Get some = refl
+passing-is (Data bytes) some = refl
+passing-is (Put bytes) some = refl
+passing-is PutAck some = refl
+
+-- what home has of a block of this bank is shown, where anything passes
+pub outward-is : (v : View) (h : Layers) (b : ℕ) (x : Outward) → Means v h → not_own v b ≡ false → outward_in h.home b ≡ x
+    → x ≢ Quiet → Some x ≡ outward_at v b
+outward-is v h b x m own is some =
+    let there : x ≡ (block_at v b).outward = sym is ∙ (m.home b (own-is v b own)).outward in
+    rw own (sym (passing-is x some) ∙ ap passing there)
 
 -- ## A byte of a copy
 
@@ -99,6 +115,11 @@ peeks-last v h c address m =
     let least = m.geometry.block_bytes.least in
     shown-byte (no_part v c (address / size)) (client_at v c (address / size)).held size (address % size) (last v.image v.log address)
     (mod-lt address (let wide : 0 < size = omega arith in wide)) (byte-last v h c address m)
+
+-- the byte of a copy is shown of what the bank has
+pub peeked-is : (v : View) (c address : ℕ) → no_part v c (block_of_address v.geometry address) ≡ false
+    → peeked v c address ≡ byte_at v c address
+peeked-is v c address part = rw part refl
 
 -- it is shown where the copy may be read
 shown-where : (t : Bool) (copy : CachedCopy) (size i x : ℕ) → i < size → HasByte copy size i x

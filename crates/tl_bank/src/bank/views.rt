@@ -3,10 +3,11 @@ ghost use Rattle.std.specs.Prelude.{◌≡◌, ◌≢◌, ◌↔◌, ◌+◌, �
 ghost use Rattle.std.specs.List.Sorted.{IsNonDecreasing, IsPermutation};
 ghost use Rattle.tl_types.specs.Permission.{rank};
 ghost use Rattle.tl_types.specs.declared.permission.Perm.{Perm};
+ghost use Rattle.tl_map.specs.Places.{block_at as block_of_address};
 ghost use Rattle.tl_protocol.specs.Coherent.{last};
 ghost use Rattle.tl_protocol.specs.Ledger.{count_clients, has_copy, is_recorded, is_under_way};
 ghost use Rattle.tl_bank_spec.specs.View.{IsOwn, block_at, perm_at};
-ghost use Rattle.tl_bank_spec.specs.Views.{not_own, no_part, recorded_at, peeked, MayRead, MayWrite, in_flight_at, dirty_at, outward_at, own_blocks, HasNoMessage, AwaitsNothing, IsQuiet, pairs_at};
+ghost use Rattle.tl_bank_spec.specs.Views.{not_own, no_part, recorded_at, byte_at, peeked, MayRead, MayWrite, in_flight_at, dirty_at, outward_at, own_blocks, HasNoMessage, AwaitsNothing, IsQuiet, pairs_at};
 
 use crate::bank::Bank;
 use arrayvec::ArrayVec;
@@ -34,13 +35,10 @@ impl Bank {
         ensures readable { IsSome result ↔ MayRead self.now client address }
         ensures newest { IfSome result (λ byte. byte ≡ last self.now.image self.now.log address) }
     {
-        let block = self.geometry.block_at(address);
-        if self.has_no_part(client, block) {
+        if self.has_no_part(client, self.geometry.block_at(address)) {
             return None;
         }
-        let offset = self.geometry.offset(address) as usize;
-        let copy = self.copy(client, block).into_bytes();
-        copy.as_slice().get(offset).copied()
+        self.byte(client, address)
     }
 
     /// The client whose copy of a block may be written, if there is one. None also where the block is not of the memory or of
@@ -90,7 +88,7 @@ impl Bank {
     pub fn outward(&self, block: BlockNo) -> Option<Outward>
         ensures { result ≡ outward_at self.now block }
     {
-        if self.is_not_own(block) {
+        if self.is_not_own(block) || self.home.is_quiet(block) {
             return None;
         }
         Some(self.home.outward(block)?.copied())
@@ -166,6 +164,17 @@ impl Bank {
         ensures { result ≡ no_part self.now client block }
     {
         client.number() >= self.geometry.clients() || self.is_not_own(block)
+    }
+
+    /// The byte at an address of a client's copy, where it has one.
+    fn byte(&self, client: ClientId, address: u32) -> Option<u8>
+        requires client { client < self.now.geometry.clients }
+        requires block { block_of_address self.now.geometry address < self.now.geometry.memory_blocks }
+        ensures { result ≡ byte_at self.now client address }
+    {
+        let offset = self.geometry.offset(address) as usize;
+        let copy = self.copy(client, self.geometry.block_at(address));
+        copy.into_bytes().as_slice().get(offset).copied()
     }
 
     /// The numbers of the open registers' own blocks, the oldest register first.
