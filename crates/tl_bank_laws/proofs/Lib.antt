@@ -16,6 +16,7 @@ pub mod Probes
 pub mod Quiet
 pub mod ReleaseAcks
 pub mod Releases
+pub mod Rooms
 pub mod Shares
 pub mod Slots
 pub mod Stores
