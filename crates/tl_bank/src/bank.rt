@@ -1,12 +1,14 @@
 //! The bank: its making, its room, and what it shows.
 ghost use Rattle.std.specs.Prelude.{◌≡◌, ◌≤◌, ◌<◌, ◌*◌, ◌^◌, ◌||◌, ℕ, List, [], length, Option, Some, None, IfOk, IfErr, OnOk, OnErr, if◌then◌else◌};
 ghost use Rattle.std.specs.List.{All};
+ghost use Rattle.tl_types.specs.declared.channel.Channel.{Channel};
 ghost use Rattle.tl_types.specs.declared.permission.Perm.{Perm};
 ghost use Rattle.tl_protocol.specs.Protocol.{block_of};
 ghost use Rattle.tl_protocol.specs.Runs.{IsRun};
 ghost use Rattle.tl_bank_spec.specs.Cases.{no_client, no_block};
 ghost use Rattle.tl_bank_spec.specs.Share.{first_shares};
 ghost use Rattle.tl_bank_spec.specs.View.{IsOwn, StampsRise, shape_of, way_at, perm_at, copies_at};
+ghost use Rattle.tl_bank_spec.specs.Views.{IsDelivered};
 
 use crate::share::Share;
 use arrayvec::ArrayVec;
@@ -28,6 +30,7 @@ mod home_refusals;
 mod memory_calls;
 mod open;
 mod refusals;
+mod views;
 
 /// A bank can't be made for want of memory alone.
 pub type BankError = AllocError;
@@ -130,12 +133,14 @@ impl Bank {
         self.log.room()
     }
 
-    /// What happened, oldest first: a run of the protocol on this bank's blocks, whose stamps rise.
+    /// What happened, oldest first: a run of the protocol on this bank's blocks, whose stamps rise, and which takes each message of
+    /// a channel once, in the order of sending.
     pub fn log(&self) -> &[Event]
         ensures is { result.now ≡ self.now.log }
         ensures run { IsRun (shape_of self.now.geometry) self.now.image self.now.log }
         ensures own { All (λ e. IsOwn self.now.geometry self.now.number (block_of (shape_of self.now.geometry) e)) self.now.log }
         ensures stamps { StampsRise self.now.log }
+        ensures delivered { (client : ℕ) (channel : Channel) → IsDelivered self.now client channel }
     {
         self.log.events()
     }

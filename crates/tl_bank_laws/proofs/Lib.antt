@@ -23,6 +23,7 @@ pub mod Pending
 pub mod Places
 pub mod Probed
 pub mod Probes
+pub mod Quiet
 pub mod ReleaseAcks
 pub mod Releases
 pub mod Rooms
@@ -34,4 +35,5 @@ pub mod Stores
 pub mod TakeC
 pub mod TakesData
 pub mod TakesPutAck
+pub mod Views
 pub mod Ways
