@@ -22,7 +22,9 @@ use tl_registers::Registers;
 use tl_rules::Log;
 use tl_types::{BankNo, BlockNo, ClientId, Perm};
 
+mod advance;
 mod client_calls;
+mod protocol_view;
 mod refusals;
 
 /// A bank can't be made for want of memory alone.
