@@ -103,11 +103,11 @@ if-entry true k old = refl
 if-entry false k old = refl
 
 -- home's part is the same, and so is the block's
-home-stays : (clients : ℕ) (home : HomeState) (block : ℕ) (s t : Block) → IsHome clients home block s → SameHome s t
-    → ((c : ℕ) → (t.client c).recorded ≡ (s.client c).recorded) → IsHome clients home block t
-home-stays clients home block s t h same recorded = record {
+home-stays : (home : HomeState) (block : ℕ) (s t : Block) → IsHome home block s → SameHome s t
+    → ((c : ℕ) → (t.client c).recorded ≡ (s.client c).recorded) → IsHome home block t
+home-stays home block s t h same recorded = record {
   line = h.line ∙ sym same.home;
-  recorded = λ c l. h.recorded c l ∙ sym (recorded c);
+  recorded = λ c. h.recorded c ∙ sym (recorded c);
   outward = h.outward ∙ sym same.outward;
   memory = h.memory ∙ sym same.memory;
 }
@@ -143,8 +143,8 @@ means-step v old new e c k room m step follow =
           ∙ if-entry (is_cell c block x y) k (client_at v x y)
           ∙ ap entry_of (sym (client-append shape image log e c k step.client x y));
       home = λ y o.
-          subst (λ (home : HomeState). IsHome g.clients home y (end_of shape image (log ++ e ∷ []) y)) (sym follow.home)
-          (home-stays g.clients old.home y (end_of shape image log y) (end_of shape image (log ++ e ∷ []) y) (m.home y o) (same y)
+          subst (λ (home : HomeState). IsHome home y (end_of shape image (log ++ e ∷ []) y)) (sym follow.home)
+          (home-stays old.home y (end_of shape image log y) (end_of shape image (log ++ e ∷ []) y) (m.home y o) (same y)
           (λ x. field-append (λ (k : Client). k.recorded) shape image log e c k step.client step.recorded x y));
       accepted = λ y. (same y).accepted ∙ m.accepted y;
       clock = follow.clock ∙ ap (λ n. stamped n e) m.clock ∙ sym (clock_from-append 0 log e);
