@@ -16,4 +16,6 @@ pub mod Probes
 pub mod ReleaseAcks
 pub mod Releases
 pub mod Shares
+pub mod Slots
 pub mod Stores
+pub mod Ways
