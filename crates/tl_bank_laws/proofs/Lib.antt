@@ -2,6 +2,8 @@ pub mod Accepted
 pub mod Acquires
 pub mod Allowed
 pub mod Counts
+pub mod Crossed
+pub mod Dues
 pub mod Entries
 pub mod Fresh
 pub mod Grants
@@ -12,9 +14,12 @@ pub mod Next
 pub mod Orders
 pub mod Pending
 pub mod Places
+pub mod Pointwise
 pub mod Probes
 pub mod ReleaseAcks
 pub mod Releases
+pub mod SendGet
+pub mod SendProbe
 pub mod Shares
 pub mod Slots
 pub mod Stores
