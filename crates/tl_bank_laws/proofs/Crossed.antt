@@ -163,7 +163,8 @@ closed-busy own (q ∷ rest) r b here each off busy =
 
 -- ## Few blocks cross
 
-own-or-not : (v : View) (b : ℕ) → IsOwn v.geometry v.number b ⊎ (IsOwn v.geometry v.number b → ⊥)
+-- a block is one of the bank or not
+pub own-or-not : (v : View) (b : ℕ) → IsOwn v.geometry v.number b ⊎ (IsOwn v.geometry v.number b → ⊥)
 own-or-not v b =
     elim (bool-cases (nat_lt b v.geometry.memory_blocks)) [
       | inl s ↦ elim (bool-cases (bank_of v.geometry b == v.number)) [

@@ -1,10 +1,17 @@
 -- What an action that a register has to do next shows of the bank.
-use Rattle.std.proofs.Common.{◌≡◌, ℕ, ◌<◌, ◌==◌, ◌||◌, Bool, true, false, List, [], ◌∷◌, Option, Some, None, refl, sym, ◌∙◌, ap, subst, inl, inr, eqb-true, eq-eqb}
+use Rattle.std.proofs.Common.{◌≡◌, ℕ, ◌+◌, ◌<◌, ◌≤◌, ◌==◌, ◌||◌, Bool, true, false, List, [], ◌∷◌, ◌++◌, Option, Some, None, refl, sym, ◌∙◌, ap, subst, arith, inl, inr, eqb-true, eq-eqb}
+use Rattle.std.specs.Prelude.{slice_index_or}
+use Rattle.tl_types.specs.Lane.{Lane, sent}
+use Rattle.tl_types.specs.declared.ticket.Ticket.{Ticket}
+use Rattle.tl_types.specs.declared.channel.Channel.{Channel}
+use Rattle.tl_types.specs.declared.channel.Channel.TheVariants.{B, D}
 use Rattle.tl_map.specs.Places.{bank_of}
 use Rattle.tl_types.specs.declared.permission.ProbeCap.{ProbeCap}
 use Rattle.tl_protocol.specs.declared.shape.Shape.{Shape}
+use Rattle.tl_protocol.specs.declared.event.Event.{Event}
 use Rattle.tl_protocol.specs.Protocol.{block_of}
 use Rattle.tl_protocol.specs.Runs.{MayNext}
+use Rattle.tl_links.specs.Table.{lane_in}
 use Rattle.tl_registers.specs.Agree.{Each, IsOf, IsToProbe}
 use Rattle.tl_registers.specs.Fit.{Fits, event_of}
 use Rattle.tl_registers.specs.NextAction.{next_due}
@@ -18,10 +25,13 @@ use Rattle.tl_registers.specs.declared.register.Task.TheVariants.{Acquire, Repla
 use Rattle.tl_registers.proofs.Actions.{every-action-is-of-its-register}
 use Rattle.tl_registers.proofs.Booleans.{bool-cases, or-true}
 use Rattle.tl_registers.proofs.Permitted.{every-action-is-permitted}
+use Rattle.tl_bank_spec.specs.Effects.{Advances, action_of, registers_after, ways_after}
 use Rattle.tl_bank_spec.specs.HomeCalls.{advance_cases}
+use Rattle.tl_bank_spec.specs.Cases.{link_full}
 use Rattle.tl_bank_spec.specs.HomeCases.{due_at, due_full}
 use Rattle.tl_bank_spec.specs.Refusal.{first_of}
-use Rattle.tl_bank_spec.specs.View.{View, IsOwn, block_at, shape_of}
+use Rattle.tl_bank_spec.specs.View.{View, IsOwn, block_at, next_ticket, shape_of, way_at}
+use Rattle.tl_bank_spec.specs.declared.action.Action.{Action}
 use Rattle.tl_bank_laws.specs.Layers.{Layers}
 use Rattle.tl_bank_laws.specs.Means.{HoldsWay, Means}
 use Rattle.tl_bank_laws.proofs.Allowed.{AllFalse, all-false, block-is, here-is}
@@ -137,3 +147,74 @@ advance-own v own none =
 pub advance-free : (v : View) (own : ℕ) → first_of (advance_cases v own) ≡ None → due_full v (due_at v own) ≡ false
 advance-free v own none =
     let f : AllFalse (advance_cases v own) = all-false (advance_cases v own) none in f.1.1.1.0
+
+-- ## What a call leaves
+
+-- what is due in a view is due in the bank that shows it
+pub acts-at : (v old : View) (h : Layers) (own : ℕ) (due : Due) → Means v h → v ≡ old → first_of (advance_cases old own) ≡ None
+    → due_at old own ≡ Some due → Acts v own due
+acts-at v old h own due m same none is =
+    acts-of v h own due m (advance-own v own (subst (λ (w : View). first_of (advance_cases w own) ≡ None) (sym same) none))
+    (subst (λ (w : View). due_at w own ≡ Some due) (sym same) is)
+
+-- the event, the registers and the ways that an action leaves
+pub advances-at : (v old : View) (own : ℕ) (due : Due) (action : Action) (log : List Event) (room : ℕ) (ways : List (Option ℕ))
+    → v ≡ old → due_at old own ≡ Some due → log ≡ v.log ++ event_of own due ∷ [] → v.room ≤ room + 1
+    → ((b : ℕ) → slice_index_or ways b None ≡ ways_after due (way_at v) b) → action ≡ action_of v due
+    → Advances old (record v { log = log; room = room; registers = registers_after own due v.registers; ways = ways }) own action
+advances-at v old own due action log room ways same is grows left lies answer =
+    let new : View = record v { log = log; room = room; registers = registers_after own due v.registers; ways = ways } in
+    subst (λ (w : View). due_at w own ≡ Some due → Advances w new own action) same
+    (λ is_due. record {
+      due = due;
+      is_due = is_due;
+      serves = record {
+        is = ap (λ (l : List Event). record v { log = l; room = room; registers = registers_after own due v.registers; ways = ways }) grows;
+        room = left;
+        ways = lies;
+      };
+      answer = answer;
+    })
+    is
+
+-- an action of a bank with more room is one of the bank
+pub advances-from : (old new : View) (own room : ℕ) (action : Action) → old.room ≤ room
+    → Advances (record old { room = room }) new own action → Advances old new own action
+advances-from old new own room action more a = record {
+  due = a.due;
+  is_due = a.is_due;
+  serves = record { is = a.serves.is; room = let left = a.serves.room in omega (arith, more, left); ways = a.serves.ways };
+  answer = a.answer;
+}
+
+-- the ticket of the next message of a lane
+abbrev ticket-with : ℕ → ℕ → Channel → Lane → Ticket
+ticket-with bank c k lane = record { bank = bank; client = c; channel = k; serial = sent lane }
+
+-- the ticket of a message that is sent
+pub ticket-is : (v : View) (h : Layers) (c : ℕ) (k : Channel) → Means v h → c < v.geometry.clients
+    → record { bank = h.links.bank; client = c; channel = k; serial = sent (lane_in h.links c k) } ≡ next_ticket v c k
+ticket-is v h c k m l =
+    ap (λ (b : ℕ). ticket-with b c k (lane_in h.links c k)) m.links_bank
+    ∙ ap (λ (lane : Lane). ticket-with v.number c k lane) (m.lanes c k l)
+
+-- what is due of a block of the bank, in a bank that shows the view
+pub acts-within : (v old : View) (h : Layers) (own : ℕ) (due : Due) → Means v h → v ≡ old → IsOwn old.geometry old.number own
+    → due_at old own ≡ Some due → Acts v own due
+acts-within v old h own due m same is_own is =
+    acts-of v h own due m (subst (λ (w : View). IsOwn w.geometry w.number own) (sym same) is_own)
+    (subst (λ (w : View). due_at w own ≡ Some due) (sym same) is)
+
+-- the channel of a Probe that is due is not full
+pub probe-free : (v old : View) (own c block : ℕ) (cap : ProbeCap) → v ≡ old → first_of (advance_cases old own) ≡ None
+    → due_at old own ≡ Some (Probe c block cap) → link_full v c B ≡ false
+probe-free v old own c block cap same none is =
+    subst (λ (w : View). link_full w c B ≡ false) (sym same)
+    (sym (ap (due_full old) is) ∙ advance-free old own none)
+
+-- nor is that of a Grant
+pub grant-free : (v old : View) (own c : ℕ) → v ≡ old → first_of (advance_cases old own) ≡ None
+    → due_at old own ≡ Some (Grant c) → link_full v c D ≡ false
+grant-free v old own c same none is =
+    subst (λ (w : View). link_full w c D ≡ false) (sym same)
+    (sym (ap (due_full old) is) ∙ advance-free old own none)

@@ -21,6 +21,7 @@ pub mod Releases
 pub mod SendGet
 pub mod SendProbe
 pub mod Shares
+pub mod Sights
 pub mod Slots
 pub mod Stores
 pub mod Ways

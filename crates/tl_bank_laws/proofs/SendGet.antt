@@ -1,19 +1,22 @@
 -- Home asks the memory for a block.
-use Rattle.std.proofs.Common.{◌≡◌, ℕ, ◌<◌, ◌==◌, List, [], ◌∷◌, ◌++◌, Option, Some, None, if◌then◌else◌, refl, sym, ◌∙◌, ap, subst, eq-eqb}
+use Rattle.std.proofs.Common.{◌≡◌, ℕ, ◌<◌, ◌≤◌, ◌==◌, List, [], ◌∷◌, ◌++◌, Option, Some, None, if◌then◌else◌, refl, sym, ◌∙◌, ap, subst, eq-eqb}
 use Rattle.std.specs.Prelude.{slice_index_or}
 use Rattle.tl_protocol.specs.Protocol.{Block}
 use Rattle.tl_protocol.specs.Runs.{MayNext}
 use Rattle.tl_protocol.specs.declared.event.Event.TheVariants.{SendGet}
 use Rattle.tl_protocol.specs.declared.home.Outward.TheVariants.{Quiet, Get as o_Get}
-use Rattle.tl_home.specs.Homes.{HomeState, SameBank, SameHome, SameMemory, outward_in, way_in}
+use Rattle.tl_home.specs.Homes.{HomeState, SameBank, SameHome, SameMemory, EachHasHolder, outward_in, way_in}
 use Rattle.tl_registers.specs.Agree.{Agree}
+use Rattle.tl_registers.specs.Register.{victim_in, victim_of}
 use Rattle.tl_registers.specs.Registers.{register_of}
+use Rattle.tl_registers.specs.declared.register.Task.{Task}
 use Rattle.tl_registers.specs.declared.due.Due.TheVariants.{Get}
 use Rattle.tl_registers.proofs.Booleans.{neqb-of}
 use Rattle.tl_registers.proofs.Probing.{fetching-keeps-agreement}
 use Rattle.tl_bank_spec.specs.View.{View, block_at, shape_of}
 use Rattle.tl_bank_laws.specs.Layers.{Layers}
 use Rattle.tl_bank_laws.specs.Means.{IsHome, Means}
+use Rattle.tl_bank_laws.proofs.Crossed.{crossings-few}
 use Rattle.tl_bank_laws.proofs.Dues.{Acts}
 use Rattle.tl_bank_laws.proofs.Next.{block_next, means-next, next_view, registers-next}
 use Rattle.tl_bank_laws.proofs.Pointwise.{entries-next, homes-next, quiet-next}
@@ -69,3 +72,14 @@ get-keeps v h own room ways home m acts bank same outward memory shown =
     })
     (registers-next v e room v.registers ways agree m.registers.few)
     (ways-stay v e room v.registers ways h.home home steady tt tt (same-work v.registers) same.ways shown m.ways)
+
+-- and something passes of fewer than eight blocks
+pub get-few : (v : View) (h : Layers) (own count : ℕ) → Means v h → Acts v own Get
+    → ((n : ℕ) (holder : ℕ → ℕ) → EachHasHolder h.home n holder → count ≤ n) → count < 8
+get-few v h own count m acts most =
+    crossings-few v h own acts.register count m acts.found acts.here acts.fits
+    (λ none. ap (λ (n : ℕ). (block_at v n).outward) acts.here ∙ acts.may.1.2)
+    (λ x victim.
+    let none : victim_of acts.register ≡ None = ap (λ (t : Task). victim_in acts.register.own t) acts.of.1 in
+    let bad : None ≡ Some x = sym none ∙ victim in cc)
+    most

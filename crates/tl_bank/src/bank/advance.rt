@@ -1,6 +1,5 @@
 //! A register's next action, carried out.
-ghost use Rattle.std.specs.Prelude.{◌≡◌, ◌<◌, ◌^◌, None, Some, false, length, option_copied, IfErr, IfOk, OnErr, OnOk};
-ghost use Rattle.std.specs.Option.{option_map};
+ghost use Rattle.std.specs.Prelude.{◌≡◌, ◌≢◌, ◌<◌, ◌^◌, None, Some, false, length, IfErr, IfOk, OnErr, OnOk};
 ghost use Rattle.tl_protocol.specs.Client.{grant_bytes};
 ghost use Rattle.tl_protocol.specs.Protocol.{granted, home_bytes, is_alone};
 ghost use Rattle.tl_registers.specs.declared.due.Due.{Due};
@@ -67,7 +66,7 @@ impl Bank {
         requires due { due_at self.now block ≡ Some due.now }
         ensures { result ≡ due_full self.now (Some due.now) }
     {
-        let _ = block;
+        let _ = (block, self.geometry);
         match due {
             Due::Probe(client, _, _) => self.is_link_full(*client, Channel::B),
             Due::Grant(client) => self.is_link_full(*client, Channel::D),
