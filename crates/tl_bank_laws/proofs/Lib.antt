@@ -9,6 +9,7 @@ pub mod Fresh
 pub mod Grants
 pub mod Heads
 pub mod Keep
+pub mod Leaving
 pub mod Loads
 pub mod Next
 pub mod Orders
