@@ -1,6 +1,5 @@
 -- Where the open registers agree with the blocks, home serves just the Acquires that they were opened for.
-use Rattle.std.proofs.Common.{◌≡◌, ℕ, ◌==◌, ◌||◌, Bool, true, false, List, [], ◌∷◌, Option, Some, None, refl, sym, ◌∙◌, ap, subst, inl, inr, eqb-true}
-use Rattle.tl_protocol.specs.declared.home.Accepted.{Accepted}
+use Rattle.std.proofs.Common.{◌≡◌, ℕ, ◌==◌, true, false, List, [], ◌∷◌, None, refl, sym, ◌∙◌, ap, subst, inl, inr, eqb-true}
 use Rattle.tl_protocol.specs.declared.shape.Shape.{Shape}
 use Rattle.tl_protocol.specs.Protocol.{Block}
 use Rattle.tl_registers.specs.declared.register.Register.{Register}

@@ -21,6 +21,7 @@ pub mod ReleaseAcks
 pub mod Releases
 pub mod SendGet
 pub mod SendProbe
+pub mod Rooms
 pub mod Shares
 pub mod Sights
 pub mod Slots

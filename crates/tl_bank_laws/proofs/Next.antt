@@ -1,5 +1,5 @@
 -- One more event, applied to the layers as the protocol says, leaves a bank whose layers hold what its log leaves.
-use Rattle.std.proofs.Common.{◌≡◌, ℕ, ◌<◌, ◌≤◌, ◌==◌, Bool, true, false, cond, List, [], ◌∷◌, ◌++◌, length, Option, Some, None, refl, sym, ◌∙◌, ap, subst}
+use Rattle.std.proofs.Common.{◌≡◌, ℕ, ◌<◌, ◌≤◌, Bool, true, false, cond, List, [], ◌∷◌, ◌++◌, length, Option, Some, None, refl, sym, ◌∙◌, ap, subst}
 use Rattle.std.specs.List.{All}
 use Rattle.std.proofs.lemmas.List.Elements.{All-nil, All-cons, All-append, All-tail}
 use Rattle.tl_types.specs.Lane.{Lane, is_here, with_message, first_taken, without_first}
@@ -9,7 +9,7 @@ use Rattle.tl_map.specs.Numbers.{Numbers}
 use Rattle.tl_map.specs.Places.{bank_of}
 use Rattle.tl_protocol.specs.declared.event.Event.{Event}
 use Rattle.tl_protocol.specs.Protocol.{Block, block_of}
-use Rattle.tl_protocol.specs.Runs.{MayNext, after_next, end_of}
+use Rattle.tl_protocol.specs.Runs.{MayNext, after_next}
 use Rattle.tl_lanes.specs.Lanes.{Post, Place, post_of, take_of, taken_from, sent_to, lane_after, lane_of}
 use Rattle.tl_lanes.specs.Lawful.{TakesFirst}
 use Rattle.tl_lanes.proofs.Logs.{end_of-append, lanes_grow_by_one, lawful_grows_by_one}

@@ -1,8 +1,8 @@
 -- What keeps the order of a set's ways.
-use Rattle.std.proofs.Common.{◌≡◌, ℕ, ◌<◌, ◌≤◌, ◌==◌, Bool, true, false, List, [], ◌∷◌, ◌++◌, length, Option, Some, None, refl, sym, ◌∙◌, ap, subst, arith, inl, inr}
+use Rattle.std.proofs.Common.{◌≡◌, ℕ, Bool, true, false, List, [], ◌∷◌, ◌++◌, length, Option, Some, refl, sym, ◌∙◌, arith, inl, inr}
 use Rattle.tl_protocol.specs.declared.event.Event.{Event}
 use Rattle.tl_protocol.specs.declared.event.Event.TheVariants.{Load, Store, SendAcquire, SendRelease, AnswerProbe, TakeGrant, TakeReleaseAck, AcceptAcquire, SendProbe, TakeC, SendGrant, TakeGrantAck, SendGet, Serve, TakeData, Drop, SendPut, TakePutAck}
-use Rattle.tl_registers.specs.VictimWay.{grants_block, last_grant, block_in, EachBefore, IsNoLater, IsInOrder}
+use Rattle.tl_registers.specs.VictimWay.{grants_block, block_in, EachBefore, IsNoLater, IsInOrder}
 use Rattle.tl_registers.proofs.Booleans.{bool-cases}
 use Rattle.tl_registers.proofs.Order.{other-events-keep-order}
 
@@ -60,10 +60,13 @@ pub order-fills : (slots : List (Option ℕ)) (filling filling_then : ℕ → Bo
     → IsInOrder slots filling log order → IsInOrder slots filling_then log order
 order-fills slots filling filling_then log order fills h =
     order-transfers slots slots filling filling_then log order refl
-    (λ w block here f. (here, elim (bool-cases (filling w)) [
-      | inl t ↦ let bad : true ≡ false = sym (fills w block here t) ∙ f in cc
-      | inr t ↦ t
-    ]))
+    (λ w block here f. (
+      here,
+      elim (bool-cases (filling w)) [
+        | inl t ↦ let bad : true ≡ false = sym (fills w block here t) ∙ f in cc
+        | inr t ↦ t
+      ],
+    ))
     h
 
 -- An event that grants nothing keeps it.

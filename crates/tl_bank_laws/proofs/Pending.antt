@@ -1,7 +1,5 @@
 -- What an event leaves of the Grants that are pending, and of which blocks home holds.
-use Rattle.std.proofs.Common.{◌≡◌, ℕ, zero, suc, ◌-◌, ◌==◌, ◌||◌, not, Bool, true, false, List, [], ◌∷◌, Option, Some, None, is_none, if◌then◌else◌, refl, sym, ◌∙◌, ap, subst, arith, inl, inr, eqb-true}
-use Rattle.std.specs.List.{list_any}
-use Rattle.tl_types.specs.Message.{is_grant}
+use Rattle.std.proofs.Common.{◌≡◌, ℕ, ◌-◌, ◌==◌, false, List, [], ◌∷◌, Option, Some, None, is_none, refl, ap, subst, inl, inr, eqb-true}
 use Rattle.tl_types.specs.declared.permission.Grow.{Grow}
 use Rattle.tl_protocol.specs.declared.client.Client.{Client}
 use Rattle.tl_protocol.specs.declared.event.Event.{Event}
@@ -132,9 +130,9 @@ accepted-holds : (s : Block) (c : ℕ) (a : List Grow) → is_none (accepted_fro
 accepted-holds s c [] = refl
 accepted-holds s c (grow ∷ rest) = refl
 
-grants-holds : (shape : Shape) (s : Block) (c block : ℕ) (o : Option Accepted) → is_none (grants shape s c o).home ≡ is_none s.home
-grants-holds shape s c block None = refl
-grants-holds shape s c block (Some acquire) = refl
+grants-holds : (shape : Shape) (s : Block) (c : ℕ) (o : Option Accepted) → is_none (grants shape s c o).home ≡ is_none s.home
+grants-holds shape s c None = refl
+grants-holds shape s c (Some acquire) = refl
 
 served-holds : (s : Block) (o : Outward) → is_none (served s o).home ≡ is_none s.home
 served-holds s Quiet = refl
@@ -155,7 +153,7 @@ event-holds shape s (TakeReleaseAck c block) on kept orderly = refl
 event-holds shape s (AcceptAcquire c block) on kept orderly = accepted-holds s c (s.client c).a
 event-holds shape s (SendProbe c block cap) on kept orderly = refl
 event-holds shape s (TakeC c block) on kept orderly = take_c-holds shape s c block kept orderly
-event-holds shape s (SendGrant c block) on kept orderly = grants-holds shape s c block s.accepted
+event-holds shape s (SendGrant c block) on kept orderly = grants-holds shape s c s.accepted
 event-holds shape s (TakeGrantAck c block) on kept orderly = refl
 event-holds shape s (SendGet block) on kept orderly = refl
 event-holds shape s (Serve block) on kept orderly = served-holds s s.outward

@@ -1,5 +1,5 @@
 -- In which way each block lies, and which block is in each way.
-use Rattle.std.proofs.Common.{◌≡◌, ℕ, zero, suc, ◌+◌, ◌<◌, ◌≤◌, ◌==◌, ◌&&◌, Bool, true, false, List, [], ◌∷◌, ◌++◌, length, Option, Some, None, is_none, refl, sym, ◌∙◌, ap, subst, arith, inl, inr, eqb-true, eq-eqb, length-append}
+use Rattle.std.proofs.Common.{◌≡◌, ℕ, zero, suc, ◌<◌, ◌≤◌, ◌==◌, Bool, true, false, List, [], ◌∷◌, ◌++◌, length, Option, Some, None, refl, sym, ◌∙◌, ap, arith, inl, inr, eqb-true, eq-eqb, length-append}
 use Rattle.std.specs.Prelude.{◌⊎◌, slice_index_or}
 use Rattle.std.proofs.lemmas.Bool.{cases_eq, cases_lt}
 use Rattle.std.proofs.lemmas.List.{get_or_append_left, get_or_past}
@@ -7,7 +7,7 @@ use Rattle.std.proofs.Math.Seq.{get_or-append_seam}
 use Rattle.tl_map.specs.Places.{bank_of, set_of}
 use Rattle.tl_registers.specs.Register.{lowest, or_this}
 use Rattle.tl_registers.specs.VictimWay.{block_in}
-use Rattle.tl_registers.proofs.Booleans.{and-true, bool-cases}
+use Rattle.tl_registers.proofs.Booleans.{and-true}
 use Rattle.tl_bank_spec.specs.View.{View, IsOwn, way_at, ways_below}
 use Rattle.tl_bank_spec.specs.Ways.{is_way, lies_in, slot_at, slots_below, slots_at}
 

@@ -1,26 +1,26 @@
 -- What an event that moves no block and opens or closes no register leaves of the registers and of the ways that they hold.
-use Rattle.std.proofs.Common.{◌≡◌, ℕ, ◌+◌, ◌<◌, ◌≤◌, ◌==◌, ◌&&◌, ◌||◌, not, Bool, true, false, List, [], ◌∷◌, ◌++◌, length, map, Option, Some, None, is_none, if◌then◌else◌, refl, sym, ◌∙◌, ap, subst, inl, inr}
+use Rattle.std.proofs.Common.{◌≡◌, ℕ, ◌<◌, ◌==◌, ◌&&◌, ◌||◌, Bool, true, false, List, [], ◌∷◌, Option, None, is_none, if◌then◌else◌, refl, sym, ◌∙◌, ap, subst, inl, inr}
 use Rattle.std.specs.Prelude.{slice_index_or}
 use Rattle.std.specs.List.{list_any}
 use Rattle.tl_map.specs.Places.{bank_of, set_of}
 use Rattle.tl_protocol.specs.Protocol.{Block}
 use Rattle.tl_protocol.specs.declared.event.Event.{Event}
-use Rattle.tl_registers.specs.Agree.{Agree, Each, IsSteady, LeavesRegisters}
+use Rattle.tl_registers.specs.Agree.{Each, IsSteady, LeavesRegisters}
 use Rattle.tl_registers.specs.Pending.{grant_pending}
 use Rattle.tl_registers.specs.Register.{is_block, victim_in, works_on, with_probed}
-use Rattle.tl_registers.specs.Registers.{is_held, noted, with_probe_of}
-use Rattle.tl_registers.specs.VictimWay.{IsInOrder, block_in}
+use Rattle.tl_registers.specs.Registers.{is_held, noted}
+use Rattle.tl_registers.specs.VictimWay.{IsInOrder}
 use Rattle.tl_registers.specs.declared.register.Register.{Register}
 use Rattle.tl_registers.specs.declared.register.Task.{Task}
 use Rattle.tl_registers.specs.declared.way_of_set.WayOfSet.{WayOfSet}
 use Rattle.tl_registers.proofs.Agreement.{events-leave-registers, every-run-is-steady}
 use Rattle.tl_registers.proofs.Booleans.{and-true, bool-cases, not-true, or-else, or-true}
 use Rattle.tl_home.specs.Homes.{HomeState, SameWays, order_at, way_in}
-use Rattle.tl_bank_spec.specs.View.{View, IsOwn, shape_of, block_at, way_at}
+use Rattle.tl_bank_spec.specs.View.{View, shape_of, block_at, way_at}
 use Rattle.tl_bank_spec.specs.Ways.{is_way, lies_in, slot_at, slots_at}
 use Rattle.tl_bank_laws.specs.Layers.{Layers}
 use Rattle.tl_bank_laws.specs.Means.{HoldsWay, Means, RegistersFit, WaysApart, WaysFit, is_filling, is_filling_by}
-use Rattle.tl_bank_laws.proofs.Next.{next_view, block_next, blocks-next, registers-next}
+use Rattle.tl_bank_laws.proofs.Next.{next_view, blocks-next, registers-next}
 use Rattle.tl_bank_laws.proofs.Orders.{GrantsNothing, order-next}
 use Rattle.tl_bank_laws.proofs.Pending.{HoldsOn, home-holds-on, no-grant-comes}
 use Rattle.tl_bank_laws.proofs.Slots.{slot-same, slots-same}
