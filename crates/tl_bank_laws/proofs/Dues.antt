@@ -5,6 +5,7 @@ use Rattle.tl_types.specs.Lane.{Lane, sent}
 use Rattle.tl_types.specs.declared.ticket.Ticket.{Ticket}
 use Rattle.tl_types.specs.declared.channel.Channel.{Channel}
 use Rattle.tl_types.specs.declared.channel.Channel.TheVariants.{B, D}
+use Rattle.tl_map.specs.Limits.{most_clients}
 use Rattle.tl_map.specs.Places.{bank_of}
 use Rattle.tl_types.specs.declared.permission.ProbeCap.{ProbeCap}
 use Rattle.tl_protocol.specs.declared.shape.Shape.{Shape}
@@ -218,3 +219,15 @@ pub grant-free : (v old : View) (own c : ℕ) → v ≡ old → first_of (advanc
 grant-free v old own c same none is =
     subst (λ (w : View). link_full w c D ≡ false) (sym same)
     (sym (ap (due_full old) is) ∙ advance-free old own none)
+
+-- there are at most sixteen clients
+most-few : (version n : ℕ) → n ≤ most_clients version → n ≤ 16
+most-few version n h =
+    elim (bool-cases (version == 1)) [
+      | inl t ↦ let k : n ≤ 8 = (rw t at h) in omega (arith, k)
+      | inr t ↦ (rw t at h)
+    ]
+
+pub client-few : (v : View) (h : Layers) (c : ℕ) → Means v h → c < v.geometry.clients → c < 16
+client-few v h c m l =
+    let k = most-few v.geometry.version v.geometry.clients m.geometry.clients.most in omega (arith, k, l)

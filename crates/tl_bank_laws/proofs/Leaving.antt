@@ -1,10 +1,10 @@
 -- A block leaves home: it is dropped, or put back to the memory.
 use Rattle.std.proofs.Common.{◌≡◌, ◌≢◌, ℕ, ◌+◌, ◌<◌, ◌≤◌, ◌==◌, ◌&&◌, Bool, true, false, List, [], ◌∷◌, ◌++◌, length, Option, Some, None, is_none, if◌then◌else◌, refl, sym, ◌∙◌, ap, subst, arith, inl, inr, eqb-true, eq-eqb}
-use Rattle.std.specs.Prelude.{slice_index_or}
+use Rattle.std.specs.Prelude.{IsSome, slice_index_or}
 use Rattle.std.proofs.lemmas.Bool.{cases_lt}
 use Rattle.tl_types.specs.declared.permission.Perm.TheVariants.{None as p_None}
 use Rattle.tl_map.specs.Places.{bank_of, set_of}
-use Rattle.tl_protocol.specs.Protocol.{Block, Idle, home_bytes}
+use Rattle.tl_protocol.specs.Protocol.{Block, Idle, MayGiveUp, home_bytes}
 use Rattle.tl_protocol.specs.Pending.{IsServiceAt}
 use Rattle.tl_protocol.specs.declared.client.Client.{Client}
 use Rattle.tl_protocol.specs.declared.event.Event.{Event}
@@ -25,7 +25,8 @@ use Rattle.tl_registers.proofs.Booleans.{and-true, bool-cases, neqb-of}
 use Rattle.tl_registers.proofs.Closing.{putting-keeps-agreement}
 use Rattle.tl_registers.proofs.Order.{other-events-keep-order}
 use Rattle.tl_registers.proofs.Tables.{each-follows, found-busy}
-use Rattle.tl_bank_spec.specs.View.{View, IsOwn, block_at, shape_of, way_at}
+use Rattle.tl_bank_spec.specs.Effects.{ways_without}
+use Rattle.tl_bank_spec.specs.View.{View, IsOwn, block_at, shape_of, way_at, ways_below}
 use Rattle.tl_bank_spec.specs.Ways.{lies_in, slot_at, slots_at}
 use Rattle.tl_bank_laws.specs.Layers.{Layers}
 use Rattle.tl_bank_laws.specs.Means.{HoldsWay, IsHome, Means, WaysFit, is_filling}
@@ -34,7 +35,7 @@ use Rattle.tl_bank_laws.proofs.Dues.{Acts}
 use Rattle.tl_bank_laws.proofs.Next.{NextLayers, block_next, blocks-next, means-next, next_view, registers-next}
 use Rattle.tl_bank_laws.proofs.Orders.{GrantsNothing, grants-none, order-transfers}
 use Rattle.tl_bank_laws.proofs.Pointwise.{each-next, entries-next, here, homes-next, left, quiet-next}
-use Rattle.tl_bank_laws.proofs.Slots.{lies-slot, lies-true, none-lowest, slot-lies, slot-same, slots-in, slots-length, slots-some, true-lies}
+use Rattle.tl_bank_laws.proofs.Slots.{below-at, below-past, lies-slot, lies-true, none-lowest, slot-lies, slot-same, slots-in, slots-length, slots-some, true-lies}
 use Rattle.tl_bank_laws.proofs.Ways.{bank-steady, filling-follows, no-grant-next, same-work}
 
 -- what became of home
@@ -302,3 +303,31 @@ put-few v h own block count m acts most =
 -- and nothing of the block
 pub put-quiet : (v : View) (h : Layers) (own block : ℕ) → Means v h → Acts v own (Put block) → outward_in h.home block ≡ Quiet
 put-quiet v h own block m acts = (m.home block (acts.may.0, acts.bank)).outward ∙ acts.may.1.1.quiet
+
+-- home holds the block, which is one of the memory
+pub leave-held : (v : View) (h : Layers) (block : ℕ) (dirty : Bool) → Means v h → IsOwn v.geometry v.number block
+    → MayGiveUp (shape_of v.geometry) (block_at v block) dirty → IsSome (line_in h.home block)
+leave-held v h block dirty m own may =
+    let held : line_in h.home block ≡ Some may.0.0 = (m.home block own).line ∙ may.0.1 in rw held refl
+
+pub leave-inside : (v : View) (h : Layers) (block : ℕ) → Means v h → block < v.geometry.memory_blocks
+    → block < (geometry_in h.home).memory_blocks
+leave-inside v h block m l = rw m.home_geometry l
+
+none-either : (t : Bool) (o : Option ℕ) → o ≡ None → (if t then None else o) ≡ None
+none-either true o h = refl
+none-either false o h = h
+
+-- the ways once a block left home
+pub ways-left : (old new : HomeState) (blocks block : ℕ) → GaveUp old new block
+    → (b : ℕ) → slice_index_or (ways_below (way_in new) blocks) b None
+    ≡ ways_without block (λ x. slice_index_or (ways_below (way_in old) blocks) x None) b
+ways-left old new blocks block gave b =
+    elim (cases_lt b blocks) [
+      | inl l ↦
+          below-at (way_in new) blocks b l ∙ gave.ways b
+          ∙ ap (λ (o : Option ℕ). if b == block then None else o) (sym (below-at (way_in old) blocks b l))
+      | inr l ↦
+          below-past (way_in new) blocks b l
+          ∙ sym (none-either (b == block) (slice_index_or (ways_below (way_in old) blocks) b None) (below-past (way_in old) blocks b l))
+    ]

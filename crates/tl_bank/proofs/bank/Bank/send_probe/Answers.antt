@@ -5,7 +5,7 @@ use Rattle.tl_registers.specs.declared.due.Due.TheVariants.{Probe}
 use Rattle.tl_bank_spec.specs.View.{View}
 use Rattle.tl_bank_spec.specs.declared.action.Action.TheVariants.{Probe as did_Probe}
 use Rattle.tl_bank.specs.Shown.{shown, layers}
-use Rattle.tl_bank_laws.proofs.Dues.{acts-at, advances-at, probe-free, ticket-is}
+use Rattle.tl_bank_laws.proofs.Dues.{acts-at, advances-at, client-few, probe-free, ticket-is}
 use Rattle.tl_bank_laws.proofs.SendProbe.{channel-room, probe-keeps}
 use Rattle.tl_bank.proofs.bank.Bank.send_probe.Goals as goal
 
@@ -40,3 +40,10 @@ returns c =
     (omega (arith, left)) (λ b. refl)
     (ap (λ (t : Ticket). did_Probe t)
     (c.send-ticket.ensures.ticket ∙ ticket-is v (layers c.self.inside) c.args.client B c.self.invariant acts.may.1.0)))
+
+pub note_probe-requires : goal.note_probe-requires
+note_probe-requires c =
+    let v : View = shown c.self.inside in
+    let acts = acts-at v c.args.self.now (layers c.self.inside) c.args.own (Probe c.args.client c.args.block c.args.cap)
+    c.self.invariant c.self.view_is c.requires.permitted c.requires.due in
+    client-few v (layers c.self.inside) c.args.client c.self.invariant acts.may.1.0
