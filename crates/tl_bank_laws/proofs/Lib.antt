@@ -20,6 +20,7 @@ pub mod Probes
 pub mod ReleaseAcks
 pub mod Releases
 pub mod SendGet
+pub mod SendGrant
 pub mod SendProbe
 pub mod Rooms
 pub mod Shares
