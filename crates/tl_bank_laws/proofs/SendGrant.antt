@@ -390,3 +390,10 @@ grant-keeps v h own c acquire cap bytes room ways links home m acts gives same_l
     (registers-next v e room v.registers ways
     (granting-keeps-agreement shape (block_at v) v.registers c own m.registers.agree acts.may) m.registers.few)
     (grant-fits v h own c room at.0 ways cap home m gave acts.is_own at.1 shown)
+
+some-line : (o : Option Line) (line : Line) → o ≡ Some line → o ≢ None
+some-line o line h = λ none. let bad : None ≡ Some line = sym none ∙ h in cc
+
+-- home has a copy of the block that is to be granted
+pub home-has : (v : View) (own c : ℕ) → Acts v own (Grant c) → (block_at v own).home ≢ None
+home-has v own c acts = some-line (block_at v own).home acts.may.1.1.1.0 acts.may.1.1.1.1
