@@ -24,6 +24,7 @@ use tl_types::{BankNo, BlockNo, ClientId, Perm};
 
 mod advance;
 mod client_calls;
+mod memory_calls;
 mod protocol_view;
 mod refusals;
 
