@@ -2,6 +2,7 @@ use Rattle.std.proofs.Common.{◌≡◌, sym, subst}
 use Rattle.tl_bank_spec.specs.Effects.{Advances}
 use Rattle.tl_bank_spec.specs.View.{View}
 use Rattle.tl_bank_laws.proofs.Dues.{advances-from}
+use Rattle.tl_bank.proofs.bank.Bank.advance.Goals.{in-Drop, in-Get, in-Grant, in-Probe, in-Put}
 use Rattle.tl_bank.proofs.bank.Bank.advance.Goals as goal
 
 pub returns-clause-advances : goal.returns-clause-advances
