@@ -24,11 +24,13 @@ use tl_registers::Registers;
 use tl_rules::Log;
 use tl_types::{BankNo, BlockNo, ClientId, Perm};
 
+mod advance;
 mod client_calls;
 mod home_calls;
 mod home_refusals;
 mod memory_calls;
 mod open;
+mod protocol_view;
 mod refusals;
 mod views;
 
