@@ -5,6 +5,8 @@
 #[cfg(test)]
 mod bank;
 #[cfg(test)]
+mod calls;
+#[cfg(test)]
 mod codes;
 #[cfg(test)]
 mod copies;
