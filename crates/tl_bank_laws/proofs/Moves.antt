@@ -1,12 +1,12 @@
 -- What a block that comes into a way or leaves it changes of what lies in the ways of a set.
-use Rattle.std.proofs.Common.{◌≡◌, ◌≢◌, ℕ, zero, suc, ◌<◌, ◌≤◌, ◌==◌, Bool, true, false, List, [], ◌∷◌, ◌++◌, length, set, slice_index_or, Option, Some, None, if◌then◌else◌, refl, sym, ◌∙◌, ap, subst, arith, inl, inr, eq-eqb}
+use Rattle.std.proofs.Common.{◌≡◌, ◌≢◌, ℕ, zero, suc, ◌<◌, ◌==◌, Bool, true, false, List, [], ◌∷◌, length, set, slice_index_or, Option, Some, None, if◌then◌else◌, refl, sym, ◌∙◌, ap, subst, arith, inl, inr, eq-eqb}
 use Rattle.std.proofs.lemmas.Bool.{cases_eq, cases_lt}
 use Rattle.std.proofs.lemmas.List.{set-append_left}
 use Rattle.std.proofs.Math.Seq.{set-append_seam}
 use Rattle.tl_map.specs.Places.{bank_of, set_of}
 use Rattle.tl_registers.proofs.Booleans.{bool-cases, neqb-of}
 use Rattle.tl_bank_spec.specs.View.{View, IsOwn, way_at, ways_below}
-use Rattle.tl_bank_spec.specs.Ways.{lies_in, slot_at, slots_at, slots_below}
+use Rattle.tl_bank_spec.specs.Ways.{lies_in, slot_at, slots_at}
 use Rattle.tl_bank_laws.proofs.Slots.{below-at, below-length, below-past, below-same, lies-slot, lies-true, lowest-same, none-lowest, slot-empty, slots-are, true-lies}
 
 -- ## What changes at one block

@@ -1,9 +1,7 @@
 -- The memory answers home's request.
-use Rattle.std.proofs.Common.{◌≡◌, ◌≢◌, ℕ, ◌==◌, ◌||◌, not, Bool, true, false, List, ◌++◌, ◌∷◌, [], Option, Some, None, if◌then◌else◌, refl, sym, ◌∙◌, ap, subst, inl, inr}
-use Rattle.std.specs.Prelude.{◌⊎◌}
-use Rattle.tl_map.specs.Places.{bank_of}
+use Rattle.std.proofs.Common.{◌≡◌, ◌≢◌, ℕ, ◌==◌, true, List, Option, None, if◌then◌else◌, refl, sym, ◌∙◌, ap, subst, inl, inr}
 use Rattle.tl_protocol.specs.Home.{IsRequest}
-use Rattle.tl_protocol.specs.Protocol.{Block, after, served}
+use Rattle.tl_protocol.specs.Protocol.{Block, served}
 use Rattle.tl_protocol.specs.Sizes.{IsWhole, outward_bytes}
 use Rattle.tl_protocol.specs.declared.event.Event.TheVariants.{Serve}
 use Rattle.tl_protocol.specs.declared.home.Outward.{Outward}
