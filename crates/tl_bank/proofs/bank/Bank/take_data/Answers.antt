@@ -1,4 +1,4 @@
-use Rattle.std.proofs.Common.{◌≡◌, ℕ, ◌+◌, ◌==◌, List, Option, Some, None, if◌then◌else◌, refl, sym, ◌∙◌, ap, subst, arith}
+use Rattle.std.proofs.Common.{◌≡◌, ℕ, ◌+◌, ◌==◌, Option, Some, None, if◌then◌else◌, sym, ◌∙◌, ap, subst, arith}
 use Rattle.tl_protocol.specs.Home.{IsData}
 use Rattle.tl_protocol.specs.declared.event.Event.TheVariants.{TakeData}
 use Rattle.tl_home.specs.Homes.{HomeState, way_in}

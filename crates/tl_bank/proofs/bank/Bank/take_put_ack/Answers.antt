@@ -9,7 +9,7 @@ use Rattle.tl_bank_spec.specs.View.{View, block_at, way_at, ways_below}
 use Rattle.tl_bank.specs.Shown.{shown, layers}
 use Rattle.tl_bank_laws.proofs.Serves.{serves-next}
 use Rattle.tl_bank_laws.proofs.Slots.{below-same}
-use Rattle.tl_bank_laws.proofs.TakesPutAck.{put_ack-keeps, put_ack-waits}
+use Rattle.tl_bank_laws.proofs.TakesPutAck.{put_ack-keeps}
 use Rattle.tl_bank.proofs.bank.Bank.take_put_ack.Goals as goal
 
 pub invariant_of-self : goal.invariant_of-self

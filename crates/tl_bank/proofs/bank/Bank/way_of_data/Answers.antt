@@ -1,4 +1,4 @@
-use Rattle.std.proofs.Common.{◌≡◌, Option, Some, None, IsSome, option_copied, Bor, refl, sym, subst}
+use Rattle.std.proofs.Common.{Option, Some, None, IsSome, option_copied, Bor, refl, sym, subst}
 use Rattle.tl_protocol.specs.Home.{IsData}
 use Rattle.tl_registers.specs.declared.register.Register.{Register}
 use Rattle.tl_bank_spec.specs.View.{View, block_at}
