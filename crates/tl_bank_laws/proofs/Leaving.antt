@@ -1,24 +1,23 @@
 -- A block leaves home: it is dropped, or put back to the memory.
-use Rattle.std.proofs.Common.{◌≡◌, ◌≢◌, ℕ, ◌+◌, ◌<◌, ◌≤◌, ◌==◌, ◌&&◌, Bool, true, false, List, [], ◌∷◌, ◌++◌, length, Option, Some, None, is_none, if◌then◌else◌, refl, sym, ◌∙◌, ap, subst, arith, inl, inr, eqb-true, eq-eqb}
+use Rattle.std.proofs.Common.{◌≡◌, ◌≢◌, ℕ, ◌<◌, ◌≤◌, ◌==◌, ◌&&◌, Bool, true, false, List, Option, Some, None, is_none, if◌then◌else◌, refl, sym, ◌∙◌, ap, subst, arith, inl, inr, eqb-true, eq-eqb}
 use Rattle.std.specs.Prelude.{IsSome, slice_index_or}
 use Rattle.std.proofs.lemmas.Bool.{cases_lt}
 use Rattle.tl_types.specs.declared.permission.Perm.TheVariants.{None as p_None}
-use Rattle.tl_map.specs.Places.{bank_of, set_of}
+use Rattle.tl_map.specs.Places.{set_of}
 use Rattle.tl_protocol.specs.Protocol.{Block, Idle, MayGiveUp, home_bytes}
 use Rattle.tl_protocol.specs.Pending.{IsServiceAt}
 use Rattle.tl_protocol.specs.declared.client.Client.{Client}
 use Rattle.tl_protocol.specs.declared.event.Event.{Event}
 use Rattle.tl_protocol.specs.declared.event.Event.TheVariants.{Drop as e_Drop, SendPut}
 use Rattle.tl_protocol.specs.declared.home.Line.{Line}
-use Rattle.tl_protocol.specs.declared.home.Outward.{Outward}
 use Rattle.tl_protocol.specs.declared.home.Outward.TheVariants.{Quiet, Put as o_Put}
 use Rattle.tl_protocol.specs.declared.shape.Shape.{Shape}
 use Rattle.tl_home.specs.Directories.{is_way as is_home_way}
 use Rattle.tl_home.specs.Homes.{EachHasHolder, HomeState, SameBank, SameMemory, SameOutward, free_at, geometry_in, line_in, order_at, outward_in, recorded_in, way_in}
-use Rattle.tl_registers.specs.Agree.{Agree, Each, IsSteady}
-use Rattle.tl_registers.specs.Register.{victim_of, works_on}
+use Rattle.tl_registers.specs.Agree.{IsSteady}
+use Rattle.tl_registers.specs.Register.{works_on}
 use Rattle.tl_registers.specs.Registers.{ended, is_busy, register_of}
-use Rattle.tl_registers.specs.VictimWay.{IsInOrder, block_in}
+use Rattle.tl_registers.specs.VictimWay.{IsInOrder}
 use Rattle.tl_registers.specs.declared.due.Due.TheVariants.{Put, Drop}
 use Rattle.tl_registers.specs.declared.register.Register.{Register}
 use Rattle.tl_registers.proofs.Booleans.{and-true, bool-cases, neqb-of}
@@ -32,7 +31,7 @@ use Rattle.tl_bank_laws.specs.Layers.{Layers}
 use Rattle.tl_bank_laws.specs.Means.{HoldsWay, IsHome, Means, WaysFit, is_filling}
 use Rattle.tl_bank_laws.proofs.Crossed.{crossings-few}
 use Rattle.tl_bank_laws.proofs.Dues.{Acts}
-use Rattle.tl_bank_laws.proofs.Next.{NextLayers, block_next, blocks-next, means-next, next_view, registers-next}
+use Rattle.tl_bank_laws.proofs.Next.{block_next, blocks-next, means-next, next_view, registers-next}
 use Rattle.tl_bank_laws.proofs.Orders.{GrantsNothing, grants-none, order-transfers}
 use Rattle.tl_bank_laws.proofs.Pointwise.{each-next, entries-next, here, homes-next, left, quiet-next}
 use Rattle.tl_bank_laws.proofs.Slots.{below-at, below-past, lies-slot, lies-true, none-lowest, slot-lies, slot-same, slots-in, slots-length, slots-some, true-lies}

@@ -1,4 +1,4 @@
-use Rattle.std.proofs.Common.{◌≡◌, sym, subst}
+use Rattle.std.proofs.Common.{subst}
 use Rattle.tl_bank_spec.specs.Effects.{Advances}
 use Rattle.tl_bank_spec.specs.View.{View}
 use Rattle.tl_bank_laws.proofs.Dues.{advances-from}

@@ -1,10 +1,9 @@
-use Rattle.std.proofs.Common.{◌≡◌, ◌<◌, ◌==◌, ◌||◌, ◌∙◌, not, ℕ, Bool, false, true, ap, arith, refl, subst, sym}
+use Rattle.std.proofs.Common.{◌≡◌, ◌<◌, ◌==◌, ◌||◌, ◌∙◌, not, ℕ, false, true, ap, arith, refl, subst, sym}
 use denote.Enum.Bare.{sameb}
 use Rattle.tl_types.specs.contracts.permission.Perm.{the_type}
 use Rattle.tl_types.specs.declared.permission.Perm.{Perm}
 use Rattle.tl_types.specs.declared.permission.Perm.TheVariants.{None as p_None, Branch, Tip}
 use Rattle.tl_protocol.specs.Protocol.{is_alone, is_none}
-use Rattle.tl_protocol.specs.declared.client.Client.{Client}
 use Rattle.tl_home.specs.Homes.{recorded_in}
 use Rattle.tl_registers.proofs.Booleans.{neqb-of}
 use Rattle.tl_bank_spec.specs.View.{View, IsOwn, block_at, client_at}

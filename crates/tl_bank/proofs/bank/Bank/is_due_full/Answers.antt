@@ -1,8 +1,7 @@
-use Rattle.std.proofs.Common.{◌<◌, ◌∙◌, Some, ap, subst, sym}
+use Rattle.std.proofs.Common.{◌<◌, ◌∙◌, Some, ap, subst}
 use Rattle.tl_registers.specs.declared.due.Due.{Due}
 use Rattle.tl_registers.specs.declared.due.Due.TheVariants.{Grant, Probe}
-use Rattle.tl_bank_spec.specs.View.{View, IsOwn}
-use Rattle.tl_bank_spec.specs.HomeCases.{due_at}
+use Rattle.tl_bank_spec.specs.View.{View}
 use Rattle.tl_bank.specs.Shown.{shown, layers}
 use Rattle.tl_bank_laws.proofs.Dues.{acts-within}
 use Rattle.tl_bank.proofs.bank.Bank.is_due_full.Goals as goal

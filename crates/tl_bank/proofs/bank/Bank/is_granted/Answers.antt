@@ -1,6 +1,6 @@
 use Rattle.std.proofs.Common.{◌≡◌, ◌<◌, subst}
-use Rattle.tl_links.specs.declared.wanted.Wanted.TheVariants.{Any, ProbeAck, Grant}
-use Rattle.tl_types.specs.declared.channel.Channel.TheVariants.{B, C, D, E}
+use Rattle.tl_links.specs.declared.wanted.Wanted.TheVariants.{Any, Grant}
+use Rattle.tl_types.specs.declared.channel.Channel.TheVariants.{D, E}
 use Rattle.tl_registers.specs.Pending.{is_granted}
 use Rattle.tl_bank_spec.specs.View.{View, client_at}
 use Rattle.tl_bank.specs.Shown.{shown, layers}

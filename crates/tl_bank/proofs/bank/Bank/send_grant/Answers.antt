@@ -1,8 +1,6 @@
-use Rattle.std.proofs.Common.{◌≡◌, ◌≢◌, ℕ, ◌∙◌, ◌+◌, ◌<◌, ◌^◌, ◌≤◌, Option, None, Some, length, arith, ap, refl, subst, sym}
+use Rattle.std.proofs.Common.{◌≢◌, ℕ, ◌∙◌, ◌<◌, ◌^◌, Option, None, length, arith, ap, subst, sym}
 use Rattle.std.specs.Prelude.{slice_index_or}
-use Rattle.tl_types.specs.Permission.{grant_perm}
 use Rattle.tl_types.specs.declared.channel.Channel.TheVariants.{D}
-use Rattle.tl_types.specs.declared.permission.Perm.TheVariants.{Branch, Tip}
 use Rattle.tl_types.specs.declared.ticket.Ticket.{Ticket}
 use Rattle.tl_home.specs.Homes.{way_in}
 use Rattle.tl_registers.specs.declared.due.Due.TheVariants.{Grant}

@@ -1,4 +1,4 @@
-use Rattle.std.proofs.Common.{◌≡◌, ℕ, ◌∙◌, ◌+◌, ◌<◌, ◌^◌, ◌≤◌, length, arith, ap, refl, subst, sym}
+use Rattle.std.proofs.Common.{◌∙◌, ◌<◌, ◌^◌, length, arith, ap, refl, subst, sym}
 use Rattle.tl_types.specs.declared.channel.Channel.TheVariants.{B}
 use Rattle.tl_types.specs.declared.ticket.Ticket.{Ticket}
 use Rattle.tl_registers.specs.declared.due.Due.TheVariants.{Probe}

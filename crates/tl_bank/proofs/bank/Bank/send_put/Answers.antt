@@ -1,4 +1,4 @@
-use Rattle.std.proofs.Common.{◌≡◌, ℕ, ◌∙◌, ◌+◌, ◌≤◌, Bool, true, Option, None, Some, arith, ap, refl}
+use Rattle.std.proofs.Common.{ℕ, true, Option, arith, refl}
 use Rattle.tl_home.specs.Homes.{way_in}
 use Rattle.tl_registers.specs.declared.due.Due.TheVariants.{Put}
 use Rattle.tl_bank_spec.specs.View.{View, ways_below}

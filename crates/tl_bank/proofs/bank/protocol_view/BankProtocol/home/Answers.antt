@@ -1,4 +1,4 @@
-use Rattle.std.proofs.Common.{◌≡◌, ◌<◌, ◌∙◌, Bool, Option, ap, subst}
+use Rattle.std.proofs.Common.{◌≡◌, ◌<◌, ◌∙◌, Option, ap, subst}
 use Rattle.std.specs.Option.{option_map}
 use Rattle.tl_protocol.specs.declared.home.Line.{Line}
 use Rattle.tl_bank_spec.specs.View.{View, block_at}

@@ -1,4 +1,4 @@
-use Rattle.std.proofs.Common.{◌≡◌, ◌∙◌, Bool, ap, subst}
+use Rattle.std.proofs.Common.{◌≡◌, ◌∙◌, ap, subst}
 use Rattle.tl_registers.specs.Pending.{is_quiet}
 use Rattle.tl_home.specs.Homes.{outward_in}
 use Rattle.tl_bank_spec.specs.View.{View, block_at}
