@@ -78,7 +78,11 @@ impl Session {
     }
 
     fn take(&mut self, ticket: Ticket) -> Answer {
-        let Some(share) = self.shares.as_mut_slice().get_mut(ticket.client.number() as usize) else {
+        let Some(share) = self
+            .shares
+            .as_mut_slice()
+            .get_mut(ticket.client.number() as usize)
+        else {
             return Err(Refusal::OutOfRange);
         };
         match ticket.channel {
@@ -94,7 +98,9 @@ impl Session {
         let Some(share) = self.shares.as_mut_slice().get_mut(number as usize) else {
             return Err(Refusal::OutOfRange);
         };
-        self.bank.release(client(number), block, prune, share).map(Some)
+        self.bank
+            .release(client(number), block, prune, share)
+            .map(Some)
     }
 
     fn advance(&mut self, block: BlockNo) -> Answer {
@@ -111,7 +117,9 @@ impl Session {
                 stored.map(|_stamp| None)
             }
             Call::Acquire(number, asked, grow) => {
-                self.bank.acquire(client(number), block(asked), grow).map(Some)
+                self.bank
+                    .acquire(client(number), block(asked), grow)
+                    .map(Some)
             }
             Call::Release(number, given, prune) => self.release(number, block(given), prune),
             Call::Take(ticket) => self.take(ticket),
@@ -157,9 +165,12 @@ impl Session {
     }
 }
 
-
 fn expect(is_so: bool) -> Result<(), Fail> {
-    if is_so { Ok(()) } else { Err("another answer".into()) }
+    if is_so {
+        Ok(())
+    } else {
+        Err("another answer".into())
+    }
 }
 
 /// Client 0 acquires block 0 with Tip, and stores a byte.
@@ -299,7 +310,10 @@ fn a_clock_at_its_end_is_refused(rt: HostRuntime) -> Result<(), Fail> {
     assert_eq!(rt; loaded, Err(Refusal::ClockFull));
     let nobody = bank.load(client(1), 0, 1, end).map(|loaded| loaded.stamp);
     assert_eq!(rt; nobody, Err(Refusal::NoPermission));
-    assert_eq!(rt; bank.store(client(0), 0, &[1], end), Err(Refusal::ClockFull));
+    assert_eq!(rt;
+        bank.store(client(0), 0, &[1], end),
+        Err(Refusal::ClockFull)
+    );
     assert_eq!(rt; session.shown(), before);
     let bank = &mut session.bank;
     let last = When {
