@@ -20,7 +20,7 @@ use Rattle.tl_registers.specs.Registers.{ended, is_busy, register_of}
 use Rattle.tl_registers.specs.VictimWay.{IsInOrder}
 use Rattle.tl_registers.specs.declared.due.Due.TheVariants.{Put, Drop}
 use Rattle.tl_registers.specs.declared.register.Register.{Register}
-use Rattle.tl_registers.proofs.Booleans.{and-true, bool-cases, neqb-of}
+use Rattle.tl_registers.proofs.Booleans.{and-true, bool-cases}
 use Rattle.tl_registers.proofs.Closing.{dropping-keeps-agreement, putting-keeps-agreement}
 use Rattle.tl_registers.proofs.Order.{other-events-keep-order}
 use Rattle.tl_registers.proofs.Tables.{each-follows, found-busy}
@@ -31,6 +31,7 @@ use Rattle.tl_bank_laws.specs.Layers.{Layers}
 use Rattle.tl_bank_laws.specs.Means.{HoldsWay, IsHome, Means, WaysFit, is_filling}
 use Rattle.tl_bank_laws.proofs.Crossed.{crossings-few}
 use Rattle.tl_bank_laws.proofs.Dues.{Acts}
+use Rattle.tl_bank_laws.proofs.Moves.{at-block, at-other}
 use Rattle.tl_bank_laws.proofs.Next.{block_next, blocks-next, means-next, next_view, registers-next}
 use Rattle.tl_bank_laws.proofs.Orders.{GrantsNothing, grants-none, order-transfers}
 use Rattle.tl_bank_laws.proofs.Pointwise.{each-next, entries-next, here, homes-next, left, quiet-next}
@@ -49,12 +50,6 @@ pub record GaveUp (old new : HomeState) (block : ℕ) : Type 0 where
       ≡ (if set == set_of (geometry_in old) block && is_home_way (way_in old block) way then true else free_at old set way)
   pub orders : (set : ℕ) → order_at new set ≡ order_at old set
   pub memory : SameMemory old new
-
-at-it : {X : Type 0} (block : ℕ) (x y : X) → (if block == block then x else y) ≡ x
-at-it block x y = let t = eq-eqb block block refl in rw t refl
-
-at-other : {X : Type 0} (block b : ℕ) (x y : X) → b ≢ block → (if b == block then x else y) ≡ y
-at-other block b x y ne = let t = neqb-of b block ne in rw t refl
 
 -- ## The ways
 
@@ -162,7 +157,7 @@ leaving-fits v e room ways old new steady none own lacks gave geometry shown fit
     let t : View = next_view v e room v.registers ways in
     let block : ℕ = here v e in
     let went : LeftWay v ways block = record {
-      gone = shown block own.0 ∙ gave.ways block ∙ at-it block None (way_in old block);
+      gone = shown block own.0 ∙ gave.ways block ∙ at-block block None (way_in old block);
       other = λ b l ne. shown b l ∙ gave.ways b ∙ at-other block b None (way_in old b) ne ∙ sym (fit.shown b l);
     } in
     record {
@@ -269,10 +264,10 @@ put-keeps v h own block room ways home m acts gave outward shown =
       copies = entries-next v h e m (λ x. refl);
       home = leaving-layers v h e home m is_own gave
           (record {
-            line = gave.lines block ∙ at-it block None (line_in h.home block);
-            recorded = λ x. gave.recorded x block ∙ at-it block p_None (recorded_in h.home x block) ∙ sym (nobody x);
+            line = gave.lines block ∙ at-block block None (line_in h.home block);
+            recorded = λ x. gave.recorded x block ∙ at-block block p_None (recorded_in h.home x block) ∙ sym (nobody x);
             outward =
-                outward block ∙ at-it block (o_Put (home_bytes (line_in h.home block))) (outward_in h.home block)
+                outward block ∙ at-block block (o_Put (home_bytes (line_in h.home block))) (outward_in h.home block)
                 ∙ ap (λ (l : Option Line). o_Put (home_bytes l)) is.line;
             memory = gave.memory block ∙ is.memory;
           })
@@ -347,7 +342,7 @@ drop-keeps v h own block room ways home m acts gave outward shown =
     let is : IsHome h.home block s = m.home block is_own in
     let nobody = nobody-at shape s (steady.service block) acts.may.1.1 in
     let nowhere : slice_index_or ways block None ≡ None =
-    shown block is_own.0 ∙ gave.ways block ∙ at-it block None (way_in h.home block) in
+    shown block is_own.0 ∙ gave.ways block ∙ at-block block None (way_in h.home block) in
     let fewer = ended-few block v.registers in
     let few = m.registers.few in
     means-next v h (record h { home = home }) e room (ended block v.registers) ways m
@@ -357,8 +352,8 @@ drop-keeps v h own block room ways home m acts gave outward shown =
       copies = entries-next v h e m (λ x. refl);
       home = leaving-layers v h e home m is_own gave
           (record {
-            line = gave.lines block ∙ at-it block None (line_in h.home block);
-            recorded = λ x. gave.recorded x block ∙ at-it block p_None (recorded_in h.home x block) ∙ sym (nobody x);
+            line = gave.lines block ∙ at-block block None (line_in h.home block);
+            recorded = λ x. gave.recorded x block ∙ at-block block p_None (recorded_in h.home x block) ∙ sym (nobody x);
             outward = outward.outward block ∙ is.outward;
             memory = gave.memory block ∙ is.memory;
           })

@@ -1,5 +1,5 @@
 -- Home grants the Acquire that a register serves.
-use Rattle.std.proofs.Common.{◌≡◌, ◌≢◌, ℕ, ◌<◌, ◌≤◌, ◌==◌, ◌&&◌, not, Bool, true, false, List, [], ◌∷◌, ◌++◌, filter, Option, Some, None, is_none, if◌then◌else◌, refl, sym, ◌∙◌, ap, subst, arith, inl, inr, eqb-true, eq-eqb}
+use Rattle.std.proofs.Common.{◌≡◌, ◌≢◌, ℕ, ◌<◌, ◌≤◌, ◌==◌, ◌&&◌, not, true, false, List, [], ◌∷◌, ◌++◌, filter, Option, Some, None, is_none, if◌then◌else◌, refl, sym, ◌∙◌, ap, subst, arith, inl, inr, eqb-true, eq-eqb}
 use Rattle.std.specs.Prelude.{IsSome, slice_index_or}
 use Rattle.std.specs.List.{list_any}
 use Rattle.std.proofs.lemmas.Bool.{cases_lt}
@@ -47,6 +47,7 @@ use Rattle.tl_bank_laws.proofs.Orders.{order-transfers}
 use Rattle.tl_bank_laws.proofs.Pending.{home-holds-on}
 use Rattle.tl_bank_laws.proofs.Pointwise.{entries-next, homes-next, left}
 use Rattle.tl_bank_laws.proofs.SendProbe.{field-put}
+use Rattle.tl_bank_laws.proofs.Sights.{and-false}
 use Rattle.tl_bank_laws.proofs.Slots.{lies-slot, slot-lies, slots-in, slots-length, slots-some}
 use Rattle.tl_bank_laws.proofs.Ways.{SameLies, bank-steady, each-holds-stay, same-work, slot-stays, slots-stay}
 
@@ -145,10 +146,6 @@ post-is v own c acquire cap bytes gives =
     ap (λ (o : Option Accepted). grant_post (shape_of v.geometry) s c o) gives.accepted
     ∙ ap (λ (k : GrantCap). post-with c k (grant_bytes (s.client c).recorded (home_bytes s.home))) (sym gives.cap_is)
     ∙ ap (λ (x : Option (List ℕ)). post-with c cap x) (sym gives.bytes_is)
-
-and-false : (t : Bool) → (t && false) ≡ false
-and-false true = refl
-and-false false = refl
 
 -- what is recorded of the block then
 recorded-then : (v : View) (h : Layers) (own c : ℕ) (cap : GrantCap) (bytes : List ℕ) (home : HomeState)

@@ -174,7 +174,7 @@ any_below-some test (suc n) x l h =
 
 -- ## Who has nothing
 
-and-false : (t : Bool) → (t && false) ≡ false
+pub and-false : (t : Bool) → (t && false) ≡ false
 and-false true = refl
 and-false false = refl
 
