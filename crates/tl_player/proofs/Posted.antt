@@ -1,8 +1,7 @@
 -- The message that an event sent waits where its ticket says.
 use Rattle.std.proofs.Common.{◌≡◌, ℕ, ◌-◌, ◌<◌, ◌==◌, Bool, true, false, List, [], ◌∷◌, ◌++◌, length, Option, Some, None, IsSome, slice_get, refl, sym, ◌∙◌, ap, subst, arith, eq-eqb, nat_lt, nat_le, ◌&&◌, if◌then◌else◌}
 use Rattle.std.proofs.lemmas.Bool.{le-ltb, lt-leb}
-use Rattle.tl_types.specs.Lane.{message_at}
-use Rattle.tl_types.specs.Lane.{Lane, bodies_of, sent, is_here, with_message}
+use Rattle.tl_types.specs.Lane.{Lane, bodies_of, message_at, sent, is_here, with_message}
 use Rattle.tl_types.specs.Channel.{same_channel}
 use Rattle.tl_types.specs.declared.channel.Channel.{Channel}
 use Rattle.tl_types.specs.declared.channel.Channel.TheVariants.{A, B, C, D, E}
