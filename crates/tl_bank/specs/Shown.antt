@@ -1,6 +1,6 @@
 -- A bank's fields as contracts see them, and its layers.
 use Rattle.tl_home.specs.Homes.{way_in}
-use Rattle.tl_bank_spec.specs.View.{View}
+use Rattle.tl_bank_spec.specs.View.{View, ways_below}
 use Rattle.tl_bank.specs.declared.bank.Bank.TheInside.{Inside}
 use Rattle.tl_bank_laws.specs.Layers.{Layers}
 
@@ -12,7 +12,7 @@ shown b = record {
   log = b.log.events;
   room = b.log.room;
   registers = b.registers.open_registers;
-  ways = way_in b.home;
+  ways = ways_below (way_in b.home) b.geometry.memory_blocks;
 }
 
 abbrev pub layers : Inside → Layers

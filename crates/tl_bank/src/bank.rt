@@ -6,7 +6,7 @@ ghost use Rattle.tl_protocol.specs.Protocol.{block_of};
 ghost use Rattle.tl_protocol.specs.Runs.{IsRun};
 ghost use Rattle.tl_bank_spec.specs.Cases.{no_client, no_block};
 ghost use Rattle.tl_bank_spec.specs.Share.{first_shares};
-ghost use Rattle.tl_bank_spec.specs.View.{IsOwn, StampsRise, shape_of, perm_at, copies_at};
+ghost use Rattle.tl_bank_spec.specs.View.{IsOwn, StampsRise, shape_of, way_at, perm_at, copies_at};
 
 use crate::share::Share;
 use arrayvec::ArrayVec;
@@ -78,7 +78,7 @@ impl Bank {
               registers = [];
               ways = made.0.ways;
             }) }
-        ensures empty { IfOk result (λ made. (block : ℕ) → made.0.ways block ≡ None) }
+        ensures empty { IfOk result (λ made. (block : ℕ) → way_at made.0 block ≡ None) }
         ensures shares { IfOk result (λ made. made.1.items ≡ first_shares number geometry.clients) }
     {
         let bank = Bank {

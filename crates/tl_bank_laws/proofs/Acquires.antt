@@ -50,6 +50,7 @@ acquire-keeps v h c b grow copy room links tables m asks same_links sends same a
       may = (ok.block, (ok.client, (ok.wait, ok.from)));
       first = tt;
       leaves = refl;
+      leaves_registers = tt;
       here = ok.here;
       later = tt;
       client = λ x. refl;

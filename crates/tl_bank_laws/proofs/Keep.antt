@@ -1,74 +1,31 @@
 -- An event of one client, applied to the layers as the protocol says, leaves a bank whose layers hold what its log leaves.
-use Rattle.std.proofs.Common.{◌≡◌, ℕ, ◌==◌, Bool, true, false, cond, List, [], ◌∷◌, ◌++◌, Option, Some, None, refl, sym, ◌∙◌, ap, subst}
-use Rattle.std.specs.List.{All}
-use Rattle.std.proofs.lemmas.List.Elements.{All-nil, All-cons, All-append, All-tail}
-use Rattle.tl_types.specs.Lane.{Lane, is_here, with_message, first_taken, without_first}
+use Rattle.std.proofs.Common.{◌≡◌, ℕ, ◌==◌, Bool, true, false, cond, List, [], ◌∷◌, ◌++◌, Option, refl, sym, ◌∙◌, ap, subst}
 use Rattle.tl_types.specs.declared.channel.Channel.{Channel}
-use Rattle.tl_types.specs.declared.message.Message.{Message}
 use Rattle.tl_map.specs.Numbers.{Numbers}
 use Rattle.tl_map.specs.Places.{bank_of}
 use Rattle.tl_protocol.specs.declared.client.Client.{Client}
 use Rattle.tl_protocol.specs.declared.event.Event.{Event}
+use Rattle.tl_protocol.specs.declared.event.Event.TheVariants.{Load, Store, SendAcquire, SendRelease, AnswerProbe, TakeGrant, TakeReleaseAck, AcceptAcquire, SendProbe, TakeC, SendGrant, TakeGrantAck, SendGet, Serve, TakeData, Drop, SendPut, TakePutAck}
 use Rattle.tl_protocol.specs.Protocol.{Block, block_of, after}
 use Rattle.tl_protocol.specs.Runs.{MayNext, end_of}
-use Rattle.tl_lanes.specs.Lanes.{Post, Place, post_of, take_of, taken_from, sent_to, lane_after, lane_of}
+use Rattle.tl_lanes.specs.Lanes.{lane_after}
 use Rattle.tl_lanes.specs.Lawful.{TakesFirst}
 use Rattle.tl_lanes.specs.Lists.{leaves_home, SameHome}
 use Rattle.tl_lanes.proofs.Cells.{client-append, field-append, home-append}
 use Rattle.tl_lanes.proofs.Events.{every_such_event_leaves_home}
-use Rattle.tl_lanes.proofs.Logs.{lanes_grow_by_one, lawful_grows_by_one}
 use Rattle.tl_links.specs.Table.{lane_in, SameSize as SameLinks}
 use Rattle.tl_copies.specs.Copies.{held_at, is_cell, SameSize as SameCopies}
 use Rattle.tl_copies.specs.declared.held.Held.{Held}
-use Rattle.tl_bank_spec.specs.View.{View, IsOwn, IsLater, StampsRiseFrom, shape_of, block_at, client_at, stamped, clock_from, clock_of}
+use Rattle.tl_registers.specs.Agree.{LeavesRegisters}
+use Rattle.tl_bank_spec.specs.View.{View, IsLater, shape_of, block_at, client_at, stamped, clock_of}
 use Rattle.tl_bank_laws.specs.Entry.{entry_of}
-use Rattle.tl_home.specs.Homes.{bank_in, geometry_in, HomeState}
+use Rattle.tl_home.specs.Homes.{HomeState, bank_in, geometry_in, way_in, free_at, order_at, outward_in}
 use Rattle.tl_bank_laws.specs.Layers.{Layers}
 use Rattle.tl_bank_laws.specs.Means.{Means, IsHome}
-
--- ## The clock
-
--- the clock after one more event
-pub clock_from-append : (clock : ℕ) (log : List Event) (e : Event) → clock_from clock (log ++ e ∷ []) ≡ stamped (clock_from clock log) e
-clock_from-append clock [] e = refl
-clock_from-append clock (x ∷ log) e = clock_from-append (stamped clock x) log e
-
--- stamps rise with one more event that is later
-pub stamps-append : (clock : ℕ) (log : List Event) (e : Event) → StampsRiseFrom clock log → IsLater (clock_from clock log) e
-    → StampsRiseFrom clock (log ++ e ∷ [])
-stamps-append clock [] e rise later = (later, tt)
-stamps-append clock (x ∷ log) e rise later = (rise.0, stamps-append (stamped clock x) log e rise.1 later)
-
--- ## The messages that wait
-
--- a message is of a block of which a fact holds
-abbrev Of : (ℕ → Type 0) → Message → Type 0
-Of P x = P x.block
-
-inside-first : (P : ℕ → Type 0) (taken : ℕ) (xs : List Message) → All (Of P) xs → All (Of P) (first_taken taken xs).messages
-inside-first P taken [] h = h
-inside-first P taken (x ∷ rest) h = All-tail (Of P) x rest h
-
-inside-here : (P : ℕ → Type 0) (lane : Lane) (t : Bool) → All (Of P) lane.messages → All (Of P) (cond t (without_first lane) lane).messages
-inside-here P lane true h = inside-first P lane.taken lane.messages h
-inside-here P lane false h = h
-
-inside-taken : (P : ℕ → Type 0) (place : Option Place) (x : ℕ) (l : Channel) (lane : Lane)
-    → All (Of P) lane.messages → All (Of P) (taken_from place x l lane).messages
-inside-taken P None x l lane h = h
-inside-taken P (Some place) x l lane h = inside-here P lane (is_here place.client place.channel x l) h
-
-inside-with : (P : ℕ → Type 0) (lane : Lane) (message : Message) (t : Bool) → P message.block
-    → All (Of P) lane.messages → All (Of P) (cond t (with_message lane message) lane).messages
-inside-with P lane message true p h =
-    All-append (Of P) lane.messages (message ∷ []) h (All-cons (Of P) message [] p (All-nil (Of P)))
-inside-with P lane message false p h = h
-
-inside-sent : (P : ℕ → Type 0) (post : Option Post) (block x : ℕ) (l : Channel) (lane : Lane) → P block
-    → All (Of P) lane.messages → All (Of P) (sent_to post block x l lane).messages
-inside-sent P None block x l lane p h = h
-inside-sent P (Some post) block x l lane p h =
-    inside-with P lane (record { block = block; body = post.body }) (is_here post.client post.channel x l) p h
+use Rattle.tl_bank_laws.proofs.Next.{next_view, block_next, blocks-next, NextLayers, means-next}
+use Rattle.tl_bank_laws.proofs.Orders.{GrantsNothing}
+use Rattle.tl_bank_laws.proofs.Pending.{HoldsOn}
+use Rattle.tl_bank_laws.proofs.Ways.{bank-steady, fit-stays, same-work, ways-stay}
 
 -- ## One event of a client
 
@@ -77,6 +34,7 @@ pub record ClientStep (v : View) (e : Event) (c : ℕ) (k : Client) : Type 0 whe
   pub may : MayNext (shape_of v.geometry) (block_at v) e
   pub first : TakesFirst (shape_of v.geometry) v.image v.log e
   pub leaves : leaves_home e ≡ true
+  pub leaves_registers : LeavesRegisters e
   pub here : bank_of v.geometry (block_of (shape_of v.geometry) e) ≡ v.number
   pub later : IsLater (clock_of v.log) e
   pub client :
@@ -103,58 +61,81 @@ if-entry true k old = refl
 if-entry false k old = refl
 
 -- home's part is the same, and so is the block's
-home-stays : (clients : ℕ) (home : HomeState) (block : ℕ) (s t : Block) → IsHome clients home block s → SameHome s t
-    → ((c : ℕ) → (t.client c).recorded ≡ (s.client c).recorded) → IsHome clients home block t
-home-stays clients home block s t h same recorded = record {
+home-stays : (home : HomeState) (block : ℕ) (s t : Block) → IsHome home block s → SameHome s t
+    → ((c : ℕ) → (t.client c).recorded ≡ (s.client c).recorded) → IsHome home block t
+home-stays home block s t h same recorded = record {
   line = h.line ∙ sym same.home;
-  recorded = λ c l. h.recorded c l ∙ sym (recorded c);
+  recorded = λ c. h.recorded c ∙ sym (recorded c);
   outward = h.outward ∙ sym same.outward;
   memory = h.memory ∙ sym same.memory;
 }
 
-pub means-step : (v : View) (old new : Layers) (e : Event) (c : ℕ) (k : Client) (room : ℕ)
-    → Means v old → ClientStep v e c k → LayersFollow v e c k old new
-    → Means (record v { log = v.log ++ e ∷ []; room = room }) new
-means-step v old new e c k room m step follow =
+-- such an event grants nothing, and moves no block
+of-client : (e : Event) → LeavesRegisters e → leaves_home e ≡ true → GrantsNothing e × HoldsOn e
+of-client (Load access) leaves h = (tt, tt)
+of-client (Store access) leaves h = (tt, tt)
+of-client (SendAcquire c block grow) leaves h = (tt, tt)
+of-client (SendRelease c block prune) leaves h = (tt, tt)
+of-client (AnswerProbe c block) leaves h = (tt, tt)
+of-client (TakeGrant c block) leaves h = (tt, tt)
+of-client (TakeReleaseAck c block) leaves h = (tt, tt)
+of-client (AcceptAcquire c block) leaves h = absurd leaves
+of-client (SendProbe c block cap) leaves h = absurd leaves
+of-client (TakeC c block) leaves h = (tt, tt)
+of-client (SendGrant c block) leaves h = absurd leaves
+of-client (TakeGrantAck c block) leaves h = absurd leaves
+of-client (SendGet block) leaves h = absurd leaves
+of-client (Serve block) leaves h = (tt, tt)
+of-client (TakeData block) leaves h = cc
+of-client (Drop block) leaves h = absurd leaves
+of-client (SendPut block) leaves h = absurd leaves
+of-client (TakePutAck block) leaves h = absurd leaves
+
+-- each layer holds of every block what the event leaves
+follow-next : (v : View) (old new : Layers) (e : Event) (c : ℕ) (k : Client) → Means v old → ClientStep v e c k
+    → LayersFollow v e c k old new → NextLayers v e old new
+follow-next v old new e c k m step follow =
     let g : Numbers = v.geometry in
     let shape = shape_of g in
     let image : List ℕ = v.image in
     let log : List Event = v.log in
     let block : ℕ = block_of shape e in
-    let s : Block = block_at v block in
-    let own : IsOwn g v.number block = (step.may.0, step.here) in
+    let then : block_at (next_view v e v.room v.registers v.ways) ≡ block_next v e = blocks-next v e v.room v.registers v.ways in
     let same : (y : ℕ) → SameHome (end_of shape image log y) (end_of shape image (log ++ e ∷ []) y) =
-    home-append shape image log e (every_such_event_leaves_home shape s e step.leaves) in
+    home-append shape image log e (every_such_event_leaves_home shape (block_at v block) e step.leaves) in
     record {
-      lawful = lawful_grows_by_one shape image log e m.lawful step.may step.first;
-      own =
-          All-append (λ (e : Event). IsOwn g v.number (block_of shape e)) log (e ∷ []) m.own
-          (All-cons (λ (e : Event). IsOwn g v.number (block_of shape e)) e [] own (All-nil (λ (e : Event). IsOwn g v.number (block_of shape e))));
-      rising = stamps-append 0 log e m.rising step.later;
-      inside = λ x l.
-          subst (λ (lane : Lane). All (Of (IsOwn g v.number)) lane.messages) (sym (lanes_grow_by_one shape image log e x l))
-          (inside-sent (IsOwn g v.number) (post_of shape s e) block x l (taken_from (take_of e) x l (lane_of shape image log x l)) own
-          (inside-taken (IsOwn g v.number) (take_of e) x l (lane_of shape image log x l) (m.inside x l)));
-      lanes = λ x l h.
-          follow.lanes x l ∙ ap (λ (lane : Lane). lane_after shape s e x l lane) (m.lanes x l h)
-          ∙ sym (lanes_grow_by_one shape image log e x l);
+      lanes = λ x l h. follow.lanes x l;
       copies = λ x y h l.
           follow.copies x y ∙ ap (λ (o : Option Held). cond (is_cell c block x y) (entry_of k) o) (m.copies x y h l)
           ∙ if-entry (is_cell c block x y) k (client_at v x y)
-          ∙ ap entry_of (sym (client-append shape image log e c k step.client x y));
+          ∙ ap entry_of (sym (client-append shape image log e c k step.client x y))
+          ∙ ap (λ (t : ℕ → Block). entry_of ((t y).client x)) then;
       home = λ y o.
-          subst (λ (home : HomeState). IsHome g.clients home y (end_of shape image (log ++ e ∷ []) y)) (sym follow.home)
-          (home-stays g.clients old.home y (end_of shape image log y) (end_of shape image (log ++ e ∷ []) y) (m.home y o) (same y)
-          (λ x. field-append (λ (k : Client). k.recorded) shape image log e c k step.client step.recorded x y));
-      accepted = λ y. (same y).accepted ∙ m.accepted y;
-      clock = follow.clock ∙ ap (λ n. stamped n e) m.clock ∙ sym (clock_from-append 0 log e);
-      geometry = m.geometry;
-      links_bank = follow.links_size.bank ∙ m.links_bank;
-      links_clients = follow.links_size.clients ∙ m.links_clients;
-      copies_clients = follow.copies_size.clients ∙ m.copies_clients;
-      copies_blocks = follow.copies_size.blocks ∙ m.copies_blocks;
-      copies_limit = follow.copies_size.limit ∙ m.copies_limit;
-      home_geometry = ap geometry_in follow.home ∙ m.home_geometry;
-      home_bank = ap bank_in follow.home ∙ m.home_bank;
-      limit = follow.limit ∙ m.limit;
+          subst (λ (home : HomeState). IsHome home y (block_next v e y)) (sym follow.home)
+          (subst (λ (t : ℕ → Block). IsHome old.home y (t y)) then
+          (home-stays old.home y (end_of shape image log y) (end_of shape image (log ++ e ∷ []) y) (m.home y o) (same y)
+          (λ x. field-append (λ (k : Client). k.recorded) shape image log e c k step.client step.recorded x y)));
+      quiet = λ y no. ap (λ (home : HomeState). outward_in home y) follow.home;
+      links_size = follow.links_size;
+      copies_size = follow.copies_size;
+      home_bank = record { geometry = ap geometry_in follow.home; bank = ap bank_in follow.home };
+      limit = follow.limit;
+      clock = follow.clock;
     }
+
+pub means-step : (v : View) (old new : Layers) (e : Event) (c : ℕ) (k : Client) (room : ℕ)
+    → Means v old → ClientStep v e c k → LayersFollow v e c k old new
+    → Means (record v { log = v.log ++ e ∷ []; room = room }) new
+means-step v old new e c k room m step follow =
+    let steady = bank-steady v old m in
+    let quiet = of-client e step.leaves_registers step.leaves in
+    means-next v old new e room v.registers v.ways m
+    (record { may = step.may; first = step.first; here = step.here; later = step.later }) (follow-next v old new e c k m step follow)
+    (fit-stays v e room v.ways steady step.leaves_registers m.registers)
+    (ways-stay v e room v.registers v.ways old.home new.home steady quiet.0 quiet.1 (same-work v.registers)
+    (record {
+      ways = λ b. ap (λ (home : HomeState). way_in home b) follow.home;
+      free = λ set way. ap (λ (home : HomeState). free_at home set way) follow.home;
+      orders = λ set. ap (λ (home : HomeState). order_at home set) follow.home;
+    })
+    (λ b l. m.ways.shown b l ∙ ap (λ (home : HomeState). way_in home b) (sym follow.home)) m.ways)

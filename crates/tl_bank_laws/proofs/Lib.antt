@@ -1,3 +1,4 @@
+pub mod Accepted
 pub mod Acquires
 pub mod Allowed
 pub mod Counts
@@ -7,9 +8,15 @@ pub mod Grants
 pub mod Heads
 pub mod Keep
 pub mod Loads
+pub mod Next
+pub mod Orders
+pub mod Pending
 pub mod Places
 pub mod Probes
 pub mod ReleaseAcks
 pub mod Releases
+pub mod Rooms
 pub mod Shares
+pub mod Slots
 pub mod Stores
+pub mod Ways

@@ -103,6 +103,7 @@ load-keeps v h c address len clock bytes stamp index room m reads =
       may = (ok.0.block, (ok.0.client, (inside, ok.1, same)));
       first = tt;
       leaves = refl;
+      leaves_registers = tt;
       here = ok.0.here;
       later = later-is (clock_of v.log) clock stamp reads.stamp_is;
       client = λ x. client-same s c x;

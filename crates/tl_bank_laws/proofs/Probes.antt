@@ -117,6 +117,7 @@ probe-step v h t share block m ok p is =
       may = (own.0, (ok.head.client, ((first_cap (lane_at v t.client B).messages, p.rest, p.list), ok.wait)));
       first = head-first v t B any_body ok.head;
       leaves = refl;
+      leaves_registers = tt;
       here = own.1;
       later = tt;
       client = λ x. ap (λ (bs : List ProbeCap). cond (x == t.client) (answered k bs) (client_at v x at)) p.list;

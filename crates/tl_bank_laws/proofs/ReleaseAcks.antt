@@ -107,6 +107,7 @@ ack-core v h t copy room links tables m none copy_is same_links takes same after
       may = (own.0, (ok.client, ack-may v h t m ok));
       first = head-first v t D is_a_release_ack ok;
       leaves = refl;
+      leaves_registers = tt;
       here = own.1;
       later = tt;
       client = λ x. refl;

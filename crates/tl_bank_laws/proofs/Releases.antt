@@ -56,6 +56,7 @@ release-step v c b prune share none =
       may = (ok.block, (ok.client, (ok.wait, ok.from)));
       first = tt;
       leaves = refl;
+      leaves_registers = tt;
       here = ok.here;
       later = tt;
       client = λ x. refl;

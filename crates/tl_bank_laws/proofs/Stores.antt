@@ -64,6 +64,7 @@ store-keeps v h c address bytes clock block copy wait stamp index room tables m 
       may = (ok.0.block, (ok.0.client, ((ok.0.some, ok.0.few, ok.0.fits), ok.1)));
       first = tt;
       leaves = refl;
+      leaves_registers = tt;
       here = ok.0.here;
       later = later-is (clock_of v.log) clock stamp writes.stamp_is;
       client = λ x. refl;

@@ -5,6 +5,7 @@ use Rattle.tl_types.specs.declared.channel.Channel.{Channel}
 use Rattle.tl_map.specs.Numbers.{IsLawful}
 use Rattle.tl_map.specs.Places.{set_of}
 use Rattle.tl_protocol.specs.declared.home.Accepted.{Accepted}
+use Rattle.tl_protocol.specs.declared.home.Outward.TheVariants.{Quiet}
 use Rattle.tl_protocol.specs.Protocol.{Block, block_of}
 use Rattle.tl_lanes.specs.Lawful.{Lawful}
 use Rattle.tl_links.specs.Table.{lane_in}
@@ -18,7 +19,7 @@ use Rattle.tl_registers.specs.Register.{works_on}
 use Rattle.tl_registers.specs.Registers.{is_held, register_of}
 use Rattle.tl_registers.specs.VictimWay.{IsInOrder}
 use Rattle.tl_bank_spec.specs.Ways.{lies_in, slot_at, slots_at}
-use Rattle.tl_bank_spec.specs.View.{View, IsOwn, StampsRise, shape_of, block_at, client_at, lane_at, clock_of}
+use Rattle.tl_bank_spec.specs.View.{View, IsOwn, StampsRise, shape_of, way_at, block_at, client_at, lane_at, clock_of}
 use Rattle.tl_bank_laws.specs.Entry.{entry_of}
 use Rattle.tl_home.specs.Homes.{HomeState, bank_in, geometry_in, line_in, recorded_in, outward_in, memory_in, way_in, free_at, order_at}
 use Rattle.tl_bank_laws.specs.Layers.{Layers}
@@ -38,9 +39,9 @@ accepted_by (Some r) = acquire_in r.task
 -- ## Home
 
 -- home's part of a block is this
-pub record IsHome (clients : ℕ) (home : HomeState) (block : ℕ) (s : Block) : Type 0 where
+pub record IsHome (home : HomeState) (block : ℕ) (s : Block) : Type 0 where
   pub line : line_in home block ≡ s.home
-  pub recorded : (c : ℕ) → c < clients → recorded_in home c block ≡ (s.client c).recorded
+  pub recorded : (c : ℕ) → recorded_in home c block ≡ (s.client c).recorded
   pub outward : outward_in home block ≡ s.outward
   pub memory : memory_in home block ≡ s.memory
 
@@ -55,7 +56,7 @@ pub record RegistersFit (v : View) : Type 0 where
 pub record HoldsWay (v : View) (r : Register) : Type 0 where
   pub inside : r.way.way < v.geometry.ways
   pub own : (b : ℕ) → works_on r b ≡ true → IsOwn v.geometry v.number b × (set_of v.geometry b ≡ r.way.set)
-  pub lies : (b w : ℕ) → works_on r b ≡ true → v.ways b ≡ Some w → w ≡ r.way.way
+  pub lies : (b w : ℕ) → works_on r b ≡ true → way_at v b ≡ Some w → w ≡ r.way.way
   pub alone : (b : ℕ) → b < v.geometry.memory_blocks → lies_in v r.way.set r.way.way b ≡ true → works_on r b ≡ true
 
 -- no two registers hold one way
@@ -74,14 +75,14 @@ is_filling v set way = list_any (is_filling_by v set way) v.registers
 
 pub record WaysFit (v : View) (home : HomeState) : Type 0 where
   -- each block lies where home has it
-  pub shown : (b : ℕ) → v.ways b ≡ way_in home b
+  pub shown : (b : ℕ) → b < v.geometry.memory_blocks → way_at v b ≡ way_in home b
   -- a block of this bank that lies somewhere lies in one of the ways, alone
-  pub inside : (b w : ℕ) → IsOwn v.geometry v.number b → v.ways b ≡ Some w → w < v.geometry.ways
+  pub inside : (b w : ℕ) → IsOwn v.geometry v.number b → way_at v b ≡ Some w → w < v.geometry.ways
   pub once :
       (a b w : ℕ) → IsOwn v.geometry v.number a → IsOwn v.geometry v.number b → set_of v.geometry a ≡ set_of v.geometry b
-      → v.ways a ≡ Some w → v.ways b ≡ Some w → a ≡ b
+      → way_at v a ≡ Some w → way_at v b ≡ Some w → a ≡ b
   -- home holds the blocks that lie somewhere
-  pub holds : (b : ℕ) → IsOwn v.geometry v.number b → is_none (block_at v b).home ≡ is_none (v.ways b)
+  pub holds : (b : ℕ) → IsOwn v.geometry v.number b → is_none (block_at v b).home ≡ is_none (way_at v b)
   -- a way is free where no block lies in it
   pub free :
       (set way : ℕ) → set < v.geometry.sets → way < v.geometry.ways → free_at home set way ≡ is_none (slot_at v set way)
@@ -105,7 +106,9 @@ pub record Means (v : View) (layers : Layers) : Type 0 where
   pub lanes : (c : ℕ) (k : Channel) → c < v.geometry.clients → lane_in layers.links c k ≡ lane_at v c k
   pub copies :
       (c b : ℕ) → c < v.geometry.clients → b < v.geometry.memory_blocks → held_at layers.copies c b ≡ entry_of (client_at v c b)
-  pub home : (b : ℕ) → IsOwn v.geometry v.number b → IsHome v.geometry.clients layers.home b (block_at v b)
+  pub home : (b : ℕ) → IsOwn v.geometry v.number b → IsHome layers.home b (block_at v b)
+  -- of no other block does anything pass
+  pub quiet : (b : ℕ) → (IsOwn v.geometry v.number b → ⊥) → outward_in layers.home b ≡ Quiet
   pub accepted : (b : ℕ) → (block_at v b).accepted ≡ accepted_by (register_of b v.registers)
   pub registers : RegistersFit v
   pub ways : WaysFit v layers.home

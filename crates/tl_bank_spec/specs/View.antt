@@ -1,6 +1,6 @@
 -- A bank as its callers see it: what it was made of, the log of what happened since, and its open registers. All that a bank
 -- holds follows from these (this project's own).
-use Rattle.std.specs.Prelude.{◌≡◌, ℕ, ◌+◌, ◌<◌, ◌≤◌, max, Bool, true, false, List, [], ◌∷◌, ◌++◌, Option}
+use Rattle.std.specs.Prelude.{◌≡◌, ℕ, zero, suc, ◌+◌, ◌<◌, ◌≤◌, max, Bool, true, false, List, [], ◌∷◌, ◌++◌, Option, None, slice_index_or}
 use Rattle.tl_types.specs.Count.{count_below}
 use Rattle.tl_types.specs.Lane.{Lane, sent}
 use Rattle.tl_types.specs.declared.channel.Channel.{Channel}
@@ -32,8 +32,8 @@ pub record View : Type 0 where
   pub room : ℕ
   -- the open registers, oldest first
   pub registers : List Register
-  -- in which way of its set each block lies, where home holds it
-  pub ways : ℕ → Option ℕ
+  -- in which way of its set each block lies, by block, where home holds it
+  pub ways : List (Option ℕ)
 
 -- a block of the memory, of a bank
 abbrev pub IsOwn : Numbers → ℕ → ℕ → Type 0
@@ -42,6 +42,17 @@ IsOwn g number block = (block < g.memory_blocks) × (bank_of g block ≡ number)
 -- the clients and blocks that the protocol speaks of
 abbrev pub shape_of : Numbers → Shape
 shape_of g = record { clients = g.clients; block_bytes = g.block_bytes; blocks = g.memory_blocks }
+
+-- ## Where blocks lie
+
+-- the way in which a block lies, where home holds it
+abbrev pub way_at : View → ℕ → Option ℕ
+way_at v block = slice_index_or v.ways block None
+
+-- what a function says of each of the first n blocks, by block
+abbrev pub ways_below : (ℕ → Option ℕ) → ℕ → List (Option ℕ)
+ways_below lies zero = []
+ways_below lies (suc n) = ways_below lies n ++ lies n ∷ []
 
 -- ## What the log leaves
 

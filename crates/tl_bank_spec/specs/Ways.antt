@@ -5,7 +5,7 @@ use Rattle.tl_registers.specs.Register.{lowest}
 use Rattle.tl_registers.specs.Registers.{is_held}
 use Rattle.tl_registers.specs.VictimWay.{IsChosen}
 use Rattle.tl_registers.specs.declared.way_of_set.WayOfSet.{WayOfSet}
-use Rattle.tl_bank_spec.specs.View.{View}
+use Rattle.tl_bank_spec.specs.View.{View, way_at}
 
 -- ## What lies where
 
@@ -16,7 +16,7 @@ is_way way (Some lies) = lies == way
 -- a block of the bank lies in a way of a set
 abbrev pub lies_in : View → ℕ → ℕ → ℕ → Bool
 lies_in v set way block =
-    (bank_of v.geometry block == v.number) && ((set_of v.geometry block == set) && is_way way (v.ways block))
+    (bank_of v.geometry block == v.number) && ((set_of v.geometry block == set) && is_way way (way_at v block))
 
 -- the block in a way of a set, where there is one
 abbrev pub slot_at : View → ℕ → ℕ → Option ℕ
