@@ -1,10 +1,12 @@
 -- A channel's keys and messages after one is put last, and after the first is taken.
-use Rattle.std.proofs.Common.{◌≡◌, ◌≢◌, ℕ, ◌+◌, ◌-◌, ◌^◌, ◌<◌, ◌≤◌, List, [], ◌∷◌, ◌++◌, length, Option, Some, None, IsSome, refl, sym, ◌∙◌, ap, subst, arith, length-append}
+use Rattle.std.proofs.Common.{◌≡◌, ◌≢◌, ℕ, ◌+◌, ◌-◌, ◌^◌, zero, suc, ◌<◌, ◌≤◌, List, [], ◌∷◌, ◌++◌, length, Option, Some, None, IsSome, slice_get, refl, sym, ◌∙◌, ap, subst, arith, length-append}
+use Rattle.std.proofs.lemmas.Bool.{le-ltb}
 use Rattle.std.proofs.lemmas.List.Elements.{filter_map-append}
+use Rattle.std.proofs.lemmas.Option.{slice_get_past}
 use Rattle.std.specs.Prelude.{OnSome}
 use Rattle.std.specs.List.{cons_option, AllByRecursion}
 use Rattle.slab.specs.Slab.{Slab, get, ContainsKey, slab_len, Updates}
-use Rattle.tl_types.specs.Lane.{Lane, sent, with_message, first_taken, without_first}
+use Rattle.tl_types.specs.Lane.{Lane, message_at, sent, with_message, first_taken, without_first}
 use Rattle.tl_types.specs.declared.message.Message.{Message}
 use Rattle.tl_links.specs.Keys.{in_order, AreKeys, IsSound}
 
@@ -73,6 +75,25 @@ pub length-in_order : (slab : Slab Message) (keys : List ℕ) → AreKeys slab k
 length-in_order slab [] k = refl
 length-in_order slab (x ∷ rest) k = omega (arith, length-cons_option (get slab x) (in_order slab rest) k.0, length-in_order slab rest k.2)
 
+first-cons_option : (slot : Option Message) (messages : List Message) → IsSome slot → slice_get (cons_option slot messages) 0 ≡ slot
+first-cons_option None messages h = cc
+first-cons_option (Some message) messages h = refl
+
+next-cons_option : (slot : Option Message) (messages : List Message) (i : ℕ) → IsSome slot
+    → slice_get (cons_option slot messages) (suc i) ≡ slice_get messages i
+next-cons_option None messages i h = cc
+next-cons_option (Some message) messages i h = refl
+
+-- the message at a place is the one under the key at that place
+pub at_key : (slab : Slab Message) (keys : List ℕ) (place key : ℕ) → AreKeys slab keys → slice_get keys place ≡ Some key
+    → slice_get (in_order slab keys) place ≡ get slab key
+at_key slab [] place key k h = cc
+at_key slab (x ∷ rest) zero key k h =
+    let same : x ≡ key = cc in
+    subst (λ y. slice_get (in_order slab (x ∷ rest)) 0 ≡ get slab y) same (first-cons_option (get slab x) (in_order slab rest) k.0)
+at_key slab (x ∷ rest) (suc i) key k h =
+    next-cons_option (get slab x) (in_order slab rest) i k.0 ∙ at_key slab rest i key k.2 h
+
 -- what is said where there is a value holds where one is known
 pub at_some : {P : Type 0} (slot : Option Message) → IsSome slot → OnSome slot P → P
 at_some None h p = cc
@@ -92,6 +113,22 @@ module _ {taken : ℕ} {slab : Slab Message} {keys : List ℕ} {places : ℕ} {l
 
   pub sent-keys : taken + length keys ≡ sent lane
   sent-keys = omega (arith, length-keys, ap (λ (l : Lane). l.taken) v)
+
+  -- the message with a serial is the one at so many places behind the first
+  at_place : (serial place : ℕ) → taken ≤ serial → serial - taken ≡ place
+      → slice_get (in_order slab keys) place ≡ message_at lane serial
+  at_place serial place l p = rw (← v, le-ltb serial taken l, p) refl
+
+  pub message-key : (serial place key : ℕ) → taken ≤ serial → serial - taken ≡ place → slice_get keys place ≡ Some key
+      → get slab key ≡ message_at lane serial
+  message-key serial place key l p h = sym (at_key slab keys place key s.apart h) ∙ at_place serial place l p
+
+  -- past the last key none waits
+  pub message-past : (serial place : ℕ) → taken ≤ serial → serial - taken ≡ place → length keys ≤ place
+      → None ≡ message_at lane serial
+  message-past serial place l p h =
+      let few : length (in_order slab keys) ≤ place = rw (length-in_order slab keys s.apart) h in
+      sym (slice_get_past (in_order slab keys) place few) ∙ at_place serial place l p
 
   -- one more message
   pub lane-append : (new : Slab Message) (key : ℕ) (message : Message) → get slab key ≡ None → Updates slab new key (Some message)

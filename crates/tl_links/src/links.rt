@@ -1,8 +1,8 @@
 //! The links of one bank: five channels for each client.
-ghost use Rattle.std.specs.Prelude.{◌≡◌, ◌↔◌, ◌≤◌, ◌<◌, ◌+◌, ◌-◌, ◌^◌, ◌∷◌, ◌*◌, ℕ, List, [], length, IfOk, IfErr, OnOk, OnErr, IsErr, MatchOption, MatchResult, if◌then◌else◌};
+ghost use Rattle.std.specs.Prelude.{◌≡◌, ◌↔◌, ◌≤◌, ◌<◌, ◌+◌, ◌-◌, ◌^◌, ◌∷◌, ◌*◌, ℕ, List, [], length, IfOk, IfErr, OnOk, OnErr, IsErr, MatchOption, MatchResult, option_copied, if◌then◌else◌};
 ghost use Rattle.std.specs.List.{list_any};
 ghost use Rattle.tl_types.specs.Channel.{place_of};
-ghost use Rattle.tl_types.specs.Lane.{empty_lane, sent, is_here, with_message, without_first, bodies_of};
+ghost use Rattle.tl_types.specs.Lane.{empty_lane, message_at, sent, is_here, with_message, without_first, bodies_of};
 ghost use Rattle.tl_types.specs.declared.channel.Channel.{Channel};
 ghost use Rattle.tl_types.specs.declared.message.Message.{Message};
 ghost use Rattle.tl_links.specs.Table.{lane_in, IsNotHead, SameSize};
@@ -107,6 +107,16 @@ impl Links {
             (λ x. (rest : List Message) × ((lane_in self.now client channel).messages ≡ x.now ∷ rest)) }
     {
         self.queue(client, channel).first()
+    }
+
+    /// The message that a ticket names, where it waits on the ticket's channel; none where that serial was taken or is not sent yet.
+    /// The ticket's bank is not looked at.
+    pub fn message(&self, ticket: Ticket) -> Option<&Message>
+        requires { ticket.client < self.now.clients }
+        ensures { option_copied result ≡ message_at (lane_in self.now ticket.client ticket.channel) ticket.serial }
+    {
+        self.queue(ticket.client, ticket.channel)
+            .message(ticket.serial)
     }
 
     /// Whether some message of a block that waits on a channel is one that is looked for.

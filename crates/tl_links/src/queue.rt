@@ -1,7 +1,7 @@
 //! One channel of one link. Contracts see it as a lane: how many messages were taken, and those that wait.
-ghost use Rattle.std.specs.Prelude.{◌≡◌, ◌≤◌, ◌<◌, ◌+◌, ◌-◌, ◌^◌, ◌∷◌, List, [], length, IfOk, MatchOption};
+ghost use Rattle.std.specs.Prelude.{◌≡◌, ◌≤◌, ◌<◌, ◌+◌, ◌-◌, ◌^◌, ◌∷◌, List, [], length, IfOk, MatchOption, option_copied};
 ghost use Rattle.std.specs.List.{list_any};
-ghost use Rattle.tl_types.specs.Lane.{empty_lane, sent, with_message, without_first, bodies_of};
+ghost use Rattle.tl_types.specs.Lane.{empty_lane, message_at, sent, with_message, without_first, bodies_of};
 ghost use Rattle.tl_types.specs.declared.message.Message.{Message};
 ghost use Rattle.tl_links.specs.Wanted.{is_wanted};
 
@@ -74,6 +74,15 @@ impl Queue {
         ensures { MatchOption result (self.now.messages ≡ []) (λ x. (rest : List Message) × (self.now.messages ≡ x.now ∷ rest)) }
     {
         let key = self.order.front()?;
+        self.messages.get(*key)
+    }
+
+    /// The message with a serial, where it waits.
+    pub(crate) fn message(&self, serial: u64) -> Option<&Message>
+        ensures { option_copied result ≡ message_at self.now serial }
+    {
+        let place = serial.checked_sub(self.taken)?;
+        let key = self.order.get(place as usize)?;
         self.messages.get(*key)
     }
 

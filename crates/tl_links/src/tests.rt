@@ -63,3 +63,30 @@ fn sixty_four_messages_fill_a_channel(rt: HostRuntime) -> Result<(), Fail> {
     );
     Ok(())
 }
+
+/// The block of the message of a serial on channel A, where it waits.
+fn block_of(rt: &impl Abort, links: &Links, client: ClientId, serial: u64) -> Option<u32> {
+    assert!(rt; client.number() < links.clients());
+    let message = links.message(Ticket {
+        bank: links.bank(),
+        client,
+        channel: Channel::A,
+        serial,
+    })?;
+    Some(message.block.number())
+}
+
+#[test]
+fn a_ticket_names_its_message_while_it_waits(rt: HostRuntime) -> Result<(), Fail> {
+    let client = ClientId::new(1);
+    let mut links = Links::new(rt.alloc(), BankNo::new(0), 2)?;
+    for block in [7, 8, 9] {
+        assert!(rt; acquire(&rt, &mut links, client, block).is_ok());
+    }
+    assert_eq!(rt; take(&rt, &mut links, client, Channel::A, 0), Ok(7));
+    assert_eq!(rt; block_of(&rt, &links, client, 0), None);
+    assert_eq!(rt; block_of(&rt, &links, client, 1), Some(8));
+    assert_eq!(rt; block_of(&rt, &links, client, 2), Some(9));
+    assert_eq!(rt; block_of(&rt, &links, client, 3), None);
+    Ok(())
+}

@@ -62,4 +62,17 @@ impl Outward {
     {
         matches!(self, Outward::PutAck)
     }
+
+    /// The same again.
+    pub fn copied(&self) -> Outward
+        ensures { result ≡ self.now }
+    {
+        match self {
+            Outward::Quiet => Outward::Quiet,
+            Outward::Get => Outward::Get,
+            Outward::Data(bytes) => Outward::Data(bytes.copied()),
+            Outward::Put(bytes) => Outward::Put(bytes.copied()),
+            Outward::PutAck => Outward::PutAck,
+        }
+    }
 }

@@ -50,3 +50,13 @@ fn a_client_writes_is_probed_and_gives_up(rt: HostRuntime) -> Result<(), Fail> {
     assert_eq!(rt; client.wait, Wait::Nothing);
     Ok(())
 }
+
+#[test]
+fn a_copy_of_what_passes_has_its_bytes(rt: HostRuntime) {
+    match Outward::Put(home_bytes(&rt)).copied() {
+        Outward::Put(bytes) => {
+            assert_eq!(rt; bytes.as_slice(), [1, 2, 3, 4, 5, 6, 7, 8].as_slice());
+        }
+        _ => assert!(rt; false),
+    }
+}

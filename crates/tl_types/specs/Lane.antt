@@ -1,5 +1,5 @@
 -- One channel of a link: a list of messages with serials (this project's own; TileLink 1.8 section 4 keeps a channel in order).
-use Rattle.std.specs.Prelude.{◌≡◌, ℕ, ◌+◌, ◌==◌, ◌&&◌, Bool, List, [], ◌∷◌, ◌++◌, length, if◌then◌else◌}
+use Rattle.std.specs.Prelude.{◌≡◌, ℕ, ◌+◌, ◌-◌, ◌==◌, ◌&&◌, Bool, List, [], ◌∷◌, ◌++◌, length, Option, None, nat_lt, slice_get, if◌then◌else◌}
 use Rattle.tl_types.specs.Channel.{same_channel}
 use Rattle.tl_types.specs.declared.channel.Channel.{Channel}
 use Rattle.tl_types.specs.declared.message.Body.{Body}
@@ -17,6 +17,10 @@ empty_lane = record { taken = 0; messages = [] }
 -- how many messages were sent: the serial of the next one
 abbrev pub sent : Lane → ℕ
 sent lane = lane.taken + length lane.messages
+
+-- the message with a serial, where it waits: not one that was taken, nor one that is not sent yet
+abbrev pub message_at : Lane → ℕ → Option Message
+message_at lane serial = if nat_lt serial lane.taken then None else slice_get lane.messages (serial - lane.taken)
 
 -- whether the client x and the channel l are these
 abbrev pub is_here : ℕ → Channel → ℕ → Channel → Bool

@@ -125,6 +125,19 @@ impl ProbeAnswer {
             ProbeAnswer::BtoB | ProbeAnswer::BtoN | ProbeAnswer::NtoN => None,
         }
     }
+
+    /// The same answer again.
+    pub fn copied(&self) -> ProbeAnswer
+        ensures { result ≡ self.now }
+    {
+        match self {
+            ProbeAnswer::TtoB(bytes) => ProbeAnswer::TtoB(copied_bytes(bytes)),
+            ProbeAnswer::TtoN(bytes) => ProbeAnswer::TtoN(copied_bytes(bytes)),
+            ProbeAnswer::BtoB => ProbeAnswer::BtoB,
+            ProbeAnswer::BtoN => ProbeAnswer::BtoN,
+            ProbeAnswer::NtoN => ProbeAnswer::NtoN,
+        }
+    }
 }
 
 impl Surrender {
@@ -183,6 +196,17 @@ impl Surrender {
             Surrender::BtoN => None,
         }
     }
+
+    /// The same again.
+    pub fn copied(&self) -> Surrender
+        ensures { result ≡ self.now }
+    {
+        match self {
+            Surrender::TtoB(bytes) => Surrender::TtoB(copied_bytes(bytes)),
+            Surrender::TtoN(bytes) => Surrender::TtoN(copied_bytes(bytes)),
+            Surrender::BtoN => Surrender::BtoN,
+        }
+    }
 }
 
 impl Upward {
@@ -232,6 +256,16 @@ impl Upward {
             Upward::Release(surrender) => surrender.into_bytes(),
         }
     }
+
+    /// The same message again.
+    pub fn copied(&self) -> Upward
+        ensures { result ≡ self.now }
+    {
+        match self {
+            Upward::ProbeAck(answer) => Upward::ProbeAck(answer.copied()),
+            Upward::Release(surrender) => Upward::Release(surrender.copied()),
+        }
+    }
 }
 
 impl Downward {
@@ -262,6 +296,16 @@ impl Downward {
             Downward::ReleaseAck => None,
         }
     }
+
+    /// The same message again.
+    pub fn copied(&self) -> Downward
+        ensures { result ≡ self.now }
+    {
+        match self {
+            Downward::Grant(cap, bytes) => Downward::Grant(*cap, copied_bytes(bytes)),
+            Downward::ReleaseAck => Downward::ReleaseAck,
+        }
+    }
 }
 
 impl Body {
@@ -288,4 +332,42 @@ impl Body {
             Body::Downward(message) => message.bytes(),
         }
     }
+
+    /// The same again.
+    pub fn copied(&self) -> Body
+        ensures { result ≡ self.now }
+    {
+        match self {
+            Body::AcquireBlock(grow) => Body::AcquireBlock(*grow),
+            Body::ProbeBlock(cap) => Body::ProbeBlock(*cap),
+            Body::Upward(message) => Body::Upward(message.copied()),
+            Body::Downward(message) => Body::Downward(message.copied()),
+            Body::GrantAck => Body::GrantAck,
+        }
+    }
 }
+
+impl Message {
+    /// The same message again.
+    pub fn copied(&self) -> Message
+        ensures { result ≡ self.now }
+    {
+        Message {
+            block: self.block,
+            body: self.body.copied(),
+        }
+    }
+}
+
+/// The same bytes again, where there are some.
+fn copied_bytes(bytes: &Option<BlockBytes>) -> Option<BlockBytes>
+    ensures { result ≡ bytes.now }
+{
+    match bytes {
+        Some(bytes) => Some(bytes.copied()),
+        None => None,
+    }
+}
+
+#[cfg(test)]
+mod tests;
