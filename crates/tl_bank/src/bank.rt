@@ -24,6 +24,7 @@ use tl_types::{BankNo, BlockNo, ClientId, Perm};
 
 mod client_calls;
 mod refusals;
+mod views;
 
 /// A bank can't be made for want of memory alone.
 pub type BankError = AllocError;

@@ -13,10 +13,12 @@ pub mod Orders
 pub mod Pending
 pub mod Places
 pub mod Probes
+pub mod Quiet
 pub mod ReleaseAcks
 pub mod Releases
 pub mod Rooms
 pub mod Shares
 pub mod Slots
 pub mod Stores
+pub mod Views
 pub mod Ways

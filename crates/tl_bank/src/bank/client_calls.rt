@@ -2,6 +2,7 @@
 ghost use Rattle.std.specs.Prelude.{◌≡◌, ◌+◌, None, false, IfErr, IfOk, OnErr, OnOk, length, slice_range};
 ghost use Rattle.tl_types.specs.declared.channel.Channel.{Channel};
 ghost use Rattle.tl_map.specs.Places.{block_at as block_of_address, offset_of};
+ghost use Rattle.tl_protocol.specs.Coherent.{AreLast};
 ghost use Rattle.tl_protocol.specs.Copy.{bytes_of, stored_in};
 ghost use Rattle.tl_protocol.specs.declared.event.Event.{Event};
 ghost use Rattle.tl_bank_spec.specs.Calls.{load_cases, store_cases, acquire_cases, release_cases, answer_probe_cases, take_grant_cases, take_release_ack_cases};
@@ -44,6 +45,7 @@ impl Bank {
             (λ loaded. loaded.bytes
             ≡ slice_range (bytes_of (client_at self.old client (block_of_address self.old.geometry address)).held)
             (offset_of self.old.geometry address) (offset_of self.old.geometry address + len)) }
+        ensures newest { IfOk result (λ loaded. AreLast self.old.image self.old.log address loaded.bytes) }
         ensures stamp { IfOk result (λ loaded. loaded.stamp ≡ latest self.old when.clock + 1) }
     {
         if let Some(refusal) = self.load_refusal(client, address, len, when.clock) {
