@@ -23,6 +23,7 @@ use tl_rules::Log;
 use tl_types::{BankNo, BlockNo, ClientId, Perm};
 
 mod client_calls;
+mod open;
 mod refusals;
 mod views;
 

@@ -87,10 +87,23 @@ pub head-first : (v : View) (t : Ticket) (k : Channel) (kind : Body → Bool) �
     → IsFirst (block_named v t k) (lane_at v t.client k).messages
 head-first v t k kind ok = first-of (lane_at v t.client k).messages ok.first.0 ok.first.1 ok.first.2
 
--- the first message of a link is of a block of the memory
-pub first-inside : (v : View) (h : Layers) (c : ℕ) (k : Channel) (x : Message) (rest : List Message) → Means v h
-    → c < v.geometry.clients → (lane_in h.links c k).messages ≡ x ∷ rest → x.block < v.geometry.memory_blocks
-first-inside v h c k x rest m lt is =
+-- the first message of a link is of a block of this bank
+pub first-own : (v : View) (h : Layers) (c : ℕ) (k : Channel) (x : Message) (rest : List Message) → Means v h
+    → c < v.geometry.clients → (lane_in h.links c k).messages ≡ x ∷ rest → IsOwn v.geometry v.number x.block
+first-own v h c k x rest m lt is =
     let e : (lane_at v c k).messages ≡ x ∷ rest = ap (λ (l : Lane). l.messages) (sym (m.lanes c k lt)) ∙ is in
     let Q : List Message → Type 0 = λ ys. All (λ y. IsOwn v.geometry v.number y.block) ys in
-    (All-head (λ (y : Message). IsOwn v.geometry v.number y.block) x rest (subst Q e (m.inside c k))).0
+    All-head (λ (y : Message). IsOwn v.geometry v.number y.block) x rest (subst Q e (m.inside c k))
+
+-- which is the one that the channel's first message speaks of
+pub named-own : (v : View) (h : Layers) (c : ℕ) (k : Channel) (x : Message) (rest : List Message) → Means v h
+    → c < v.geometry.clients → (lane_in h.links c k).messages ≡ x ∷ rest
+    → IsOwn v.geometry v.number (first_block (lane_at v c k).messages)
+named-own v h c k x rest m lt is =
+    own-first (IsOwn v.geometry v.number) (lane_at v c k).messages x rest
+    (ap (λ (l : Lane). l.messages) (sym (m.lanes c k lt)) ∙ is) (m.inside c k)
+
+-- so of a block of the memory
+pub first-inside : (v : View) (h : Layers) (c : ℕ) (k : Channel) (x : Message) (rest : List Message) → Means v h
+    → c < v.geometry.clients → (lane_in h.links c k).messages ≡ x ∷ rest → x.block < v.geometry.memory_blocks
+first-inside v h c k x rest m lt is = (first-own v h c k x rest m lt is).0
