@@ -24,6 +24,7 @@ use tl_types::{BankNo, BlockNo, ClientId, Perm};
 
 mod client_calls;
 mod open;
+mod memory_calls;
 mod refusals;
 mod views;
 

@@ -6,11 +6,14 @@ pub mod Chosen
 pub mod Counts
 pub mod Entries
 pub mod Evicts
+pub mod Fetched
 pub mod Fresh
 pub mod Grants
 pub mod Heads
+pub mod HomeSteps
 pub mod Keep
 pub mod Loads
+pub mod Moves
 pub mod Next
 pub mod Opens
 pub mod Orders
@@ -21,8 +24,11 @@ pub mod Quiet
 pub mod ReleaseAcks
 pub mod Releases
 pub mod Rooms
+pub mod Serves
 pub mod Shares
 pub mod Slots
 pub mod Stores
 pub mod Views
+pub mod TakesData
+pub mod TakesPutAck
 pub mod Ways

@@ -151,7 +151,8 @@ slot-same v t set way size same =
 
 -- ## The ways of a set
 
-slots-are : (v : View) (set n : ℕ) → slots_below v set n ≡ ways_below (slot_at v set) n
+-- they are a list of what each way has
+pub slots-are : (v : View) (set n : ℕ) → slots_below v set n ≡ ways_below (slot_at v set) n
 slots-are v set zero = refl
 slots-are v set (suc n) = let before = slots-are v set n in rw before refl
 
