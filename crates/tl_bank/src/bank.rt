@@ -25,6 +25,8 @@ use tl_types::{BankNo, BlockNo, ClientId, Perm};
 mod client_calls;
 mod open;
 mod memory_calls;
+mod home_calls;
+mod home_refusals;
 mod refusals;
 mod views;
 

@@ -99,7 +99,7 @@ no-grant-beside k m rest (ReleaseAck ∷ more) orderly c is =
     let none = (orderly.acknowledged more is).1 in cc
 
 -- the first message of C starts from what home records
-first-from : (k : Client) (m : Upward) (rest : List Upward) → IsOrderly k → k.c ≡ m ∷ rest → k.recorded ≡ upward_from m
+pub first-from : (k : Client) (m : Upward) (rest : List Upward) → IsOrderly k → k.c ≡ m ∷ rest → k.recorded ≡ upward_from m
 first-from k m rest orderly is =
     let none : list_any is_grant k.d ≡ false = no-grant-beside k m rest k.d orderly is refl in
     let lead : Lead k.recorded (m ∷ rest) _ = (rw is at (orderly.leads none)) in
