@@ -22,11 +22,13 @@ use tl_registers::Registers;
 use tl_rules::Log;
 use tl_types::{BankNo, BlockNo, ClientId, Perm};
 
+mod advance;
 mod client_calls;
 mod open;
 mod memory_calls;
 mod home_calls;
 mod home_refusals;
+mod protocol_view;
 mod refusals;
 mod views;
 

@@ -4,6 +4,8 @@ pub mod Acquires
 pub mod Allowed
 pub mod Chosen
 pub mod Counts
+pub mod Crossed
+pub mod Dues
 pub mod Entries
 pub mod Evicts
 pub mod Fetched
@@ -13,6 +15,7 @@ pub mod Grants
 pub mod Heads
 pub mod HomeSteps
 pub mod Keep
+pub mod Leaving
 pub mod Loads
 pub mod Moves
 pub mod Narrow
@@ -22,13 +25,18 @@ pub mod Orders
 pub mod Pending
 pub mod Places
 pub mod Probed
+pub mod Pointwise
 pub mod Probes
 pub mod Quiet
 pub mod ReleaseAcks
 pub mod Releases
+pub mod SendGet
+pub mod SendGrant
+pub mod SendProbe
 pub mod Rooms
 pub mod Serves
 pub mod Shares
+pub mod Sights
 pub mod Slots
 pub mod Steps
 pub mod Stores
