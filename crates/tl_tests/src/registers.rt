@@ -7,8 +7,8 @@ ghost use Rattle.tl_protocol.specs.Client.{fresh_client};
 ghost use Rattle.tl_registers.specs.declared.register.Task.{Task};
 ghost use Rattle.tl_registers.specs.Register.{opened};
 
-use crate::{Due, Protocol, Register, Registers, Task, WayOfSet};
 use tl_protocol::Accepted;
+use tl_registers::{Due, Protocol, Register, Registers, Task, WayOfSet};
 use tl_types::{BlockNo, ClientId, Grow, Perm, ProbeCap};
 
 /// What home records of a client, and what is pending at it.

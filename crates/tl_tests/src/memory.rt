@@ -1,8 +1,8 @@
 //! What no clause says: that a memory is made with ample room, and a Put and a Get of blocks of each size.
-use super::*;
 use std::process::Abort;
 use std::test::Fail;
 use tl_map::{Geometry, GeometryNumbers};
+use tl_memory::{Burst, Memory, Reply, Request};
 
 /// A geometry of four blocks.
 fn four_blocks(block_bytes: i64) -> Result<Geometry, Fail> {

@@ -3,9 +3,9 @@
 ghost use Rattle.std.specs.Prelude.{◌≡◌, ℕ};
 ghost use Rattle.tl_home.specs.Homes.{recorded_in};
 
-use super::*;
 use std::process::Abort;
 use std::test::Fail;
+use tl_home::Home;
 use tl_map::{Geometry, GeometryNumbers};
 use tl_protocol::Outward;
 use tl_types::{BankNo, BlockBytes, BlockNo, ClientId, Perm};

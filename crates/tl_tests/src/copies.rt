@@ -1,7 +1,7 @@
 //! What no clause says: that tables are made with ample memory, and which copy is the oldest after a few grants.
-use super::*;
 use std::process::Abort;
 use std::test::Fail;
+use tl_copies::{Copies, Full, Held};
 use tl_map::{Geometry, GeometryNumbers};
 use tl_types::{BankNo, BlockBytes, BlockNo, ClientId, Perm, Wait};
 

@@ -1,7 +1,9 @@
 //! What no clause says: that each call that allocates succeeds with ample memory, on one block's way to Tip and back.
-use super::*;
 use std::process::Abort;
 use std::test::Fail;
+use tl_protocol::{
+    Accepted, Access, AckCount, CachedCopy, Client, Event, Line, Outward, Queue, Shape,
+};
 use tl_types::{AccessBytes, BlockBytes, GrantCap, Grow, Perm, ProbeCap, Prune, Wait};
 
 /// The bytes of home's copy.

@@ -1,6 +1,7 @@
-use super::*;
 use std::test::Fail;
-use tl_map::GeometryNumbers;
+use tl_map::{Geometry, GeometryNumbers, Set, Tag};
+use tl_types::{BankNo, ClientId, Perm};
+use tl_ways::{Entry, Way, Ways};
 
 /// One bank with one set of three ways.
 const NUMBERS: GeometryNumbers = GeometryNumbers {

@@ -1,6 +1,6 @@
-use crate::{ScriptError, read_script};
 use std::alloc::{AllocError, Global};
 use std::test::Fail;
+use tl_script::{ScriptError, read_script};
 use tl_words::Step;
 
 const KEYS: [(&str, &str); 10] = [

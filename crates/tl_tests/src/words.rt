@@ -1,7 +1,7 @@
-use crate::{Address, BlockCall, Command, Hex, ParseError, Step, TicketCall, parse_bytes};
 use std::alloc::Global;
 use std::test::Fail;
 use tl_types::{Grow, Prune};
+use tl_words::{Address, BlockCall, Command, Hex, ParseError, Step, TicketCall, parse_bytes};
 
 fn printed(alloc: Global, command: &Command) -> Result<String, Fail> {
     let text = match command {

@@ -1,5 +1,6 @@
-use super::*;
 use std::test::Fail;
+use tl_map::{Geometry, GeometryError, GeometryNumbers, Place, Set, Tag};
+use tl_types::{BankNo, BlockNo};
 
 const NUMBERS: GeometryNumbers = GeometryNumbers {
     version: 1,

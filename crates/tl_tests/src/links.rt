@@ -1,7 +1,7 @@
 //! What no clause says: that links are made with ample memory, and the serials of one channel over a full round.
-use super::*;
 use std::process::Abort;
 use std::test::Fail;
+use tl_links::{Full, Links, Ticket, TicketError, Wanted};
 use tl_types::{BankNo, BlockNo, Body, Channel, ClientId, Grow, Message};
 
 /// Sends an Acquire of a block on channel A.

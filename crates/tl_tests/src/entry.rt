@@ -1,4 +1,6 @@
-use super::*;
+use tl_map::Tag;
+use tl_types::{ClientId, Perm};
+use tl_ways::Entry;
 
 #[test]
 fn permissions(rt: HostRuntime) {

@@ -1,10 +1,10 @@
 //! What no clause says: that the text is what the format's worked traces show.
-use super::*;
 use arrayvec::ArrayVec;
 use std::alloc::{AllocError, Global};
 use std::test::Fail;
 use tl_bank_spec::Refusal;
 use tl_map::{Geometry, GeometryNumbers};
+use tl_trace::{Answer, BankClosing, BlockLine, BlockSize, MemoryMessage, Standing, Trace};
 use tl_types::{
     AccessBytes, BankNo, BlockBytes, BlockNo, Body, Channel, ClientId, Downward, GrantCap, Grow,
     Kind, Perm, ProbeAnswer, ProbeCap, Surrender, Ticket, Upward,

@@ -1,6 +1,7 @@
-use super::*;
 use std::test::Fail;
-use tl_map::GeometryNumbers;
+use tl_map::{Geometry, GeometryNumbers, Set};
+use tl_types::BlockBytes;
+use tl_ways::{BankedStore, Way};
 
 /// One bank with two sets of two ways.
 const NUMBERS: GeometryNumbers = GeometryNumbers {

@@ -1,4 +1,4 @@
-use super::*;
+use tl_types::{Channel, code, decode};
 
 #[test]
 fn the_table_has_27_kinds(rt: HostRuntime) {

@@ -1,8 +1,8 @@
 //! What no clause says: that a bank is made with ample memory and answers a small script as the rules say, and that each refusal
 //! comes that the calls of clients alone can reach. Expected answers are worked out from the rules.
-use super::*;
 use std::process::Abort;
 use std::test::Fail;
+use tl_bank::{Bank, Loaded, Refusal, Share, When};
 use tl_map::{Geometry, GeometryNumbers};
 use tl_types::{BankNo, BlockNo, Channel, ClientId, Grow, Perm, Prune, Ticket};
 
