@@ -21,6 +21,8 @@ mod map;
 #[cfg(test)]
 mod memory;
 #[cfg(test)]
+mod program;
+#[cfg(test)]
 mod protocol;
 #[cfg(test)]
 mod registers;
@@ -36,3 +38,5 @@ mod trace;
 mod ways;
 #[cfg(test)]
 mod words;
+#[cfg(test)]
+mod worked;
