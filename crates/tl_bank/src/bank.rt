@@ -23,6 +23,8 @@ use tl_rules::Log;
 use tl_types::{BankNo, BlockNo, ClientId, Perm};
 
 mod client_calls;
+mod home_calls;
+mod home_refusals;
 mod refusals;
 
 /// A bank can't be made for want of memory alone.

@@ -1,3 +1,4 @@
+pub mod Accepted
 pub mod Acquires
 pub mod Allowed
 pub mod Counts
@@ -7,6 +8,7 @@ pub mod Grants
 pub mod Heads
 pub mod Keep
 pub mod Loads
+pub mod Next
 pub mod Places
 pub mod Probes
 pub mod ReleaseAcks

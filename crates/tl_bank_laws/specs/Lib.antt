@@ -1,4 +1,5 @@
 pub mod Entry
+pub mod Given
 pub mod Head
 pub mod Layers
 pub mod Link

@@ -174,7 +174,7 @@ impl Bank {
     }
 
     /// Whether 64 messages are on a channel.
-    fn is_link_full(&self, client: ClientId, channel: Channel) -> bool
+    pub(super) fn is_link_full(&self, client: ClientId, channel: Channel) -> bool
         requires { client < self.now.geometry.clients }
         ensures { result ≡ link_full self.now client channel }
     {

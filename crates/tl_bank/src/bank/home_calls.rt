@@ -1,0 +1,111 @@
+//! What home takes from the clients.
+ghost use Rattle.std.specs.Prelude.{◌≡◌, ◌&&◌, ℕ, None, Some, true, IfErr, IfOk, OnErr, OnOk, if◌then◌else◌};
+ghost use Rattle.tl_types.specs.Lane.{sent, is_here, with_message};
+ghost use Rattle.tl_types.specs.declared.channel.Channel.{Channel};
+ghost use Rattle.tl_types.specs.declared.message.Body.{Body};
+ghost use Rattle.tl_types.specs.declared.message.Downward.{Downward};
+ghost use Rattle.tl_protocol.specs.declared.event.Event.{Event};
+ghost use Rattle.tl_links.specs.Table.{lane_in, SameSize};
+ghost use Rattle.tl_registers.specs.Registers.{closed};
+ghost use Rattle.tl_bank_laws.specs.Given.{left_by, brought_by};
+ghost use Rattle.tl_bank_laws.specs.Link.{HasRoom};
+ghost use Rattle.tl_bank_spec.specs.Cases.{block_named};
+ghost use Rattle.tl_bank_spec.specs.Effects.{Serves, answer_to};
+ghost use Rattle.tl_bank_spec.specs.HomeCalls.{take_c_cases, take_grant_ack_cases};
+ghost use Rattle.tl_bank_spec.specs.Refusal.{IsRefused, first_of};
+
+use crate::bank::Bank;
+use crate::bank::home_refusals::is_release;
+use crate::link;
+use tl_bank_spec::Refusal;
+use tl_links::Links;
+use tl_protocol::Event;
+use tl_types::{BlockBytes, BlockNo, Body, Channel, ClientId, Downward, Message, Perm, Ticket};
+
+impl Bank {
+    /// Home takes a client's first message on channel C: what it records of the client falls, and bytes that come along are its
+    /// own from then on. It answers a Release, and the answer is the ReleaseAck's ticket.
+    pub fn take_c(&mut self, ticket: Ticket) -> Result<Option<Ticket>, Refusal>
+        ensures refused { IfErr result (λ r. IsRefused (first_of (take_c_cases self.old ticket)) self.old.room r) }
+        ensures unchanged { OnErr result (self.new ≡ self.old) }
+        ensures permitted { OnOk result (first_of (take_c_cases self.old ticket) ≡ None) }
+        ensures serves { OnOk result
+            (Serves self.old self.new (Event.TakeC ticket.client (block_named self.old ticket Channel.C)) self.old.registers self.old.ways) }
+        ensures answer { IfOk result (λ sent. sent ≡ answer_to self.old ticket) }
+    {
+        if let Some(refusal) = self.take_c_refusal(&ticket) {
+            return Err(refusal);
+        }
+        let client = ticket.client;
+        self.make_room()?;
+        let message = link::take(&mut self.links, ticket);
+        let block = message.block;
+        let is_release = is_release(&message.body);
+        let to = left_by(&message.body);
+        self.home
+            .receive(client, block, to, brought_by(message.body));
+        let sent = answer(&mut self.links, client, block, is_release);
+        self.log.append(Event::TakeC(client, block));
+        Ok(sent)
+    }
+
+    /// Home takes the GrantAck that is first on its way from a client, and serves its block's Acquire no longer.
+    pub fn take_grant_ack(&mut self, ticket: Ticket) -> Result<(), Refusal>
+        ensures refused { IfErr result (λ r. IsRefused (first_of (take_grant_ack_cases self.old ticket)) self.old.room r) }
+        ensures unchanged { OnErr result (self.new ≡ self.old) }
+        ensures permitted { OnOk result (first_of (take_grant_ack_cases self.old ticket) ≡ None) }
+        ensures serves { OnOk result
+            (Serves self.old self.new (Event.TakeGrantAck ticket.client (block_named self.old ticket Channel.E))
+            (closed (block_named self.old ticket Channel.E) self.old.registers) self.old.ways) }
+    {
+        if let Some(refusal) = self.take_grant_ack_refusal(&ticket) {
+            return Err(refusal);
+        }
+        let block = self.first_block(ticket.client, Channel::E);
+        self.make_room()?;
+        link::discard(&mut self.links, ticket);
+        self.registers.close(block);
+        self.log.append(Event::TakeGrantAck(ticket.client, block));
+        Ok(())
+    }
+}
+
+/// The permission that a message on channel C leaves the client.
+fn left_by(body: &Body) -> Perm
+    ensures { result ≡ left_by body.now }
+{
+    match body {
+        Body::Upward(message) => message.to(),
+        _ => Perm::None,
+    }
+}
+
+/// The bytes that a message on channel C brings.
+fn brought_by(body: Body) -> Option<BlockBytes>
+    ensures { result ≡ brought_by body }
+{
+    match body {
+        Body::Upward(message) => message.into_bytes(),
+        _ => None,
+    }
+}
+
+/// Answers a Release of a block, and nothing else.
+fn answer(links: &mut Links, client: ClientId, block: BlockNo, is_release: bool) -> Option<Ticket>
+    requires { is_release ≡ true → HasRoom links.old client Channel.D }
+    ensures ticket { result
+        ≡ (if is_release then Some (record { bank = links.old.bank; client = client; channel = Channel.D; serial = sent (lane_in links.old client Channel.D) })
+        else None) }
+    ensures same { SameSize links.old links.new }
+    ensures after { (x : ℕ) (k : Channel)
+        → lane_in links.new x k
+        ≡ (if is_release && is_here client Channel.D x k
+        then with_message (lane_in links.old x k) (record { block = block; body = Body.Downward Downward.ReleaseAck })
+        else lane_in links.old x k) }
+{
+    if !is_release {
+        return None;
+    }
+    let body = Body::Downward(Downward::ReleaseAck);
+    Some(link::send(links, client, Channel::D, Message { block, body }))
+}
