@@ -25,6 +25,7 @@ use tl_types::{BankNo, BlockNo, ClientId, Perm};
 mod client_calls;
 mod home_calls;
 mod home_refusals;
+mod memory_calls;
 mod refusals;
 
 /// A bank can't be made for want of memory alone.

@@ -8,4 +8,4 @@ mod share;
 
 pub use bank::{Bank, BankError};
 pub use share::Share;
-pub use tl_bank_spec::{Action, Loaded, Refusal, When};
+pub use tl_bank_spec::{Action, Loaded, Refusal, Reply, When};

@@ -9,9 +9,12 @@ pub mod Heads
 pub mod Keep
 pub mod Loads
 pub mod Next
+pub mod Orders
+pub mod Pending
 pub mod Places
 pub mod Probes
 pub mod ReleaseAcks
 pub mod Releases
 pub mod Shares
+pub mod Slots
 pub mod Stores

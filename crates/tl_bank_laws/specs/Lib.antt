@@ -4,3 +4,4 @@ pub mod Head
 pub mod Layers
 pub mod Link
 pub mod Means
+pub mod Memory

@@ -75,7 +75,7 @@ impl Bank {
     }
 
     /// Whether a block is of another bank.
-    fn is_elsewhere(&self, block: BlockNo) -> bool
+    pub(super) fn is_elsewhere(&self, block: BlockNo) -> bool
         requires { block < self.now.geometry.memory_blocks }
         ensures { result ≡ elsewhere self.now block }
     {

@@ -1,0 +1,146 @@
+//! What passes between home and the memory: the memory answers a request, and home takes the answer.
+ghost use Rattle.std.specs.Prelude.{◌≡◌, ◌==◌, None, Some, IfErr, IfOk, OnErr, OnOk, if◌then◌else◌};
+ghost use Rattle.tl_bank_laws.specs.Memory.{answered};
+ghost use Rattle.tl_bank_spec.specs.Effects.{Serves, registers_then, reply_to, taking, way_held_by, ways_then};
+ghost use Rattle.tl_bank_spec.specs.HomeCalls.{serve_memory_cases, take_memory_cases};
+ghost use Rattle.tl_bank_spec.specs.Refusal.{IsRefused, first_of};
+ghost use Rattle.tl_bank_spec.specs.View.{block_at};
+ghost use Rattle.tl_home.specs.Homes.{outward_in};
+ghost use Rattle.tl_protocol.specs.Home.{IsData};
+ghost use Rattle.tl_protocol.specs.declared.event.Event.{Event};
+ghost use Rattle.tl_protocol.specs.declared.home.Outward.{Outward};
+ghost use Rattle.tl_registers.specs.Registers.{ended, register_of};
+
+use crate::bank::Bank;
+use tl_bank_spec::{Refusal, Reply};
+use tl_home::Home;
+use tl_protocol::{Event, Outward};
+use tl_types::BlockNo;
+use tl_ways::Way;
+
+impl Bank {
+    /// The memory answers what home asked of it: a Get with the block's bytes, a PutFullData once it is written. It is refused
+    /// with OutOfRange where the block is not there, WrongBank where it is another bank's, NothingThere where the memory has no
+    /// request of it, and Memory where the log has no room and can't grow.
+    pub fn serve_memory(&mut self, block: BlockNo) -> Result<Reply, Refusal>
+        ensures refused { IfErr result (λ r. IsRefused (first_of (serve_memory_cases self.old block)) self.old.room r) }
+        ensures unchanged { OnErr result (self.new ≡ self.old) }
+        ensures permitted { OnOk result (first_of (serve_memory_cases self.old block) ≡ None) }
+        ensures serves { OnOk result (Serves self.old self.new (Event.Serve block) self.old.registers self.old.ways) }
+        ensures reply { IfOk result
+            (λ reply. reply ≡ reply_to (block_at self.old block).memory (block_at self.old block).outward) }
+    {
+        if let Some(refusal) = self.serve_memory_refusal(block) {
+            return Err(refusal);
+        }
+        self.make_room()?;
+        self.home.serve(block);
+        let reply = answered(&self.home, block);
+        self.log.append(Event::Serve(block));
+        Ok(reply)
+    }
+
+    /// Home takes what the memory answered: the bytes of a Get, which then lie in the way that the block's register holds, or
+    /// the acknowledgement of a PutFullData, which ends the victim. It is refused with OutOfRange where the block is not there,
+    /// WrongBank where it is another bank's, NothingThere where no answer waits, and Memory where the log has no room and can't
+    /// grow.
+    pub fn take_memory(&mut self, block: BlockNo) -> Result<(), Refusal>
+        ensures refused { IfErr result (λ r. IsRefused (first_of (take_memory_cases self.old block)) self.old.room r) }
+        ensures unchanged { OnErr result (self.new ≡ self.old) }
+        ensures permitted { OnOk result (first_of (take_memory_cases self.old block) ≡ None) }
+        ensures serves { OnOk result
+            (Serves self.old self.new (taking block (block_at self.old block).outward)
+            (registers_then block (block_at self.old block).outward self.old.registers)
+            (ways_then block (block_at self.old block).outward self.old.registers self.old.ways)) }
+    {
+        if let Some(refusal) = self.take_memory_refusal(block) {
+            return Err(refusal);
+        }
+        if self.home.is_put_ack(block) {
+            self.take_put_ack(block)
+        } else {
+            self.take_data(block)
+        }
+    }
+
+    /// Home takes the bytes that it asked for.
+    fn take_data(&mut self, block: BlockNo) -> Result<(), Refusal>
+        requires permitted { first_of (take_memory_cases self.old block) ≡ None }
+        requires data { IsData (block_at self.old block).outward }
+        ensures refused { IfErr result (λ refusal. (refusal ≡ Refusal.Memory) × (self.old.room ≡ 0)) }
+        ensures unchanged { OnErr result (self.new ≡ self.old) }
+        ensures serves { OnOk result
+            (Serves self.old self.new (Event.TakeData block) self.old.registers
+            (λ b. if b == block then way_held_by (register_of block self.old.registers) else self.old.ways b)) }
+    {
+        let way = self.way_held(block).unwrap();
+        self.make_room()?;
+        self.home.take_data(block, way);
+        self.log.append(Event::TakeData(block));
+        Ok(())
+    }
+
+    /// Home takes the acknowledgement of a Put: the victim is gone.
+    fn take_put_ack(&mut self, block: BlockNo) -> Result<(), Refusal>
+        requires permitted { first_of (take_memory_cases self.old block) ≡ None }
+        requires put_ack { (block_at self.old block).outward ≡ Outward.PutAck }
+        ensures refused { IfErr result (λ refusal. (refusal ≡ Refusal.Memory) × (self.old.room ≡ 0)) }
+        ensures unchanged { OnErr result (self.new ≡ self.old) }
+        ensures serves { OnOk result
+            (Serves self.old self.new (Event.TakePutAck block) (ended block self.old.registers) self.old.ways) }
+    {
+        self.make_room()?;
+        self.home.take_put_ack(block);
+        self.registers.end_victim(block);
+        self.log.append(Event::TakePutAck(block));
+        Ok(())
+    }
+
+    /// The way that the block's register holds.
+    fn way_held(&self, block: BlockNo) -> Option<Way>
+        ensures { result ≡ way_held_by (register_of block self.now.registers) }
+    {
+        let register = self.registers.of_block(block)?;
+        Some(Way::new(register.way.way))
+    }
+
+    fn serve_memory_refusal(&self, block: BlockNo) -> Option<Refusal>
+        ensures { result ≡ first_of (serve_memory_cases self.now block) }
+    {
+        if !self.geometry.has(block) {
+            return Some(Refusal::OutOfRange);
+        }
+        if self.is_elsewhere(block) {
+            return Some(Refusal::WrongBank);
+        }
+        if !self.home.may_serve(block) {
+            return Some(Refusal::NothingThere);
+        }
+        None
+    }
+
+    fn take_memory_refusal(&self, block: BlockNo) -> Option<Refusal>
+        ensures { result ≡ first_of (take_memory_cases self.now block) }
+    {
+        if !self.geometry.has(block) {
+            return Some(Refusal::OutOfRange);
+        }
+        if self.is_elsewhere(block) {
+            return Some(Refusal::WrongBank);
+        }
+        if !self.home.is_data(block) && !self.home.is_put_ack(block) {
+            return Some(Refusal::NothingThere);
+        }
+        None
+    }
+}
+
+/// What the memory has just answered.
+fn answered(home: &Home, block: BlockNo) -> Reply
+    ensures { result ≡ answered (outward_in home.now block) }
+{
+    match home.outward(block) {
+        Some(Outward::Data(bytes)) => Reply::AccessAckData(bytes.copied()),
+        _ => Reply::AccessAck,
+    }
+}
