@@ -22,10 +22,12 @@ use tl_registers::Registers;
 use tl_rules::Log;
 use tl_types::{BankNo, BlockNo, ClientId, Perm};
 
+mod advance;
 mod client_calls;
 mod home_calls;
 mod home_refusals;
 mod memory_calls;
+mod protocol_view;
 mod refusals;
 
 /// A bank can't be made for want of memory alone.
