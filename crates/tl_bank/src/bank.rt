@@ -28,6 +28,7 @@ mod home_calls;
 mod home_refusals;
 mod memory_calls;
 mod protocol_view;
+mod open;
 mod refusals;
 
 /// A bank can't be made for want of memory alone.
