@@ -30,6 +30,7 @@ mod memory_calls;
 mod protocol_view;
 mod open;
 mod refusals;
+mod views;
 
 /// A bank can't be made for want of memory alone.
 pub type BankError = AllocError;

@@ -6,4 +6,5 @@ pub mod HomeCases
 pub mod Refusal
 pub mod Share
 pub mod View
+pub mod Views
 pub mod Ways

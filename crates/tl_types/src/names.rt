@@ -1,6 +1,7 @@
 //! Names: numbers that stand for a client, a bank or a block.
 ghost use Rattle.std.specs.Prelude.{◌≡◌, ℕ, Some, decimal};
 
+use std::default::Default;
 use std::fmt;
 use std::marker::Model;
 
@@ -112,6 +113,13 @@ impl Model for BlockNo {
     ghost view = { λ b. b.number };
 
     ghost inverse = { λ n. record { number = n } };
+}
+
+impl Default for BlockNo {
+    /// Block 0.
+    fn default() -> BlockNo {
+        BlockNo { number: 0 }
+    }
 }
 
 impl Copy for BlockNo {}

@@ -1,0 +1,101 @@
+-- What the views of a bank show (this project's own).
+use Rattle.std.specs.Prelude.{◌≡◌, ◌≢◌, ◌×◌, ℕ, zero, suc, ◌<◌, ◌==◌, ◌||◌, not, Bool, List, [], ◌∷◌, map, slice_get, Option, Some, None, if◌then◌else◌}
+use Rattle.std.specs.Option.{option_map}
+use Rattle.tl_types.specs.declared.channel.Channel.{Channel}
+use Rattle.tl_types.specs.declared.permission.Perm.{Perm}
+use Rattle.tl_types.specs.declared.permission.Perm.TheVariants.{None as p_None, Tip}
+use Rattle.tl_types.specs.declared.wait.Wait.TheVariants.{Nothing}
+use Rattle.tl_map.specs.Places.{block_at as block_of_address, offset_of}
+use Rattle.tl_protocol.specs.Copy.{bytes_of}
+use Rattle.tl_protocol.specs.Ledger.{count_pairs}
+use Rattle.tl_protocol.specs.declared.client.Client.{Client}
+use Rattle.tl_protocol.specs.declared.home.Line.{Line}
+use Rattle.tl_protocol.specs.declared.home.Outward.{Outward}
+use Rattle.tl_protocol.specs.declared.home.Outward.TheVariants.{Quiet, Get, Data, Put, PutAck}
+use Rattle.tl_registers.specs.declared.register.Register.{Register}
+use Rattle.tl_bank_spec.specs.Cases.{no_client, no_block, elsewhere}
+use Rattle.tl_bank_spec.specs.View.{View, IsOwn, block_at, client_at, lane_at, perm_at, shape_of}
+
+-- ## What the bank does not have
+
+-- a block that is not of the memory, or of another bank
+abbrev pub not_own : View → ℕ → Bool
+not_own v block = no_block v block || elsewhere v block
+
+-- a client that is not there, or such a block
+abbrev pub no_part : View → ℕ → ℕ → Bool
+no_part v client block = no_client v client || not_own v block
+
+-- ## Clients
+
+-- the permission that home records for a client; None where there is no such client or block
+abbrev pub recorded_at : View → ℕ → ℕ → Perm
+recorded_at v client block = if no_part v client block then p_None else (client_at v client block).recorded
+
+-- the byte at an address of a client's copy, where it has one
+abbrev pub byte_at : View → ℕ → ℕ → Option ℕ
+byte_at v client address =
+    slice_get (bytes_of (client_at v client (block_of_address v.geometry address)).held) (offset_of v.geometry address)
+
+-- the same; None also where there is no such client or address
+abbrev pub peeked : View → ℕ → ℕ → Option ℕ
+peeked v client address = if no_part v client (block_of_address v.geometry address) then None else byte_at v client address
+
+-- a client of the bank has a copy that may be read at an address
+abbrev pub MayRead : View → ℕ → ℕ → Type 0
+MayRead v client address =
+    (client < v.geometry.clients)
+    × IsOwn v.geometry v.number (block_of_address v.geometry address)
+    × (perm_at v client (block_of_address v.geometry address) ≢ p_None)
+
+-- a client of the bank has a copy of one of its blocks that may be written
+abbrev pub MayWrite : View → ℕ → ℕ → Type 0
+MayWrite v client block = (client < v.geometry.clients) × IsOwn v.geometry v.number block × (perm_at v client block ≡ Tip)
+
+-- ## Home
+
+-- the dirty flag of home's copy, where home has one
+abbrev pub dirty_at : View → ℕ → Option Bool
+dirty_at v block = if not_own v block then None else option_map (λ (line : Line). line.dirty) (block_at v block).home
+
+-- what passes, where anything does
+abbrev pub passing : Outward → Option Outward
+passing Quiet = None
+passing Get = Some Get
+passing (Data bytes) = Some (Data bytes)
+passing (Put bytes) = Some (Put bytes)
+passing PutAck = Some PutAck
+
+-- what passes of a block between home and the memory, where anything does
+abbrev pub outward_at : View → ℕ → Option Outward
+outward_at v block = if not_own v block then None else passing (block_at v block).outward
+
+-- the own blocks of the open registers, by the age of the registers
+abbrev pub own_blocks : View → List ℕ
+own_blocks v = map (λ (r : Register). r.own) v.registers
+
+-- ## Nothing is under way
+
+-- No register is open, no message waits, no client waits for an answer, and nothing passes between home and the memory.
+pub record IsQuiet (v : View) : Type 0 where
+  pub registers : v.registers ≡ []
+  pub lanes : (client : ℕ) (channel : Channel) → client < v.geometry.clients → (lane_at v client channel).messages ≡ []
+  pub waits :
+      (client block : ℕ) → client < v.geometry.clients → IsOwn v.geometry v.number block
+      → (client_at v client block).wait ≡ Nothing
+  pub outward : (block : ℕ) → IsOwn v.geometry v.number block → (block_at v block).outward ≡ Quiet
+
+-- ## Counts
+
+-- the blocks of the bank below a number
+abbrev pub blocks_below : View → ℕ → List ℕ
+blocks_below v zero = []
+blocks_below v (suc n) = if not_own v n then blocks_below v n else n ∷ blocks_below v n
+
+-- how many pairs of a client and a block of the bank below a number pass a test
+abbrev pub pairs_below : (Client → Bool) → View → ℕ → ℕ
+pairs_below test v n = count_pairs test (shape_of v.geometry) (block_at v) (blocks_below v n)
+
+-- how many pairs of a client and a block of the bank pass a test
+abbrev pub pairs_at : (Client → Bool) → View → ℕ
+pairs_at test v = pairs_below test v v.geometry.memory_blocks
