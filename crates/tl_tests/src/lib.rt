@@ -35,6 +35,8 @@ mod store;
 #[cfg(test)]
 mod trace;
 #[cfg(test)]
+mod walk;
+#[cfg(test)]
 mod ways;
 #[cfg(test)]
 mod words;
