@@ -4,6 +4,7 @@ ghost use Rattle.std.specs.List.{All};
 ghost use Rattle.tl_types.specs.declared.permission.Perm.{Perm};
 ghost use Rattle.tl_protocol.specs.Protocol.{block_of};
 ghost use Rattle.tl_protocol.specs.Runs.{IsRun};
+ghost use Rattle.tl_lanes.specs.Lawful.{Lawful};
 ghost use Rattle.tl_bank_spec.specs.Cases.{no_client, no_block};
 ghost use Rattle.tl_bank_spec.specs.Share.{first_shares};
 ghost use Rattle.tl_bank_spec.specs.View.{IsOwn, StampsRise, shape_of, way_at, perm_at, copies_at};
@@ -24,10 +25,10 @@ use tl_types::{BankNo, BlockNo, ClientId, Perm};
 
 mod advance;
 mod client_calls;
-mod open;
-mod memory_calls;
 mod home_calls;
 mod home_refusals;
+mod memory_calls;
+mod open;
 mod protocol_view;
 mod refusals;
 mod views;
@@ -133,10 +134,12 @@ impl Bank {
         self.log.room()
     }
 
-    /// What happened, oldest first: a run of the protocol on this bank's blocks, whose stamps rise.
+    /// What happened, oldest first: a run of the protocol on this bank's blocks that takes the messages of each channel in order,
+    /// and whose stamps rise.
     pub fn log(&self) -> &[Event]
         ensures is { result.now ≡ self.now.log }
         ensures run { IsRun (shape_of self.now.geometry) self.now.image self.now.log }
+        ensures lawful { Lawful (shape_of self.now.geometry) self.now.image self.now.log }
         ensures own { All (λ e. IsOwn self.now.geometry self.now.number (block_of (shape_of self.now.geometry) e)) self.now.log }
         ensures stamps { StampsRise self.now.log }
     {

@@ -9,6 +9,3 @@ mod share;
 pub use bank::{Bank, BankError};
 pub use share::Share;
 pub use tl_bank_spec::{Action, Loaded, Refusal, Reply, When};
-
-#[cfg(test)]
-mod tests;

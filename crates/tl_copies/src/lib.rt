@@ -8,6 +8,3 @@ mod table;
 pub use copies::Copies;
 pub use held::Held;
 pub use table::Full;
-
-#[cfg(test)]
-mod tests;

@@ -8,6 +8,3 @@ mod directory;
 mod home;
 
 pub use home::Home;
-
-#[cfg(test)]
-mod tests;

@@ -60,6 +60,3 @@ pub fn job(alloc: Global, words: &[String]) -> Result<Job, JobError>
     let matches = command.try_get_matches_from(words)?;
     chosen(alloc, &matches)
 }
-
-#[cfg(test)]
-mod tests;

@@ -10,6 +10,3 @@ pub use links::{Full, Links};
 pub use ticket_error::TicketError;
 pub use tl_types::Ticket;
 pub use wanted::Wanted;
-
-#[cfg(test)]
-mod tests;

@@ -277,6 +277,3 @@ fn most_copies(version: u32) -> u32
 {
     if version == 1 { 16 } else { 64 }
 }
-
-#[cfg(test)]
-mod tests;

@@ -8,6 +8,3 @@ mod request;
 pub use burst::Burst;
 pub use memory::Memory;
 pub use request::{Reply, Request};
-
-#[cfg(test)]
-mod tests;

@@ -7,8 +7,6 @@ mod event;
 mod home;
 mod queue;
 mod shape;
-#[cfg(test)]
-mod tests;
 mod theorem;
 
 pub use client::Client;

@@ -7,8 +7,6 @@ mod laws;
 mod protocol;
 mod register;
 mod registers;
-#[cfg(test)]
-mod tests;
 mod victim_way;
 mod way_of_set;
 

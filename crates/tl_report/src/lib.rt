@@ -5,6 +5,3 @@ mod lines;
 mod report;
 
 pub use report::{Answered, BankLine, Report};
-
-#[cfg(test)]
-mod tests;

@@ -15,6 +15,3 @@ pub use error::ScriptError;
 pub use key::Key;
 pub use reading::read_script;
 pub use script::Script;
-
-#[cfg(test)]
-mod tests;

@@ -11,6 +11,3 @@ pub use answer::Answer;
 pub use closing::{BankClosing, BlockLine, Standing};
 pub use memory::{BlockSize, MemoryMessage};
 pub use trace::Trace;
-
-#[cfg(test)]
-mod tests;

@@ -298,6 +298,3 @@ pub fn codes_are_the_table()
     ensures code { EveryKindHasItsCode }
     ensures decode { EveryCodeIsOfItsKind }
 {}
-
-#[cfg(test)]
-mod tests;

@@ -117,6 +117,3 @@ impl Entry {
         }
     }
 }
-
-#[cfg(test)]
-mod tests;

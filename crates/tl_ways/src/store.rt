@@ -66,6 +66,3 @@ impl BankedStore {
         self.blocks[index] = bytes;
     }
 }
-
-#[cfg(test)]
-mod tests;

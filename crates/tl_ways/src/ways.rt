@@ -126,6 +126,3 @@ impl Ways {
         row.touch(way);
     }
 }
-
-#[cfg(test)]
-mod tests;

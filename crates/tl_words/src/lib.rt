@@ -17,6 +17,3 @@ pub use laws::{
 };
 pub use step::{BlockCall, Step, TicketCall};
 pub use words::parse_bytes;
-
-#[cfg(test)]
-mod tests;
