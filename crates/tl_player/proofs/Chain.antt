@@ -10,8 +10,7 @@ pub performs-push : (index : ℕ) (steps : List Step) (old mid new : Stage) (ans
     → Performs index steps old answers mid → Plays (index + length steps) step mid new answer
     → Performs index (steps ++ step ∷ []) old (answers ++ answer ∷ []) new
 performs-push index [] old mid new [] step answer h plays =
-    let at : index + 0 ≡ index = omega arith in
-    (
+    let at : index + 0 ≡ index = omega arith in (
       new,
       subst (λ (s : Stage). Plays index step s new answer) h (subst (λ (n : ℕ). Plays n step mid new answer) at plays),
       refl,
@@ -19,12 +18,11 @@ performs-push index [] old mid new [] step answer h plays =
 performs-push index [] old mid new (first ∷ answers) step answer h plays = absurd h
 performs-push index (first ∷ steps) old mid new [] step answer h plays = absurd h
 performs-push index (first ∷ steps) old mid new (given ∷ answers) step answer h plays =
-    let at : index + suc (length steps) ≡ suc index + length steps = omega arith in
-    (
+    let at : index + suc (length steps) ≡ suc index + length steps = omega arith in (
       h.0,
       h.1,
       performs-push (suc index) steps h.0 mid new answers step answer h.2
-      (subst (λ (n : ℕ). Plays n step mid new answer) at plays),
+          (subst (λ (n : ℕ). Plays n step mid new answer) at plays),
     )
 
 -- one more of these steps was played

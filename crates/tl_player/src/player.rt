@@ -35,11 +35,7 @@ impl Model for Player {
 
 impl Player {
     /// All banks at reset over an image that is no longer than the memory.
-    pub(crate) fn new(
-        alloc: Global,
-        geometry: Geometry,
-        image: &[u8],
-    ) -> Result<Player, AllocError>
+    pub(crate) fn new(alloc: Global, geometry: Geometry, image: &[u8]) -> Result<Player, AllocError>
         requires { length image.now ≤ geometry.memory_blocks * geometry.block_bytes }
         ensures { IfOk result (IsReset geometry image.now) }
     {
@@ -80,11 +76,7 @@ impl Player {
     }
 
     /// All steps, and the answer to each. An error is a request for memory that was refused.
-    pub(crate) fn steps(
-        &mut self,
-        alloc: Global,
-        steps: &[Step],
-    ) -> Result<Vec<Answer>, AllocError>
+    pub(crate) fn steps(&mut self, alloc: Global, steps: &[Step]) -> Result<Vec<Answer>, AllocError>
         requires { length steps.now ≤ 4096 }
         ensures { IfOk result (λ answers. Performs 0 steps.now self.old answers.items self.new) }
     {

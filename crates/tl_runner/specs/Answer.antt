@@ -1,5 +1,5 @@
 -- What the program answers (this project's own).
-use Rattle.std.specs.Prelude.{◌≡◌, ℕ, Bool, true, false, List, Option, Result, Ok, IfSome}
+use Rattle.std.specs.Prelude.{◌≡◌, ℕ, Bool, true, false, List, Option, Ok, IfSome}
 use Rattle.tl_report.specs.Report.{report_text}
 use Rattle.tl_report.specs.declared.report.Report.{Report}
 use Rattle.tl_runner.specs.Run.{Reports}
