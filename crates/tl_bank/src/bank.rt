@@ -1,6 +1,7 @@
 //! The bank: its making, its room, and what it shows.
 ghost use Rattle.std.specs.Prelude.{◌≡◌, ◌≤◌, ◌<◌, ◌*◌, ◌^◌, ◌||◌, ℕ, List, [], length, Option, Some, None, IfOk, IfErr, OnOk, OnErr, if◌then◌else◌};
 ghost use Rattle.std.specs.List.{All};
+ghost use Rattle.tl_types.specs.declared.channel.Channel.{Channel};
 ghost use Rattle.tl_types.specs.declared.permission.Perm.{Perm};
 ghost use Rattle.tl_protocol.specs.Protocol.{block_of};
 ghost use Rattle.tl_protocol.specs.Runs.{IsRun};
@@ -8,6 +9,7 @@ ghost use Rattle.tl_lanes.specs.Lawful.{Lawful};
 ghost use Rattle.tl_bank_spec.specs.Cases.{no_client, no_block};
 ghost use Rattle.tl_bank_spec.specs.Share.{first_shares};
 ghost use Rattle.tl_bank_spec.specs.View.{IsOwn, StampsRise, shape_of, way_at, perm_at, copies_at};
+ghost use Rattle.tl_bank_spec.specs.Views.{IsDelivered};
 
 use crate::share::Share;
 use arrayvec::ArrayVec;
@@ -136,12 +138,15 @@ impl Bank {
 
     /// What happened, oldest first: a run of the protocol on this bank's blocks that takes the messages of each channel in order,
     /// and whose stamps rise.
+    /// What happened, oldest first: a run of the protocol on this bank's blocks, whose stamps rise, and which takes each message of
+    /// a channel once, in the order of sending.
     pub fn log(&self) -> &[Event]
         ensures is { result.now ≡ self.now.log }
         ensures run { IsRun (shape_of self.now.geometry) self.now.image self.now.log }
         ensures lawful { Lawful (shape_of self.now.geometry) self.now.image self.now.log }
         ensures own { All (λ e. IsOwn self.now.geometry self.now.number (block_of (shape_of self.now.geometry) e)) self.now.log }
         ensures stamps { StampsRise self.now.log }
+        ensures delivered { (client : ℕ) (channel : Channel) → IsDelivered self.now client channel }
     {
         self.log.events()
     }

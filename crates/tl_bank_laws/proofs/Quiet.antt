@@ -1,20 +1,15 @@
 -- When a bank is quiet, and what its counts add up to.
-use Rattle.std.proofs.Common.{◌≡◌, ◌≢◌, ℕ, zero, suc, ◌+◌, ◌*◌, ◌<◌, ◌≤◌, Bool, true, false, List, [], ◌∷◌, map, length, if◌then◌else◌, ◌==◌, cond, refl, sym, ◌∙◌, ap, arith, subst, eqb-true}
+use Rattle.std.proofs.Common.{◌≡◌, ℕ, zero, suc, ◌+◌, ◌<◌, Bool, true, false, List, [], ◌∷◌, map, length, ◌==◌, cond, refl, sym, ◌∙◌, ap, arith, subst, eqb-true}
 use Rattle.std.proofs.lemmas.Bool.Decides.{nat_tests}
-use Rattle.tl_types.specs.Lane.{Lane, bodies_of}
-use Rattle.tl_types.specs.declared.channel.Channel.{Channel}
-use Rattle.tl_types.specs.declared.channel.Channel.TheVariants.{A, B, C, D, E}
-use Rattle.tl_types.specs.declared.message.Body.{Body}
+use Rattle.tl_types.specs.Lane.{bodies_of}
+use Rattle.tl_types.specs.declared.channel.Channel.TheVariants.{C, D}
 use Rattle.tl_types.specs.declared.message.Body.TheVariants.{Upward as b_Upward, Downward as b_Downward}
-use Rattle.tl_types.specs.declared.message.Message.{Message}
-use Rattle.tl_protocol.specs.Ledger.{has_copy, is_recorded, is_under_way, IsSilent, one_if, count_clients, count_pairs}
-use Rattle.tl_protocol.specs.declared.client.Client.{Client}
+use Rattle.tl_protocol.specs.Ledger.{has_copy, is_recorded, is_under_way, IsSilent}
 use Rattle.tl_protocol.proofs.Ledger.{every_ledger_adds_up}
-use Rattle.tl_links.specs.Table.{lane_in}
 use Rattle.tl_registers.specs.declared.register.Register.{Register}
 use Rattle.tl_registers.specs.Registers.{is_busy}
-use Rattle.tl_bank_spec.specs.View.{View, IsOwn, shape_of, block_at, client_at, lane_at}
-use Rattle.tl_bank_spec.specs.Views.{not_own, HasNoMessage, AwaitsNothing, IsQuiet, blocks_below, pairs_below, pairs_at}
+use Rattle.tl_bank_spec.specs.View.{View, shape_of, block_at, client_at}
+use Rattle.tl_bank_spec.specs.Views.{not_own, HasNoMessage, AwaitsNothing, IsQuiet, blocks_below, pairs_at}
 use Rattle.tl_bank_laws.specs.Layers.{Layers}
 use Rattle.tl_bank_laws.specs.Means.{Means}
 
@@ -40,9 +35,10 @@ quiet-silent v h m quiet zero = tt
 quiet-silent v h m quiet (suc n) =
     let rest = quiet-silent v h m quiet n in
     let here : (x : ℕ) → x < v.geometry.clients → ((client_at v x n).c ≡ []) × ((client_at v x n).d ≡ []) =
-    λ x lt.
-    (map-empty b_Upward (client_at v x n).c (m.lawful.ordered x n C ∙ ap (bodies_of n) (quiet.messages x lt C)),
-      map-empty b_Downward (client_at v x n).d (m.lawful.ordered x n D ∙ ap (bodies_of n) (quiet.messages x lt D))) in
+    λ x lt. (
+      map-empty b_Upward (client_at v x n).c (m.lawful.ordered x n C ∙ ap (bodies_of n) (quiet.messages x lt C)),
+      map-empty b_Downward (client_at v x n).d (m.lawful.ordered x n D ∙ ap (bodies_of n) (quiet.messages x lt D)),
+    ) in
     let split : (t : Bool) → IsSilent (shape_of v.geometry) (block_at v) (cond t (blocks_below v n) (n ∷ blocks_below v n)) =
     λ t. elim t as (λ t. IsSilent (shape_of v.geometry) (block_at v) (cond t (blocks_below v n) (n ∷ blocks_below v n))) [
       | true ↦ rest

@@ -1,12 +1,10 @@
 -- What the views of a bank show of its clients' copies, and what every run keeps of it.
-use Rattle.std.proofs.Common.{◌≡◌, ◌≢◌, ℕ, zero, suc, ◌+◌, ◌*◌, ◌/◌, ◌%◌, ◌<◌, ◌≤◌, ◌==◌, ◌||◌, not, Bool, true, false, List, [], ◌∷◌, ◌++◌, length, Option, Some, None, if◌then◌else◌, refl, sym, ◌∙◌, ap, arith, subst, eq-eqb, eqb-true, div-add-mod', mod-lt}
+use Rattle.std.proofs.Common.{◌≡◌, ◌≢◌, ℕ, ◌/◌, ◌%◌, ◌<◌, ◌≤◌, ◌==◌, ◌||◌, not, Bool, true, false, List, [], ◌∷◌, ◌++◌, length, Some, None, if◌then◌else◌, refl, sym, ◌∙◌, ap, arith, eq-eqb, eqb-true, div-add-mod', mod-lt}
 use Rattle.std.specs.Prelude.{◌↔◌, IfSome, IsSome, slice_get, slice_index}
 use Rattle.std.proofs.lemmas.Bool.Decides.{nat_tests}
 use Rattle.std.proofs.lemmas.Option.{slice_get-get_or, same_Some}
 use Rattle.tl_types.specs.Permission.{rank}
-use Rattle.tl_types.specs.declared.permission.Perm.{Perm}
-use Rattle.tl_types.specs.declared.permission.Perm.TheVariants.{None as p_None, Branch, Tip}
-use Rattle.tl_map.specs.Numbers.{IsLawful}
+use Rattle.tl_types.specs.declared.permission.Perm.TheVariants.{None as p_None, Tip}
 use Rattle.tl_map.specs.Places.{bank_of, block_at as block_of_address}
 use Rattle.tl_protocol.specs.Coherent.{last, AreLast}
 use Rattle.tl_protocol.specs.Copy.{perm_of, bytes_of}
@@ -23,7 +21,7 @@ use Rattle.tl_bank_spec.specs.View.{View, IsOwn, shape_of, block_at, client_at, 
 use Rattle.tl_bank_spec.specs.Views.{not_own, no_part, byte_at, peeked, MayRead, MayWrite, passing, outward_at}
 use Rattle.tl_bank_laws.specs.Layers.{Layers}
 use Rattle.tl_bank_laws.specs.Means.{Means}
-use Rattle.tl_bank_laws.proofs.Allowed.{or-false, not-false, client-is, block-is, here-is}
+use Rattle.tl_bank_laws.proofs.Allowed.{or-false, client-is, block-is, here-is}
 use Rattle.tl_bank_laws.proofs.Loads.{Reads, load-keeps}
 
 -- ## What the bank has
@@ -90,10 +88,11 @@ byte-last v h c address m some =
     let block : ℕ = address / size in
     let least = m.geometry.block_bytes.least in
     let newest = (every_run_reads_last (shape_of v.geometry) v.image v.log m.lawful.run).0 block in
-    let below : address % size < size = mod-lt address (let wide : 0 < size = omega arith in wide) in
-    (newest.sized c some,
+    let below : address % size < size = mod-lt address (let wide : 0 < size = omega arith in wide) in (
+      newest.sized c some,
       newest.newest c some (address % size) (rw (newest.sized c some) below)
-      ∙ ap (λ a. last v.image v.log a) (div-add-mod' address size))
+          ∙ ap (λ a. last v.image v.log a) (div-add-mod' address size),
+    )
 
 byte-is : (bytes : List ℕ) (size i x : ℕ) → i < size → (length bytes ≡ size) × (slice_index bytes i ≡ x) → slice_get bytes i ≡ Some x
 byte-is bytes size i x lt both = slice_get-get_or bytes i 0 (rw both.0 lt) ∙ ap Some both.1
@@ -137,9 +136,10 @@ peeks-where v h c address m =
     let block : ℕ = address / size in
     let least = m.geometry.block_bytes.least in
     let both = shown-where (no_part v c block) (client_at v c block).held size (address % size) (last v.image v.log address)
-    (mod-lt address (let wide : 0 < size = omega arith in wide)) (byte-last v h c address m) in
-    ((λ some. let shown = both.0 some in let part = part-is v c block shown.0 in (part.0, part.1, shown.1)),
-      (λ may. both.1 (part-not v c block may.0 may.1, may.2)))
+    (mod-lt address (let wide : 0 < size = omega arith in wide)) (byte-last v h c address m) in (
+      (λ some. let shown = both.0 some in let part = part-is v c block shown.0 in (part.0, part.1, shown.1)),
+      (λ may. both.1 (part-not v c block may.0 may.1, may.2)),
+    )
 
 -- ## The writer
 
@@ -156,16 +156,17 @@ only-writer v h c d b m tip too =
     λ t. elim t as (λ t. (d == c) ≡ t → c ≡ d) [
       | true ↦ λ e. sym (eqb-true d c e)
       | false ↦ λ e. let none = writer-alone v h c b m tip d (grind (arith, nat_tests)) in
-        let both : Tip ≡ p_None = sym too ∙ none in cc
+          let both : Tip ≡ p_None = sym too ∙ none in cc
     ] in
     split (d == c) refl
 
 -- the client that may write, where there is one
 pub writer-is : (v : View) (h : Layers) (c b : ℕ) → Means v h → c < v.geometry.clients → IsOwn v.geometry v.number b
     → perm_at v c b ≡ Tip → (d : ℕ) → (Some c ≡ Some d) ↔ MayWrite v d b
-writer-is v h c b m lt own tip d =
-    ((λ e. let same : c ≡ d = same_Some c d e in rw (← same) (lt, own, tip)),
-      (λ may. ap Some (only-writer v h c d b m tip may.2)))
+writer-is v h c b m lt own tip d = (
+  (λ e. let same : c ≡ d = same_Some c d e in rw (← same) (lt, own, tip)),
+  (λ may. ap Some (only-writer v h c d b m tip may.2)),
+)
 
 -- and where there is none
 pub writer-none : (v : View) (b : ℕ) → ((c : ℕ) → c < v.geometry.clients → IsOwn v.geometry v.number b → perm_at v c b ≢ Tip)

@@ -1,5 +1,5 @@
 -- What the views of a bank show (this project's own).
-use Rattle.std.specs.Prelude.{◌≡◌, ◌≢◌, ℕ, zero, suc, ◌<◌, ◌==◌, ◌||◌, not, Bool, List, [], ◌∷◌, map, slice_get, Option, Some, None, if◌then◌else◌}
+use Rattle.std.specs.Prelude.{◌≡◌, ◌≢◌, ℕ, zero, suc, ◌<◌, ◌==◌, ◌||◌, not, Bool, List, [], ◌∷◌, ◌++◌, length, map, slice_get, Option, Some, None, if◌then◌else◌}
 use Rattle.std.specs.Option.{option_map}
 use Rattle.tl_types.specs.Lane.{message_at}
 use Rattle.tl_types.specs.declared.channel.Channel.{Channel}
@@ -15,6 +15,7 @@ use Rattle.tl_protocol.specs.declared.client.Client.{Client}
 use Rattle.tl_protocol.specs.declared.home.Line.{Line}
 use Rattle.tl_protocol.specs.declared.home.Outward.{Outward}
 use Rattle.tl_protocol.specs.declared.home.Outward.TheVariants.{Quiet, Get, Data, Put, PutAck}
+use Rattle.tl_lanes.specs.Delivery.{all_sent, all_taken}
 use Rattle.tl_registers.specs.declared.register.Register.{Register}
 use Rattle.tl_bank_spec.specs.Cases.{no_client, no_block, elsewhere}
 use Rattle.tl_bank_spec.specs.View.{View, IsOwn, block_at, client_at, lane_at, perm_at, shape_of}
@@ -60,6 +61,14 @@ abbrev pub in_flight_at : View → Ticket → Option Message
 in_flight_at v ticket =
     if no_client v ticket.client || not (ticket.bank == v.number) then None
     else message_at (lane_at v ticket.client ticket.channel) ticket.serial
+
+-- Each message of a channel is taken once, in the order of sending: what the log sends there is what it takes there and then what
+-- waits, and as many were taken as the serial of the first that waits says.
+abbrev pub IsDelivered : View → ℕ → Channel → Type 0
+IsDelivered v client channel =
+    (all_sent (shape_of v.geometry) v.image v.log client channel
+    ≡ all_taken (shape_of v.geometry) v.image v.log client channel ++ (lane_at v client channel).messages)
+    × (length (all_taken (shape_of v.geometry) v.image v.log client channel) ≡ (lane_at v client channel).taken)
 
 -- ## Home
 
