@@ -1,5 +1,5 @@
 -- An event of home and the memory alone: no message is sent or taken, and each client is as it was.
-use Rattle.std.proofs.Common.{◌≡◌, ◌≢◌, ℕ, ◌<◌, ◌==◌, Bool, true, false, List, refl, sym, ◌∙◌, ap, subst, inl, inr}
+use Rattle.std.proofs.Common.{◌≡◌, ◌≢◌, ℕ, List, refl, sym, ◌∙◌, ap, subst, inl, inr}
 use Rattle.std.proofs.lemmas.Bool.{cases_eq}
 use Rattle.tl_types.specs.Lane.{Lane}
 use Rattle.tl_types.specs.declared.channel.Channel.{Channel}
@@ -11,7 +11,7 @@ use Rattle.tl_protocol.specs.declared.home.Outward.{Outward}
 use Rattle.tl_protocol.specs.declared.home.Outward.TheVariants.{Quiet, Get, Data, Put, PutAck}
 use Rattle.tl_protocol.specs.declared.shape.Shape.{Shape}
 use Rattle.tl_protocol.specs.Protocol.{Block, block_of, after, served, took_data}
-use Rattle.tl_protocol.specs.Runs.{MayNext, after_next}
+use Rattle.tl_protocol.specs.Runs.{MayNext}
 use Rattle.tl_lanes.specs.Lanes.{lane_after}
 use Rattle.tl_lanes.specs.Lawful.{TakesFirst}
 use Rattle.tl_registers.proofs.Opening.{elsewhere, here}

@@ -35,6 +35,7 @@ pub mod SendGrant
 pub mod SendProbe
 pub mod Rooms
 pub mod Serves
+pub mod ServesMemory
 pub mod Shares
 pub mod Sights
 pub mod Slots

@@ -1,13 +1,13 @@
 -- What a block that comes into a way or leaves it changes of what lies in the ways of a set.
-use Rattle.std.proofs.Common.{◌≡◌, ◌≢◌, ℕ, zero, suc, ◌<◌, ◌==◌, Bool, true, false, List, [], ◌∷◌, ◌++◌, length, set, Option, Some, None, if◌then◌else◌, refl, sym, ◌∙◌, ap, subst, arith, inl, inr, eq-eqb}
-use Rattle.std.proofs.lemmas.Bool.{cases_eq}
+use Rattle.std.proofs.Common.{◌≡◌, ◌≢◌, ℕ, zero, suc, ◌<◌, ◌==◌, Bool, true, false, List, [], ◌∷◌, length, set, slice_index_or, Option, Some, None, if◌then◌else◌, refl, sym, ◌∙◌, ap, subst, arith, inl, inr, eq-eqb}
+use Rattle.std.proofs.lemmas.Bool.{cases_eq, cases_lt}
 use Rattle.std.proofs.lemmas.List.{set-append_left}
 use Rattle.std.proofs.Math.Seq.{set-append_seam}
 use Rattle.tl_map.specs.Places.{bank_of, set_of}
 use Rattle.tl_registers.proofs.Booleans.{bool-cases, neqb-of}
 use Rattle.tl_bank_spec.specs.View.{View, IsOwn, way_at, ways_below}
-use Rattle.tl_bank_spec.specs.Ways.{lies_in, slot_at, slots_at, slots_below}
-use Rattle.tl_bank_laws.proofs.Slots.{below-length, below-same, lies-slot, lies-true, lowest-same, none-lowest, slot-empty, slots-are, true-lies}
+use Rattle.tl_bank_spec.specs.Ways.{lies_in, slot_at, slots_at}
+use Rattle.tl_bank_laws.proofs.Slots.{below-at, below-length, below-past, below-same, lies-slot, lies-true, lowest-same, none-lowest, slot-empty, slots-are, true-lies}
 
 -- ## What changes at one block
 
@@ -56,6 +56,18 @@ with_ways v ways = record v { ways = ways }
 abbrev pub Moves : View → List (Option ℕ) → ℕ → Option ℕ → Type 0
 Moves v ways block at =
     (b : ℕ) → b < v.geometry.memory_blocks → way_at (with_ways v ways) b ≡ (if b == block then at else way_at v b)
+
+-- by list: a function that puts one block there puts it there in its list
+pub list-moves : (old new : ℕ → Option ℕ) (n block : ℕ) (at : Option ℕ) → block < n
+    → ((b : ℕ) → new b ≡ (if b == block then at else old b)) → (b : ℕ)
+    → slice_index_or (ways_below new n) b None ≡ (if b == block then at else slice_index_or (ways_below old n) b None)
+list-moves old new n block at inside is b =
+    elim (cases_lt b n) [
+      | inl l ↦ below-at new n b l ∙ is b ∙ ap (λ (x : Option ℕ). if b == block then at else x) (sym (below-at old n b l))
+      | inr m ↦
+          below-past new n b m ∙ sym (below-past old n b m)
+          ∙ sym (at-other block b at (slice_index_or (ways_below old n) b None) (λ e. absurd (omega (arith, e, m, inside))))
+    ]
 
 -- A block of the bank and of the set lies in the way.
 pub record Lies (v : View) (set way block : ℕ) : Type 0 where

@@ -1,5 +1,5 @@
 -- Home takes the bytes that it asked for, and places them into the way that the block's register holds.
-use Rattle.std.proofs.Common.{◌≡◌, ◌≢◌, ℕ, ◌<◌, ◌==◌, ◌&&◌, ◌||◌, not, Bool, true, false, List, [], ◌∷◌, ◌++◌, set, Option, Some, None, is_none, if◌then◌else◌, refl, sym, ◌∙◌, ap, subst, inl, inr, eqb-true, eq-eqb}
+use Rattle.std.proofs.Common.{◌≡◌, ◌≢◌, ℕ, ◌<◌, ◌==◌, ◌&&◌, ◌||◌, Bool, true, false, List, [], ◌∷◌, ◌++◌, set, Option, Some, None, is_none, if◌then◌else◌, refl, sym, ◌∙◌, ap, subst, inl, inr, eqb-true, eq-eqb}
 use Rattle.std.specs.Prelude.{◌⊎◌}
 use Rattle.std.proofs.lemmas.Bool.{cases_eq}
 use Rattle.tl_map.specs.Numbers.{Numbers}
@@ -8,7 +8,6 @@ use Rattle.tl_map.proofs.PlaceLaws.{set_of-lt, some_sets}
 use Rattle.tl_protocol.specs.Home.{IsData}
 use Rattle.tl_protocol.specs.Protocol.{Block, took_data}
 use Rattle.tl_protocol.specs.declared.event.Event.TheVariants.{TakeData}
-use Rattle.tl_protocol.specs.declared.home.Line.{Line}
 use Rattle.tl_protocol.specs.declared.home.Outward.{Outward}
 use Rattle.tl_protocol.specs.declared.home.Outward.TheVariants.{Quiet, Get, Data, Put, PutAck}
 use Rattle.tl_protocol.specs.declared.shape.Shape.{Shape}
@@ -17,7 +16,7 @@ use Rattle.tl_registers.specs.Agree.{Each, IsSteady}
 use Rattle.tl_registers.specs.Pending.{grant_pending}
 use Rattle.tl_registers.specs.Register.{works_on}
 use Rattle.tl_registers.specs.Registers.{register_of}
-use Rattle.tl_registers.specs.VictimWay.{IsInOrder, block_in}
+use Rattle.tl_registers.specs.VictimWay.{IsInOrder}
 use Rattle.tl_registers.proofs.Booleans.{and-true, bool-cases, or-else}
 use Rattle.tl_registers.proofs.Opening.{elsewhere, here}
 use Rattle.tl_registers.proofs.Order.{placing-keeps-order}
@@ -27,12 +26,12 @@ use Rattle.tl_bank_spec.specs.Effects.{way_held_by}
 use Rattle.tl_bank_spec.specs.HomeCalls.{take_memory_cases}
 use Rattle.tl_bank_spec.specs.Refusal.{first_of}
 use Rattle.tl_bank_spec.specs.View.{View, IsOwn, block_at, shape_of, way_at, ways_below}
-use Rattle.tl_bank_spec.specs.Ways.{lies_in, slot_at, slots_at}
+use Rattle.tl_bank_spec.specs.Ways.{slot_at, slots_at}
 use Rattle.tl_bank_laws.specs.Layers.{Layers}
 use Rattle.tl_bank_laws.specs.Means.{HoldsWay, IsHome, Means, WaysFit, is_filling, is_filling_by}
 use Rattle.tl_bank_laws.proofs.Fetched.{DataComes, HoldsOther, any-found, data-comes, one-way, works-own}
 use Rattle.tl_bank_laws.proofs.HomeSteps.{SameAt, homes-event, homes-layers}
-use Rattle.tl_bank_laws.proofs.Moves.{Comes, Lies, Moves, at-block, at-other, empty-lies, lies-of, moved-here, moved-lies, moved-other, of-lies, slot-comes, slot-comes-other, slots-come, slots-come-other, with_ways}
+use Rattle.tl_bank_laws.proofs.Moves.{Comes, Moves, at-block, at-other, empty-lies, lies-of, moved-here, moved-lies, moved-other, of-lies, slot-comes, slot-comes-other, slots-come, slots-come-other, with_ways}
 use Rattle.tl_bank_laws.proofs.Next.{block_next, blocks-next, means-next, next_view}
 use Rattle.tl_bank_laws.proofs.Orders.{order-next}
 use Rattle.tl_bank_laws.proofs.Slots.{below-at, lies-true}

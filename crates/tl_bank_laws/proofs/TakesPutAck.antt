@@ -1,9 +1,6 @@
 -- Home takes the acknowledgement of a Put: the victim is gone.
-use Rattle.std.proofs.Common.{◌≡◌, ◌≢◌, ℕ, ◌+◌, ◌<◌, ◌≤◌, ◌==◌, ◌&&◌, ◌||◌, not, Bool, true, false, List, ◌++◌, ◌∷◌, [], length, map, filter, Option, Some, None, is_none, if◌then◌else◌, refl, sym, ◌∙◌, ap, subst, arith, inl, inr, eqb-true, eq-eqb}
-use Rattle.std.specs.Prelude.{◌⊎◌}
+use Rattle.std.proofs.Common.{◌≡◌, ◌≢◌, ℕ, ◌≤◌, ◌==◌, ◌&&◌, ◌||◌, not, Bool, true, false, List, ◌∷◌, [], length, map, filter, Option, Some, None, is_none, if◌then◌else◌, refl, sym, ◌∙◌, ap, arith, inl, inr, eqb-true}
 use Rattle.std.specs.List.{list_any}
-use Rattle.std.proofs.lemmas.Bool.{cases_eq}
-use Rattle.tl_map.specs.Places.{set_of}
 use Rattle.tl_protocol.specs.Home.{IsData}
 use Rattle.tl_protocol.specs.Pending.{IsServiceAt}
 use Rattle.tl_protocol.specs.Protocol.{Block}
@@ -17,9 +14,9 @@ use Rattle.tl_registers.specs.declared.register.Task.{Task}
 use Rattle.tl_registers.specs.declared.register.Task.TheVariants.{Acquire, Replace, Evict}
 use Rattle.tl_registers.specs.declared.way_of_set.WayOfSet.{WayOfSet}
 use Rattle.tl_registers.specs.Agree.{Each}
-use Rattle.tl_registers.specs.Register.{is_block, victim_in, works_on}
+use Rattle.tl_registers.specs.Register.{is_block, victim_in}
 use Rattle.tl_registers.specs.Registers.{ended, is_evict, is_held, task_without, without_evict, without_victim}
-use Rattle.tl_registers.proofs.Booleans.{bool-cases, or-else, or-false, or-true, not-false, and-true, neq-of}
+use Rattle.tl_registers.proofs.Booleans.{bool-cases, or-else, or-false, or-true, not-false, and-true}
 use Rattle.tl_registers.proofs.Closing.{ending-keeps-agreement}
 use Rattle.tl_registers.proofs.Tables.{each-filter, each-follows, each-map}
 use Rattle.tl_home.specs.Homes.{HomeState, SameBank, SameHome, SameMemory, order_at, outward_in, way_in}

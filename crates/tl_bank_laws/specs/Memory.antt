@@ -1,5 +1,4 @@
 -- What the memory answered, by what waits for home. No public clause cites this module.
-use Rattle.std.specs.Prelude.{ℕ, List}
 use Rattle.tl_protocol.specs.declared.home.Outward.{Outward}
 use Rattle.tl_protocol.specs.declared.home.Outward.TheVariants.{Quiet, Get, Data, Put, PutAck}
 use Rattle.tl_bank_spec.specs.declared.reply.Reply.{Reply}

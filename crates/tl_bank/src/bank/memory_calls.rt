@@ -4,7 +4,7 @@ ghost use Rattle.tl_bank_laws.specs.Memory.{answered};
 ghost use Rattle.tl_bank_spec.specs.Effects.{Serves, registers_then, reply_to, taking, way_held_by, ways_then};
 ghost use Rattle.tl_bank_spec.specs.HomeCalls.{serve_memory_cases, take_memory_cases};
 ghost use Rattle.tl_bank_spec.specs.Refusal.{IsRefused, first_of};
-ghost use Rattle.tl_bank_spec.specs.View.{block_at};
+ghost use Rattle.tl_bank_spec.specs.View.{block_at, way_at};
 ghost use Rattle.tl_home.specs.Homes.{outward_in};
 ghost use Rattle.tl_protocol.specs.Home.{IsData};
 ghost use Rattle.tl_protocol.specs.declared.event.Event.{Event};
@@ -26,7 +26,7 @@ impl Bank {
         ensures refused { IfErr result (λ r. IsRefused (first_of (serve_memory_cases self.old block)) self.old.room r) }
         ensures unchanged { OnErr result (self.new ≡ self.old) }
         ensures permitted { OnOk result (first_of (serve_memory_cases self.old block) ≡ None) }
-        ensures serves { OnOk result (Serves self.old self.new (Event.Serve block) self.old.registers self.old.ways) }
+        ensures serves { OnOk result (Serves self.old self.new (Event.Serve block) self.old.registers (way_at self.old)) }
         ensures reply { IfOk result
             (λ reply. reply ≡ reply_to (block_at self.old block).memory (block_at self.old block).outward) }
     {
@@ -51,7 +51,7 @@ impl Bank {
         ensures serves { OnOk result
             (Serves self.old self.new (taking block (block_at self.old block).outward)
             (registers_then block (block_at self.old block).outward self.old.registers)
-            (ways_then block (block_at self.old block).outward self.old.registers self.old.ways)) }
+            (ways_then block (block_at self.old block).outward self.old.registers (way_at self.old))) }
     {
         if let Some(refusal) = self.take_memory_refusal(block) {
             return Err(refusal);
@@ -71,9 +71,9 @@ impl Bank {
         ensures unchanged { OnErr result (self.new ≡ self.old) }
         ensures serves { OnOk result
             (Serves self.old self.new (Event.TakeData block) self.old.registers
-            (λ b. if b == block then way_held_by (register_of block self.old.registers) else self.old.ways b)) }
+            (λ b. if b == block then way_held_by (register_of block self.old.registers) else way_at self.old b)) }
     {
-        let way = self.way_held(block).unwrap();
+        let way = self.way_of_data(block);
         self.make_room()?;
         self.home.take_data(block, way);
         self.log.append(Event::TakeData(block));
@@ -87,7 +87,7 @@ impl Bank {
         ensures refused { IfErr result (λ refusal. (refusal ≡ Refusal.Memory) × (self.old.room ≡ 0)) }
         ensures unchanged { OnErr result (self.new ≡ self.old) }
         ensures serves { OnOk result
-            (Serves self.old self.new (Event.TakePutAck block) (ended block self.old.registers) self.old.ways) }
+            (Serves self.old self.new (Event.TakePutAck block) (ended block self.old.registers) (way_at self.old)) }
     {
         self.make_room()?;
         self.home.take_put_ack(block);
@@ -96,12 +96,13 @@ impl Bank {
         Ok(())
     }
 
-    /// The way that the block's register holds.
-    fn way_held(&self, block: BlockNo) -> Option<Way>
-        ensures { result ≡ way_held_by (register_of block self.now.registers) }
+    /// The way that the register of a block holds whose bytes come.
+    fn way_of_data(&self, block: BlockNo) -> Way
+        requires { IsData (block_at self.now block).outward }
+        ensures { way_held_by (register_of block self.now.registers) ≡ Some result }
     {
-        let register = self.registers.of_block(block)?;
-        Some(Way::new(register.way.way))
+        let register = self.registers.of_block(block).unwrap();
+        Way::new(register.way.way)
     }
 
     fn serve_memory_refusal(&self, block: BlockNo) -> Option<Refusal>

@@ -1,0 +1,71 @@
+use Rattle.std.proofs.Common.{◌≡◌, ℕ, ◌+◌, List, Option, None, slice_index_or, sym, ◌∙◌, ap, subst, arith}
+use Rattle.tl_map.specs.Numbers.{Numbers}
+use Rattle.tl_protocol.specs.Sizes.{IsWhole, outward_bytes}
+use Rattle.tl_protocol.specs.declared.event.Event.TheVariants.{Serve}
+use Rattle.tl_home.specs.Homes.{outward_in, way_in}
+use Rattle.tl_bank_spec.specs.Effects.{reply_to}
+use Rattle.tl_bank_spec.specs.HomeCalls.{serve_memory_cases}
+use Rattle.tl_bank_spec.specs.Refusal.{first_of}
+use Rattle.tl_bank_spec.specs.View.{View, block_at, way_at, ways_below}
+use Rattle.tl_bank.specs.Shown.{shown, layers}
+use Rattle.tl_bank_laws.proofs.Serves.{serves-next}
+use Rattle.tl_bank_laws.proofs.ServesMemory.{serve-keeps, serve-reply, serve-whole}
+use Rattle.tl_bank_laws.proofs.Slots.{below-same}
+use Rattle.tl_bank.proofs.bank.Bank.serve_memory.Goals as goal
+
+pub serve-requires-clause-whole : goal.serve-requires-clause-whole
+serve-requires-clause-whole c =
+    let v : View = shown c.self.inside in
+    let none : first_of (serve_memory_cases v c.args.block) ≡ None =
+    subst (λ (w : View). first_of (serve_memory_cases w c.args.block) ≡ None) (sym (c.self.view_is ∙ c.make_room.ensures.same))
+    (sym c.serve_memory_refusal.ensures ∙ c.in_default.is) in
+    subst (λ (g : Numbers). IsWhole g.block_bytes (outward_bytes (outward_in c.self.inside.home c.args.block)))
+    (sym c.self.invariant.home_geometry) (serve-whole v (layers c.self.inside) c.args.block c.self.invariant none)
+
+pub invariant_of-self : goal.invariant_of-self
+invariant_of-self c =
+    let v : View = shown c.self.inside in
+    let none : first_of (serve_memory_cases v c.args.block) ≡ None =
+    subst (λ (w : View). first_of (serve_memory_cases w c.args.block) ≡ None) (sym (c.self.view_is ∙ c.make_room.ensures.same))
+    (sym c.serve_memory_refusal.ensures ∙ c.in_default.is) in
+    rw c.append.ensures.events
+    (serve-keeps v (layers c.self.inside) c.serve.new.self c.args.block c.append.new.self.room c.self.invariant none
+    (record {
+      bank = c.serve.ensures.bank;
+      home = c.serve.ensures.home;
+      outward = c.serve.ensures.outward;
+      memory = c.serve.ensures.memory;
+    }))
+
+pub returns-clause-serves : goal.returns-clause-serves
+returns-clause-serves c =
+    let v : View = shown c.self.inside in
+    let old : View = c.args.self.now in
+    let made : v ≡ record old { room = c.make_room.new.self.room } = c.self.view_is ∙ c.make_room.ensures.same in
+    let same : ways_below (way_in c.serve.new.self) v.geometry.memory_blocks ≡ old.ways =
+    below-same (way_in c.serve.new.self) (way_in c.self.inside.home) v.geometry.memory_blocks (λ b l. c.serve.ensures.home.ways.ways b)
+    ∙ ap (λ (w : View). w.ways) made in
+    let left : c.append.new.self.room + 1 ≡ c.self.inside.log.room = c.append.ensures.room in
+    let was : c.self.inside.log.room ≡ c.make_room.new.self.room = ap (λ (w : View). w.room) made in
+    rw c.append.ensures.events
+    (serves-next old v (Serve c.args.block) c.make_room.new.self.room c.append.new.self.room v.registers old.registers
+    (ways_below (way_in c.serve.new.self) v.geometry.memory_blocks) (way_at old) made c.make_room.ensures.grows
+    (omega (arith, left, was)) (ap (λ (w : View). w.registers) made)
+    (λ b. ap (λ (ways : List (Option ℕ)). slice_index_or ways b None) same))
+
+pub returns-clause-reply : goal.returns-clause-reply
+returns-clause-reply c =
+    let v : View = shown c.self.inside in
+    let made : v ≡ record c.args.self.now { room = c.make_room.new.self.room } = c.self.view_is ∙ c.make_room.ensures.same in
+    let none : first_of (serve_memory_cases v c.args.block) ≡ None =
+    subst (λ (w : View). first_of (serve_memory_cases w c.args.block) ≡ None) (sym made)
+    (sym c.serve_memory_refusal.ensures ∙ c.in_default.is) in
+    c.answered-reply.ensures
+    ∙ serve-reply v (layers c.self.inside) c.serve.new.self c.args.block c.self.invariant none
+    (record {
+      bank = c.serve.ensures.bank;
+      home = c.serve.ensures.home;
+      outward = c.serve.ensures.outward;
+      memory = c.serve.ensures.memory;
+    })
+    ∙ ap (λ (w : View). reply_to (block_at w c.args.block).memory (block_at w c.args.block).outward) made

@@ -1,0 +1,172 @@
+-- The memory answers home's request.
+use Rattle.std.proofs.Common.{◌≡◌, ◌≢◌, ℕ, ◌==◌, true, List, Option, None, if◌then◌else◌, refl, sym, ◌∙◌, ap, subst, inl, inr}
+use Rattle.tl_protocol.specs.Home.{IsRequest}
+use Rattle.tl_protocol.specs.Protocol.{Block, served}
+use Rattle.tl_protocol.specs.Sizes.{IsWhole, outward_bytes}
+use Rattle.tl_protocol.specs.declared.event.Event.TheVariants.{Serve}
+use Rattle.tl_protocol.specs.declared.home.Outward.{Outward}
+use Rattle.tl_protocol.specs.declared.home.Outward.TheVariants.{Quiet, Get, Data, Put, PutAck}
+use Rattle.tl_protocol.proofs.Coherent.{every_run_keeps_sizes}
+use Rattle.tl_home.specs.Homes.{HomeState, SameBank, SameHome, memory_in, outward_in, served_memory, served_outward, way_in}
+use Rattle.tl_bank_spec.specs.Effects.{reply_to}
+use Rattle.tl_bank_spec.specs.HomeCalls.{serve_memory_cases}
+use Rattle.tl_bank_spec.specs.HomeCases.{is_request}
+use Rattle.tl_bank_spec.specs.Refusal.{first_of}
+use Rattle.tl_bank_spec.specs.View.{View, IsOwn, block_at, shape_of, ways_below}
+use Rattle.tl_bank_laws.specs.Layers.{Layers}
+use Rattle.tl_bank_laws.specs.Means.{IsHome, Means}
+use Rattle.tl_bank_laws.specs.Memory.{answered}
+use Rattle.tl_bank_laws.proofs.Allowed.{AllFalse, all-false, block-is, here-is, not-false}
+use Rattle.tl_bank_laws.proofs.HomeSteps.{SameAt, homes-event, homes-layers}
+use Rattle.tl_bank_laws.proofs.Moves.{at-block, at-other}
+use Rattle.tl_bank_laws.proofs.Next.{means-next, next_view}
+use Rattle.tl_bank_laws.proofs.Slots.{below-at}
+use Rattle.tl_bank_laws.proofs.Ways.{bank-steady, fit-stays, same-work, ways-stay}
+
+-- ## What may be answered
+
+request-is : (out : Outward) → is_request out ≡ true → IsRequest out
+request-is Quiet h = cc
+request-is Get h = inl refl
+request-is (Data bytes) h = cc
+request-is (Put bytes) h = inr (bytes, refl)
+request-is PutAck h = cc
+
+-- a block of the bank, of which the memory has a request
+pub record ServeAllowed (v : View) (block : ℕ) : Type 0 where
+  pub own : IsOwn v.geometry v.number block
+  pub request : IsRequest (block_at v block).outward
+
+pub serve-allowed : (v : View) (block : ℕ) → first_of (serve_memory_cases v block) ≡ None → ServeAllowed v block
+serve-allowed v block none =
+    let f : AllFalse (serve_memory_cases v block) = all-false (serve_memory_cases v block) none in
+    record {
+      own = (block-is v block f.0, here-is v block f.1.0);
+      request = request-is (block_at v block).outward (not-false (is_request (block_at v block).outward) f.1.1.0);
+    }
+
+-- what passes of a block of the bank
+pub outward-is : (v : View) (h : Layers) (block : ℕ) → Means v h → IsOwn v.geometry v.number block
+    → outward_in h.home block ≡ (block_at v block).outward
+outward-is v h block m own = (m.home block own).outward
+
+-- home has the request too
+pub serve-request : (v : View) (h : Layers) (block : ℕ) → Means v h → first_of (serve_memory_cases v block) ≡ None
+    → IsRequest (outward_in h.home block)
+serve-request v h block m none =
+    let ok = serve-allowed v block none in
+    subst IsRequest (sym (outward-is v h block m ok.own)) ok.request
+
+-- what passes is a whole block
+pub serve-whole : (v : View) (h : Layers) (block : ℕ) → Means v h → first_of (serve_memory_cases v block) ≡ None
+    → IsWhole v.geometry.block_bytes (outward_bytes (outward_in h.home block))
+serve-whole v h block m none =
+    let ok = serve-allowed v block none in
+    let whole = (every_run_keeps_sizes (shape_of v.geometry) v.image v.log m.lawful.run block).outward in
+    subst (λ (out : Outward). IsWhole v.geometry.block_bytes (outward_bytes out)) (sym (outward-is v h block m ok.own)) whole
+
+-- ## What the answer leaves
+
+served-home : (s : Block) (out : Outward) → (served s out).home ≡ s.home
+served-home s Quiet = refl
+served-home s Get = refl
+served-home s (Data bytes) = refl
+served-home s (Put bytes) = refl
+served-home s PutAck = refl
+
+served-client : (s : Block) (out : Outward) (x : ℕ) → ((served s out).client x).recorded ≡ (s.client x).recorded
+served-client s Quiet x = refl
+served-client s Get x = refl
+served-client s (Data bytes) x = refl
+served-client s (Put bytes) x = refl
+served-client s PutAck x = refl
+
+served-outward : (s : Block) (out : Outward) → s.outward ≡ out → served_outward s.memory out ≡ (served s out).outward
+served-outward s Quiet is = sym is
+served-outward s Get is = refl
+served-outward s (Data bytes) is = sym is
+served-outward s (Put bytes) is = refl
+served-outward s PutAck is = sym is
+
+served-memory : (s : Block) (out : Outward) → served_memory s.memory out ≡ (served s out).memory
+served-memory s Quiet = refl
+served-memory s Get = refl
+served-memory s (Data bytes) = refl
+served-memory s (Put bytes) = refl
+served-memory s PutAck = refl
+
+-- what became of home
+pub record Served (old new : HomeState) (block : ℕ) : Type 0 where
+  pub bank : SameBank old new
+  pub home : SameHome old new
+  pub outward :
+      (b : ℕ) → outward_in new b
+      ≡ (if b == block then served_outward (memory_in old block) (outward_in old block) else outward_in old b)
+  pub memory :
+      (b : ℕ) → memory_in new b
+      ≡ (if b == block then served_memory (memory_in old block) (outward_in old block) else memory_in old b)
+
+serve-home : (old new : HomeState) (block : ℕ) (s : Block) → Served old new block → IsHome old block s
+    → IsHome new block (served s s.outward)
+serve-home old new block s did h = record {
+  line = did.home.lines block ∙ h.line ∙ sym (served-home s s.outward);
+  recorded = λ c. did.home.recorded c block ∙ h.recorded c ∙ sym (served-client s s.outward c);
+  outward =
+      did.outward block ∙ at-block block (served_outward (memory_in old block) (outward_in old block)) (outward_in old block)
+      ∙ ap (λ out. served_outward (memory_in old block) out) h.outward
+      ∙ ap (λ bytes. served_outward bytes s.outward) h.memory ∙ served-outward s s.outward refl;
+  memory =
+      did.memory block ∙ at-block block (served_memory (memory_in old block) (outward_in old block)) (memory_in old block)
+      ∙ ap (λ out. served_memory (memory_in old block) out) h.outward
+      ∙ ap (λ bytes. served_memory bytes s.outward) h.memory ∙ served-memory s s.outward;
+}
+
+serve-others : (old new : HomeState) (block : ℕ) → Served old new block → (b : ℕ) → b ≢ block → SameAt old new b
+serve-others old new block did b ne = record {
+  line = did.home.lines b;
+  recorded = λ c. did.home.recorded c b;
+  outward = did.outward b ∙ at-other block b (served_outward (memory_in old block) (outward_in old block)) (outward_in old b) ne;
+  memory = did.memory b ∙ at-other block b (served_memory (memory_in old block) (outward_in old block)) (memory_in old b) ne;
+}
+
+-- The bank after the memory answered.
+pub serve-keeps : (v : View) (h : Layers) (home : HomeState) (block room : ℕ) → Means v h
+    → first_of (serve_memory_cases v block) ≡ None → Served h.home home block
+    → Means (next_view v (Serve block) room v.registers (ways_below (way_in home) v.geometry.memory_blocks)) (record h { home = home })
+serve-keeps v h home block room m none did =
+    let ok = serve-allowed v block none in
+    let e = Serve block in
+    let ways : List (Option ℕ) = ways_below (way_in home) v.geometry.memory_blocks in
+    let steady = bank-steady v h m in
+    means-next v h (record h { home = home }) e room v.registers ways m
+    (homes-event v e tt (ok.own.0, ok.request) ok.own.1)
+    (homes-layers v h home e m tt ok.own (record {
+      bank = did.bank;
+      here = serve-home h.home home block (block_at v block) did (m.home block ok.own);
+      others = serve-others h.home home block did;
+    }))
+    (fit-stays v e room ways steady tt m.registers)
+    (ways-stay v e room v.registers ways h.home home steady tt tt (same-work v.registers) did.home.ways
+    (below-at (way_in home) v.geometry.memory_blocks) m.ways)
+
+-- ## The reply
+
+reply-of : (memory : List ℕ) (out : Outward) → IsRequest out → answered (served_outward memory out) ≡ reply_to memory out
+reply-of memory Quiet h = absurd (elim h [ inl q ↦ cc | inr q ↦ let bad = q.1 in cc ])
+reply-of memory Get h = refl
+reply-of memory (Data bytes) h = absurd (elim h [ inl q ↦ cc | inr q ↦ let bad = q.1 in cc ])
+reply-of memory (Put bytes) h = refl
+reply-of memory PutAck h = absurd (elim h [ inl q ↦ cc | inr q ↦ let bad = q.1 in cc ])
+
+-- What the memory answered is what it answers to the request.
+pub serve-reply : (v : View) (h : Layers) (home : HomeState) (block : ℕ) → Means v h → first_of (serve_memory_cases v block) ≡ None
+    → Served h.home home block
+    → answered (outward_in home block) ≡ reply_to (block_at v block).memory (block_at v block).outward
+serve-reply v h home block m none did =
+    let ok = serve-allowed v block none in
+    let part = m.home block ok.own in
+    let s : Block = block_at v block in
+    ap answered (did.outward block ∙ at-block block (served_outward (memory_in h.home block) (outward_in h.home block)) (outward_in h.home block)
+    ∙ ap (λ out. served_outward (memory_in h.home block) out) part.outward
+    ∙ ap (λ bytes. served_outward bytes s.outward) part.memory)
+    ∙ reply-of s.memory s.outward ok.request
