@@ -31,6 +31,7 @@ mod home_calls;
 mod home_refusals;
 mod memory_calls;
 mod open;
+mod memory_calls;
 mod protocol_view;
 mod refusals;
 mod views;

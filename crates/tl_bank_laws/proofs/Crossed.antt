@@ -1,14 +1,13 @@
 -- Of fewer than eight blocks something passes between home and the memory, when a register that lets nothing pass is about to.
-use Rattle.std.proofs.Common.{◌≡◌, ◌≢◌, ℕ, zero, suc, ◌+◌, ◌<◌, ◌≤◌, ◌==◌, ◌||◌, not, Bool, true, false, List, [], ◌∷◌, length, filter, Option, Some, None, if◌then◌else◌, refl, sym, ◌∙◌, ap, subst, arith, inl, inr, eqb-true, eq-eqb, nat_lt}
+use Rattle.std.proofs.Common.{◌≡◌, ◌≢◌, ℕ, ◌+◌, ◌<◌, ◌≤◌, ◌==◌, ◌||◌, not, true, false, List, [], ◌∷◌, length, Option, Some, None, if◌then◌else◌, refl, sym, ◌∙◌, ap, subst, arith, inl, inr, eqb-true, eq-eqb, nat_lt}
 use Rattle.std.specs.Prelude.{◌⊎◌}
 use Rattle.std.proofs.lemmas.Bool.Decides.{nat_tests}
 use Rattle.tl_map.specs.Places.{bank_of}
-use Rattle.tl_protocol.specs.declared.home.Outward.{Outward}
 use Rattle.tl_protocol.specs.declared.home.Outward.TheVariants.{Quiet}
 use Rattle.tl_protocol.specs.declared.shape.Shape.{Shape}
 use Rattle.tl_protocol.specs.Protocol.{Block}
-use Rattle.tl_home.specs.Homes.{EachHasHolder, HomeState, outward_in}
-use Rattle.tl_registers.specs.Agree.{AreApart, Each}
+use Rattle.tl_home.specs.Homes.{EachHasHolder, outward_in}
+use Rattle.tl_registers.specs.Agree.{Each}
 use Rattle.tl_registers.specs.Fit.{Fits, TaskFits}
 use Rattle.tl_registers.specs.Register.{is_block, victim_in, victim_of, works_on}
 use Rattle.tl_registers.specs.Registers.{closed, is_busy, register_of}

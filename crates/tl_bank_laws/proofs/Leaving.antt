@@ -1,28 +1,27 @@
 -- A block leaves home: it is dropped, or put back to the memory.
-use Rattle.std.proofs.Common.{◌≡◌, ◌≢◌, ℕ, ◌+◌, ◌<◌, ◌≤◌, ◌==◌, ◌&&◌, Bool, true, false, List, [], ◌∷◌, ◌++◌, length, Option, Some, None, is_none, if◌then◌else◌, refl, sym, ◌∙◌, ap, subst, arith, inl, inr, eqb-true, eq-eqb}
+use Rattle.std.proofs.Common.{◌≡◌, ◌≢◌, ℕ, ◌<◌, ◌≤◌, ◌==◌, ◌&&◌, Bool, true, false, List, Option, Some, None, is_none, if◌then◌else◌, refl, sym, ◌∙◌, ap, subst, arith, inl, inr, eqb-true, eq-eqb}
 use Rattle.std.specs.Prelude.{IsSome, slice_index_or}
 use Rattle.std.proofs.lemmas.Bool.{cases_lt}
 use Rattle.tl_types.specs.declared.permission.Perm.TheVariants.{None as p_None}
-use Rattle.tl_map.specs.Places.{bank_of, set_of}
+use Rattle.tl_map.specs.Places.{set_of}
 use Rattle.tl_protocol.specs.Protocol.{Block, Idle, MayGiveUp, home_bytes}
 use Rattle.tl_protocol.specs.Pending.{IsServiceAt}
 use Rattle.tl_protocol.specs.declared.client.Client.{Client}
 use Rattle.tl_protocol.specs.declared.event.Event.{Event}
 use Rattle.tl_protocol.specs.declared.event.Event.TheVariants.{Drop as e_Drop, SendPut}
 use Rattle.tl_protocol.specs.declared.home.Line.{Line}
-use Rattle.tl_protocol.specs.declared.home.Outward.{Outward}
 use Rattle.tl_protocol.specs.declared.home.Outward.TheVariants.{Quiet, Put as o_Put}
 use Rattle.tl_protocol.specs.declared.shape.Shape.{Shape}
 use Rattle.tl_home.specs.Directories.{is_way as is_home_way}
-use Rattle.tl_home.specs.Homes.{EachHasHolder, HomeState, SameBank, SameMemory, free_at, geometry_in, line_in, order_at, outward_in, recorded_in, way_in}
-use Rattle.tl_registers.specs.Agree.{Agree, Each, IsSteady}
-use Rattle.tl_registers.specs.Register.{victim_of, works_on}
-use Rattle.tl_registers.specs.Registers.{is_busy, register_of}
-use Rattle.tl_registers.specs.VictimWay.{IsInOrder, block_in}
+use Rattle.tl_home.specs.Homes.{EachHasHolder, HomeState, SameBank, SameMemory, SameOutward, free_at, geometry_in, line_in, order_at, outward_in, recorded_in, way_in}
+use Rattle.tl_registers.specs.Agree.{IsSteady}
+use Rattle.tl_registers.specs.Register.{works_on}
+use Rattle.tl_registers.specs.Registers.{ended, is_busy, register_of}
+use Rattle.tl_registers.specs.VictimWay.{IsInOrder}
 use Rattle.tl_registers.specs.declared.due.Due.TheVariants.{Put, Drop}
 use Rattle.tl_registers.specs.declared.register.Register.{Register}
 use Rattle.tl_registers.proofs.Booleans.{and-true, bool-cases, neqb-of}
-use Rattle.tl_registers.proofs.Closing.{putting-keeps-agreement}
+use Rattle.tl_registers.proofs.Closing.{dropping-keeps-agreement, putting-keeps-agreement}
 use Rattle.tl_registers.proofs.Order.{other-events-keep-order}
 use Rattle.tl_registers.proofs.Tables.{each-follows, found-busy}
 use Rattle.tl_bank_spec.specs.Effects.{ways_without}
@@ -32,10 +31,11 @@ use Rattle.tl_bank_laws.specs.Layers.{Layers}
 use Rattle.tl_bank_laws.specs.Means.{HoldsWay, IsHome, Means, WaysFit, is_filling}
 use Rattle.tl_bank_laws.proofs.Crossed.{crossings-few}
 use Rattle.tl_bank_laws.proofs.Dues.{Acts}
-use Rattle.tl_bank_laws.proofs.Next.{NextLayers, block_next, blocks-next, means-next, next_view, registers-next}
+use Rattle.tl_bank_laws.proofs.Next.{block_next, blocks-next, means-next, next_view, registers-next}
 use Rattle.tl_bank_laws.proofs.Orders.{GrantsNothing, grants-none, order-transfers}
 use Rattle.tl_bank_laws.proofs.Pointwise.{each-next, entries-next, here, homes-next, left, quiet-next}
 use Rattle.tl_bank_laws.proofs.Slots.{below-at, below-past, lies-slot, lies-true, none-lowest, slot-lies, slot-same, slots-in, slots-length, slots-some, true-lies}
+use Rattle.tl_bank_laws.proofs.TakesPutAck.{ended-few, ended-fits}
 use Rattle.tl_bank_laws.proofs.Ways.{bank-steady, filling-follows, no-grant-next, same-work}
 
 -- what became of home
@@ -331,3 +331,46 @@ ways-left old new blocks block gave b =
           below-past (way_in new) blocks b l
           ∙ sym (none-either (b == block) (slice_index_or (ways_below (way_in old) blocks) b None) (below-past (way_in old) blocks b l))
     ]
+
+-- ## A drop
+
+pub drop-keeps : (v : View) (h : Layers) (own block room : ℕ) (ways : List (Option ℕ)) (home : HomeState) → Means v h
+    → Acts v own (Drop block) → GaveUp h.home home block → SameOutward h.home home
+    → ((b : ℕ) → b < v.geometry.memory_blocks → slice_index_or ways b None ≡ way_in home b)
+    → Means (next_view v (e_Drop block) room (ended block v.registers) ways) (record h { home = home })
+drop-keeps v h own block room ways home m acts gave outward shown =
+    let shape = shape_of v.geometry in
+    let e = e_Drop block in
+    let s : Block = block_at v block in
+    let steady = bank-steady v h m in
+    let is_own : IsOwn v.geometry v.number block = (acts.may.0, acts.bank) in
+    let is : IsHome h.home block s = m.home block is_own in
+    let nobody = nobody-at shape s (steady.service block) acts.may.1.1 in
+    let nowhere : slice_index_or ways block None ≡ None =
+    shown block is_own.0 ∙ gave.ways block ∙ at-it block None (way_in h.home block) in
+    let fewer = ended-few block v.registers in
+    let few = m.registers.few in
+    means-next v h (record h { home = home }) e room (ended block v.registers) ways m
+    (record { may = acts.may; first = tt; here = acts.bank; later = tt })
+    (record {
+      lanes = λ x l lt. refl;
+      copies = entries-next v h e m (λ x. refl);
+      home = leaving-layers v h e home m is_own gave
+          (record {
+            line = gave.lines block ∙ at-it block None (line_in h.home block);
+            recorded = λ x. gave.recorded x block ∙ at-it block p_None (recorded_in h.home x block) ∙ sym (nobody x);
+            outward = outward.outward block ∙ is.outward;
+            memory = gave.memory block ∙ is.memory;
+          })
+          (λ b ne. outward.outward b);
+      quiet = λ b apart. outward.outward b;
+      links_size = record { bank = refl; clients = refl };
+      copies_size = record { bank = refl; limit = refl; blocks = refl; clients = refl };
+      home_bank = gave.bank;
+      limit = refl;
+      clock = refl;
+    })
+    (registers-next v e room (ended block v.registers) ways
+    (dropping-keeps-agreement shape (block_at v) v.registers block m.registers.agree acts.may) (omega (arith, fewer, few)))
+    (ended-fits (next_view v e room v.registers ways) home block nowhere
+    (leaving-fits v e room ways h.home home steady tt is_own refl gave m.home_geometry shown m.ways))

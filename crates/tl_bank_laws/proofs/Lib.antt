@@ -30,10 +30,10 @@ pub mod Probes
 pub mod Quiet
 pub mod ReleaseAcks
 pub mod Releases
+pub mod Rooms
 pub mod SendGet
 pub mod SendGrant
 pub mod SendProbe
-pub mod Rooms
 pub mod Serves
 pub mod ServesMemory
 pub mod Shares

@@ -1,11 +1,10 @@
 -- What one event leaves, block by block.
-use Rattle.std.proofs.Common.{◌≡◌, ◌≢◌, ℕ, ◌<◌, ◌==◌, ◌&&◌, Bool, true, false, if◌then◌else◌, cond, refl, sym, ◌∙◌, ap, subst, inl, inr, eqb-true, eq-eqb}
-use Rattle.tl_protocol.specs.declared.client.Client.{Client}
+use Rattle.std.proofs.Common.{◌≡◌, ◌≢◌, ℕ, ◌<◌, ◌==◌, refl, sym, ◌∙◌, subst, inl, inr, eqb-true}
 use Rattle.tl_protocol.specs.declared.event.Event.{Event}
 use Rattle.tl_protocol.specs.Protocol.{Block, after, block_of}
 use Rattle.tl_copies.specs.Copies.{held_at}
-use Rattle.tl_home.specs.Homes.{HomeState, line_in, memory_in, outward_in, recorded_in}
-use Rattle.tl_registers.proofs.Booleans.{bool-cases, neq-of, neqb-of}
+use Rattle.tl_home.specs.Homes.{HomeState, outward_in}
+use Rattle.tl_registers.proofs.Booleans.{bool-cases, neq-of}
 use Rattle.tl_bank_spec.specs.View.{View, IsOwn, block_at, client_at, shape_of}
 use Rattle.tl_bank_laws.specs.Entry.{entry_of}
 use Rattle.tl_bank_laws.specs.Layers.{Layers}

@@ -1,8 +1,8 @@
 -- Home grants the Acquire that a register serves.
-use Rattle.std.proofs.Common.{◌≡◌, ◌≢◌, ℕ, ◌+◌, ◌<◌, ◌≤◌, ◌==◌, ◌&&◌, ◌||◌, not, Bool, true, false, List, [], ◌∷◌, ◌++◌, filter, length, Option, Some, None, is_none, if◌then◌else◌, refl, sym, ◌∙◌, ap, subst, arith, inl, inr, eqb-true, eq-eqb}
+use Rattle.std.proofs.Common.{◌≡◌, ◌≢◌, ℕ, ◌<◌, ◌≤◌, ◌==◌, ◌&&◌, not, Bool, true, false, List, [], ◌∷◌, ◌++◌, filter, Option, Some, None, is_none, if◌then◌else◌, refl, sym, ◌∙◌, ap, subst, arith, inl, inr, eqb-true, eq-eqb}
 use Rattle.std.specs.Prelude.{IsSome, slice_index_or}
 use Rattle.std.specs.List.{list_any}
-use Rattle.std.proofs.lemmas.Bool.{cases_eq, cases_lt}
+use Rattle.std.proofs.lemmas.Bool.{cases_lt}
 use Rattle.tl_types.specs.Lane.{is_here, with_message}
 use Rattle.tl_types.specs.Permission.{grant_perm}
 use Rattle.tl_types.specs.declared.channel.Channel.{Channel}
@@ -11,7 +11,6 @@ use Rattle.tl_types.specs.declared.message.Body.TheVariants.{Downward as b_Downw
 use Rattle.tl_types.specs.declared.message.Downward.TheVariants.{Grant as d_Grant}
 use Rattle.tl_types.specs.declared.permission.GrantCap.{GrantCap}
 use Rattle.tl_types.specs.declared.permission.GrantCap.TheVariants.{ToB, ToT}
-use Rattle.tl_types.specs.declared.permission.Perm.{Perm}
 use Rattle.tl_types.specs.declared.permission.Perm.TheVariants.{None as p_None, Branch, Tip}
 use Rattle.tl_map.specs.Places.{set_of}
 use Rattle.tl_protocol.specs.Client.{grant_bytes, sent_grant}
@@ -26,11 +25,11 @@ use Rattle.tl_lanes.specs.Lanes.{Post, grant_post, sent_to}
 use Rattle.tl_links.specs.Table.{Table, lane_in, SameSize as SameLinks}
 use Rattle.tl_ways.specs.Orders.{touched as home_touched, without}
 use Rattle.tl_home.specs.Directories.{order_after}
-use Rattle.tl_home.specs.Homes.{HomeState, SameBank, SameMemory, SameOutward, free_at, geometry_in, line_in, order_at, outward_in, recorded_in, way_in}
-use Rattle.tl_registers.specs.Agree.{Agree, Each, IsSteady}
+use Rattle.tl_home.specs.Homes.{HomeState, SameBank, SameMemory, SameOutward, free_at, geometry_in, line_in, order_at, recorded_in, way_in}
+use Rattle.tl_registers.specs.Agree.{Each}
 use Rattle.tl_registers.specs.Pending.{grant_pending}
 use Rattle.tl_registers.specs.Register.{works_on}
-use Rattle.tl_registers.specs.VictimWay.{IsInOrder, StandsOnce, block_in, grants_block, touched}
+use Rattle.tl_registers.specs.VictimWay.{IsInOrder, StandsOnce, touched}
 use Rattle.tl_registers.specs.declared.due.Due.TheVariants.{Grant}
 use Rattle.tl_registers.specs.declared.register.Register.{Register}
 use Rattle.tl_registers.proofs.Booleans.{and-true, bool-cases, neq-of, neqb-of, not-true, or-else, or-true}
@@ -49,7 +48,7 @@ use Rattle.tl_bank_laws.proofs.Pending.{home-holds-on}
 use Rattle.tl_bank_laws.proofs.Pointwise.{entries-next, homes-next, left}
 use Rattle.tl_bank_laws.proofs.SendProbe.{field-put}
 use Rattle.tl_bank_laws.proofs.Slots.{lies-slot, slot-lies, slots-in, slots-length, slots-some}
-use Rattle.tl_bank_laws.proofs.Ways.{SameLies, apart-same, bank-steady, each-holds-stay, same-work, slot-stays, slots-stay}
+use Rattle.tl_bank_laws.proofs.Ways.{SameLies, bank-steady, each-holds-stay, same-work, slot-stays, slots-stay}
 
 -- what a Grant shows of the bank before it
 pub record Gives (v : View) (own c : ℕ) (acquire : Accepted) (cap : GrantCap) (bytes : Option (List ℕ)) : Type 0 where
@@ -390,3 +389,10 @@ grant-keeps v h own c acquire cap bytes room ways links home m acts gives same_l
     (registers-next v e room v.registers ways
     (granting-keeps-agreement shape (block_at v) v.registers c own m.registers.agree acts.may) m.registers.few)
     (grant-fits v h own c room at.0 ways cap home m gave acts.is_own at.1 shown)
+
+some-line : (o : Option Line) (line : Line) → o ≡ Some line → o ≢ None
+some-line o line h = λ none. let bad : None ≡ Some line = sym none ∙ h in cc
+
+-- home has a copy of the block that is to be granted
+pub home-has : (v : View) (own c : ℕ) → Acts v own (Grant c) → (block_at v own).home ≢ None
+home-has v own c acts = some-line (block_at v own).home acts.may.1.1.1.0 acts.may.1.1.1.1

@@ -1,5 +1,5 @@
 -- A Probe is sent, and its register notes it.
-use Rattle.std.proofs.Common.{◌≡◌, ℕ, ◌+◌, ◌-◌, ◌^◌, ◌<◌, ◌≤◌, ◌==◌, Bool, true, false, List, [], ◌∷◌, ◌++◌, length, map, Option, Some, None, if◌then◌else◌, refl, sym, ◌∙◌, ap, subst, arith, nat_le, inl, inr, eqb-true}
+use Rattle.std.proofs.Common.{◌≡◌, ℕ, ◌^◌, ◌<◌, ◌≤◌, ◌==◌, false, length, Some, if◌then◌else◌, refl, sym, ◌∙◌, ap, subst, arith, nat_le, inl, inr, eqb-true}
 use Rattle.std.proofs.lemmas.Bool.Decides.{nat_tests}
 use Rattle.std.proofs.lemmas.List.{length-map}
 use Rattle.tl_types.specs.Lane.{is_here, sent, with_message}
@@ -12,14 +12,13 @@ use Rattle.tl_protocol.specs.Protocol.{Block, with_client}
 use Rattle.tl_protocol.specs.declared.client.Client.{Client}
 use Rattle.tl_protocol.specs.declared.event.Event.TheVariants.{SendProbe}
 use Rattle.tl_links.specs.Table.{Table, lane_in, SameSize as SameLinks}
-use Rattle.tl_home.specs.Homes.{HomeState}
 use Rattle.tl_registers.specs.Agree.{Agree}
 use Rattle.tl_registers.specs.Registers.{noted, register_of, with_probe_of}
 use Rattle.tl_registers.specs.declared.due.Due.TheVariants.{Probe}
 use Rattle.tl_registers.proofs.Booleans.{bool-cases}
 use Rattle.tl_registers.proofs.Probing.{probing-keeps-agreement}
 use Rattle.tl_bank_spec.specs.Cases.{link_full}
-use Rattle.tl_bank_spec.specs.View.{View, block_at, client_at, lane_at, shape_of}
+use Rattle.tl_bank_spec.specs.View.{View, block_at, lane_at, shape_of}
 use Rattle.tl_bank_laws.specs.Entry.{entry_of}
 use Rattle.tl_bank_laws.specs.Layers.{Layers}
 use Rattle.tl_bank_laws.specs.Link.{HasRoom}

@@ -1,5 +1,5 @@
 -- What a register looks at is what the layers hold, also of the blocks of other banks.
-use Rattle.std.proofs.Common.{◌≡◌, ◌≢◌, ℕ, zero, suc, ◌<◌, ◌==◌, ◌||◌, ◌&&◌, not, Bool, true, false, List, [], ◌∷◌, map, replicate, Option, Some, None, if◌then◌else◌, refl, sym, ◌∙◌, ap, subst, arith, inl, inr}
+use Rattle.std.proofs.Common.{◌≡◌, ℕ, zero, suc, ◌<◌, ◌==◌, ◌||◌, ◌&&◌, not, Bool, true, false, List, [], ◌∷◌, map, replicate, Option, Some, None, refl, sym, ◌∙◌, ap, subst, arith, inl, inr}
 use Rattle.std.specs.Prelude.{◌↔◌, IsTrue, IfSome}
 use Rattle.std.specs.List.{All, list_any}
 use Rattle.std.proofs.lemmas.Bool.{cases_eq}
@@ -35,7 +35,7 @@ use Rattle.tl_registers.specs.Register.{IsKnown}
 use Rattle.tl_registers.specs.Registers.{register_of}
 use Rattle.tl_registers.specs.declared.register.Register.{Register}
 use Rattle.tl_registers.proofs.Booleans.{neqb-of, or-true}
-use Rattle.tl_bank_spec.specs.View.{View, IsOwn, block_at, client_at, lane_at, shape_of}
+use Rattle.tl_bank_spec.specs.View.{View, IsOwn, block_at, client_at, shape_of}
 use Rattle.tl_bank_laws.specs.Layers.{Layers}
 use Rattle.tl_bank_laws.specs.Means.{Means}
 use Rattle.tl_bank_laws.proofs.Crossed.{own-or-not}

@@ -253,7 +253,7 @@ ended-fills v block s way b held nowhere at fills =
     fills
 
 -- the ways fit the registers that go on
-ended-fits : (v : View) (home : HomeState) (block : ℕ) → way_at v block ≡ None → WaysFit v home → WaysFit (ended_view v block) home
+pub ended-fits : (v : View) (home : HomeState) (block : ℕ) → way_at v block ≡ None → WaysFit v home → WaysFit (ended_view v block) home
 ended-fits v home block nowhere fit =
     let test : Register → Bool = λ q. not (is_evict q.task && (q.own == block)) in
     let w : View = ended_view v block in
