@@ -31,7 +31,6 @@ mod home_calls;
 mod home_refusals;
 mod memory_calls;
 mod open;
-mod memory_calls;
 mod protocol_view;
 mod refusals;
 mod views;

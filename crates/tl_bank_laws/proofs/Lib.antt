@@ -24,8 +24,8 @@ pub mod Opens
 pub mod Orders
 pub mod Pending
 pub mod Places
-pub mod Probed
 pub mod Pointwise
+pub mod Probed
 pub mod Probes
 pub mod Quiet
 pub mod ReleaseAcks
@@ -39,7 +39,6 @@ pub mod ServesMemory
 pub mod Shares
 pub mod Sights
 pub mod Slots
-pub mod Steps
 pub mod Stores
 pub mod TakeC
 pub mod TakesData

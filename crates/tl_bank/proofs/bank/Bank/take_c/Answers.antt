@@ -1,23 +1,16 @@
-use Rattle.std.proofs.Common.{◌≡◌, ℕ, ◌<◌, ◌&&◌, cond, Bool, List, Option, None, slice_index_or, sym, ◌∙◌, ap, subst, arith, ◌+◌}
-use Rattle.tl_types.specs.Lane.{is_here, with_message}
-use Rattle.tl_types.specs.declared.channel.Channel.{Channel}
-use Rattle.tl_types.specs.declared.channel.Channel.TheVariants.{C, D}
-use Rattle.tl_types.specs.declared.message.Body.TheVariants.{Downward}
-use Rattle.tl_types.specs.declared.message.Downward.TheVariants.{ReleaseAck}
+use Rattle.std.proofs.Common.{◌≡◌, ℕ, ◌<◌, Bool, List, Option, None, slice_index_or, sym, ◌∙◌, ap, subst, arith, ◌+◌}
+use Rattle.tl_types.specs.declared.channel.Channel.TheVariants.{C}
 use Rattle.tl_types.specs.declared.permission.Perm.{Perm}
 use Rattle.tl_map.specs.Numbers.{Numbers}
 use Rattle.tl_protocol.specs.declared.event.Event.TheVariants.{TakeC}
-use Rattle.tl_links.specs.Table.{lane_in}
 use Rattle.tl_home.specs.Homes.{way_in}
-use Rattle.tl_bank_spec.specs.Cases.{block_named, is_a_release}
-use Rattle.tl_bank_spec.specs.Effects.{Serves}
+use Rattle.tl_bank_spec.specs.Cases.{block_named}
 use Rattle.tl_bank_spec.specs.HomeCalls.{take_c_cases}
 use Rattle.tl_bank_spec.specs.Refusal.{first_of}
 use Rattle.tl_bank_spec.specs.View.{View, way_at, ways_below}
 use Rattle.tl_bank.specs.Shown.{shown, layers}
-use Rattle.tl_bank_laws.specs.Given.{left_by, brought_by}
-use Rattle.tl_bank_laws.proofs.Next.{next_view}
-use Rattle.tl_bank_laws.proofs.Steps.{serves-next}
+use Rattle.tl_bank_laws.specs.Given.{brought_by}
+use Rattle.tl_bank_laws.proofs.Serves.{serves-next}
 use Rattle.tl_bank_laws.proofs.Slots.{below-at, below-same}
 use Rattle.tl_bank_laws.proofs.TakeC.{Comes, Passed, Received, take_c-branch, take_c-comes, take_c-held, take_c-keeps}
 use Rattle.tl_bank.proofs.bank.Bank.take_c.Goals as goal
