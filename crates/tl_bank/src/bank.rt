@@ -136,8 +136,6 @@ impl Bank {
         self.log.room()
     }
 
-    /// What happened, oldest first: a run of the protocol on this bank's blocks that takes the messages of each channel in order,
-    /// and whose stamps rise.
     /// What happened, oldest first: a run of the protocol on this bank's blocks, whose stamps rise, and which takes each message of
     /// a channel once, in the order of sending.
     pub fn log(&self) -> &[Event]
