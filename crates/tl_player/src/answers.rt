@@ -1,5 +1,5 @@
 //! Answers of steps, made from what a bank shows.
-ghost use Rattle.std.specs.Prelude.{◌≡◌, ◌≢◌, ◌<◌, ◌*◌, IfOk, OnOk};
+ghost use Rattle.std.specs.Prelude.{◌≡◌, ◌≢◌, ◌<◌, ◌*◌, IfOk, OnErr, OnOk};
 ghost use Rattle.tl_player.specs.Answers.{Shows, ShowsMemory, ShowsPut, message_in};
 ghost use Rattle.tl_player.specs.Ready.{IsThere, IsWritten};
 
@@ -13,6 +13,7 @@ use tl_types::{BlockNo, Message, Ticket};
 pub(crate) fn refused(refusal: Refusal) -> Result<Answer, AllocError>
     ensures answer { IfOk result (λ answer. answer ≡ Answer.Refused refusal) }
     ensures other { OnOk result (refusal ≢ Refusal.Memory) }
+    ensures memory { OnErr result (refusal ≡ Refusal.Memory) }
 {
     match refusal {
         Refusal::Memory => Err(AllocError),
