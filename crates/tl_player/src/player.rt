@@ -1,5 +1,5 @@
 //! All banks, and the steps that are asked of them.
-ghost use Rattle.std.specs.Prelude.{◌≡◌, ◌<◌, ◌≤◌, ◌*◌, IfOk, length, slice_index, slice_set, vec_len};
+ghost use Rattle.std.specs.Prelude.{◌≡◌, ◌<◌, ◌≤◌, ◌*◌, IfOk, length, slice_index, slice_set};
 ghost use Rattle.tl_player.specs.Closing.{Close};
 ghost use Rattle.tl_player.specs.Plays.{Performs, Plays};
 ghost use Rattle.tl_player.specs.Stage.{AreFresh, IsReset};
@@ -98,7 +98,7 @@ impl Player {
 /// All banks, by number, each at reset over an image that is no longer than the memory.
 fn sites(alloc: Global, geometry: Geometry, image: &[u8]) -> Result<Vec<Site>, AllocError>
     requires { length image.now ≤ geometry.memory_blocks * geometry.block_bytes }
-    ensures count { IfOk result (λ sites. vec_len sites ≡ geometry.banks) }
+    ensures count { IfOk result (λ sites. length sites.items ≡ geometry.banks) }
     ensures fresh { IfOk result (λ sites. AreFresh geometry image.now 0 sites.items) }
 {
     let mut sites = Vec::new(alloc);
