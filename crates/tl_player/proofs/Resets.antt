@@ -1,5 +1,5 @@
 -- One more bank at reset.
-use Rattle.std.proofs.Common.{◌≡◌, ℕ, zero, suc, ◌+◌, ◌<◌, List, [], ◌∷◌, ◌++◌, length, length-append, refl, sym, ap, subst, arith}
+use Rattle.std.proofs.Common.{◌≡◌, ℕ, zero, suc, ◌+◌, ◌<◌, List, [], ◌∷◌, ◌++◌, length, length-append, refl, sym, subst, arith}
 use Rattle.tl_bank_spec.specs.Share.{Holding, first_shares}
 use Rattle.tl_map.specs.Numbers.{Numbers}
 use Rattle.tl_player.specs.Stage.{AreFresh, IsFresh, SiteState}
