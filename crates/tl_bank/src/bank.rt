@@ -5,6 +5,7 @@ ghost use Rattle.tl_types.specs.declared.channel.Channel.{Channel};
 ghost use Rattle.tl_types.specs.declared.permission.Perm.{Perm};
 ghost use Rattle.tl_protocol.specs.Protocol.{block_of};
 ghost use Rattle.tl_protocol.specs.Runs.{IsRun};
+ghost use Rattle.tl_lanes.specs.Lawful.{Lawful};
 ghost use Rattle.tl_bank_spec.specs.Cases.{no_client, no_block};
 ghost use Rattle.tl_bank_spec.specs.Share.{first_shares};
 ghost use Rattle.tl_bank_spec.specs.View.{IsOwn, StampsRise, shape_of, way_at, perm_at, copies_at};
@@ -140,6 +141,7 @@ impl Bank {
     pub fn log(&self) -> &[Event]
         ensures is { result.now ≡ self.now.log }
         ensures run { IsRun (shape_of self.now.geometry) self.now.image self.now.log }
+        ensures lawful { Lawful (shape_of self.now.geometry) self.now.image self.now.log }
         ensures own { All (λ e. IsOwn self.now.geometry self.now.number (block_of (shape_of self.now.geometry) e)) self.now.log }
         ensures stamps { StampsRise self.now.log }
         ensures delivered { (client : ℕ) (channel : Channel) → IsDelivered self.now client channel }

@@ -3,3 +3,4 @@ pub mod Answers
 pub mod Bank
 pub mod Fault
 pub mod Run
+pub mod Trace

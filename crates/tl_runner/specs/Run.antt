@@ -1,5 +1,5 @@
 -- What a run of a script answers, as long as it stands on the plainest bank (this project's own).
-use Rattle.std.specs.Prelude.{◌≡◌, ◌≤◌, ◌≢◌, ℕ, pos, unsigned_abs, List, [], ◌∷◌, map, length, Option, Some, None, Vec, if◌then◌else◌, ◌==◌, not, nat_lt}
+use Rattle.std.specs.Prelude.{◌≡◌, ◌≤◌, pos, unsigned_abs, List, [], ◌∷◌, map, length, Option, Some, None, Vec, if◌then◌else◌, ◌==◌, not, nat_lt}
 use Rattle.std.specs.declared.alloc.Global.{Global}
 use Rattle.tl_map.specs.declared.numbers.GeometryError.TheVariants.{Clients, Banks, MemoryBlocks}
 use Rattle.tl_map.specs.declared.numbers.GeometryNumbers.{GeometryNumbers}

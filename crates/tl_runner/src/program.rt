@@ -7,6 +7,7 @@ ghost use Rattle.tl_runner.specs.Fault.{fault_of_job, status_of};
 
 use crate::fault::Fault;
 use crate::plain_run::{run, supported};
+use crate::step_trace::trace;
 use std::alloc::Global;
 use std::io;
 use std::io::{ErrorKind, Read, Write};
@@ -26,22 +27,23 @@ fn read_all<R: Read>(alloc: Global, reader: &mut R) -> Result<Vec<u8>, Fault>
     }
 }
 
-/// The text of the answer: the words, the file, the script, the run, in this order.
+/// The text of the answer: the words, the file, the script, the run or the trace, in this order.
 fn text<R: Read + Drop>(
     alloc: Global,
     job: Result<Job, JobError>,
     file: Option<R>,
 ) -> Result<String, Fault>
-    ensures answer { IfOk result (λ text. IsAnswerTo (option_and_then R.remaining file) (string_bytes text)) }
+    ensures answer { IfOk result
+        (λ text. IfOk job (λ asked. IsAnswerTo asked.traces (option_and_then R.remaining file) (string_bytes text))) }
     ensures usage { IfErr job (λ e. result ≡ Err (fault_of_job e)) }
 {
     let job = job?;
-    if job.traces {
-        return Err(Fault::Usage);
-    }
     let mut reader = file.ok_or(Fault::File)?;
     let bytes = read_all(alloc, &mut reader)?;
     let script = read_script(alloc, &bytes)?;
+    if job.traces {
+        return Ok(trace(alloc, &script)?);
+    }
     supported(&script)?;
     let report = run(alloc, &script)?;
     Ok(report.text(alloc)?)
@@ -73,7 +75,9 @@ pub fn answer<R: Read + Drop, W: Write, E: Write>(
 ) -> u8
     ensures at_most { result ≤ 5 }
     ensures whole { result ≡ 0
-        → (text : List ℕ) × IsAnswerTo (option_and_then R.remaining file) text × Appends (W.contents output.old) (W.contents output.new) text }
+        → (text : List ℕ)
+        × IfOk job (λ asked. IsAnswerTo asked.traces (option_and_then R.remaining file) text)
+        × Appends (W.contents output.old) (W.contents output.new) text }
     ensures nothing { result ≢ 0 → result ≢ 5 → W.contents output.new ≡ W.contents output.old }
     ensures usage { IfErr job (λ e. result ≡ status_of (fault_of_job e)) }
 {

@@ -2,7 +2,7 @@
 use Rattle.std.proofs.Common.{◌≡◌, ℕ, zero, suc, map, ◌+◌, ◌-◌, ◌*◌, ◌≤◌, Bool, true, false, nat_lt, cond, List, [], ◌∷◌, ◌++◌, length, replicate, Option, Some, None, Result, Ok, Err, Vec, Global, refl, sym, subst, ◌∙◌, arith, length-append}
 use Rattle.std.proofs.lemmas.Bool.{and_from, ltb-false}
 use Rattle.std.proofs.lemmas.List.Folds.{list_all-append}
-use Rattle.std.specs.List.{list_all}
+use Rattle.std.specs.List.{list_all, list_any}
 use Rattle.tl_words.specs.Command.{command_of}
 use Rattle.std.proofs.lemmas.List.{length-replicate, length-map}
 use Rattle.std.specs.Prelude.{unsigned_abs, ◌||◌}
@@ -19,8 +19,10 @@ use Rattle.tl_script.specs.Key.{name_of}
 use Rattle.tl_script.specs.Each.{◌>>=◌, each}
 use Rattle.tl_script.specs.Numbers.{unsigned_of, unless_refused, geometry_of}
 use Rattle.tl_script.specs.Image.{bytes_in, image_in, image_of}
-use Rattle.tl_script.specs.Commands.{fits, all_fit, if_fits, command_at, client_at, commands, commands_of}
+use Rattle.tl_script.specs.Commands.{fits, all_fit, if_fits, is_long, command_at, client_at, commands, commands_of}
+use Rattle.tl_script.specs.Steps.{step_at, steps_of}
 use Rattle.tl_script.specs.Script.{are_too_many, counted_of}
+use Rattle.tl_words.specs.declared.step.Step.{Step}
 
 -- ## The geometry
 
@@ -150,6 +152,25 @@ unfolding counted_of commands_of
 all_fit_of g lists steps cs h =
     let p = counted (are_too_many g.clients lists steps) (commands_of g lists) cs error.TooMany h in
     padded_fit g (λ ys. g.clients - length ys) (each (client_at g) 0 lists) cs (λ ys e. each_has (λ commands. list_all (fits g) commands) (client_at g) (λ client texts c e. client_fits g client texts c e) 0 lists ys e) p.1
+
+-- ## The steps
+
+last_false : (a b c : Bool) → (a || b || c) ≡ false → c ≡ false
+last_false true b c h = cc
+last_false false true c h = cc
+last_false false false c h = h
+
+few_texts : (g : Numbers) (lists : List (List (List ℕ))) (steps : List (List ℕ)) (cs : List (List Command)) → counted_of g lists steps ≡ Ok cs → length steps ≤ 4096
+unfolding counted_of commands_of
+few_texts g lists steps cs h =
+    let p = counted (are_too_many g.clients lists steps) (commands_of g lists) cs error.TooMany h in
+    ltb-false 4096 (length steps) (last_false (nat_lt g.clients (length lists)) (list_any is_long lists) (nat_lt 4096 (length steps)) p.0)
+
+-- steps that are read are few
+pub few : (g : Numbers) (lists : List (List (List ℕ))) (texts : List (List ℕ)) (cs : List (List Command)) (steps : List Step) → counted_of g lists texts ≡ Ok cs → steps_of texts ≡ Ok steps → length steps ≤ 4096
+unfolding steps_of
+few g lists texts cs steps counted read =
+    omega (arith, few_texts g lists texts cs counted, one_each step_at 0 texts steps read)
 
 -- ## By the numbers of the script
 

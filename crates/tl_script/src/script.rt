@@ -30,6 +30,8 @@ pub struct Script {
     pub ghost each_client: { length commands.items ≡ unsigned_abs numbers.clients },
     // The bytes of each command lie in the memory and in one block.
     pub ghost placed: { all_fit (unsigned_of numbers) (map (λ v. v.items) commands.items) ≡ true },
+    // There are at most 4,096 steps.
+    pub ghost few: { length steps.items ≤ 4096 },
 }
 
 impl Script {

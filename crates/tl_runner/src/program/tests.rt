@@ -26,20 +26,29 @@ fn script(alloc: Global, without: &str, tail: &str) -> Result<String, AllocError
     Ok(text)
 }
 
-fn run_job(alloc: Global) -> Result<Result<Job, JobError>, AllocError> {
+fn job_of(alloc: Global, traces: bool) -> Result<Result<Job, JobError>, AllocError> {
     Ok(Ok(Job {
-        traces: false,
+        traces,
         file: String::from_str(alloc, "script")?,
     }))
 }
 
-/// The status, the output and the fault line of a script.
+fn run_job(alloc: Global) -> Result<Result<Job, JobError>, AllocError> {
+    job_of(alloc, false)
+}
+
+/// The status, the output and the fault line of a script, by `run`.
 fn answered(alloc: Global, script: &[u8]) -> Result<(u8, String, String), Fail> {
+    answered_by(alloc, false, script)
+}
+
+/// The status, the output and the fault line of a script, by `trace` or by `run`.
+fn answered_by(alloc: Global, traces: bool, script: &[u8]) -> Result<(u8, String, String), Fail> {
     let mut output = Vec::new(alloc);
     let mut faults = Vec::new(alloc);
     let status = answer(
         alloc,
-        run_job(alloc)?,
+        job_of(alloc, traces)?,
         Some(script),
         &mut output,
         &mut faults,
@@ -170,5 +179,135 @@ fn files_and_words_that_fail(rt: HostRuntime) -> Result<(), Fail> {
     let status = answer(alloc, usage, file, &mut output, &mut faults);
     assert_eq!(rt; status, 2);
     assert_eq!(rt; faults.as_slice(), b"error usage\n".as_slice());
+    Ok(())
+}
+
+/// Two clients, four blocks of eight bytes; the rest is to follow.
+const TWO_CLIENTS: &str = "version = 1
+clients = 2
+banks = 1
+block_bytes = 8
+sets = 1
+copies = 2
+memory_blocks = 4
+turns = 1000000
+";
+
+/// Client 0 gets block 0 for writing and stores a byte.
+const STORE: [(&str, &str); 9] = [
+    ("acquire 0 0 NtoT", "sent 0.0.A.0 6.1 AcquireBlock NtoT"),
+    ("accept 0.0.A.0", "ok"),
+    ("advance 0", "memory 4.0 Get 3 0x00000000"),
+    (
+        "serve_memory 0",
+        "memory 1.0 AccessAckData 3 0000000000000000",
+    ),
+    ("take_memory 0", "ok"),
+    (
+        "advance 0",
+        "sent 0.0.D.0 5.0 GrantData toT 0000000000000000",
+    ),
+    ("take_grant 0.0.D.0", "sent 0.0.E.0 0.0 GrantAck"),
+    ("take_grant_ack 0.0.E.0", "ok"),
+    ("store 0 0x0 aa", "ok"),
+];
+
+/// What `trace` prints of a script and these steps after the store: the output that it must have, and the one that it has.
+fn traced(
+    alloc: Global,
+    head: &str,
+    more: &[(&str, &str)],
+    closing: &str,
+) -> Result<(String, String), Fail> {
+    let mut script = String::from_str(alloc, TWO_CLIENTS)?;
+    write!(script, "{head}steps = [\n")?;
+    let mut want = String::new(alloc);
+    let mut index = 0u32;
+    for (step, answer) in STORE.iter().chain(more.iter()) {
+        write!(script, "\"{step}\",\n")?;
+        write!(want, "{index} {answer}\n")?;
+        index = index.saturating_add(1);
+    }
+    script.push_str("]\n")?;
+    want.push_str(closing)?;
+    let (status, output, faults) = answered_by(alloc, true, script.as_bytes())?;
+    if status != 0 || faults.as_str() != "" {
+        return Err(Fail::from("status"));
+    }
+    Ok((want, output))
+}
+
+/// Client 1 reads what client 0 stored: home probes client 0, whose bytes come along.
+#[test]
+fn a_store_and_a_reader(rt: HostRuntime) -> Result<(), Fail> {
+    let (want, output) = traced(
+        rt.alloc(),
+        "ways = 2\nregisters = 2\n",
+        &[
+            ("acquire 1 0 NtoB", "sent 0.1.A.0 6.0 AcquireBlock NtoB"),
+            ("accept 0.1.A.0", "ok"),
+            ("advance 0", "sent 0.0.B.0 6.1 ProbeBlock toB"),
+            (
+                "answer_probe 0.0.B.0",
+                "sent 0.0.C.0 5.0 ProbeAckData TtoB aa00000000000000",
+            ),
+            ("take_c 0.0.C.0", "ok"),
+            (
+                "advance 0",
+                "sent 0.1.D.0 5.1 GrantData toB aa00000000000000",
+            ),
+            ("take_grant 0.1.D.0", "sent 0.1.E.0 0.0 GrantAck"),
+            ("take_grant_ack 0.1.E.0", "ok"),
+            ("load 1 0x0 1", "data aa"),
+            ("store 0 0x0 bb", "refused 1"),
+        ],
+        "block 0 dirty recorded BB copies BB\nbank 0 held 2 recorded 2 events 18\nend\n",
+    )?;
+    assert_eq!(rt; output.as_str(), want.as_str());
+    Ok(())
+}
+
+/// Block 1 needs the only way: home takes client 0's bytes and writes them back first.
+#[test]
+fn an_eviction_writes_back(rt: HostRuntime) -> Result<(), Fail> {
+    let (want, output) = traced(
+        rt.alloc(),
+        "ways = 1\nregisters = 1\n",
+        &[
+            ("acquire 1 1 NtoT", "sent 0.1.A.0 6.1 AcquireBlock NtoT"),
+            ("accept 0.1.A.0", "ok"),
+            ("advance 1", "sent 0.0.B.0 6.2 ProbeBlock toN"),
+            (
+                "answer_probe 0.0.B.0",
+                "sent 0.0.C.0 5.1 ProbeAckData TtoN aa00000000000000",
+            ),
+            ("take_c 0.0.C.0", "ok"),
+            (
+                "advance 1",
+                "memory 0.0 PutFullData 3 0x00000000 aa00000000000000",
+            ),
+            ("advance 1", "refused 9"),
+            ("serve_memory 0", "memory 0.0 AccessAck 3"),
+            ("take_memory 0", "ok"),
+            ("advance 1", "memory 4.0 Get 3 0x00000008"),
+            (
+                "serve_memory 1",
+                "memory 1.0 AccessAckData 3 0000000000000000",
+            ),
+            ("take_memory 1", "ok"),
+            (
+                "advance 1",
+                "sent 0.1.D.0 5.0 GrantData toT 0000000000000000",
+            ),
+            ("take_grant 0.1.D.0", "sent 0.1.E.0 0.0 GrantAck"),
+            ("take_grant_ack 0.1.E.0", "ok"),
+            // a client, a block and a bank that are not there are asked of bank 0
+            ("load 2 0x0 1", "refused 10"),
+            ("advance 4", "refused 10"),
+            ("accept 1.0.A.0", "refused 11"),
+        ],
+        "block 1 clean recorded NT copies NT\nbank 0 held 1 recorded 1 events 23\nend\n",
+    )?;
+    assert_eq!(rt; output.as_str(), want.as_str());
     Ok(())
 }

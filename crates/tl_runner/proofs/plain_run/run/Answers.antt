@@ -1,7 +1,7 @@
-use Rattle.std.proofs.Common.{◌≡◌, ◌∙◌, ◌∷◌, ◌++◌, [], ap, sym, refl, take, length, map, vec_len, arith}
+use Rattle.std.proofs.Common.{◌≡◌, ◌∙◌, ◌∷◌, [], ap, map, arith}
 use Rattle.std.proofs.lemmas.Grind.{common_steps}
 use Rattle.tl_runner.specs.Answers.{answers_of, accesses_among, command_of}
-use Rattle.tl_runner.specs.Run.{shape_of, commands_in, line_of}
+use Rattle.tl_runner.specs.Run.{shape_of, commands_in}
 use Rattle.tl_runner.proofs.plain_run.run.Goals as goal
 
 -- the bank as it is after the last command, and the answers

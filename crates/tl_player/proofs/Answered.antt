@@ -1,0 +1,46 @@
+-- An answer is a refusal where one stands against the step, else what the step did.
+use Rattle.std.proofs.Common.{◌≡◌, ◌≢◌, ℕ, Option, Some, None, Result, Ok, Err, IfOk, OnOk, sym, ◌∙◌, ap, subst}
+use Rattle.tl_bank_spec.specs.Refusal.{IsRefused}
+use Rattle.tl_bank_spec.specs.declared.refusal.Refusal.{Refusal}
+use Rattle.tl_bank_spec.specs.declared.refusal.Refusal.TheVariants.{Memory}
+use Rattle.tl_trace.specs.declared.answer.Answer.{Answer}
+use Rattle.tl_trace.specs.declared.answer.Answer.TheVariants.{Refused}
+use Rattle.tl_player.specs.Answers.{Answers}
+
+-- a call that was refused, for another cause than memory
+pub answers-refused : (first : Option Refusal) (room : ℕ) (refusal : Refusal) (unchanged done : Type 0) (answer : Answer)
+    → IsRefused first room refusal → refusal ≢ Memory → unchanged → answer ≡ Refused refusal → Answers first unchanged done answer
+answers-refused None room refusal unchanged done answer is other same says = absurd (other is.0)
+answers-refused (Some r) room refusal unchanged done answer is other same says = (same, says ∙ ap Refused is)
+
+-- the same, of a call that takes no memory
+pub answers-some : (first : Option Refusal) (refusal : Refusal) (unchanged done : Type 0) (answer : Answer)
+    → first ≡ Some refusal → unchanged → answer ≡ Refused refusal → Answers first unchanged done answer
+answers-some first refusal unchanged done answer is same says =
+    subst (λ (o : Option Refusal). Answers o unchanged done answer) (sym is) (same, says)
+
+-- a call that was not refused
+pub answers-done : (first : Option Refusal) (unchanged done : Type 0) (answer : Answer) → first ≡ None → done
+    → Answers first unchanged done answer
+answers-done first unchanged done answer none did =
+    subst (λ (o : Option Refusal). Answers o unchanged done answer) (sym none) did
+
+-- what is said in other words
+pub answers-map : (first : Option Refusal) (unchanged done unchanged' done' : Type 0) (answer : Answer)
+    → (unchanged → unchanged') → (done → done') → Answers first unchanged done answer → Answers first unchanged' done' answer
+answers-map None unchanged done unchanged' done' answer same did h = did h
+answers-map (Some refusal) unchanged done unchanged' done' answer same did h = (same h.0, h.1)
+
+-- a refusal that was made an answer
+pub err-answers : {E : Type 0} (result : Result Answer E) (first : Option Refusal) (room : ℕ) (refusal : Refusal) (unchanged : Type 0)
+    (done : Answer → Type 0) → IfOk result (λ answer. answer ≡ Refused refusal) → OnOk result (refusal ≢ Memory)
+    → IsRefused first room refusal → unchanged → IfOk result (λ answer. Answers first unchanged (done answer) answer)
+err-answers (Ok answer) first room refusal unchanged done says other is same =
+    answers-refused first room refusal unchanged (done answer) answer is other same says
+err-answers (Err e) first room refusal unchanged done says other is same = tt
+
+-- what follows of each answer follows of a call that may have none
+pub if-answered : {E : Type 0} (result : Result Answer E) (P Q : Answer → Type 0) → ((answer : Answer) → P answer → Q answer)
+    → IfOk result P → IfOk result Q
+if-answered (Ok answer) P Q f h = f answer h
+if-answered (Err e) P Q f h = tt

@@ -1,0 +1,8 @@
+pub mod Answered
+pub mod Chain
+pub mod ClosingLemmas
+pub mod Done
+pub mod Logged
+pub mod Places
+pub mod Posted
+pub mod Resets

@@ -1,0 +1,202 @@
+-- The message that an event sent waits where its ticket says.
+use Rattle.std.proofs.Common.{◌≡◌, ℕ, ◌-◌, ◌<◌, ◌==◌, Bool, true, false, List, [], ◌∷◌, ◌++◌, length, Option, Some, None, IsSome, slice_get, refl, sym, ◌∙◌, ap, subst, arith, eq-eqb, nat_lt, nat_le, ◌&&◌, if◌then◌else◌}
+use Rattle.std.proofs.lemmas.Bool.{le-ltb, lt-leb}
+use Rattle.tl_types.specs.Lane.{Lane, bodies_of, message_at, sent, is_here, with_message}
+use Rattle.tl_types.specs.Channel.{same_channel}
+use Rattle.tl_types.specs.declared.channel.Channel.{Channel}
+use Rattle.tl_types.specs.declared.channel.Channel.TheVariants.{A, B, C, D, E}
+use Rattle.tl_types.specs.declared.message.Body.{Body}
+use Rattle.tl_types.specs.declared.message.Body.TheVariants.{AcquireBlock, ProbeBlock, Upward as b_Upward, Downward as b_Downward, GrantAck}
+use Rattle.tl_types.specs.declared.message.Downward.TheVariants.{ReleaseAck}
+use Rattle.tl_types.specs.declared.message.Upward.{Upward}
+use Rattle.tl_types.specs.declared.message.Upward.TheVariants.{ProbeAck, Release}
+use Rattle.tl_types.specs.declared.message.Message.{Message}
+use Rattle.tl_types.specs.declared.ticket.Ticket.{Ticket}
+use Rattle.tl_types.specs.declared.permission.Grow.{Grow}
+use Rattle.tl_types.specs.declared.permission.Prune.{Prune}
+use Rattle.tl_types.specs.declared.permission.ProbeCap.{ProbeCap}
+use Rattle.tl_protocol.specs.declared.event.Event.{Event}
+use Rattle.tl_protocol.specs.declared.event.Event.TheVariants.{SendAcquire, SendRelease, AnswerProbe, TakeGrant, SendProbe, TakeC, SendGrant}
+use Rattle.tl_protocol.specs.declared.home.Accepted.{Accepted}
+use Rattle.tl_protocol.specs.declared.shape.Shape.{Shape}
+use Rattle.tl_protocol.specs.declared.client.Client.{Client}
+use Rattle.tl_protocol.specs.Protocol.{Block, block_of}
+use Rattle.tl_protocol.specs.Queue.{HasFirst}
+use Rattle.tl_protocol.specs.Runs.{IsRun}
+use Rattle.tl_lanes.specs.Lanes.{Post, ack_post, answer_post, grant_post, post_of, sent_to, take_of, taken_from}
+use Rattle.tl_lanes.specs.Lawful.{Lawful}
+use Rattle.tl_lanes.proofs.First.{every_first_is_first}
+use Rattle.tl_lanes.proofs.Logs.{first_heads_its_list}
+use Rattle.tl_bank_spec.specs.Cases.{begins, block_named, first_block, is_a_release, waiting_at}
+use Rattle.tl_bank_spec.specs.Effects.{answer_to}
+use Rattle.tl_bank_spec.specs.View.{View, block_at, lane_at, next_ticket, shape_of}
+use Rattle.tl_bank_spec.specs.Views.{in_flight_at}
+use Rattle.tl_player.specs.Ready.{IsThere}
+use Rattle.tl_player.proofs.Logged.{Extends, lane-next, may-next}
+
+-- ## One lane
+
+-- the last of a list is behind all others
+last_of : {X : Type 0} (xs : List X) (x : X) → slice_get (xs ++ x ∷ []) (length xs) ≡ Some x
+last_of [] x = refl
+last_of (y ∷ ys) x = last_of ys x
+
+-- a message that was sent has the serial of the next
+pub message_at-sent : (lane : Lane) (m : Message) → message_at (with_message lane m) (sent lane) ≡ Some m
+message_at-sent lane m =
+    let past : nat_lt (sent lane) lane.taken ≡ false = le-ltb (sent lane) lane.taken (omega arith) in
+    let place : sent lane - lane.taken ≡ length lane.messages = omega arith in
+    rw (past, place) (last_of lane.messages m)
+
+same : (l : Channel) → same_channel l l ≡ true
+same A = refl
+same B = refl
+same C = refl
+same D = refl
+same E = refl
+
+here : (c : ℕ) (l : Channel) → is_here c l c l ≡ true
+here c l = rw (eq-eqb c c refl) (same l)
+
+-- nothing is both so and not so
+and_false : (t : Bool) → (t && false) ≡ false
+and_false true = refl
+and_false false = refl
+
+-- ## One event
+
+sent-here : (post : Option Post) (c block : ℕ) (l : Channel) (body : Body) (lane : Lane)
+    → post ≡ Some (record { client = c; channel = l; body = body })
+    → sent_to post block c l lane ≡ with_message lane (record { block = block; body = body })
+sent-here post c block l body lane is =
+    subst (λ (p : Option Post). sent_to p block c l lane ≡ with_message lane (record { block = block; body = body })) (sym is)
+    (rw (here c l) refl)
+
+-- the ticket is of a client that is there, and of the bank itself
+known : (v w : View) (e : Event) (c : ℕ) (l : Channel) → Extends v w e → c < v.geometry.clients
+    → in_flight_at w (next_ticket v c l) ≡ message_at (lane_at w c l) (sent (lane_at v c l))
+known v w e c l x lt =
+    let outside : nat_le w.geometry.clients c ≡ false = lt-leb w.geometry.clients c (rw x.geometry lt) in
+    let own : (v.number == w.number) ≡ true = eq-eqb v.number w.number (sym x.number) in
+    rw (outside, own) refl
+
+-- an event that sends a message on a channel from which it takes none
+pub there : (v w : View) (e : Event) (c : ℕ) (l : Channel) (body : Body) → Extends v w e → c < v.geometry.clients
+    → post_of (shape_of v.geometry) (block_at v (block_of (shape_of v.geometry) e)) e
+    ≡ Some (record { client = c; channel = l; body = body })
+    → ((lane : Lane) → taken_from (take_of e) c l lane ≡ lane) → IsThere w (next_ticket v c l)
+there v w e c l body x lt post untaken =
+    let shape : Shape = shape_of v.geometry in
+    let block : ℕ = block_of shape e in
+    let lane : Lane = lane_at v c l in
+    let message : Message = record { block = block; body = body } in
+    let is : lane_at w c l ≡ with_message lane message =
+    lane-next v w e c l x
+    ∙ (ap (λ (from : Lane). sent_to (post_of shape (block_at v block) e) block c l from) (untaken lane)
+    ∙ sent-here (post_of shape (block_at v block) e) c block l body lane post) in
+    let found : in_flight_at w (next_ticket v c l) ≡ Some message =
+    known v w e c l x lt
+    ∙ (ap (λ (after : Lane). message_at after (sent lane)) is ∙ message_at-sent lane message) in
+    subst (λ (o : Option Message). IsSome o) (sym found) refl
+
+-- taking from another channel
+away : (c : ℕ) (k l : Channel) (lane : Lane) → same_channel l k ≡ false
+    → taken_from (Some (record { client = c; channel = k })) c l lane ≡ lane
+away c k l lane other = rw (other, and_false (c == c)) refl
+
+-- ## Each event that sends
+
+pub there-acquire : (v w : View) (c b : ℕ) (grow : Grow) → Extends v w (SendAcquire c b grow)
+    → IsRun (shape_of w.geometry) w.image w.log → IsThere w (next_ticket v c A)
+there-acquire v w c b grow x run =
+    let e : Event = SendAcquire c b grow in
+    there v w e c A (AcquireBlock grow) x (may-next v w e x run).1.0 refl (λ lane. refl)
+
+pub there-release : (v w : View) (c b : ℕ) (prune : Prune) → Extends v w (SendRelease c b prune)
+    → IsRun (shape_of w.geometry) w.image w.log → IsThere w (next_ticket v c C)
+there-release v w c b prune x run =
+    let e : Event = SendRelease c b prune in
+    there v w e c C _ x (may-next v w e x run).1.0 refl (λ lane. refl)
+
+answer-posts : (c : ℕ) (k : Client) (caps : List ProbeCap) → HasFirst caps
+    → (body : Body) × (answer_post c k caps ≡ Some (record { client = c; channel = C; body = body }))
+answer-posts c k [] first = let no : [] ≡ first.0 ∷ first.1 = first.2 in cc
+answer-posts c k (cap ∷ rest) first = (_, refl)
+
+pub there-answer : (v w : View) (c b : ℕ) → Extends v w (AnswerProbe c b)
+    → IsRun (shape_of w.geometry) w.image w.log → IsThere w (next_ticket v c C)
+there-answer v w c b x run =
+    let e : Event = AnswerProbe c b in
+    let may = may-next v w e x run in
+    let post = answer-posts c ((block_at v b).client c) ((block_at v b).client c).b may.1.1.0 in
+    there v w e c C post.0 x may.1.0 post.1 (λ lane. away c B C lane refl)
+
+pub there-grant-ack : (v w : View) (c b : ℕ) → Extends v w (TakeGrant c b)
+    → IsRun (shape_of w.geometry) w.image w.log → IsThere w (next_ticket v c E)
+there-grant-ack v w c b x run =
+    let e : Event = TakeGrant c b in
+    there v w e c E GrantAck x (may-next v w e x run).1.0 refl (λ lane. away c D E lane refl)
+
+pub there-probe : (v w : View) (c b : ℕ) (cap : ProbeCap) → Extends v w (SendProbe c b cap)
+    → IsRun (shape_of w.geometry) w.image w.log → IsThere w (next_ticket v c B)
+there-probe v w c b cap x run =
+    let e : Event = SendProbe c b cap in
+    there v w e c B (ProbeBlock cap) x (may-next v w e x run).1.0 refl (λ lane. refl)
+
+grant-posts : (shape : Shape) (s : Block) (c : ℕ) (accepted : Option Accepted) (acquire : Accepted) → accepted ≡ Some acquire
+    → (body : Body) × (grant_post shape s c accepted ≡ Some (record { client = c; channel = D; body = body }))
+grant-posts shape s c None acquire is = cc
+grant-posts shape s c (Some first) acquire is = (_, refl)
+
+pub there-grant : (v w : View) (c b : ℕ) → Extends v w (SendGrant c b)
+    → IsRun (shape_of w.geometry) w.image w.log → IsThere w (next_ticket v c D)
+there-grant v w c b x run =
+    let e : Event = SendGrant c b in
+    let may = may-next v w e x run in
+    let post = grant-posts (shape_of v.geometry) (block_at v b) c (block_at v b).accepted _ may.1.1.0.1 in
+    there v w e c D post.0 x may.1.0 post.1 (λ lane. refl)
+
+-- ## The ReleaseAck
+
+-- a message that is a Release is a Release
+release-posts : (c : ℕ) (list : List Upward) (body : Body) (first : Upward) (rest : List Upward) → body ≡ b_Upward first
+    → list ≡ first ∷ rest → is_a_release body ≡ true
+    → ack_post c list ≡ Some (record { client = c; channel = D; body = b_Downward ReleaseAck })
+release-posts c list body (ProbeAck answer) rest is at release =
+    let no : is_a_release (b_Upward (ProbeAck answer)) ≡ true = subst (λ (x : Body). is_a_release x ≡ true) is release in cc
+release-posts c list body (Release given) rest is at release =
+    subst (λ (xs : List Upward). ack_post c xs ≡ Some (record { client = c; channel = D; body = b_Downward ReleaseAck })) (sym at) refl
+
+-- where the first message of C is a Release, taking it sends a ReleaseAck
+acks : (v : View) (c : ℕ) (messages : List Message) → Lawful (shape_of v.geometry) v.image v.log
+    → messages ≡ (lane_at v c C).messages → begins is_a_release messages ≡ true
+    → ack_post c ((block_at v (first_block messages)).client c).c
+    ≡ Some (record { client = c; channel = D; body = b_Downward ReleaseAck })
+acks v c [] lawful is release = cc
+acks v c (message ∷ rest) lawful is release =
+    let k : Client = (block_at v message.block).client c in
+    let heads = first_heads_its_list (shape_of v.geometry) v.image v.log c C message rest lawful (sym is) in
+    let first = (every_first_is_first k).on_c message.body (bodies_of message.block rest) heads in
+    release-posts c k.c message.body first.0 first.1 first.2 first.3 release
+
+pub there-ack : (v w : View) (c : ℕ) → Lawful (shape_of v.geometry) v.image v.log
+    → begins is_a_release (lane_at v c C).messages ≡ true
+    → Extends v w (TakeC c (first_block (lane_at v c C).messages)) → IsRun (shape_of w.geometry) w.image w.log
+    → IsThere w (next_ticket v c D)
+there-ack v w c lawful release x run =
+    let messages : List Message = (lane_at v c C).messages in
+    let e : Event = TakeC c (first_block messages) in
+    there v w e c D (b_Downward ReleaseAck) x (may-next v w e x run).1.0 (acks v c messages lawful refl release)
+    (λ lane. away c C D lane refl)
+
+if-sent : (t : Bool) (next ack : Ticket) → Some ack ≡ (if t then Some next else None) → (t ≡ true) × (ack ≡ next)
+if-sent true next ack is = (refl, cc)
+if-sent false next ack is = cc
+
+-- the ReleaseAck that a call says it sent
+pub there-if : (v w : View) (ticket ack : Ticket) → Lawful (shape_of v.geometry) v.image v.log
+    → Extends v w (TakeC ticket.client (block_named v ticket C)) → IsRun (shape_of w.geometry) w.image w.log
+    → Some ack ≡ answer_to v ticket → IsThere w ack
+there-if v w ticket ack lawful x run is =
+    let both = if-sent (begins is_a_release (waiting_at v ticket C)) (next_ticket v ticket.client D) ack is in
+    subst (λ (t : Ticket). IsThere w t) (sym both.1) (there-ack v w ticket.client lawful both.0 x run)

@@ -1,0 +1,77 @@
+-- All banks with their clients' shares and clocks, and which of them a step is asked of (this project's own).
+use Rattle.std.specs.Prelude.{◌≡◌, ℕ, suc, List, [], ◌∷◌, length, nat_lt, replicate, None, if◌then◌else◌}
+use Rattle.tl_map.specs.Numbers.{Numbers}
+use Rattle.tl_map.specs.Places.{bank_of, block_at as block_of_address, has_block}
+use Rattle.tl_words.specs.declared.step.Step.{Step}
+use Rattle.tl_words.specs.declared.step.Step.TheVariants.{Load, Store, Acquire, Release, Ticket, Block}
+use Rattle.tl_bank_spec.specs.Share.{Holding, first_shares}
+use Rattle.tl_bank_spec.specs.View.{View, way_at}
+
+-- a bank, and the share of each client in it
+pub record SiteState : Type 0 where
+  pub bank : View
+  pub shares : List Holding
+
+-- all banks, by number, and the clock of each client
+pub record Stage : Type 0 where
+  pub geometry : Numbers
+  pub sites : List SiteState
+  pub clocks : List ℕ
+
+-- ## Reset
+
+-- A bank at reset over an image, and shares of nothing.
+pub record IsFresh (g : Numbers) (image : List ℕ) (number : ℕ) (site : SiteState) : Type 0 where
+  pub bank :
+      site.bank
+      ≡ record {
+        geometry = g;
+        number = number;
+        image = image;
+        log = [];
+        room = site.bank.room;
+        registers = [];
+        ways = site.bank.ways;
+      }
+  pub empty : (block : ℕ) → way_at site.bank block ≡ None
+  pub shares : site.shares ≡ first_shares number g.clients
+
+-- these are banks at reset, with numbers from one on
+abbrev pub AreFresh : Numbers → List ℕ → ℕ → List SiteState → Type 0
+AreFresh g image number [] = Unit {0}
+AreFresh g image number (site ∷ rest) = IsFresh g image number site × AreFresh g image (suc number) rest
+
+-- Every bank is at reset over the image, and every clock stands at 0.
+pub record IsReset (g : Numbers) (image : List ℕ) (stage : Stage) : Type 0 where
+  pub geometry : stage.geometry ≡ g
+  pub count : length stage.sites ≡ g.banks
+  pub fresh : AreFresh g image 0 stage.sites
+  pub clocks : stage.clocks ≡ replicate g.clients 0
+
+-- ## What a step is asked of
+
+-- the bank of a block, and bank 0 for a block that is not there
+abbrev pub bank_of_block : Numbers → ℕ → ℕ
+bank_of_block g block = if has_block g block then bank_of g block else 0
+
+-- the bank that a step names by its address, block or ticket, and bank 0 where that is not there
+abbrev pub bank_asked : Numbers → Step → ℕ
+bank_asked g (Load client address len) = bank_of_block g (block_of_address g address)
+bank_asked g (Store client address bytes) = bank_of_block g (block_of_address g address)
+bank_asked g (Acquire client block grow) = bank_of_block g block
+bank_asked g (Release client block prune) = bank_of_block g block
+bank_asked g (Ticket call ticket) = if nat_lt ticket.bank g.banks then ticket.bank else 0
+bank_asked g (Block call block) = bank_of_block g block
+
+-- the client that a step names, itself or by its ticket; a call that has a block alone uses no share and no clock
+abbrev pub client_named : Step → ℕ
+client_named (Load client address len) = client
+client_named (Store client address bytes) = client
+client_named (Acquire client block grow) = client
+client_named (Release client block prune) = client
+client_named (Ticket call ticket) = ticket.client
+client_named (Block call block) = 0
+
+-- the place of a client's share among those of a bank, and that of client 0's for a client that is not there
+abbrev pub share_place : List Holding → ℕ → ℕ
+share_place shares client = if nat_lt client (length shares) then client else 0

@@ -1,0 +1,55 @@
+//! What a bank shows at the end.
+ghost use Rattle.std.specs.Prelude.{◌≡◌, ◌<◌, IfOk, map};
+ghost use Rattle.tl_player.specs.Closing.{Closes, line_state, lines_below, standings};
+
+use arrayvec::ArrayVec;
+use std::alloc::{AllocError, Global};
+use tl_bank::Bank;
+use tl_trace::{BankClosing, BlockLine, Standing};
+use tl_types::{BlockNo, ClientId};
+
+/// The blocks that home holds, by rising number, and the bank's counts.
+pub(crate) fn closing(alloc: Global, bank: &Bank) -> Result<BankClosing, AllocError>
+    ensures { IfOk result (Closes bank.now) }
+{
+    Ok(BankClosing {
+        blocks: lines(alloc, bank)?,
+        held: bank.held(),
+        recorded: bank.outstanding(),
+        events: bank.log().len() as u64,
+    })
+}
+
+/// The line of each block that home holds.
+fn lines(alloc: Global, bank: &Bank) -> Result<Vec<BlockLine>, AllocError>
+    ensures { IfOk result (λ lines. map line_state lines.items ≡ lines_below bank.now bank.now.geometry.memory_blocks) }
+{
+    let mut lines = Vec::new(alloc);
+    for number in 0..bank.geometry().memory_blocks() {
+        let block = BlockNo::new(number);
+        if let Some(dirty) = bank.home(block) {
+            lines.push(BlockLine {
+                block,
+                dirty,
+                clients: standings(bank, block),
+            })?;
+        }
+    }
+    Ok(lines)
+}
+
+/// What home records of each client, and what each holds.
+fn standings(bank: &Bank, block: BlockNo) -> ArrayVec<Standing, 16>
+    requires { block < bank.now.geometry.memory_blocks }
+    ensures { result.items ≡ standings bank.now block bank.now.geometry.clients }
+{
+    let mut clients = ArrayVec::new();
+    for number in 0..bank.geometry().clients() {
+        let client = ClientId::new(number);
+        clients.push(Standing {
+            recorded: bank.directory(client, block),
+            held: bank.perm(client, block),
+        });
+    }
+    clients
+}

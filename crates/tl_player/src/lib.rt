@@ -1,0 +1,14 @@
+//! Plays the steps of a script over the banks of a cache: one answer for each step, and what each bank holds at the end.
+#![tactic(auto)]
+
+mod act;
+mod answers;
+mod asked;
+mod client_steps;
+mod closing;
+mod home_steps;
+mod player;
+mod site;
+mod trace;
+
+pub use trace::play;

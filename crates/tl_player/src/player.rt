@@ -1,0 +1,120 @@
+//! All banks, and the steps that are asked of them.
+ghost use Rattle.std.specs.Prelude.{◌≡◌, ◌<◌, ◌≤◌, ◌*◌, IfOk, length, slice_index, slice_set};
+ghost use Rattle.tl_player.specs.Closing.{Close};
+ghost use Rattle.tl_player.specs.Plays.{Performs, Plays};
+ghost use Rattle.tl_player.specs.Stage.{AreFresh, IsReset};
+
+use crate::asked::{bank_asked, client_named};
+use crate::closing::closing;
+use crate::site::Site;
+use std::alloc::{AllocError, Global};
+use std::marker::Model;
+use tl_map::Geometry;
+use tl_trace::{Answer, BankClosing};
+use tl_types::{BankNo, ClientId};
+use tl_words::Step;
+
+/// Every bank with its clients' shares, by number, and the clock of each client.
+#[derive(Drop)]
+pub(crate) struct Player {
+    geometry: Geometry,
+    sites: Vec<Site>,
+    clocks: Vec<u64>,
+}
+
+impl Model for Player {
+    ghost use Rattle.std.specs.Prelude.{◌≡◌, length};
+    ghost use Rattle.tl_player.specs.Stage.{Stage};
+
+    ghost Value = { Stage };
+
+    ghost view = { λ p. record { geometry = p.geometry; sites = p.sites.items; clocks = p.clocks.items } };
+
+    ghost invariant = { λ p. length p.sites.items ≡ p.geometry.banks };
+}
+
+impl Player {
+    /// All banks at reset over an image that is no longer than the memory.
+    pub(crate) fn new(alloc: Global, geometry: Geometry, image: &[u8]) -> Result<Player, AllocError>
+        requires { length image.now ≤ geometry.memory_blocks * geometry.block_bytes }
+        ensures { IfOk result (IsReset geometry image.now) }
+    {
+        Ok(Player {
+            geometry,
+            sites: sites(alloc, geometry, image)?,
+            clocks: vec![in alloc; 0; geometry.clients() as usize]?,
+        })
+    }
+
+    /// One step, and its answer. An error is a request for memory that was refused.
+    fn step(&mut self, index: u32, step: &Step) -> Result<Answer, AllocError>
+        ensures { IfOk result (Plays index step.now self.old self.new) }
+    {
+        let place = bank_asked(self.geometry, step);
+        let client = client_named(step);
+        let mut clock = self.clock(client);
+        let site = &mut self.sites[place];
+        let answer = site.ask(&mut clock, index, step)?;
+        self.set_clock(client, clock);
+        Ok(answer)
+    }
+
+    /// The clock of a client; 0 for a client that is not there.
+    fn clock(&self, client: ClientId) -> u64
+        ensures { result ≡ slice_index self.now.clocks client }
+    {
+        self.clocks.get(client.index()).copied().unwrap_or(0)
+    }
+
+    /// Sets the clock of a client, if it is there.
+    fn set_clock(&mut self, client: ClientId, clock: u64)
+        ensures { self.new ≡ record self.old { clocks = slice_set self.old.clocks client clock } }
+    {
+        if client.index() < self.clocks.len() {
+            self.clocks[client.index()] = clock;
+        }
+    }
+
+    /// All steps, and the answer to each. An error is a request for memory that was refused.
+    pub(crate) fn steps(&mut self, alloc: Global, steps: &[Step]) -> Result<Vec<Answer>, AllocError>
+        requires { length steps.now ≤ 4096 }
+        ensures { IfOk result (λ answers. Performs 0 steps.now self.old answers.items self.new) }
+    {
+        let mut answers = Vec::new(alloc);
+        for (index, step) in steps.iter().enumerate() {
+            answers.push(self.step(index as u32, step)?)?;
+        }
+        Ok(answers)
+    }
+
+    /// What each bank shows.
+    pub(crate) fn closings(&self, alloc: Global) -> Result<Vec<BankClosing>, AllocError>
+        ensures { IfOk result (λ closings. Close self.now.sites closings.items) }
+    {
+        closings(alloc, &self.sites)
+    }
+}
+
+/// All banks, by number, each at reset over an image that is no longer than the memory.
+fn sites(alloc: Global, geometry: Geometry, image: &[u8]) -> Result<Vec<Site>, AllocError>
+    requires { length image.now ≤ geometry.memory_blocks * geometry.block_bytes }
+    ensures count { IfOk result (λ sites. length sites.items ≡ geometry.banks) }
+    ensures fresh { IfOk result (λ sites. AreFresh geometry image.now 0 sites.items) }
+{
+    let mut sites = Vec::new(alloc);
+    for number in 0..geometry.banks() {
+        sites.push(Site::new(alloc, geometry, BankNo::new(number), image)?)?;
+    }
+    Ok(sites)
+}
+
+/// What each bank shows.
+fn closings(alloc: Global, sites: &[Site]) -> Result<Vec<BankClosing>, AllocError>
+    ensures { IfOk result (λ closings. Close sites.now closings.items) }
+{
+    let mut closings = Vec::new(alloc);
+    for site in sites {
+        closings.push(closing(alloc, site.bank())?)?;
+    }
+    Ok(closings)
+}

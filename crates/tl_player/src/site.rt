@@ -1,0 +1,84 @@
+//! A bank with its clients' shares.
+ghost use Rattle.std.specs.Prelude.{◌≡◌, ◌<◌, ◌≤◌, ◌*◌, IfOk, length};
+ghost use Rattle.tl_player.specs.Plays.{ActsAt};
+ghost use Rattle.tl_player.specs.Stage.{IsFresh, share_place};
+
+use crate::act::act;
+use crate::asked::client_named;
+use arrayvec::ArrayVec;
+use std::alloc::{AllocError, Global};
+use std::marker::Model;
+use tl_bank::{Bank, Share};
+use tl_map::Geometry;
+use tl_trace::Answer;
+use tl_types::{BankNo, ClientId};
+use tl_words::Step;
+
+/// A bank, and the share of each client in it.
+#[derive(Drop)]
+pub(crate) struct Site {
+    bank: Bank,
+    shares: ArrayVec<Share, 16>,
+}
+
+impl Model for Site {
+    ghost use Rattle.std.specs.Prelude.{◌<◌, length};
+    ghost use Rattle.tl_player.specs.Stage.{SiteState};
+
+    ghost Value = { SiteState };
+
+    ghost view = { λ s. record { bank = s.bank; shares = s.shares.items } };
+
+    ghost invariant = { λ s. 0 < length s.shares.items };
+}
+
+impl Site {
+    /// A bank at reset over an image that is no longer than the memory.
+    pub(crate) fn new(
+        alloc: Global,
+        geometry: Geometry,
+        number: BankNo,
+        image: &[u8],
+    ) -> Result<Site, AllocError>
+        requires number { number < geometry.banks }
+        requires image { length image.now ≤ geometry.memory_blocks * geometry.block_bytes }
+        ensures { IfOk result (IsFresh geometry image.now number) }
+    {
+        let _clients = geometry.clients();
+        let (bank, shares) = Bank::new(alloc, geometry, number, image)?;
+        Ok(Site { bank, shares })
+    }
+
+    /// The bank.
+    pub(crate) fn bank(&self) -> &Bank
+        ensures { result.now ≡ self.now.bank }
+    {
+        &self.bank
+    }
+
+    /// A step, asked of the bank, with the clock of the client that it names.
+    pub(crate) fn ask(
+        &mut self,
+        clock: &mut u64,
+        index: u32,
+        step: &Step,
+    ) -> Result<Answer, AllocError>
+        ensures { IfOk result (ActsAt index step.now self.old self.new clock.old clock.new) }
+    {
+        let place = self.share_place(client_named(step));
+        let share = &mut self.shares[place];
+        act(&mut self.bank, share, clock, index, step)
+    }
+
+    /// The place of a client's share; that of client 0's for a client that is not there.
+    fn share_place(&self, client: ClientId) -> usize
+        ensures is { result ≡ share_place self.now.shares client }
+        ensures inside { result < length self.now.shares }
+    {
+        if client.index() < self.shares.len() {
+            client.index()
+        } else {
+            0
+        }
+    }
+}

@@ -1,0 +1,28 @@
+//! A whole trace.
+ghost use Rattle.std.specs.Prelude.{◌≤◌, ◌*◌, IfOk, length};
+ghost use Rattle.tl_player.specs.Plays.{Traces};
+
+use crate::player::Player;
+use std::alloc::{AllocError, Global};
+use tl_map::Geometry;
+use tl_trace::Trace;
+use tl_words::Step;
+
+/// Plays steps, at most 4,096, over all banks of a geometry at reset over an image that is no longer than the memory: what each
+/// step answers, with its index as the index of its access, and what each bank shows at the end. A refused step is answered with
+/// its refusal. An error is a request for memory that was refused, also in a step.
+pub fn play(
+    alloc: Global,
+    geometry: Geometry,
+    image: &[u8],
+    steps: &[Step],
+) -> Result<Trace, AllocError>
+    requires image { length image.now ≤ geometry.memory_blocks * geometry.block_bytes }
+    requires few { length steps.now ≤ 4096 }
+    ensures { IfOk result (Traces geometry image.now steps.now) }
+{
+    let mut player = Player::new(alloc, geometry, image)?;
+    let answers = player.steps(alloc, steps)?;
+    let banks = player.closings(alloc)?;
+    Ok(Trace { answers, banks })
+}

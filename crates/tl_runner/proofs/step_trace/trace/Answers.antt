@@ -1,0 +1,23 @@
+use Rattle.std.proofs.Common.{ℕ, List, ap, subst}
+use Rattle.tl_map.specs.Numbers.{Numbers}
+use Rattle.tl_words.specs.declared.step.Step.{Step}
+use Rattle.tl_script.specs.Numbers.{unsigned_of}
+use Rattle.tl_player.specs.Plays.{Traces}
+use Rattle.tl_runner.proofs.step_trace.trace.Goals as goal
+
+-- the script's numbers make the geometry, and its image and steps were played
+pub returns : goal.returns
+returns c =
+    let script = c.args.script.now in
+    let played = c.in_ok-played.played in
+    record {
+      text = (
+        played,
+        subst (λ (g : Numbers). Traces g script.image.items script.steps.items played) (ap unsigned_of c.geometry.ensures.numbers)
+            (subst (λ (image : List ℕ). Traces c.geometry.result image script.steps.items played) c.deref.ensures.value
+            (subst (λ (steps : List Step). Traces c.geometry.result c.deref.result.now steps played) c.deref-2.ensures.value
+            c.in_ok-played.ensures)),
+        c.in_ok-text.ensures,
+      );
+      memory = tt;
+    }
