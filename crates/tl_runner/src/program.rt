@@ -89,6 +89,3 @@ pub fn answer<R: Read + Drop, W: Write, E: Write>(
         Err(fault) => show(faults, &fault),
     }
 }
-
-#[cfg(test)]
-mod tests;

@@ -1,16 +1,245 @@
-//! The program's answers to whole scripts.
+//! The program's answers to whole scripts: output, fault line and status.
 use crate::worked;
+use std::alloc::{AllocError, Global};
+use std::io;
+use std::io::{ErrorKind, Read, Write};
 use std::test::Fail;
-use tl_script::read_script;
+use tl_runner::{Job, JobError, answer};
+
+/// The script of the first run, up to the line named `without`, and then `tail`.
+fn script(alloc: Global, without: &str, tail: &str) -> Result<String, AllocError> {
+    let mut text = String::new(alloc);
+    for line in [
+        "version = 1",
+        "clients = 1",
+        "banks = 1",
+        "block_bytes = 8",
+        "sets = 1",
+        "ways = 1",
+        "registers = 1",
+        "copies = 1",
+        "memory_blocks = 1",
+        "turns = 1000000",
+    ] {
+        if !line.starts_with(without) {
+            text.push_str(line)?;
+            text.push_str("\n")?;
+        }
+    }
+    text.push_str(tail)?;
+    Ok(text)
+}
+
+fn job_of(alloc: Global, traces: bool) -> Result<Result<Job, JobError>, AllocError> {
+    Ok(Ok(Job {
+        traces,
+        file: String::from_str(alloc, "script")?,
+    }))
+}
+
+fn run_job(alloc: Global) -> Result<Result<Job, JobError>, AllocError> {
+    job_of(alloc, false)
+}
+
+/// The status, the output and the fault line of a script, by `run`.
+fn answered(alloc: Global, script: &[u8]) -> Result<(u8, String, String), Fail> {
+    answered_by(alloc, false, script)
+}
+
+/// The status, the output and the fault line of a script, by `trace` or by `run`.
+fn answered_by(alloc: Global, traces: bool, script: &[u8]) -> Result<(u8, String, String), Fail> {
+    let mut output = Vec::new(alloc);
+    let mut faults = Vec::new(alloc);
+    let status = answer(
+        alloc,
+        job_of(alloc, traces)?,
+        Some(script),
+        &mut output,
+        &mut faults,
+    );
+    let output = std::str::from_utf8(&output).ok().ok_or("output")?;
+    let faults = std::str::from_utf8(&faults).ok().ok_or("faults")?;
+    Ok((
+        status,
+        String::from_str(alloc, output)?,
+        String::from_str(alloc, faults)?,
+    ))
+}
+
+#[test]
+fn scripts_that_run(rt: HostRuntime) -> Result<(), Fail> {
+    let alloc = rt.alloc();
+    for (tail, want) in [
+        (
+            "commands = [[\"store 0x0 1122\", \"load 0x0 2\"]]\n",
+            "client 0\n0 store 0x00000000 1122\n1 load 0x00000000 1122\nbank 0 held 1 recorded 1\nok\n",
+        ),
+        (
+            "commands = [[]]\n",
+            "client 0\nbank 0 held 0 recorded 0\nok\n",
+        ),
+        (
+            "image = \"0a0b\"\ncommands = [[\"load 0x0 3\", \"store 0x6 ff\", \"load 0x4 4\"]]\n",
+            "client 0\n0 load 0x00000000 0a0b00\n1 store 0x00000006 ff\n2 load 0x00000004 0000ff00\nbank 0 held 1 recorded 1\nok\n",
+        ),
+        (
+            "commands = [[\"store 0x0 ab\", \"drop 0x0\", \"load 0x0 1\"]]\n",
+            "client 0\n0 store 0x00000000 ab\n1 drop 0x00000000\n2 load 0x00000000 ab\nbank 0 held 1 recorded 1\nok\n",
+        ),
+    ] {
+        let text = script(alloc, "none", tail)?;
+        let (status, output, faults) = answered(alloc, text.as_bytes())?;
+        assert_eq!(rt; output.as_str(), want);
+        assert_eq!(rt; faults.as_str(), "");
+        assert_eq!(rt; status, 0);
+    }
+    Ok(())
+}
+
+#[test]
+fn scripts_that_are_refused(rt: HostRuntime) -> Result<(), Fail> {
+    let alloc = rt.alloc();
+    for (without, tail, want) in [
+        ("clients", "clients = 9\n", "error 32 geometry 20\n"),
+        (
+            "memory_blocks",
+            "memory_blocks = 65537\n",
+            "error 32 geometry 27\n",
+        ),
+        ("clients", "clients = 2\n", "error 32 geometry 20\n"),
+        ("banks", "banks = 2\n", "error 32 geometry 21\n"),
+        (
+            "memory_blocks",
+            "memory_blocks = 2\n",
+            "error 32 geometry 27\n",
+        ),
+        ("none", "version = \n", "error 30 not toml\n"),
+        ("turns", "", "error 31 missing turns\n"),
+        (
+            "none",
+            "commands = [[\"load 0x7 2\"]]\n",
+            "error 33 command 0 0\n",
+        ),
+        ("none", "commands = [[], []]\n", "error 34 too many\n"),
+        ("none", "steps = [\"advance 01\"]\n", "error 35 step 0\n"),
+    ] {
+        let text = script(alloc, without, tail)?;
+        let (status, output, faults) = answered(alloc, text.as_bytes())?;
+        assert_eq!(rt; faults.as_str(), want);
+        assert_eq!(rt; output.as_str(), "");
+        assert_eq!(rt; status, 1);
+    }
+    let (status, _, faults) = answered(alloc, b"\xffversion = 1\n")?;
+    assert_eq!(rt; faults.as_str(), "error 30 not toml\n");
+    assert_eq!(rt; status, 1);
+    Ok(())
+}
+
+/// A reader and a writer that fail at each call.
+#[derive(Drop)]
+struct Broken;
+
+impl Read for Broken {
+    fn read(&mut self, _buf: &mut [u8]) -> io::Result<usize> {
+        Err(io::Error::from(ErrorKind::Other))
+    }
+}
+
+impl Write for Broken {
+    fn write(&mut self, _buf: &[u8]) -> io::Result<usize> {
+        Err(io::Error::from(ErrorKind::Other))
+    }
+
+    fn flush(&mut self) -> io::Result<()> {
+        Err(io::Error::from(ErrorKind::Other))
+    }
+}
+
+#[test]
+fn files_and_words_that_fail(rt: HostRuntime) -> Result<(), Fail> {
+    let alloc = rt.alloc();
+    let text = script(alloc, "none", "commands = [[]]\n")?;
+    let mut output = Vec::new(alloc);
+    let mut faults = Vec::new(alloc);
+    let no_file: Option<&[u8]> = None;
+    let status = answer(alloc, run_job(alloc)?, no_file, &mut output, &mut faults);
+    assert_eq!(rt; status, 5);
+    let broken = Some(Broken);
+    let status = answer(alloc, run_job(alloc)?, broken, &mut output, &mut faults);
+    assert_eq!(rt; status, 5);
+    let file = Some(text.as_bytes());
+    let status = answer(alloc, run_job(alloc)?, file, &mut Broken, &mut faults);
+    assert_eq!(rt; status, 5);
+    assert_eq!(rt;
+        faults.as_slice(),
+        b"error file\nerror file\nerror file\n".as_slice()
+    );
+    let file = Some(text.as_bytes());
+    let status = answer(alloc, run_job(alloc)?, file, &mut output, &mut Broken);
+    assert_eq!(rt; status, 0);
+    let mut faults = Vec::new(alloc);
+    let file = Some(text.as_bytes());
+    let usage = Err(JobError::Usage);
+    let status = answer(alloc, usage, file, &mut output, &mut faults);
+    assert_eq!(rt; status, 2);
+    assert_eq!(rt; faults.as_slice(), b"error usage\n".as_slice());
+    Ok(())
+}
 
 #[test]
 fn worked_traces(rt: HostRuntime) -> Result<(), Fail> {
     let alloc = rt.alloc();
     for trace in worked::ALL {
         let script = trace.script(alloc)?;
-        assert!(rt; read_script(alloc, script.as_bytes()).is_ok());
-        let output = trace.output(alloc)?;
-        assert!(rt; output.ends_with("end\n"));
+        let (status, output, faults) = answered_by(alloc, true, script.as_bytes())?;
+        assert_eq!(rt; output.as_str(), trace.output(alloc)?.as_str());
+        assert_eq!(rt; faults.as_str(), "");
+        assert_eq!(rt; status, 0);
     }
+    Ok(())
+}
+
+/// The eight steps by which client 0 acquires a block with Tip, where its messages there have these serials.
+fn push_fill(script: &mut String, block: u32, serial: u32, grant: u32) -> Result<(), AllocError> {
+    write!(
+        script,
+        "\"acquire 0 {block} NtoT\", \"accept 0.0.A.{serial}\","
+    )?;
+    write!(script, "\"advance {block}\", \"serve_memory {block}\",")?;
+    write!(script, "\"take_memory {block}\", \"advance {block}\",")?;
+    write!(
+        script,
+        "\"take_grant 0.0.D.{grant}\", \"take_grant_ack 0.0.E.{serial}\","
+    )?;
+    Ok(())
+}
+
+/// Client 0 gives up block 64 while it is probed for it, and then 64 more blocks, whose Releases fill its channel: the Probe is answered
+/// once one of them was taken.
+fn full_channel(alloc: Global) -> Result<String, AllocError> {
+    let mut script = String::from_str(alloc, worked::MANY_SETS)?;
+    script.push_str("steps = [")?;
+    push_fill(&mut script, 64, 0, 0)?;
+    script.push_str("\"acquire 1 64 NtoT\", \"accept 0.1.A.0\", \"release 0 64 TtoN\",")?;
+    script.push_str("\"advance 64\", \"take_c 0.0.C.0\", \"take_release_ack 0.0.D.1\",")?;
+    for block in 0..64u32 {
+        push_fill(&mut script, block, block + 1, block + 2)?;
+    }
+    for block in 0..64u32 {
+        write!(script, "\"release 0 {block} TtoN\",")?;
+    }
+    script.push_str("\"answer_probe 0.0.B.0\", \"take_c 0.0.C.1\", \"answer_probe 0.0.B.0\"]\n")?;
+    Ok(script)
+}
+
+#[test]
+fn a_full_channel_is_refused(rt: HostRuntime) -> Result<(), Fail> {
+    let alloc = rt.alloc();
+    let script = full_channel(alloc)?;
+    let (status, output, _) = answered_by(alloc, true, script.as_bytes())?;
+    assert_eq!(rt; status, 0);
+    let last =
+        "590 refused 13\n591 sent 0.0.D.66 6.0 ReleaseAck\n592 sent 0.0.C.65 4.5 ProbeAck NtoN\n";
+    assert!(rt; output.as_str().contains(last));
     Ok(())
 }

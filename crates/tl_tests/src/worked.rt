@@ -23,6 +23,8 @@ mod three_readers;
 mod upgrade;
 mod wide_blocks;
 
+pub use scripts::MANY_SETS;
+
 /// Steps, each with its answer.
 pub type Steps = &'static [(&'static str, &'static str)];
 

@@ -77,3 +77,16 @@ registers = 2\n\
 copies = 2\n\
 memory_blocks = 4\n\
 turns = 1000000\n";
+
+/// Two clients with 64 copies each, 64 sets, and 128 blocks.
+pub const MANY_SETS: &str = "\
+version = 2\n\
+clients = 2\n\
+banks = 1\n\
+block_bytes = 8\n\
+sets = 64\n\
+ways = 2\n\
+registers = 2\n\
+copies = 64\n\
+memory_blocks = 128\n\
+turns = 1000000\n";
