@@ -1,5 +1,5 @@
-//! Tests of the layers by their public calls, of what no clause says: that each call answers on its happy path with ample memory,
-//! and printed text.
+//! Tests of banks and of the program by their public calls: small scripts of calls, a random walk beside the plain map, and worked
+//! traces.
 #![tactic(auto)]
 
 #[cfg(test)]
@@ -7,40 +7,8 @@ mod bank;
 #[cfg(test)]
 mod calls;
 #[cfg(test)]
-mod codes;
-#[cfg(test)]
-mod copies;
-#[cfg(test)]
-mod entry;
-#[cfg(test)]
-mod home;
-#[cfg(test)]
-mod job;
-#[cfg(test)]
-mod links;
-#[cfg(test)]
-mod map;
-#[cfg(test)]
-mod memory;
-#[cfg(test)]
 mod program;
 #[cfg(test)]
-mod protocol;
-#[cfg(test)]
-mod registers;
-#[cfg(test)]
-mod report;
-#[cfg(test)]
-mod script;
-#[cfg(test)]
-mod store;
-#[cfg(test)]
-mod trace;
-#[cfg(test)]
 mod walk;
-#[cfg(test)]
-mod ways;
-#[cfg(test)]
-mod words;
 #[cfg(test)]
 mod worked;

@@ -1,0 +1,36 @@
+//! Tests of the layers below a bank by their public calls, of what no clause says: that each call answers on its happy path with ample
+//! memory, and printed text.
+#![tactic(auto)]
+
+#[cfg(test)]
+mod codes;
+#[cfg(test)]
+mod copies;
+#[cfg(test)]
+mod entry;
+#[cfg(test)]
+mod home;
+#[cfg(test)]
+mod job;
+#[cfg(test)]
+mod links;
+#[cfg(test)]
+mod map;
+#[cfg(test)]
+mod memory;
+#[cfg(test)]
+mod protocol;
+#[cfg(test)]
+mod registers;
+#[cfg(test)]
+mod report;
+#[cfg(test)]
+mod script;
+#[cfg(test)]
+mod store;
+#[cfg(test)]
+mod trace;
+#[cfg(test)]
+mod ways;
+#[cfg(test)]
+mod words;
