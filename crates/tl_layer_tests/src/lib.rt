@@ -1,5 +1,5 @@
 //! Tests of the layers below a bank by their public calls, of what no clause says: that each call answers on its happy path with ample
-//! memory, and printed text.
+//! memory.
 #![tactic(auto)]
 
 #[cfg(test)]
@@ -11,8 +11,6 @@ mod entry;
 #[cfg(test)]
 mod home;
 #[cfg(test)]
-mod job;
-#[cfg(test)]
 mod links;
 #[cfg(test)]
 mod map;
@@ -23,14 +21,6 @@ mod protocol;
 #[cfg(test)]
 mod registers;
 #[cfg(test)]
-mod report;
-#[cfg(test)]
-mod script;
-#[cfg(test)]
 mod store;
 #[cfg(test)]
-mod trace;
-#[cfg(test)]
 mod ways;
-#[cfg(test)]
-mod words;

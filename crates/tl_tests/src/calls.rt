@@ -1,11 +1,10 @@
 //! Small scripts of a bank's calls: each answer, what the views show on the way, and that a call whose growth of the log was refused
 //! changes nothing and answers the same when it is asked again. Answers are worked out from the rules.
-use arrayvec::ArrayVec;
-use std::alloc::Global;
+use crate::session::{Answer, Session};
 use std::process::Abort;
 use std::test::Fail;
-use tl_bank::{Action, Bank, Refusal, Share, When};
-use tl_map::{Geometry, GeometryNumbers};
+use tl_bank::{Action, Refusal, When};
+use tl_map::GeometryNumbers;
 use tl_types::{BankNo, BlockNo, Channel, ClientId, Grow, Perm, Prune, Ticket};
 
 /// Two clients with two copies each, one bank with one set of two ways, two registers, and four blocks of eight bytes.
@@ -43,9 +42,6 @@ enum Call {
     TakeMemory(u32),
 }
 
-/// What a call answers: the ticket of the message that it sent, if it sent one.
-type Answer = Result<Option<Ticket>, Refusal>;
-
 fn client(number: u32) -> ClientId {
     ClientId::new(number)
 }
@@ -63,46 +59,7 @@ fn at(number: u32, channel: Channel, serial: u64) -> Ticket {
     }
 }
 
-/// A bank and its clients' shares.
-#[derive(Drop)]
-struct Session {
-    bank: Bank,
-    shares: ArrayVec<Share, 16>,
-}
-
 impl Session {
-    fn new(alloc: Global, numbers: GeometryNumbers) -> Result<Session, Fail> {
-        let geometry = Geometry::new(numbers)?;
-        let (bank, shares) = Bank::new(alloc, geometry, BankNo::new(0), &[])?;
-        Ok(Session { bank, shares })
-    }
-
-    fn take(&mut self, ticket: Ticket) -> Answer {
-        let Some(share) = self
-            .shares
-            .as_mut_slice()
-            .get_mut(ticket.client.number() as usize)
-        else {
-            return Err(Refusal::OutOfRange);
-        };
-        match ticket.channel {
-            Channel::A => self.bank.accept(ticket).map(|()| None),
-            Channel::B => self.bank.answer_probe(ticket, share).map(Some),
-            Channel::C => self.bank.take_c(ticket),
-            Channel::D => self.bank.take_grant(ticket, share).map(Some),
-            Channel::E => self.bank.take_grant_ack(ticket).map(|()| None),
-        }
-    }
-
-    fn release(&mut self, number: u32, block: BlockNo, prune: Prune) -> Answer {
-        let Some(share) = self.shares.as_mut_slice().get_mut(number as usize) else {
-            return Err(Refusal::OutOfRange);
-        };
-        self.bank
-            .release(client(number), block, prune, share)
-            .map(Some)
-    }
-
     fn advance(&mut self, block: BlockNo) -> Answer {
         match self.bank.advance(block)? {
             Action::Probe(ticket) | Action::Grant(ticket) => Ok(Some(ticket)),
@@ -121,7 +78,11 @@ impl Session {
                     .acquire(client(number), block(asked), grow)
                     .map(Some)
             }
-            Call::Release(number, given, prune) => self.release(number, block(given), prune),
+            Call::Release(number, given, prune) => self.release(
+                client(number),
+                block(given),
+                prune,
+            ),
             Call::Take(ticket) => self.take(ticket),
             Call::TakeReleaseAck(ticket) => self.bank.take_release_ack(ticket).map(|()| None),
             Call::Advance(asked) => self.advance(block(asked)),
@@ -175,35 +136,39 @@ fn expect(is_so: bool) -> Result<(), Fail> {
 
 /// Client 0 acquires block 0 with Tip, and stores a byte.
 fn fill_and_store() -> [(Call, Answer); 9] {
-    let acquire = at(0, Channel::A, 0);
-    let grant = at(0, Channel::D, 0);
-    let ack = at(0, Channel::E, 0);
     [
-        (Call::Acquire(0, 0, Grow::NtoT), Ok(Some(acquire))),
-        (Call::Take(acquire), Ok(None)),
+        (
+            Call::Acquire(0, 0, Grow::NtoT),
+            Ok(Some(at(0, Channel::A, 0))),
+        ),
+        (Call::Take(at(0, Channel::A, 0)), Ok(None)),
         (Call::Advance(0), Ok(None)),
         (Call::ServeMemory(0), Ok(None)),
         (Call::TakeMemory(0), Ok(None)),
-        (Call::Advance(0), Ok(Some(grant))),
-        (Call::Take(grant), Ok(Some(ack))),
-        (Call::Take(ack), Ok(None)),
+        (Call::Advance(0), Ok(Some(at(0, Channel::D, 0)))),
+        (
+            Call::Take(at(0, Channel::D, 0)),
+            Ok(Some(at(0, Channel::E, 0))),
+        ),
+        (Call::Take(at(0, Channel::E, 0)), Ok(None)),
         (Call::Store(0, 0, 0xaa), Ok(None)),
     ]
 }
 
 /// Client 1 acquires block 1, for which block 0 has to leave the only way.
 fn evict_and_fill() -> [(Call, Answer); 15] {
-    let acquire = at(1, Channel::A, 0);
-    let probe = at(0, Channel::B, 0);
-    let answer = at(0, Channel::C, 0);
-    let grant = at(1, Channel::D, 0);
-    let ack = at(1, Channel::E, 0);
     [
-        (Call::Acquire(1, 1, Grow::NtoT), Ok(Some(acquire))),
-        (Call::Take(acquire), Ok(None)),
-        (Call::Advance(1), Ok(Some(probe))),
-        (Call::Take(probe), Ok(Some(answer))),
-        (Call::Take(answer), Ok(None)),
+        (
+            Call::Acquire(1, 1, Grow::NtoT),
+            Ok(Some(at(1, Channel::A, 0))),
+        ),
+        (Call::Take(at(1, Channel::A, 0)), Ok(None)),
+        (Call::Advance(1), Ok(Some(at(0, Channel::B, 0)))),
+        (
+            Call::Take(at(0, Channel::B, 0)),
+            Ok(Some(at(0, Channel::C, 0))),
+        ),
+        (Call::Take(at(0, Channel::C, 0)), Ok(None)),
         (Call::Advance(1), Ok(None)),
         (Call::Advance(1), Err(Refusal::NotYet)),
         (Call::ServeMemory(0), Ok(None)),
@@ -211,9 +176,12 @@ fn evict_and_fill() -> [(Call, Answer); 15] {
         (Call::Advance(1), Ok(None)),
         (Call::ServeMemory(1), Ok(None)),
         (Call::TakeMemory(1), Ok(None)),
-        (Call::Advance(1), Ok(Some(grant))),
-        (Call::Take(grant), Ok(Some(ack))),
-        (Call::Take(ack), Ok(None)),
+        (Call::Advance(1), Ok(Some(at(1, Channel::D, 0)))),
+        (
+            Call::Take(at(1, Channel::D, 0)),
+            Ok(Some(at(1, Channel::E, 0))),
+        ),
+        (Call::Take(at(1, Channel::E, 0)), Ok(None)),
     ]
 }
 
@@ -247,15 +215,18 @@ fn a_writer_is_shown(rt: HostRuntime) -> Result<(), Fail> {
 fn a_grant_on_its_way_is_recorded_and_not_held(rt: HostRuntime) -> Result<(), Fail> {
     let mut session = Session::new(rt.alloc(), NUMBERS)?;
     session.play(&fill_and_store())?;
-    let acquire = at(1, Channel::A, 0);
-    let probe = at(0, Channel::B, 0);
-    let answer = at(0, Channel::C, 0);
     session.play(&[
-        (Call::Acquire(1, 0, Grow::NtoB), Ok(Some(acquire))),
-        (Call::Take(acquire), Ok(None)),
-        (Call::Advance(0), Ok(Some(probe))),
-        (Call::Take(probe), Ok(Some(answer))),
-        (Call::Take(answer), Ok(None)),
+        (
+            Call::Acquire(1, 0, Grow::NtoB),
+            Ok(Some(at(1, Channel::A, 0))),
+        ),
+        (Call::Take(at(1, Channel::A, 0)), Ok(None)),
+        (Call::Advance(0), Ok(Some(at(0, Channel::B, 0)))),
+        (
+            Call::Take(at(0, Channel::B, 0)),
+            Ok(Some(at(0, Channel::C, 0))),
+        ),
+        (Call::Take(at(0, Channel::C, 0)), Ok(None)),
         (Call::Advance(0), Ok(Some(at(1, Channel::D, 0)))),
     ])?;
     let bank = &session.bank;
@@ -272,27 +243,39 @@ fn a_grant_on_its_way_is_recorded_and_not_held(rt: HostRuntime) -> Result<(), Fa
 fn a_release_on_its_way_is_recorded_and_not_held(rt: HostRuntime) -> Result<(), Fail> {
     let mut session = Session::new(rt.alloc(), NUMBERS)?;
     session.play(&fill_and_store())?;
-    let acquire = at(1, Channel::A, 0);
-    let release = at(0, Channel::C, 0);
-    let probe = at(0, Channel::B, 0);
     session.play(&[
-        (Call::Acquire(1, 0, Grow::NtoT), Ok(Some(acquire))),
-        (Call::Take(acquire), Ok(None)),
-        (Call::Release(0, 0, Prune::TtoN), Ok(Some(release))),
+        (
+            Call::Acquire(1, 0, Grow::NtoT),
+            Ok(Some(at(1, Channel::A, 0))),
+        ),
+        (Call::Take(at(1, Channel::A, 0)), Ok(None)),
+        (
+            Call::Release(0, 0, Prune::TtoN),
+            Ok(Some(at(0, Channel::C, 0))),
+        ),
     ])?;
     let bank = &session.bank;
     assert_eq!(rt; (bank.held(), bank.outstanding()), (0, 1));
     session.play(&[
-        (Call::Advance(0), Ok(Some(probe))),
-        (Call::Take(probe), Err(Refusal::ReleasePending)),
-        (Call::Take(release), Ok(Some(at(0, Channel::D, 1)))),
+        (Call::Advance(0), Ok(Some(at(0, Channel::B, 0)))),
+        (
+            Call::Take(at(0, Channel::B, 0)),
+            Err(Refusal::ReleasePending),
+        ),
+        (
+            Call::Take(at(0, Channel::C, 0)),
+            Ok(Some(at(0, Channel::D, 1))),
+        ),
     ])?;
     let bank = &session.bank;
     assert_eq!(rt; (bank.held(), bank.outstanding()), (0, 0));
     assert!(rt; !bank.is_quiet());
     session.play(&[
         (Call::TakeReleaseAck(at(0, Channel::D, 1)), Ok(None)),
-        (Call::Take(probe), Ok(Some(at(0, Channel::C, 1)))),
+        (
+            Call::Take(at(0, Channel::B, 0)),
+            Ok(Some(at(0, Channel::C, 1))),
+        ),
     ])
 }
 
@@ -332,14 +315,14 @@ fn room_for_two_steps(rt: HostRuntime) -> Result<(), Fail> {
         return Ok(());
     }
     let mut made = 0u32;
-    for (call, answer) in fill_and_store() {
+    for (call, answer) in &fill_and_store() {
         let before = session.shown();
-        let given = session.ask(call);
+        let given = session.ask(*call);
         if made >= 2 && given == Err(Refusal::Memory) {
             assert_eq!(rt; session.shown(), before);
             return Ok(());
         }
-        assert!(rt; given == answer);
+        assert!(rt; given == *answer);
         made = made.saturating_add(1);
     }
     Ok(())

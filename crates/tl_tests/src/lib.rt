@@ -9,6 +9,8 @@ mod calls;
 #[cfg(test)]
 mod program;
 #[cfg(test)]
+mod session;
+#[cfg(test)]
 mod walk;
 #[cfg(test)]
 mod worked;

@@ -1,14 +1,14 @@
 //! A random walk of calls beside the plain map of the protocol: each event that a bank logs is permitted there and leaves the same,
 //! and what the protocol forbids the bank refuses. The walk is the same each time.
-use arrayvec::ArrayVec;
+use crate::session::{Answer, Session};
 use std::alloc::Global;
 use std::process::Abort;
 use std::test::Fail;
-use tl_bank::{Action, Bank, Refusal, Share, When};
-use tl_map::{Geometry, GeometryNumbers};
+use tl_bank::{Action, Refusal, When};
+use tl_map::GeometryNumbers;
 use tl_protocol::{Event, Shape};
 use tl_rules::{Plain, may_follow};
-use tl_types::{BankNo, BlockNo, Channel, ClientId, Grow, Prune, Ticket};
+use tl_types::{BlockNo, Channel, ClientId, Grow, Prune, Ticket};
 
 /// Three clients with two copies each, one bank with two sets of one way, two registers, and four blocks of eight bytes.
 const NUMBERS: GeometryNumbers = GeometryNumbers {
@@ -77,8 +77,7 @@ impl Dice {
 /// A bank on its walk, with its clients' shares, the tickets that were sent and not yet served, and the plain map.
 #[derive(Drop)]
 struct Walk {
-    bank: Bank,
-    shares: ArrayVec<Share, 16>,
+    session: Session,
     sent: Vec<Ticket>,
     plain: Plain,
     dice: Dice,
@@ -86,20 +85,19 @@ struct Walk {
 
 impl Walk {
     fn new(alloc: Global, seed: u64) -> Result<Walk, Fail> {
-        let geometry = Geometry::new(NUMBERS)?;
-        let image = [1, 2, 3, 4, 5, 6, 7, 8, 9];
-        let (bank, shares) = Bank::new(alloc, geometry, BankNo::new(0), &image)?;
         Ok(Walk {
-            bank,
-            shares,
+            session: Session::new(alloc, NUMBERS)?,
             sent: Vec::new(alloc),
-            plain: Plain::new(alloc, SHAPE, &image)?,
+            plain: Plain::new(alloc, SHAPE, &[])?,
             dice: Dice { state: seed },
         })
     }
 
-    fn send(&mut self, ticket: Ticket) -> Result<(), Fail> {
-        self.sent.push(ticket)?;
+    /// Keeps the ticket of a message that was sent.
+    fn send(&mut self, ticket: Option<Ticket>) -> Result<(), Fail> {
+        if let Some(ticket) = ticket {
+            self.sent.push(ticket)?;
+        }
         Ok(())
     }
 
@@ -109,18 +107,18 @@ impl Walk {
         let address = self.dice.roll(33);
         let when = When { clock: 0, index };
         if self.dice.roll(2) == 0 {
-            let _loaded = self.bank.load(client, address, 1, when)?;
+            let _loaded = self.session.bank.load(client, address, 1, when)?;
         } else {
-            let byte = self.dice.roll(256) as u8;
-            self.bank.store(client, address, &[byte], when)?;
+            let byte = u8::try_from(self.dice.roll(256)).unwrap_or(0);
+            self.session.bank.store(client, address, &[byte], when)?;
         }
         Ok(())
     }
 
     fn acquire(&mut self) -> Result<(), Fail> {
         let (client, block, grow) = (self.dice.client(), self.dice.block(), self.dice.grow());
-        match self.bank.acquire(client, block, grow) {
-            Ok(ticket) => self.send(ticket),
+        match self.session.bank.acquire(client, block, grow) {
+            Ok(ticket) => self.send(Some(ticket)),
             Err(Refusal::Waiting | Refusal::WrongFrom) => {
                 let asked = Event::SendAcquire(client, block, grow);
                 refused(!may_follow(&self.plain, &asked))
@@ -131,11 +129,8 @@ impl Walk {
 
     fn release(&mut self) -> Result<(), Fail> {
         let (client, block, prune) = (self.dice.client(), self.dice.block(), self.dice.prune());
-        let Some(share) = self.shares.as_mut_slice().get_mut(client.number() as usize) else {
-            return Ok(());
-        };
-        match self.bank.release(client, block, prune, share) {
-            Ok(ticket) => self.send(ticket),
+        match self.session.release(client, block, prune) {
+            Ok(sent) => self.send(sent),
             Err(Refusal::Waiting | Refusal::WrongFrom) => {
                 let given = Event::SendRelease(client, block, prune);
                 refused(!may_follow(&self.plain, &given))
@@ -144,64 +139,64 @@ impl Walk {
         }
     }
 
-    /// Serves one of the tickets that wait, if it is its turn. No ticket is served twice.
+    /// Serves one of the tickets that wait, if it is its turn.
     fn serve(&mut self) -> Result<(), Fail> {
-        let place = self.dice.roll(self.sent.len() as u32) as usize;
-        let Some(ticket) = self.sent.as_slice().get(place).copied() else {
-            return Ok(());
-        };
-        let Ok(answer) = self.serve_ticket(ticket) else {
-            return Ok(());
-        };
-        refused(self.serve_ticket(ticket).is_err())?;
-        if place < self.sent.len() {
-            let _served = self.sent.swap_remove(place);
-        }
-        match answer {
-            Some(answer) => self.send(answer),
+        let waiting = u32::try_from(self.sent.len()).unwrap_or(0);
+        let place = self.dice.roll(waiting) as usize;
+        match self.ticket_at(place) {
+            Some(ticket) => self.serve_ticket(place, &ticket),
             None => Ok(()),
         }
     }
 
-    fn serve_ticket(&mut self, ticket: Ticket) -> Result<Option<Ticket>, Refusal> {
-        let Some(share) = self
-            .shares
-            .as_mut_slice()
-            .get_mut(ticket.client.number() as usize)
-        else {
-            return Ok(None);
-        };
-        match ticket.channel {
-            Channel::A => self.bank.accept(ticket).map(|()| None),
-            Channel::B => self.bank.answer_probe(ticket, share).map(Some),
-            Channel::C => self.bank.take_c(ticket),
-            Channel::D => match self.bank.take_grant(ticket, share) {
-                Ok(sent) => Ok(Some(sent)),
-                Err(_) => self.bank.take_release_ack(ticket).map(|()| None),
-            },
-            Channel::E => self.bank.take_grant_ack(ticket).map(|()| None),
+    fn ticket_at(&self, place: usize) -> Option<Ticket> {
+        self.sent.as_slice().get(place).copied()
+    }
+
+    /// No ticket is served twice.
+    fn serve_ticket(&mut self, place: usize, ticket: &Ticket) -> Result<(), Fail> {
+        let answer = self.take(*ticket);
+        if answer.is_err() {
+            return Ok(());
         }
+        if self.take(*ticket).is_ok() {
+            return Err("a ticket was served twice".into());
+        }
+        if place < self.sent.len() {
+            let _served = self.sent.swap_remove(place);
+        }
+        self.send(answer.unwrap_or(None))
+    }
+
+    fn take(&mut self, ticket: Ticket) -> Answer {
+        let taken = self.session.take(ticket);
+        if ticket.channel == Channel::D && taken == Err(Refusal::NotHead) {
+            return self.session.bank.take_release_ack(ticket).map(|()| None);
+        }
+        taken
     }
 
     /// What the memory, home or a register does next of a block; now and then home starts to evict it.
     fn work(&mut self) -> Result<(), Fail> {
         let block = self.dice.block();
         if self.dice.roll(20) == 0 {
-            let _evicted = self.bank.evict(block);
+            let _evicted = self.session.bank.evict(block);
             return Ok(());
         }
-        if self.bank.serve_memory(block).is_ok() || self.bank.take_memory(block).is_ok() {
+        if self.session.bank.serve_memory(block).is_ok()
+            || self.session.bank.take_memory(block).is_ok()
+        {
             return Ok(());
         }
-        match self.bank.advance(block) {
-            Ok(Action::Probe(ticket) | Action::Grant(ticket)) => self.send(ticket),
+        match self.session.bank.advance(block) {
+            Ok(Action::Probe(ticket) | Action::Grant(ticket)) => self.send(Some(ticket)),
             Ok(Action::Get | Action::Put(_) | Action::Drop) | Err(_) => Ok(()),
         }
     }
 
     /// One call, and what became of it.
     fn step(&mut self, index: u32) -> Result<(), Fail> {
-        let before = self.bank.log().len();
+        let before = self.session.bank.log().len();
         match self.dice.roll(10) {
             0 | 1 => {
                 let _answered = self.access(index);
@@ -211,8 +206,8 @@ impl Walk {
             5 | 6 => self.serve()?,
             _ => self.work()?,
         }
-        if self.bank.log().len() != before {
-            let event = self.bank.log().last().ok_or("an empty log")?;
+        if self.session.bank.log().len() != before {
+            let event = self.session.bank.log().last().ok_or("an empty log")?;
             self.plain
                 .apply(event)
                 .map_err(|_| "an event that is not permitted")?;
@@ -226,14 +221,14 @@ impl Walk {
             let client = ClientId::new(number);
             let address = block.number().saturating_mul(SHAPE.block_bytes);
             let byte = self.plain.read(client, address, 1);
-            if self.bank.perm(client, block) != self.plain.perm(client, block)
-                || self.bank.peek(client, address)
+            if self.session.bank.perm(client, block) != self.plain.perm(client, block)
+                || self.session.bank.peek(client, address)
                     != byte.and_then(|byte| byte.as_slice().first().copied())
             {
                 return false;
             }
         }
-        self.bank.home(block).is_some() == self.plain.is_at_home(block)
+        self.session.bank.home(block).is_some() == self.plain.is_at_home(block)
     }
 
     /// Whether they count the same copies, and the bank's own counts agree.
@@ -248,13 +243,13 @@ impl Walk {
             }
         }
         let mut shares = 0u64;
-        for share in self.shares.as_slice() {
+        for share in self.session.shares.as_slice() {
             shares = shares.saturating_add(u64::from(share.count()));
         }
-        self.bank.held() == held
-            && self.bank.outstanding() == recorded
+        self.session.bank.held() == held
+            && self.session.bank.outstanding() == recorded
             && shares == held
-            && (!self.bank.is_quiet() || held == recorded)
+            && (!self.session.bank.is_quiet() || held == recorded)
     }
 }
 
@@ -277,7 +272,7 @@ fn a_random_walk_keeps_to_the_protocol(rt: HostRuntime) -> Result<(), Fail> {
             }
             assert!(rt; walk.counts_agree());
         }
-        assert!(rt; walk.bank.log().len() > 300);
+        assert!(rt; walk.session.bank.log().len() > 300);
     }
     Ok(())
 }
