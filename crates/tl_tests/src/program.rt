@@ -1,5 +1,11 @@
 //! The program's answers to whole scripts: output, fault line and status.
-use crate::worked;
+use crate::worked::{
+    self, Worked, both_upgrade, doubled_early_and_foreign_tickets, every_way_is_held,
+    eviction_and_return, eviction_of_a_reader, eviction_writes_back, grant_is_decided_when_sent,
+    reader_beside_a_sole_reader, record_falls_while_a_probe_is_out, release_before_the_grant_ack,
+    release_crosses_probe, sixteen_clients, sole_reader_is_granted_tip, store_and_reader,
+    strange_steps, three_readers, upgrade, wide_blocks,
+};
 use std::alloc::{AllocError, Global};
 use std::io;
 use std::io::{ErrorKind, Read, Write};
@@ -186,16 +192,33 @@ fn files_and_words_that_fail(rt: HostRuntime) -> Result<(), Fail> {
     Ok(())
 }
 
+/// Whether a script prints what it should, and nothing else.
+fn is_answered(alloc: Global, worked: &Worked) -> Result<bool, Fail> {
+    let (status, output, faults) = answered_by(alloc, true, worked.script.as_bytes())?;
+    Ok(status == 0 && output.as_str() == worked.output.as_str() && faults.as_str() == "")
+}
+
 #[test]
 fn worked_traces(rt: HostRuntime) -> Result<(), Fail> {
     let alloc = rt.alloc();
-    for trace in worked::ALL {
-        let script = trace.script(alloc)?;
-        let (status, output, faults) = answered_by(alloc, true, script.as_bytes())?;
-        assert_eq!(rt; output.as_str(), trace.output(alloc)?.as_str());
-        assert_eq!(rt; faults.as_str(), "");
-        assert_eq!(rt; status, 0);
-    }
+    assert!(rt; is_answered(alloc, &both_upgrade::trace(alloc)?)?);
+    assert!(rt; is_answered(alloc, &doubled_early_and_foreign_tickets::trace(alloc)?)?);
+    assert!(rt; is_answered(alloc, &every_way_is_held::trace(alloc)?)?);
+    assert!(rt; is_answered(alloc, &eviction_and_return::trace(alloc)?)?);
+    assert!(rt; is_answered(alloc, &eviction_of_a_reader::trace(alloc)?)?);
+    assert!(rt; is_answered(alloc, &eviction_writes_back::trace(alloc)?)?);
+    assert!(rt; is_answered(alloc, &grant_is_decided_when_sent::trace(alloc)?)?);
+    assert!(rt; is_answered(alloc, &reader_beside_a_sole_reader::trace(alloc)?)?);
+    assert!(rt; is_answered(alloc, &record_falls_while_a_probe_is_out::trace(alloc)?)?);
+    assert!(rt; is_answered(alloc, &release_before_the_grant_ack::trace(alloc)?)?);
+    assert!(rt; is_answered(alloc, &release_crosses_probe::trace(alloc)?)?);
+    assert!(rt; is_answered(alloc, &sixteen_clients::trace(alloc)?)?);
+    assert!(rt; is_answered(alloc, &sole_reader_is_granted_tip::trace(alloc)?)?);
+    assert!(rt; is_answered(alloc, &store_and_reader::trace(alloc)?)?);
+    assert!(rt; is_answered(alloc, &strange_steps::trace(alloc)?)?);
+    assert!(rt; is_answered(alloc, &three_readers::trace(alloc)?)?);
+    assert!(rt; is_answered(alloc, &upgrade::trace(alloc)?)?);
+    assert!(rt; is_answered(alloc, &wide_blocks::trace(alloc)?)?);
     Ok(())
 }
 

@@ -2,83 +2,65 @@
 
 use std::alloc::{AllocError, Global};
 
-mod both_upgrade;
-mod doubled_early_and_foreign_tickets;
-mod every_way_is_held;
-mod eviction_and_return;
-mod eviction_of_a_reader;
-mod eviction_writes_back;
-mod grant_is_decided_when_sent;
+pub mod both_upgrade;
+pub mod doubled_early_and_foreign_tickets;
+pub mod every_way_is_held;
+pub mod eviction_and_return;
+pub mod eviction_of_a_reader;
+pub mod eviction_writes_back;
+pub mod grant_is_decided_when_sent;
 mod parts;
-mod reader_beside_a_sole_reader;
-mod record_falls_while_a_probe_is_out;
-mod release_before_the_grant_ack;
-mod release_crosses_probe;
+pub mod reader_beside_a_sole_reader;
+pub mod record_falls_while_a_probe_is_out;
+pub mod release_before_the_grant_ack;
+pub mod release_crosses_probe;
 mod scripts;
-mod sixteen_clients;
-mod sole_reader_is_granted_tip;
-mod store_and_reader;
-mod strange_steps;
-mod three_readers;
-mod upgrade;
-mod wide_blocks;
+pub mod sixteen_clients;
+pub mod sole_reader_is_granted_tip;
+pub mod store_and_reader;
+pub mod strange_steps;
+pub mod three_readers;
+pub mod upgrade;
+pub mod wide_blocks;
 
 pub use scripts::MANY_SETS;
 
 /// Steps, each with its answer.
 pub type Steps = &'static [(&'static str, &'static str)];
 
-/// A script, the steps that it plays, with their answers, and the closing lines.
-#[derive(Clone, Copy)]
-pub struct Trace {
-    script: &'static str,
-    steps: &'static [Steps],
-    closing: &'static str,
+/// A script, and what it prints.
+#[derive(Drop)]
+pub struct Worked {
+    pub script: String,
+    pub output: String,
+    steps: u32,
 }
 
-/// All of them.
-pub const ALL: &[Trace] = &[
-    both_upgrade::TRACE,
-    doubled_early_and_foreign_tickets::TRACE,
-    every_way_is_held::TRACE,
-    eviction_and_return::TRACE,
-    eviction_of_a_reader::TRACE,
-    eviction_writes_back::TRACE,
-    grant_is_decided_when_sent::TRACE,
-    reader_beside_a_sole_reader::TRACE,
-    record_falls_while_a_probe_is_out::TRACE,
-    release_before_the_grant_ack::TRACE,
-    release_crosses_probe::TRACE,
-    sixteen_clients::TRACE,
-    sole_reader_is_granted_tip::TRACE,
-    store_and_reader::TRACE,
-    strange_steps::TRACE,
-    three_readers::TRACE,
-    upgrade::TRACE,
-    wide_blocks::TRACE,
-];
-
-impl Trace {
-    /// The whole script.
-    pub fn script(&self, alloc: Global) -> Result<String, AllocError> {
-        let mut text = String::from_str(alloc, self.script)?;
-        text.push_str("steps = [\n")?;
-        for (step, _) in self.steps.iter().copied().flatten() {
-            write!(text, "    \"{step}\",\n")?;
-        }
-        text.push_str("]\n")?;
-        Ok(text)
+impl Worked {
+    /// A script that has no step yet.
+    pub fn new(alloc: Global, head: &str) -> Result<Worked, AllocError> {
+        let mut script = String::from_str(alloc, head)?;
+        script.push_str("steps = [\n")?;
+        Ok(Worked {
+            script,
+            output: String::new(alloc),
+            steps: 0,
+        })
     }
 
-    /// What is printed.
-    pub fn output(&self, alloc: Global) -> Result<String, AllocError> {
-        let mut text = String::new(alloc);
-        let mut index = 0u32;
-        for (_, answer) in self.steps.iter().copied().flatten() {
-            write!(text, "{index} {answer}\n")?;
-            index = index.saturating_add(1);
+    /// More steps, with their answers.
+    pub fn push(&mut self, steps: Steps) -> Result<(), AllocError> {
+        for (step, answer) in steps {
+            write!(self.script, "    \"{step}\",\n")?;
+            write!(self.output, "{} {answer}\n", self.steps)?;
+            self.steps = self.steps.saturating_add(1);
         }
-        text.push_str(self.closing)?;
-        Ok(text)
+        Ok(())
+    }
+
+    /// The end of the steps, and the closing lines.
+    pub fn close(&mut self, closing: &str) -> Result<(), AllocError> {
+        self.script.push_str("]\n")?;
+        self.output.push_str(closing)
     }
 }

@@ -2,7 +2,8 @@
 
 use crate::worked::parts::{FILL, READER, STORE};
 use crate::worked::scripts::TWO_CLIENTS;
-use crate::worked::{Steps, Trace};
+use crate::worked::{Steps, Worked};
+use std::alloc::{AllocError, Global};
 
 const STEPS: Steps = &[
     ("acquire 0 0 BtoT", "sent 0.0.A.1 6.2 AcquireBlock BtoT"),
@@ -32,8 +33,12 @@ const STEPS: Steps = &[
     ("load 1 0x0 1", "data bb"),
 ];
 
-pub const TRACE: Trace = Trace {
-    script: TWO_CLIENTS,
-    steps: &[FILL, STORE, READER, STEPS],
-    closing: "block 0 dirty recorded NT copies NT\nbank 0 held 1 recorded 1 events 36\nend\n",
-};
+pub fn trace(alloc: Global) -> Result<Worked, AllocError> {
+    let mut worked = Worked::new(alloc, TWO_CLIENTS)?;
+    worked.push(FILL)?;
+    worked.push(STORE)?;
+    worked.push(READER)?;
+    worked.push(STEPS)?;
+    worked.close("block 0 dirty recorded NT copies NT\nbank 0 held 1 recorded 1 events 36\nend\n")?;
+    Ok(worked)
+}

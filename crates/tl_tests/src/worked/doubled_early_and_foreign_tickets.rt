@@ -2,7 +2,8 @@
 
 use crate::worked::parts::{FILL, STORE};
 use crate::worked::scripts::TWO_CLIENTS;
-use crate::worked::{Steps, Trace};
+use crate::worked::{Steps, Worked};
+use std::alloc::{AllocError, Global};
 
 const STEPS: Steps = &[
     (
@@ -18,8 +19,11 @@ const STEPS: Steps = &[
     ("take_release_ack 1.0.D.1", "refused 11"),
 ];
 
-pub const TRACE: Trace = Trace {
-    script: TWO_CLIENTS,
-    steps: &[FILL, STORE, STEPS],
-    closing: "block 0 dirty recorded NN copies NN\nbank 0 held 0 recorded 0 events 12\nend\n",
-};
+pub fn trace(alloc: Global) -> Result<Worked, AllocError> {
+    let mut worked = Worked::new(alloc, TWO_CLIENTS)?;
+    worked.push(FILL)?;
+    worked.push(STORE)?;
+    worked.push(STEPS)?;
+    worked.close("block 0 dirty recorded NN copies NN\nbank 0 held 0 recorded 0 events 12\nend\n")?;
+    Ok(worked)
+}

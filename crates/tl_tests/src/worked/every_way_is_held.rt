@@ -1,7 +1,8 @@
 //! An Acquire is not accepted while a register holds the only way of its set.
 
 use crate::worked::scripts::ONE_WAY_TWO_REGISTERS;
-use crate::worked::{Steps, Trace};
+use crate::worked::{Steps, Worked};
+use std::alloc::{AllocError, Global};
 
 const STEPS: Steps = &[
     ("acquire 0 0 NtoT", "sent 0.0.A.0 6.1 AcquireBlock NtoT"),
@@ -10,8 +11,9 @@ const STEPS: Steps = &[
     ("accept 0.1.A.0", "refused 7"),
 ];
 
-pub const TRACE: Trace = Trace {
-    script: ONE_WAY_TWO_REGISTERS,
-    steps: &[STEPS],
-    closing: "bank 0 held 0 recorded 0 events 3\nend\n",
-};
+pub fn trace(alloc: Global) -> Result<Worked, AllocError> {
+    let mut worked = Worked::new(alloc, ONE_WAY_TWO_REGISTERS)?;
+    worked.push(STEPS)?;
+    worked.close("bank 0 held 0 recorded 0 events 3\nend\n")?;
+    Ok(worked)
+}

@@ -2,7 +2,8 @@
 
 use crate::worked::parts::{FILL, STORE};
 use crate::worked::scripts::ONE_WAY;
-use crate::worked::{Steps, Trace};
+use crate::worked::{Steps, Worked};
+use std::alloc::{AllocError, Global};
 
 const STEPS: Steps = &[
     ("acquire 1 1 NtoT", "sent 0.1.A.0 6.1 AcquireBlock NtoT"),
@@ -52,8 +53,11 @@ const STEPS: Steps = &[
     ("take_grant_ack 0.0.E.1", "ok"),
 ];
 
-pub const TRACE: Trace = Trace {
-    script: ONE_WAY,
-    steps: &[FILL, STORE, STEPS],
-    closing: "block 0 clean recorded TN copies TN\nbank 0 held 1 recorded 1 events 35\nend\n",
-};
+pub fn trace(alloc: Global) -> Result<Worked, AllocError> {
+    let mut worked = Worked::new(alloc, ONE_WAY)?;
+    worked.push(FILL)?;
+    worked.push(STORE)?;
+    worked.push(STEPS)?;
+    worked.close("block 0 clean recorded TN copies TN\nbank 0 held 1 recorded 1 events 35\nend\n")?;
+    Ok(worked)
+}

@@ -2,7 +2,8 @@
 
 use crate::worked::parts::FILL_BY_A_READER;
 use crate::worked::scripts::TWO_CLIENTS;
-use crate::worked::{Steps, Trace};
+use crate::worked::{Steps, Worked};
+use std::alloc::{AllocError, Global};
 
 const STEPS: Steps = &[
     ("evict 0", "ok"),
@@ -14,8 +15,10 @@ const STEPS: Steps = &[
     ("serve_memory 0", "refused 4"),
 ];
 
-pub const TRACE: Trace = Trace {
-    script: TWO_CLIENTS,
-    steps: &[FILL_BY_A_READER, STEPS],
-    closing: "bank 0 held 0 recorded 0 events 12\nend\n",
-};
+pub fn trace(alloc: Global) -> Result<Worked, AllocError> {
+    let mut worked = Worked::new(alloc, TWO_CLIENTS)?;
+    worked.push(FILL_BY_A_READER)?;
+    worked.push(STEPS)?;
+    worked.close("bank 0 held 0 recorded 0 events 12\nend\n")?;
+    Ok(worked)
+}

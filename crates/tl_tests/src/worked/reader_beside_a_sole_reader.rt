@@ -2,7 +2,8 @@
 
 use crate::worked::parts::FILL_BY_A_READER;
 use crate::worked::scripts::TWO_CLIENTS;
-use crate::worked::{Steps, Trace};
+use crate::worked::{Steps, Worked};
+use std::alloc::{AllocError, Global};
 
 const STEPS: Steps = &[
     ("store 0 0x0 bb", "ok"),
@@ -23,8 +24,10 @@ const STEPS: Steps = &[
     ("take_grant_ack 0.1.E.0", "ok"),
 ];
 
-pub const TRACE: Trace = Trace {
-    script: TWO_CLIENTS,
-    steps: &[FILL_BY_A_READER, STEPS],
-    closing: "block 0 dirty recorded BB copies BB\nbank 0 held 2 recorded 2 events 17\nend\n",
-};
+pub fn trace(alloc: Global) -> Result<Worked, AllocError> {
+    let mut worked = Worked::new(alloc, TWO_CLIENTS)?;
+    worked.push(FILL_BY_A_READER)?;
+    worked.push(STEPS)?;
+    worked.close("block 0 dirty recorded BB copies BB\nbank 0 held 2 recorded 2 events 17\nend\n")?;
+    Ok(worked)
+}

@@ -2,7 +2,8 @@
 
 use crate::worked::parts::{FILL, STORE};
 use crate::worked::scripts::TWO_CLIENTS;
-use crate::worked::{Steps, Trace};
+use crate::worked::{Steps, Worked};
+use std::alloc::{AllocError, Global};
 
 const STEPS: Steps = &[
     ("acquire 1 0 NtoB", "sent 0.1.A.0 6.0 AcquireBlock NtoB"),
@@ -24,8 +25,11 @@ const STEPS: Steps = &[
     ("take_grant_ack 0.1.E.0", "ok"),
 ];
 
-pub const TRACE: Trace = Trace {
-    script: TWO_CLIENTS,
-    steps: &[FILL, STORE, STEPS],
-    closing: "block 0 dirty recorded NT copies NT\nbank 0 held 1 recorded 1 events 20\nend\n",
-};
+pub fn trace(alloc: Global) -> Result<Worked, AllocError> {
+    let mut worked = Worked::new(alloc, TWO_CLIENTS)?;
+    worked.push(FILL)?;
+    worked.push(STORE)?;
+    worked.push(STEPS)?;
+    worked.close("block 0 dirty recorded NT copies NT\nbank 0 held 1 recorded 1 events 20\nend\n")?;
+    Ok(worked)
+}

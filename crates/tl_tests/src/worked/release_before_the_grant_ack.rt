@@ -1,7 +1,8 @@
 //! A Release is taken before the GrantAck, and then home gives the block up.
 
 use crate::worked::scripts::TWO_CLIENTS;
-use crate::worked::{Steps, Trace};
+use crate::worked::{Steps, Worked};
+use std::alloc::{AllocError, Global};
 
 const STEPS: Steps = &[
     ("acquire 0 0 NtoT", "sent 0.0.A.0 6.1 AcquireBlock NtoT"),
@@ -26,8 +27,9 @@ const STEPS: Steps = &[
     ("take_release_ack 0.0.D.1", "ok"),
 ];
 
-pub const TRACE: Trace = Trace {
-    script: TWO_CLIENTS,
-    steps: &[STEPS],
-    closing: "bank 0 held 0 recorded 0 events 12\nend\n",
-};
+pub fn trace(alloc: Global) -> Result<Worked, AllocError> {
+    let mut worked = Worked::new(alloc, TWO_CLIENTS)?;
+    worked.push(STEPS)?;
+    worked.close("bank 0 held 0 recorded 0 events 12\nend\n")?;
+    Ok(worked)
+}

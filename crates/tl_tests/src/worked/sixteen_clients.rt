@@ -1,7 +1,8 @@
 //! The last of sixteen clients acquires a block.
 
 use crate::worked::scripts::SIXTEEN_CLIENTS;
-use crate::worked::{Steps, Trace};
+use crate::worked::{Steps, Worked};
+use std::alloc::{AllocError, Global};
 
 const STEPS: Steps = &[
     ("acquire 15 0 NtoT", "sent 0.15.A.0 6.1 AcquireBlock NtoT"),
@@ -20,8 +21,11 @@ const STEPS: Steps = &[
     ("take_grant_ack 0.15.E.0", "ok"),
 ];
 
-pub const TRACE: Trace = Trace {
-    script: SIXTEEN_CLIENTS,
-    steps: &[STEPS],
-    closing: "block 0 clean recorded NNNNNNNNNNNNNNNT copies NNNNNNNNNNNNNNNT\nbank 0 held 1 recorded 1 events 8\nend\n",
-};
+pub fn trace(alloc: Global) -> Result<Worked, AllocError> {
+    let mut worked = Worked::new(alloc, SIXTEEN_CLIENTS)?;
+    worked.push(STEPS)?;
+    worked.close(
+        "block 0 clean recorded NNNNNNNNNNNNNNNT copies NNNNNNNNNNNNNNNT\nbank 0 held 1 recorded 1 events 8\nend\n",
+    )?;
+    Ok(worked)
+}

@@ -2,7 +2,8 @@
 
 use crate::worked::parts::{FILL, STORE};
 use crate::worked::scripts::TWO_CLIENTS;
-use crate::worked::{Steps, Trace};
+use crate::worked::{Steps, Worked};
+use std::alloc::{AllocError, Global};
 
 const STEPS: Steps = &[
     ("acquire 1 0 NtoB", "sent 0.1.A.0 6.0 AcquireBlock NtoB"),
@@ -23,8 +24,11 @@ const STEPS: Steps = &[
     ("store 0 0x0 bb", "refused 1"),
 ];
 
-pub const TRACE: Trace = Trace {
-    script: TWO_CLIENTS,
-    steps: &[FILL, STORE, STEPS],
-    closing: "block 0 dirty recorded BB copies BB\nbank 0 held 2 recorded 2 events 18\nend\n",
-};
+pub fn trace(alloc: Global) -> Result<Worked, AllocError> {
+    let mut worked = Worked::new(alloc, TWO_CLIENTS)?;
+    worked.push(FILL)?;
+    worked.push(STORE)?;
+    worked.push(STEPS)?;
+    worked.close("block 0 dirty recorded BB copies BB\nbank 0 held 2 recorded 2 events 18\nend\n")?;
+    Ok(worked)
+}

@@ -2,7 +2,8 @@
 
 use crate::worked::parts::{FILL, STORE};
 use crate::worked::scripts::TWO_CLIENTS;
-use crate::worked::{Steps, Trace};
+use crate::worked::{Steps, Worked};
+use std::alloc::{AllocError, Global};
 
 const STEPS: Steps = &[
     ("take_c 0.1.C.0", "refused 4"),
@@ -25,8 +26,11 @@ const STEPS: Steps = &[
     ("acquire 0 2 NtoB", "refused 12"),
 ];
 
-pub const TRACE: Trace = Trace {
-    script: TWO_CLIENTS,
-    steps: &[FILL, STORE, STEPS],
-    closing: "block 0 clean recorded TN copies TN\nbank 0 held 1 recorded 1 events 10\nend\n",
-};
+pub fn trace(alloc: Global) -> Result<Worked, AllocError> {
+    let mut worked = Worked::new(alloc, TWO_CLIENTS)?;
+    worked.push(FILL)?;
+    worked.push(STORE)?;
+    worked.push(STEPS)?;
+    worked.close("block 0 clean recorded TN copies TN\nbank 0 held 1 recorded 1 events 10\nend\n")?;
+    Ok(worked)
+}

@@ -2,7 +2,8 @@
 
 use crate::worked::parts::{FILL, READER, STORE};
 use crate::worked::scripts::THREE_CLIENTS;
-use crate::worked::{Steps, Trace};
+use crate::worked::{Steps, Worked};
+use std::alloc::{AllocError, Global};
 
 const STEPS: Steps = &[
     ("acquire 2 0 NtoB", "sent 0.2.A.0 6.0 AcquireBlock NtoB"),
@@ -28,8 +29,14 @@ const STEPS: Steps = &[
     ("take_grant_ack 0.1.E.1", "ok"),
 ];
 
-pub const TRACE: Trace = Trace {
-    script: THREE_CLIENTS,
-    steps: &[FILL, STORE, READER, STEPS],
-    closing: "block 0 dirty recorded NTN copies NTN\nbank 0 held 1 recorded 1 events 34\nend\n",
-};
+pub fn trace(alloc: Global) -> Result<Worked, AllocError> {
+    let mut worked = Worked::new(alloc, THREE_CLIENTS)?;
+    worked.push(FILL)?;
+    worked.push(STORE)?;
+    worked.push(READER)?;
+    worked.push(STEPS)?;
+    worked.close(
+        "block 0 dirty recorded NTN copies NTN\nbank 0 held 1 recorded 1 events 34\nend\n",
+    )?;
+    Ok(worked)
+}

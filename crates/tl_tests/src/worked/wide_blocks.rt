@@ -1,7 +1,8 @@
 //! A block of 64 bytes passes whole; an access past its end is refused.
 
 use crate::worked::scripts::WIDE_BLOCKS;
-use crate::worked::{Steps, Trace};
+use crate::worked::{Steps, Worked};
+use std::alloc::{AllocError, Global};
 
 const STEPS: Steps = &[
     ("acquire 0 0 NtoT", "sent 0.0.A.0 6.1 AcquireBlock NtoT"),
@@ -23,8 +24,9 @@ const STEPS: Steps = &[
     ("load 0 0x3f 2", "refused 10"),
 ];
 
-pub const TRACE: Trace = Trace {
-    script: WIDE_BLOCKS,
-    steps: &[STEPS],
-    closing: "block 0 clean recorded T copies T\nbank 0 held 1 recorded 1 events 10\nend\n",
-};
+pub fn trace(alloc: Global) -> Result<Worked, AllocError> {
+    let mut worked = Worked::new(alloc, WIDE_BLOCKS)?;
+    worked.push(STEPS)?;
+    worked.close("block 0 clean recorded T copies T\nbank 0 held 1 recorded 1 events 10\nend\n")?;
+    Ok(worked)
+}
