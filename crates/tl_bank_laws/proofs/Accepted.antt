@@ -1,5 +1,6 @@
 -- Where the open registers agree with the blocks, home serves just the Acquires that they were opened for.
 use Rattle.std.proofs.Common.{◌≡◌, ℕ, ◌==◌, true, false, List, [], ◌∷◌, None, refl, sym, ◌∙◌, ap, subst, inl, inr, eqb-true}
+use Rattle.std.proofs.lemmas.Bool.{cases_Bool, or_parts}
 use Rattle.tl_protocol.specs.declared.shape.Shape.{Shape}
 use Rattle.tl_protocol.specs.Protocol.{Block}
 use Rattle.tl_registers.specs.declared.register.Register.{Register}
@@ -9,15 +10,14 @@ use Rattle.tl_registers.specs.Agree.{Agree, AreApart, Each}
 use Rattle.tl_registers.specs.Fit.{Fits, TaskFits}
 use Rattle.tl_registers.specs.Register.{is_block, victim_in, victim_of, works_on}
 use Rattle.tl_registers.specs.Registers.{is_busy, register_of}
-use Rattle.tl_registers.proofs.Booleans.{bool-cases, or-false}
 use Rattle.tl_bank_laws.specs.Means.{acquire_in, accepted_by}
 
 -- a block on which no register works is no register's own
 pub none-of : (b : ℕ) (registers : List Register) → is_busy b registers ≡ false → register_of b registers ≡ None
 none-of b [] h = refl
 none-of b (r ∷ rest) h =
-    let k = or-false (works_on r b) (is_busy b rest) h in
-    let o = or-false (r.own == b) (is_block b (victim_of r)) k.0 in
+    let k = or_parts (works_on r b) (is_busy b rest) h in
+    let o = or_parts (r.own == b) (is_block b (victim_of r)) k.0 in
     rw o.0 (none-of b rest k.1)
 
 -- home serves the Acquire that a register is open for
@@ -40,13 +40,13 @@ accepted-of : (shape : Shape) (states : ℕ → Block) (registers : List Registe
     → (states b).accepted ≡ accepted_by (register_of b registers)
 accepted-of shape states [] b fits apart free = free refl
 accepted-of shape states (r ∷ rest) b fits apart free =
-    elim (bool-cases (r.own == b)) [
+    elim (cases_Bool (r.own == b)) [
       | inl e ↦
           let own : (states b).accepted ≡ acquire_in r.task =
           subst (λ (y : ℕ). (states y).accepted ≡ acquire_in r.task) (eqb-true r.own b e) (own-accepted shape states r r.task fits.0.task) in
           rw e own
       | inr e ↦
-          rw e (elim (bool-cases (is_block b (victim_of r))) [
+          rw e (elim (cases_Bool (is_block b (victim_of r))) [
             | inl t ↦
                 let on : works_on r b ≡ true = rw (e, t) refl in
                 victim-free shape states r r.task b fits.0.task e t ∙ sym (ap accepted_by (none-of b rest (apart.0 b on)))

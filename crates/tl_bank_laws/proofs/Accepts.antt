@@ -1,5 +1,7 @@
 -- A register opens for an Acquire that home accepts, and what it leaves.
 use Rattle.std.proofs.Common.{◌≡◌, ℕ, ◌==◌, ◌&&◌, not, Bool, true, false, List, [], ◌∷◌, ◌++◌, map, Option, None, is_none, if◌then◌else◌, refl, sym, ◌∙◌, ap, subst, inl, inr, eqb-true}
+use Rattle.std.proofs.lemmas.Bool.{cases_Bool, or_parts}
+use Rattle.tl_map.proofs.LimitLaws.{few_clients}
 use Rattle.tl_types.specs.Lane.{is_here, without_first, bodies_of}
 use Rattle.tl_types.specs.declared.channel.Channel.{Channel}
 use Rattle.tl_types.specs.declared.channel.Channel.TheVariants.{A}
@@ -18,7 +20,6 @@ use Rattle.tl_registers.specs.Pending.{grant_pending}
 use Rattle.tl_registers.specs.Register.{acquire_task, opened}
 use Rattle.tl_registers.specs.Registers.{is_busy}
 use Rattle.tl_registers.specs.declared.register.Register.{Register}
-use Rattle.tl_registers.proofs.Booleans.{bool-cases}
 use Rattle.tl_registers.proofs.Opening.{accepting-keeps-agreement}
 use Rattle.tl_bank_spec.specs.Cases.{any_body, block_named}
 use Rattle.tl_bank_spec.specs.Effects.{first_grow, grow_in}
@@ -32,8 +33,8 @@ use Rattle.tl_bank_laws.specs.Entry.{entry_of}
 use Rattle.tl_bank_laws.specs.Layers.{Layers}
 use Rattle.tl_bank_laws.specs.Link.{IsHead}
 use Rattle.tl_bank_laws.specs.Means.{Means, WaysFit, is_filling, is_filling_by}
-use Rattle.tl_bank_laws.proofs.Allowed.{AllFalse, all-false, client-is, or-false}
-use Rattle.tl_bank_laws.proofs.Evicts.{few-clients, one-more}
+use Rattle.tl_bank_laws.proofs.Allowed.{AllFalse, all-false, client-is}
+use Rattle.tl_bank_laws.proofs.Evicts.{one-more}
 use Rattle.tl_bank_laws.proofs.Heads.{HeadAllowed, head-allowed, head-first, head-list, head-own, is-head}
 use Rattle.tl_bank_laws.proofs.Next.{NextEvent, NextLayers, block_next, blocks-next, means-next, registers-next}
 use Rattle.tl_bank_laws.proofs.Opens.{MayHold, acquire-works-on, any-follows, free-victim, may-hold, new-holds, opened_view, ways-open}
@@ -52,7 +53,7 @@ pub accept-allowed : (v : View) (t : Ticket) → first_of (accept_cases v t) ≡
 accept-allowed v t none =
     let f : AllFalse (accept_cases v t) = all-false (accept_cases v t) none in
     let block : ℕ = block_named v t A in
-    let both = or-false (registers_full v) (lacks v block && ways_held v (set_of v.geometry block)) f.1.1.1.1.1.1.0 in
+    let both = or_parts (registers_full v) (lacks v block && ways_held v (set_of v.geometry block)) f.1.1.1.1.1.1.0 in
     record {
       head = head-allowed v t A any_body (client-is v t.client f.0) f.1.0 f.1.1.0 f.1.1.1.1.0;
       free = f.1.1.1.1.1.0;
@@ -93,7 +94,7 @@ accepted-field : {X : Type 0} (f : Client → X) → ((k : Client) (rest : List 
     → (s : Block) (c : ℕ) (a : List Grow) (x : ℕ) → f ((accepted_from s c a).client x) ≡ f (s.client x)
 accepted-field f same s c [] x = refl
 accepted-field f same s c (grow ∷ rest) x =
-    elim (bool-cases (x == c)) [
+    elim (cases_Bool (x == c)) [
       | inl e ↦ rw e (same (s.client c) rest ∙ ap (λ (y : ℕ). f (s.client y)) (sym (eqb-true x c e)))
       | inr e ↦ rw e refl
     ]
@@ -129,7 +130,7 @@ accepted-leaves s c a = record {
 
 next-leaves : (v : View) (c block b : ℕ) → AcceptLeaves (block_at v b) (block_next v (AcceptAcquire c block) b)
 next-leaves v c block b =
-    elim (bool-cases (b == block)) [
+    elim (cases_Bool (b == block)) [
       | inl e ↦ rw e (accepted-leaves (block_at v b) c ((block_at v b).client c).a)
       | inr e ↦ rw e (record { home = refl; outward = refl; memory = refl; recorded = λ x. refl; entries = λ x. refl })
     ]
@@ -244,7 +245,7 @@ accept-core v h t way room links m none way_is same takes =
     let may : MayHold v block way victim = may-hold v h.home block way (way_at v block) m.ways own ok.free refl way_is in
     let r : Register = accepting v t block grow way victim in
     let agree = accepting-keeps-agreement shape (block_at v) v.registers t.client block grow asked.rest (way_in_set set way) victim
-    (bank-steady v h m) m.registers.agree (few-clients v.geometry m.geometry) event.may asked.list ok.free
+    (bank-steady v h m) m.registers.agree (few_clients v.geometry m.geometry) event.may asked.list ok.free
     (free-victim v h.home block way victim m.ways may) in
     means-next v h (record h { links = links }) e room (v.registers ++ r ∷ []) v.ways m event
     (accept-layers v h t.client block links m same takes)

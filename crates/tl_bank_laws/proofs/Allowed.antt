@@ -1,6 +1,7 @@
 -- What a call may rely on where no refusal's case holds.
 use Rattle.std.proofs.Common.{◌≡◌, ◌≢◌, ℕ, ◌+◌, ◌/◌, ◌%◌, ◌<◌, ◌≤◌, ◌==◌, ◌&&◌, ◌||◌, not, Bool, true, false, List, [], ◌∷◌, Some, None, if◌then◌else◌, refl, arith, eqb-true, nat_lt, nat_le}
 use Rattle.std.proofs.lemmas.Bool.Decides.{nat_tests}
+use Rattle.std.proofs.lemmas.Bool.{or_parts, not-false}
 use Rattle.tl_types.specs.Permission.{rank, grow_from, prune_from}
 use Rattle.tl_types.specs.declared.permission.Perm.{Perm}
 use Rattle.tl_types.specs.declared.permission.Perm.TheVariants.{None as p_None, Branch, Tip}
@@ -34,14 +35,6 @@ all-false (x ∷ rest) h =
     let both : (x.0 ≡ false) × (first_of rest ≡ None) = first-false x x.0 rest h in
     (both.0, all-false rest both.1)
 
-pub or-false : (a b : Bool) → (a || b) ≡ false → (a ≡ false) × (b ≡ false)
-or-false true b h = cc
-or-false false b h = (refl, h)
-
-pub not-false : (a : Bool) → not a ≡ false → a ≡ true
-not-false true h = refl
-not-false false h = cc
-
 -- the block is of this bank
 pub here-is : (v : View) (block : ℕ) → elsewhere v block ≡ false → bank_of v.geometry block ≡ v.number
 here-is v block h = eqb-true (bank_of v.geometry block) v.number (not-false (bank_of v.geometry block == v.number) h)
@@ -71,7 +64,7 @@ bytes-are n len false b h = absurd (grind (arith, nat_tests))
 access-allowed : (v : View) (client address len : ℕ) → (no_client v client || bad_access v address len) ≡ false
     → elsewhere v (block_named_by v address) ≡ false → AccessAllowed v client address len
 access-allowed v client address len range here =
-    let both = or-false (no_client v client) (bad_access v address len) range in
+    let both = or_parts (no_client v client) (bad_access v address len) range in
     let block : ℕ = address / v.geometry.block_bytes in
     let bytes = bytes-are 0 len (nat_lt block v.geometry.memory_blocks)
     (nat_le (address % v.geometry.block_bytes + len) v.geometry.block_bytes) both.1 in
@@ -135,7 +128,7 @@ pub record AcquireAllowed (v : View) (c b : ℕ) (grow : Grow) : Type 0 where
 pub acquire-allowed : (v : View) (c b : ℕ) (grow : Grow) → first_of (acquire_cases v c b grow) ≡ None → AcquireAllowed v c b grow
 acquire-allowed v c b grow none =
     let f : AllFalse (acquire_cases v c b grow) = all-false (acquire_cases v c b grow) none in
-    let range = or-false (no_client v c) (no_block v b) f.0 in
+    let range = or_parts (no_client v c) (no_block v b) f.0 in
     record {
       client = client-is v c range.0;
       block = block-is v b range.1;
@@ -148,7 +141,7 @@ acquire-allowed v c b grow none =
 -- a share of this client and this bank, with the number of its copies
 pub share-is : (v : View) (c : ℕ) (share : Holding) → bad_share v c share ≡ false → other_share v share ≡ false → share.count ≡ copies_at v c
 share-is v c share bad other =
-    let both = or-false (not (share.client == c)) ((share.bank == v.number) && not (share.count == copies_at v c)) bad in
+    let both = or_parts (not (share.client == c)) ((share.bank == v.number) && not (share.count == copies_at v c)) bad in
     let at : (share.bank == v.number) ≡ true = not-false (share.bank == v.number) other in
     let count : not (share.count == copies_at v c) ≡ false = rw at at both.1 in
     eqb-true share.count (copies_at v c) (not-false (share.count == copies_at v c) count)
@@ -172,7 +165,7 @@ pub release-allowed : (v : View) (c b : ℕ) (prune : Prune) (share : Holding) �
 release-allowed v c b prune share none =
     let f : AllFalse (release_cases v c b prune share) = all-false (release_cases v c b prune share) none in
     let range = or-three (no_client v c) (no_block v b) (bad_share v c share) f.0 in
-    let place = or-false (elsewhere v b) (other_share v share) f.1.0 in
+    let place = or_parts (elsewhere v b) (other_share v share) f.1.0 in
     record {
       client = client-is v c range.0;
       block = block-is v b range.1;

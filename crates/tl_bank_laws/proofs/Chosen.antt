@@ -1,19 +1,20 @@
 -- The way that home chooses is the one that the rules say.
 use Rattle.std.proofs.Common.{◌≡◌, ℕ, zero, suc, ◌<◌, ◌==◌, ◌&&◌, ◌||◌, not, Bool, true, false, List, [], ◌∷◌, length, Option, Some, None, if◌then◌else◌, refl, sym, ◌∙◌, ap, subst, arith, inl, inr}
+use Rattle.std.proofs.lemmas.Bool.{cases_Bool, and_parts, not-true}
 use Rattle.std.specs.Prelude.{find, is_none}
 use Rattle.std.specs.List.{list_any}
-use Rattle.tl_registers.specs.Register.{lowest, or_this}
+use Rattle.tl_types.proofs.Lowest.{lowest-none, lowest-same, lowest-some, none-lowest}
+use Rattle.tl_types.specs.Lowest.{lowest}
 use Rattle.tl_registers.specs.Registers.{held_in, is_held}
-use Rattle.tl_registers.specs.VictimWay.{IsChosen, IsFreeOrOldest, IsInOrder, IsAmong, block_in, first_not_held, is_free, lowest_free}
+use Rattle.tl_registers.specs.VictimWay.{IsChosen, IsFreeOrOldest, IsInOrder, block_in, first_not_held, is_free, lowest_free}
 use Rattle.tl_registers.specs.declared.register.Register.{Register}
-use Rattle.tl_registers.proofs.Booleans.{bool-cases, and-true, not-true}
 use Rattle.tl_registers.proofs.Order.{first-in-order-is-oldest}
-use Rattle.tl_ways.specs.Orders.{chosen, is_busy, lowest as lowest_way, or_else}
+use Rattle.tl_ways.specs.Orders.{chosen, is_busy, or_else, IsAmong}
 use Rattle.tl_bank_spec.specs.View.{View}
 use Rattle.tl_bank_spec.specs.Ways.{holds_way, slot_at, slots_at, way_in_set, ways_held}
 use Rattle.tl_home.specs.Homes.{HomeState, free_at, order_at}
 use Rattle.tl_bank_laws.specs.Means.{WaysFit, is_filling, is_filling_by}
-use Rattle.tl_bank_laws.proofs.Slots.{lowest-none, lowest-same, lowest-some, none-lowest, slots-in, slots-length}
+use Rattle.tl_bank_laws.proofs.Slots.{slots-in, slots-length}
 
 -- ## The ways that are busy
 
@@ -21,7 +22,7 @@ use Rattle.tl_bank_laws.proofs.Slots.{lowest-none, lowest-same, lowest-some, non
 pub busy-is-held : (set way : ℕ) (xs : List Register) → is_busy (held_in set xs) way ≡ is_held (way_in_set set way) xs
 busy-is-held set way [] = refl
 busy-is-held set way (r ∷ rest) =
-    elim (bool-cases (r.way.set == set)) [
+    elim (cases_Bool (r.way.set == set)) [
       | inl e ↦ rw e (ap (λ (b : Bool). (r.way.way == way) || b) (busy-is-held set way rest))
       | inr e ↦ rw e (busy-is-held set way rest)
     ]
@@ -31,23 +32,12 @@ pub filling-is-held : (v : View) (set way : ℕ) (xs : List Register) → list_a
     → is_held (way_in_set set way) xs ≡ true
 filling-is-held v set way [] h = cc
 filling-is-held v set way (r ∷ rest) h =
-    elim (bool-cases ((r.way.set == set) && (r.way.way == way))) [
+    elim (cases_Bool ((r.way.set == set) && (r.way.way == way))) [
       | inl e ↦ rw e refl
       | inr e ↦ rw e (filling-is-held v set way rest (rw e at h))
     ]
 
 -- ## The choice
-
--- the lowest number below n that passes a test, by either definition
-lowest-both : (test : ℕ → Bool) (n : ℕ) → lowest_way test n ≡ lowest test n
-lowest-both test zero = refl
-lowest-both test (suc n) = rw (lowest-both test n) (one (lowest test n) (test n))
-  where
-    one : (x : Option ℕ) (t : Bool) → or_else x (if t then Some n else None) ≡ or_this x t n
-    one None true = refl
-    one None false = refl
-    one (Some y) true = refl
-    one (Some y) false = refl
 
 -- what is found of an order is its first way that is not held
 find-first : (busy held : ℕ → Bool) (order : List ℕ) → ((way : ℕ) → busy way ≡ held way)
@@ -63,7 +53,7 @@ find-first busy held (w ∷ rest) same = rw same (one (held w) (find-first busy 
 first-among : (held : ℕ → Bool) (order : List ℕ) (way : ℕ) → first_not_held held order ≡ Some way → IsAmong way order × (held way ≡ false)
 first-among held [] way h = cc
 first-among held (w ∷ rest) way h =
-    elim (bool-cases (held w)) [
+    elim (cases_Bool (held w)) [
       | inl e ↦ let more = first-among held rest way (rw e at h) in (inr more.0, more.1)
       | inr e ↦ let h2 : Some w ≡ Some way = (rw e at h) in let same : w ≡ way = cc in (inl (sym same), ap held (sym same) ∙ e)
     ]
@@ -72,7 +62,7 @@ first-among held (w ∷ rest) way h =
 none-first : (held : ℕ → Bool) (order : List ℕ) (way : ℕ) → first_not_held held order ≡ None → IsAmong way order → held way ≡ true
 none-first held [] way h among = absurd among
 none-first held (w ∷ rest) way h among =
-    elim (bool-cases (held w)) [
+    elim (cases_Bool (held w)) [
       | inl e ↦ elim among [ inl same ↦ ap held same ∙ e | inr more ↦ none-first held rest way (rw e at h) more ]
       | inr e ↦ let bad : Some w ≡ None = (rw e at h) in cc
     ]
@@ -84,9 +74,8 @@ chosen-is : (free : ℕ → Bool) (order busy : List ℕ) (slots : List (Option 
     → chosen free ways order busy ≡ or_else (lowest_free slots held) (first_not_held held order)
 unfolding chosen
 chosen-is free order busy slots held ways long empty same =
-    let lowest_is : lowest_way (λ way. free way && not (is_busy busy way)) ways ≡ lowest_free slots held =
-    lowest-both (λ way. free way && not (is_busy busy way)) ways
-    ∙ lowest-same (λ way. free way && not (is_busy busy way)) (λ way. is_free (block_in slots way) && not (held way)) ways
+    let lowest_is : lowest (λ way. free way && not (is_busy busy way)) ways ≡ lowest_free slots held =
+    lowest-same (λ way. free way && not (is_busy busy way)) (λ way. is_free (block_in slots way) && not (held way)) ways
     (λ way l. rw (empty way l, same way) refl)
     ∙ ap (lowest (λ way. is_free (block_in slots way) && not (held way))) (sym long) in
     let first_is = find-first (is_busy busy) held order same in
@@ -111,7 +100,7 @@ picks-free v set way order (Some first) is ordered h =
     let same : first ≡ way = cc in
     let test : ℕ → Bool = λ w. is_free (block_in (slots_at v set) w) && not (holds_way v set w) in
     let found = lowest-some test (length (slots_at v set)) way (is ∙ h) in
-    let parts = and-true (is_free (block_in (slots_at v set) way)) (not (holds_way v set way)) found.1 in
+    let parts = and_parts (is_free (block_in (slots_at v set) way)) (not (holds_way v set way)) found.1 in
     record {
       inside = let long = slots-length v set in omega (arith, long, found.0);
       not_held = not-true (holds_way v set way) parts.1;
@@ -170,7 +159,7 @@ picks-by : (v : View) (set way : ℕ) (free : Option ℕ) → lowest_free (slots
 picks-by v set way (Some first) is h =
     let test : ℕ → Bool = λ w. is_free (block_in (slots_at v set) w) && not (holds_way v set w) in
     let found = lowest-some test (length (slots_at v set)) way (is ∙ ap Some (sym h)) in
-    let parts = and-true (is_free (block_in (slots_at v set) way)) (not (holds_way v set way)) found.1 in
+    let parts = and_parts (is_free (block_in (slots_at v set) way)) (not (holds_way v set way)) found.1 in
     record {
       inside = let long = slots-length v set in omega (arith, long, found.0);
       not_held = not-true (holds_way v set way) parts.1;

@@ -1,5 +1,8 @@
 -- Of fewer than eight blocks something passes between home and the memory, when a register that lets nothing pass is about to.
 use Rattle.std.proofs.Common.{◌≡◌, ◌≢◌, ℕ, ◌+◌, ◌<◌, ◌≤◌, ◌==◌, ◌||◌, not, true, false, List, [], ◌∷◌, length, Option, Some, None, if◌then◌else◌, refl, sym, ◌∙◌, ap, subst, arith, inl, inr, eqb-true, eq-eqb, nat_lt}
+use Rattle.tl_types.proofs.Booleans.{or-else}
+use Rattle.std.proofs.Math.Bool.{or-true}
+use Rattle.std.proofs.lemmas.Bool.{cases_Bool, eqb-false}
 use Rattle.std.specs.Prelude.{◌⊎◌}
 use Rattle.std.proofs.lemmas.Bool.Decides.{nat_tests}
 use Rattle.tl_map.specs.Places.{bank_of}
@@ -14,7 +17,6 @@ use Rattle.tl_registers.specs.Registers.{closed, is_busy, register_of}
 use Rattle.tl_registers.specs.declared.register.Register.{Register}
 use Rattle.tl_registers.specs.declared.register.Task.{Task}
 use Rattle.tl_registers.specs.declared.register.Task.TheVariants.{Acquire, Replace, Evict}
-use Rattle.tl_registers.proofs.Booleans.{bool-cases, neq-of, or-else, or-true}
 use Rattle.tl_registers.proofs.Tables.{IsOneOf, each-filter, each-follows, one-among}
 use Rattle.tl_bank_spec.specs.View.{View, IsOwn, block_at, shape_of}
 use Rattle.tl_bank_laws.specs.Layers.{Layers}
@@ -29,7 +31,7 @@ is-block b (Some x) h = ap (λ (n : ℕ). Some n) (eqb-true x b h)
 -- a register that works on a block has it as its own or as its victim
 works-is : (own b : ℕ) (victim : Option ℕ) → ((own == b) || is_block b victim) ≡ true → (own ≡ b) ⊎ (victim ≡ Some b)
 works-is own b victim h =
-    elim (bool-cases (own == b)) [
+    elim (cases_Bool (own == b)) [
       | inl t ↦ inl (eqb-true own b t)
       | inr t ↦ inr (is-block b victim (or-else (own == b) (is_block b victim) h t))
     ]
@@ -88,7 +90,7 @@ place (q ∷ rest) b = if works_on q b then 0 else place rest b + 1
 place-inside : (xs : List Register) (b : ℕ) → is_busy b xs ≡ true → place xs b < length xs
 place-inside [] b h = cc
 place-inside (q ∷ rest) b h =
-    elim (bool-cases (works_on q b)) [
+    elim (cases_Bool (works_on q b)) [
       | inl t ↦ rw t (omega arith)
       | inr t ↦ let more = place-inside rest b (or-else (works_on q b) (is_busy b rest) h t) in rw t (omega (arith, more))
     ]
@@ -102,12 +104,12 @@ place-same : (states : ℕ → Block) (xs : List Register) (a b : ℕ) → Each 
     → (states a).outward ≢ Quiet → (states b).outward ≢ Quiet → place xs a ≡ place xs b → a ≡ b
 place-same states [] a b each busy_a busy_b some_a some_b same = cc
 place-same states (q ∷ rest) a b each busy_a busy_b some_a some_b same =
-    elim (bool-cases (works_on q a)) [
-      | inl s ↦ elim (bool-cases (works_on q b)) [
+    elim (cases_Bool (works_on q a)) [
+      | inl s ↦ elim (cases_Bool (works_on q b)) [
         | inl t ↦ each.0 a b s t some_a some_b
         | inr t ↦ let bad : 0 ≡ place rest b + 1 = (rw (s, t) at same) in absurd (omega (arith, bad))
       ]
-      | inr s ↦ elim (bool-cases (works_on q b)) [
+      | inr s ↦ elim (cases_Bool (works_on q b)) [
         | inl t ↦ let bad : place rest a + 1 ≡ 0 = (rw (s, t) at same) in absurd (omega (arith, bad))
         | inr t ↦
             let more : place rest a + 1 ≡ place rest b + 1 = (rw (s, t) at same) in
@@ -118,17 +120,17 @@ place-same states (q ∷ rest) a b each busy_a busy_b some_a some_b same =
 
 -- ## The other registers
 
-closed-few : (own : ℕ) (xs : List Register) → length (closed own xs) ≤ length xs
+pub closed-few : (own : ℕ) (xs : List Register) → length (closed own xs) ≤ length xs
 closed-few own [] = omega arith
 closed-few own (q ∷ rest) =
     let more = closed-few own rest in
-    elim (bool-cases (q.own == own)) [ inl t ↦ rw t (omega (arith, more)) | inr t ↦ rw t (omega (arith, more)) ]
+    elim (cases_Bool (q.own == own)) [ inl t ↦ rw t (omega (arith, more)) | inr t ↦ rw t (omega (arith, more)) ]
 
 -- without its own register they are fewer
 closed-fewer : (own : ℕ) (xs : List Register) (r : Register) → register_of own xs ≡ Some r → length (closed own xs) < length xs
 closed-fewer own [] r h = cc
 closed-fewer own (q ∷ rest) r h =
-    elim (bool-cases (q.own == own)) [
+    elim (cases_Bool (q.own == own)) [
       | inl t ↦ let more = closed-few own rest in rw t (omega (arith, more))
       | inr t ↦
           let h2 : register_of own rest ≡ Some r = (rw t at h) in
@@ -140,7 +142,7 @@ closed-busy : (own : ℕ) (xs : List Register) (r : Register) (b : ℕ) → r.ow
     → is_busy b xs ≡ true → is_busy b (closed own xs) ≡ true
 closed-busy own [] r b here each off busy = cc
 closed-busy own (q ∷ rest) r b here each off busy =
-    elim (bool-cases (q.own == own)) [
+    elim (cases_Bool (q.own == own)) [
       | inl t ↦
           let off_q : works_on q b ≡ false = elim each.0 [
             | inl same ↦ ap (λ (x : Register). works_on x b) same ∙ off
@@ -152,7 +154,7 @@ closed-busy own (q ∷ rest) r b here each off busy =
           ] in
           rw t (closed-busy own rest r b here each.1 off (or-else (works_on q b) (is_busy b rest) busy off_q))
       | inr t ↦
-          elim (bool-cases (works_on q b)) [
+          elim (cases_Bool (works_on q b)) [
             | inl s ↦ rw (t, s) refl
             | inr s ↦
                 let more = closed-busy own rest r b here each.1 off (or-else (works_on q b) (is_busy b rest) busy s) in
@@ -165,10 +167,10 @@ closed-busy own (q ∷ rest) r b here each off busy =
 -- a block is one of the bank or not
 pub own-or-not : (v : View) (b : ℕ) → IsOwn v.geometry v.number b ⊎ (IsOwn v.geometry v.number b → ⊥)
 own-or-not v b =
-    elim (bool-cases (nat_lt b v.geometry.memory_blocks)) [
-      | inl s ↦ elim (bool-cases (bank_of v.geometry b == v.number)) [
+    elim (cases_Bool (nat_lt b v.geometry.memory_blocks)) [
+      | inl s ↦ elim (cases_Bool (bank_of v.geometry b == v.number)) [
         | inl t ↦ inl (grind (arith, nat_tests), eqb-true (bank_of v.geometry b) v.number t)
-        | inr t ↦ inr (λ own. neq-of (bank_of v.geometry b) v.number t own.1)
+        | inr t ↦ inr (λ own. eqb-false (bank_of v.geometry b) v.number t own.1)
       ]
       | inr s ↦ inr (λ own. let l = own.0 in absurd (grind (arith, nat_tests)))
     ]
@@ -181,7 +183,7 @@ crossing-busy v h b m some =
       | inr apart ↦ absurd (some (m.quiet b apart))
       | inl own ↦
           let is = (m.home b own).outward in
-          elim (bool-cases (is_busy b v.registers)) [
+          elim (cases_Bool (is_busy b v.registers)) [
             | inl busy ↦ (busy, λ quiet. some (is ∙ quiet))
             | inr free ↦ absurd (some (is ∙ (m.registers.agree.at_rest b free).quiet))
           ]
@@ -209,7 +211,7 @@ crossings-few v h own r count m found here fits own_quiet victim_quiet most =
     let busy : (b : ℕ) → outward_in h.home b ≢ Quiet → is_busy b others ≡ true =
     λ b some.
     let k = crossing-busy v h b m some in
-    elim (bool-cases (works_on r b)) [
+    elim (cases_Bool (works_on r b)) [
       | inl on ↦ absurd (k.1 (none-crosses shape (block_at v) r r.task fits.task own_quiet victim_quiet b on))
       | inr off ↦ closed-busy own v.registers r b here among off k.0
     ] in

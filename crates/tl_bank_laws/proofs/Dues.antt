@@ -1,5 +1,7 @@
 -- What an action that a register has to do next shows of the bank.
 use Rattle.std.proofs.Common.{◌≡◌, ℕ, ◌+◌, ◌<◌, ◌≤◌, ◌==◌, ◌||◌, Bool, true, false, List, [], ◌∷◌, ◌++◌, Option, Some, None, refl, sym, ◌∙◌, ap, subst, arith, inl, inr, eqb-true, eq-eqb}
+use Rattle.std.proofs.Math.Bool.{or-true}
+use Rattle.std.proofs.lemmas.Bool.{cases_Bool}
 use Rattle.std.specs.Prelude.{slice_index_or}
 use Rattle.tl_types.specs.Lane.{Lane, sent}
 use Rattle.tl_types.specs.declared.ticket.Ticket.{Ticket}
@@ -24,7 +26,6 @@ use Rattle.tl_registers.specs.declared.register.Register.{Register}
 use Rattle.tl_registers.specs.declared.register.Task.{Task}
 use Rattle.tl_registers.specs.declared.register.Task.TheVariants.{Acquire, Replace, Evict}
 use Rattle.tl_registers.proofs.Actions.{every-action-is-of-its-register}
-use Rattle.tl_registers.proofs.Booleans.{bool-cases, or-true}
 use Rattle.tl_registers.proofs.Permitted.{every-action-is-permitted}
 use Rattle.tl_bank_spec.specs.Effects.{Advances, action_of, registers_after, ways_after}
 use Rattle.tl_bank_spec.specs.HomeCalls.{advance_cases}
@@ -44,7 +45,7 @@ use Rattle.tl_bank_laws.proofs.Ways.{bank-steady}
 pub found-own : (own : ℕ) (xs : List Register) (r : Register) → register_of own xs ≡ Some r → r.own ≡ own
 found-own own [] r h = cc
 found-own own (q ∷ rest) r h =
-    elim (bool-cases (q.own == own)) [
+    elim (cases_Bool (q.own == own)) [
       | inl e ↦
           let h2 : Some q ≡ Some r = (rw e at h) in
           let same : q ≡ r = cc in
@@ -56,7 +57,7 @@ found-own own (q ∷ rest) r h =
 pub found-each : (P : Register → Type 0) (own : ℕ) (xs : List Register) (r : Register) → Each P xs → register_of own xs ≡ Some r → P r
 found-each P own [] r each h = cc
 found-each P own (q ∷ rest) r each h =
-    elim (bool-cases (q.own == own)) [
+    elim (cases_Bool (q.own == own)) [
       | inl e ↦
           let h2 : Some q ≡ Some r = (rw e at h) in
           let same : q ≡ r = cc in
@@ -223,7 +224,7 @@ grant-free v old own c same none is =
 -- there are at most sixteen clients
 most-few : (version n : ℕ) → n ≤ most_clients version → n ≤ 16
 most-few version n h =
-    elim (bool-cases (version == 1)) [
+    elim (cases_Bool (version == 1)) [
       | inl t ↦ let k : n ≤ 8 = (rw t at h) in omega (arith, k)
       | inr t ↦ (rw t at h)
     ]

@@ -1,8 +1,9 @@
 -- A register opens that sends a block away, and what it leaves.
 use Rattle.std.proofs.Common.{◌≡◌, ℕ, ◌+◌, ◌<◌, ◌≤◌, false, [], ◌∷◌, ◌++◌, length, Option, Some, None, is_none, refl, sym, ◌∙◌, arith, length-append}
 use Rattle.std.proofs.lemmas.Bool.Decides.{nat_tests}
+use Rattle.tl_map.proofs.LimitLaws.{few_clients}
+use Rattle.tl_bank_laws.proofs.Slots.{some-is}
 use Rattle.tl_map.specs.Numbers.{Numbers, IsLawful}
-use Rattle.tl_map.specs.Limits.{most_clients}
 use Rattle.tl_map.specs.Places.{set_of}
 use Rattle.tl_registers.specs.Agree.{Agree}
 use Rattle.tl_registers.specs.Register.{opened}
@@ -24,13 +25,6 @@ use Rattle.tl_bank_laws.proofs.Orders.{order-fills}
 use Rattle.tl_bank_laws.proofs.Ways.{bank-steady}
 
 -- ## A register more
-
--- there are at most sixteen clients
-pub few-clients : (g : Numbers) → IsLawful g → g.clients ≤ 16
-few-clients g lawful = few g.version lawful.clients.most
-  where
-    few : (version : ℕ) → g.clients ≤ most_clients version → g.clients ≤ 16
-    few version l = grind (arith, nat_tests)
 
 -- where not all registers are in use there is one for more
 pub one-more : (v : View) (r : Register) → registers_full v ≡ false → length (v.registers ++ r ∷ []) ≤ v.geometry.registers
@@ -57,16 +51,12 @@ evict-allowed v block none =
       room = f.1.1.1.1.0;
     }
 
-is-there : (lies : Option ℕ) → is_none lies ≡ false → (way : ℕ) × (lies ≡ Some way)
-is-there None h = cc
-is-there (Some way) h = (way, refl)
-
 -- it lies in a way
 pub evict-lies : (v : View) (h : Layers) (block : ℕ) → Means v h → first_of (evict_cases v block) ≡ None
     → (way : ℕ) × (way_at v block ≡ Some way)
 evict-lies v h block m none =
     let ok = evict-allowed v block none in
-    is-there (way_at v block) (sym (m.ways.holds block ok.own) ∙ ok.held)
+    some-is (way_at v block) (sym (m.ways.holds block ok.own) ∙ ok.held)
 
 -- ## The bank then
 
@@ -94,7 +84,7 @@ evict-keeps v h block way m none lies =
     let r : Register = evicting v block way in
     let agree : Agree (shape_of v.geometry) (block_at v) (v.registers ++ r ∷ []) =
     evicting-keeps-agreement (shape_of v.geometry) (block_at v) v.registers block r.way (bank-steady v h m) m.registers.agree
-    (few-clients v.geometry m.geometry) ok.own.0 ok.free in
+    (few_clients v.geometry m.geometry) ok.own.0 ok.free in
     record {
       lawful = m.lawful;
       own = m.own;

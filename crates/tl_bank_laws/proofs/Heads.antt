@@ -2,6 +2,7 @@
 use Rattle.std.proofs.Common.{◌≡◌, ◌≢◌, ℕ, ◌<◌, ◌==◌, not, Bool, true, false, List, [], ◌∷◌, refl, sym, ◌∙◌, ap, subst, eqb-true}
 use Rattle.std.specs.List.{All}
 use Rattle.std.proofs.lemmas.List.Elements.{All-head}
+use Rattle.std.proofs.lemmas.Bool.{or_parts, not-false}
 use Rattle.tl_types.specs.Channel.{same_channel}
 use Rattle.tl_types.specs.Lane.{Lane, bodies_of, IsFirst}
 use Rattle.tl_types.specs.declared.channel.Channel.{Channel}
@@ -17,7 +18,6 @@ use Rattle.tl_bank_spec.specs.View.{View, IsOwn, shape_of, client_at, lane_at}
 use Rattle.tl_bank_laws.specs.Layers.{Layers}
 use Rattle.tl_bank_laws.specs.Link.{IsHead}
 use Rattle.tl_bank_laws.specs.Means.{Means}
-use Rattle.tl_bank_laws.proofs.Allowed.{or-false, not-false}
 
 -- a ticket names the first message of a channel, which is of a kind
 pub record HeadAllowed (v : View) (t : Ticket) (k : Channel) (kind : Body → Bool) : Type 0 where
@@ -35,7 +35,7 @@ first-kind kind (x ∷ rest) h = (x, rest, refl, not-false (kind x.body) h)
 pub head-allowed : (v : View) (t : Ticket) (k : Channel) (kind : Body → Bool) → t.client < v.geometry.clients
     → not (t.bank == v.number) ≡ false → other_channel t k ≡ false → not_head v t k kind ≡ false → HeadAllowed v t k kind
 head-allowed v t k kind lt bank channel head =
-    let both = or-false (not (t.serial == (lane_at v t.client k).taken)) (not (begins kind (lane_at v t.client k).messages)) head in
+    let both = or_parts (not (t.serial == (lane_at v t.client k).taken)) (not (begins kind (lane_at v t.client k).messages)) head in
     record {
       client = lt;
       bank = eqb-true t.bank v.number (not-false (t.bank == v.number) bank);

@@ -1,7 +1,8 @@
 -- A block leaves home: it is dropped, or put back to the memory.
 use Rattle.std.proofs.Common.{◌≡◌, ◌≢◌, ℕ, ◌<◌, ◌≤◌, ◌==◌, ◌&&◌, Bool, true, false, List, Option, Some, None, is_none, if◌then◌else◌, refl, sym, ◌∙◌, ap, subst, arith, inl, inr, eqb-true, eq-eqb}
 use Rattle.std.specs.Prelude.{IsSome, slice_index_or}
-use Rattle.std.proofs.lemmas.Bool.{cases_lt}
+use Rattle.std.proofs.lemmas.Bool.{cases_lt, and_parts, cases_Bool}
+use Rattle.tl_types.proofs.Lowest.{none-lowest}
 use Rattle.tl_types.specs.declared.permission.Perm.TheVariants.{None as p_None}
 use Rattle.tl_map.specs.Places.{set_of}
 use Rattle.tl_protocol.specs.Protocol.{Block, Idle, MayGiveUp, home_bytes}
@@ -20,7 +21,6 @@ use Rattle.tl_registers.specs.Registers.{ended, is_busy, register_of}
 use Rattle.tl_registers.specs.VictimWay.{IsInOrder}
 use Rattle.tl_registers.specs.declared.due.Due.TheVariants.{Put, Drop}
 use Rattle.tl_registers.specs.declared.register.Register.{Register}
-use Rattle.tl_registers.proofs.Booleans.{and-true, bool-cases}
 use Rattle.tl_registers.proofs.Closing.{dropping-keeps-agreement, putting-keeps-agreement}
 use Rattle.tl_registers.proofs.Order.{other-events-keep-order}
 use Rattle.tl_registers.proofs.Tables.{each-follows, found-busy}
@@ -35,7 +35,7 @@ use Rattle.tl_bank_laws.proofs.Moves.{at-block, at-other}
 use Rattle.tl_bank_laws.proofs.Next.{block_next, blocks-next, means-next, next_view, registers-next}
 use Rattle.tl_bank_laws.proofs.Orders.{GrantsNothing, grants-none, order-transfers}
 use Rattle.tl_bank_laws.proofs.Pointwise.{each-next, entries-next, here, homes-next, left, quiet-next}
-use Rattle.tl_bank_laws.proofs.Slots.{below-at, below-past, lies-slot, lies-true, none-lowest, slot-lies, slot-same, slots-in, slots-length, slots-some, true-lies}
+use Rattle.tl_bank_laws.proofs.Slots.{below-at, below-past, lies-slot, lies-true, slot-lies, slot-same, slots-in, slots-length, slots-some, true-lies}
 use Rattle.tl_bank_laws.proofs.TakesPutAck.{ended-few, ended-fits}
 use Rattle.tl_bank_laws.proofs.Ways.{bank-steady, filling-follows, no-grant-next, same-work}
 
@@ -87,7 +87,7 @@ slot-left : (v : View) (e : Event) (room : ℕ) (ways : List (Option ℕ)) (bloc
 slot-left v e room ways block set way home went fit own in_set at =
     let t : View = next_view v e room v.registers ways in
     none-lowest (lies_in t set way) v.geometry.memory_blocks
-    (λ x l. elim (bool-cases (lies_in t set way x)) [
+    (λ x l. elim (cases_Bool (lies_in t set way x)) [
       | inr f ↦ f
       | inl lies ↦
           let is = lies-true t set way x lies in
@@ -102,13 +102,13 @@ slot-kept : (v : View) (e : Event) (room : ℕ) (ways : List (Option ℕ)) (bloc
 slot-kept v e room ways block set way went not_here =
     let t : View = next_view v e room v.registers ways in
     slot-same v t set way refl
-    (λ b l. elim (bool-cases (lies_in t set way b)) [
+    (λ b l. elim (cases_Bool (lies_in t set way b)) [
       | inl lies ↦ lies ∙ sym (lies-there v e room ways block set way b went l lies)
-      | inr f ↦ elim (bool-cases (lies_in v set way b)) [
+      | inr f ↦ elim (cases_Bool (lies_in v set way b)) [
         | inr g ↦ f ∙ sym g
         | inl lay ↦
             let is = lies-true v set way b lay in
-            elim (bool-cases (b == block)) [
+            elim (cases_Bool (b == block)) [
               | inl same ↦
                   let at : b ≡ block = eqb-true b block same in
                   absurd (not_here (ap (set_of v.geometry) (sym at) ∙ is.1) (ap (way_at v) (sym at) ∙ is.2))
@@ -133,7 +133,7 @@ free-then : (v : View) (e : Event) (room : ℕ) (ways : List (Option ℕ)) (bloc
     → IsOwn v.geometry v.number block → free_at old set way ≡ is_none (slot_at v set way)
     → (if t then true else free_at old set way) ≡ is_none (slot_at (next_view v e room v.registers ways) set way)
 free-then v e room ways block set way old true here went fit own was =
-    let k = and-true (set == set_of v.geometry block) (is_home_way (way_in old block) way) here in
+    let k = and_parts (set == set_of v.geometry block) (is_home_way (way_in old block) way) here in
     let in_set : set_of v.geometry block ≡ set = sym (eqb-true set (set_of v.geometry block) k.0) in
     let at : way_at v block ≡ Some way = fit.shown block own.0 ∙ home-way way (way_in old block) k.1 in
     ap (λ (o : Option ℕ). is_none o) (sym (slot-left v e room ways block set way old went fit own in_set at))
@@ -196,7 +196,7 @@ leaving-fits v e room ways old new steady none own lacks gave geometry shown fit
           let k = slots-some t set w b at in
           let was = slot-there v e room ways block set w b old went fit k.1 in (
             slots-in v set w k.0 ∙ was,
-            elim (bool-cases (is_filling v set w)) [
+            elim (cases_Bool (is_filling v set w)) [
               | inr f ↦ f
               | inl f ↦
                   let still = filling-follows v t set w v.registers v.registers (no-grant-next v e room v.registers ways steady none)
@@ -222,7 +222,7 @@ nobody-at shape s kept idle x =
 pub works-busy : (v : View) (own block : ℕ) (acts : Register) → register_of own v.registers ≡ Some acts → works_on acts block ≡ true
     → is_busy block v.registers ≡ true
 works-busy v own block r found on =
-    elim (bool-cases (is_busy block v.registers)) [ inl t ↦ t | inr f ↦ absurd (found-busy own v.registers r block found on f) ]
+    elim (cases_Bool (is_busy block v.registers)) [ inl t ↦ t | inr f ↦ absurd (found-busy own v.registers r block found on f) ]
 
 -- what became of the layers where a block left home
 pub leaving-layers : (v : View) (h : Layers) (e : Event) (new : HomeState) → Means v h → IsOwn v.geometry v.number (here v e)

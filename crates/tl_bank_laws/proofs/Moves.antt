@@ -1,13 +1,13 @@
 -- What a block that comes into a way or leaves it changes of what lies in the ways of a set.
 use Rattle.std.proofs.Common.{◌≡◌, ◌≢◌, ℕ, zero, suc, ◌<◌, ◌==◌, Bool, true, false, List, [], ◌∷◌, length, set, slice_index_or, Option, Some, None, if◌then◌else◌, refl, sym, ◌∙◌, ap, subst, arith, inl, inr, eq-eqb}
-use Rattle.std.proofs.lemmas.Bool.{cases_eq, cases_lt}
+use Rattle.std.proofs.lemmas.Bool.{cases_eq, cases_lt, cases_Bool, ne_eqb}
 use Rattle.std.proofs.lemmas.List.{set-append_left}
 use Rattle.std.proofs.Math.Seq.{set-append_seam}
+use Rattle.tl_types.proofs.Lowest.{lowest-same, none-lowest}
 use Rattle.tl_map.specs.Places.{bank_of, set_of}
-use Rattle.tl_registers.proofs.Booleans.{bool-cases, neqb-of}
 use Rattle.tl_bank_spec.specs.View.{View, IsOwn, way_at, ways_below}
 use Rattle.tl_bank_spec.specs.Ways.{lies_in, slot_at, slots_at}
-use Rattle.tl_bank_laws.proofs.Slots.{below-at, below-length, below-past, below-same, lies-slot, lies-true, lowest-same, none-lowest, slot-empty, slots-are, true-lies}
+use Rattle.tl_bank_laws.proofs.Slots.{below-at, below-length, below-past, below-same, lies-slot, lies-true, slot-empty, slots-are, true-lies}
 
 -- ## What changes at one block
 
@@ -17,7 +17,7 @@ at-block block x y = let same : (block == block) ≡ true = eq-eqb block block r
 
 -- the value of another
 pub at-other : {X : Type 0} (block b : ℕ) (x y : X) → b ≢ block → (if b == block then x else y) ≡ y
-at-other block b x y ne = let fails : (b == block) ≡ false = neqb-of b block ne in rw fails refl
+at-other block b x y ne = let fails : (b == block) ≡ false = ne_eqb b block ne in rw fails refl
 
 -- ## One slot of a set
 
@@ -94,7 +94,7 @@ empty-lies v s way block none l =
 pub lies-empty : (v : View) (set way : ℕ) → ((block : ℕ) → Lies v set way block → ⊥) → slot_at v set way ≡ None
 lies-empty v s way none =
     none-lowest (lies_in v s way) v.geometry.memory_blocks
-    (λ block l. elim (bool-cases (lies_in v s way block)) [
+    (λ block l. elim (cases_Bool (lies_in v s way block)) [
       | inl is ↦ absurd (none block (lies-of v s way block l is))
       | inr fails ↦ fails
     ])

@@ -1,5 +1,6 @@
 -- Registers that are gone leave the ways fit, if the ways that they held are not filling.
 use Rattle.std.proofs.Common.{◌≡◌, ℕ, ◌&&◌, ◌==◌, Bool, true, false, List, [], ◌∷◌, filter, Option, is_none, refl, sym, ◌∙◌, ap, subst, inl, inr}
+use Rattle.std.proofs.lemmas.Bool.{cases_Bool, or_parts}
 use Rattle.std.proofs.lemmas.Map.Views.{any-filter_same}
 use Rattle.tl_home.specs.Homes.{HomeState, order_at}
 use Rattle.tl_registers.specs.Agree.{Each}
@@ -7,7 +8,6 @@ use Rattle.tl_registers.specs.Registers.{is_held}
 use Rattle.tl_registers.specs.VictimWay.{IsInOrder}
 use Rattle.tl_registers.specs.declared.register.Register.{Register}
 use Rattle.tl_registers.specs.declared.way_of_set.WayOfSet.{WayOfSet}
-use Rattle.tl_registers.proofs.Booleans.{bool-cases, or-false}
 use Rattle.tl_bank_spec.specs.View.{View}
 use Rattle.tl_bank_spec.specs.Ways.{slots_at}
 use Rattle.tl_bank_laws.specs.Means.{HoldsWay, WaysApart, WaysFit, is_filling, is_filling_by}
@@ -18,7 +18,7 @@ use Rattle.tl_bank_laws.proofs.Ways.{each-holds-stay, same-work, slot-stays, slo
 each-left : (P : Register → Type 0) (test : Register → Bool) (xs : List Register) → Each P xs → Each P (filter test xs)
 each-left P test [] h = tt
 each-left P test (r ∷ rest) h =
-    elim (bool-cases (test r)) [
+    elim (cases_Bool (test r)) [
       | inl t ↦ rw t (h.0, each-left P test rest h.1)
       | inr t ↦ rw t (each-left P test rest h.1)
     ]
@@ -27,9 +27,9 @@ each-left P test (r ∷ rest) h =
 held-left : (way : WayOfSet) (test : Register → Bool) (xs : List Register) → is_held way xs ≡ false → is_held way (filter test xs) ≡ false
 held-left way test [] h = refl
 held-left way test (r ∷ rest) h =
-    let both = or-false ((r.way.set == way.set) && (r.way.way == way.way)) (is_held way rest) h in
+    let both = or_parts ((r.way.set == way.set) && (r.way.way == way.way)) (is_held way rest) h in
     let later = held-left way test rest both.1 in
-    elim (bool-cases (test r)) [
+    elim (cases_Bool (test r)) [
       | inl t ↦ rw t (rw (both.0, later) refl)
       | inr t ↦ rw t later
     ]
@@ -37,7 +37,7 @@ held-left way test (r ∷ rest) h =
 apart-left : (test : Register → Bool) (xs : List Register) → WaysApart xs → WaysApart (filter test xs)
 apart-left test [] h = tt
 apart-left test (r ∷ rest) h =
-    elim (bool-cases (test r)) [
+    elim (cases_Bool (test r)) [
       | inl t ↦ rw t (held-left r.way test rest h.0, apart-left test rest h.1)
       | inr t ↦ rw t (apart-left test rest h.1)
     ]

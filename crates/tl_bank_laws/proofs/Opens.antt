@@ -1,5 +1,6 @@
 -- A register that opens holds a way of its own.
 use Rattle.std.proofs.Common.{◌≡◌, ℕ, ◌<◌, ◌==◌, ◌&&◌, ◌||◌, Bool, true, false, List, [], ◌∷◌, ◌++◌, Option, Some, None, refl, sym, ◌∙◌, ap, subst, inl, inr, eqb-true, eq-eqb}
+use Rattle.std.proofs.lemmas.Bool.{cases_Bool, or_parts, and_parts, or_right}
 use Rattle.std.specs.Prelude.{◌⊎◌, IfSome, is_none, is_some}
 use Rattle.std.specs.List.{list_any}
 use Rattle.tl_map.specs.Numbers.{Numbers}
@@ -15,7 +16,6 @@ use Rattle.tl_registers.specs.declared.register.Register.{Register}
 use Rattle.tl_registers.specs.declared.register.Task.{Task}
 use Rattle.tl_registers.specs.declared.register.Task.TheVariants.{Evict}
 use Rattle.tl_registers.specs.declared.way_of_set.WayOfSet.{WayOfSet}
-use Rattle.tl_registers.proofs.Booleans.{bool-cases, or-false, and-true}
 use Rattle.tl_registers.proofs.Tables.{each-end, each-follows}
 use Rattle.tl_ways.specs.Orders.{chosen}
 use Rattle.tl_bank_spec.specs.HomeCases.{lacks}
@@ -26,7 +26,7 @@ use Rattle.tl_home.proofs.DirectoryLaws.{IsThere-of}
 use Rattle.tl_bank_laws.specs.Means.{HoldsWay, Means, WaysApart, WaysFit, is_filling}
 use Rattle.tl_bank_laws.specs.Layers.{Layers}
 use Rattle.tl_bank_laws.proofs.Chosen.{Picks, chosen-picks, none-held, picks-chosen, picks-held}
-use Rattle.tl_bank_laws.proofs.Slots.{lies-slot, lies-true, slot-lies, true-lies}
+use Rattle.tl_bank_laws.proofs.Slots.{lies-slot, lies-true, slot-lies, true-lies, none-is}
 
 -- ## The way is free to be held
 
@@ -43,11 +43,11 @@ held-works : (v : View) (set way block : ℕ) (xs : List Register) → Each (Hol
     → Lies v set way block → is_busy block xs ≡ false → is_held (way_in_set set way) xs ≡ false
 held-works v set way block [] held l lies free = refl
 held-works v set way block (r ∷ rest) held l lies free =
-    let parts = or-false (works_on r block) (is_busy block rest) free in
+    let parts = or_parts (works_on r block) (is_busy block rest) free in
     let more = held-works v set way block rest held.1 l lies parts.1 in
-    elim (bool-cases ((r.way.set == set) && (r.way.way == way))) [
+    elim (cases_Bool ((r.way.set == set) && (r.way.way == way))) [
       | inl e ↦
-          let both = and-true (r.way.set == set) (r.way.way == way) e in
+          let both = and_parts (r.way.set == set) (r.way.way == way) e in
           let in_set : set ≡ r.way.set = sym (eqb-true r.way.set set both.0) in
           let in_way : way ≡ r.way.way = sym (eqb-true r.way.way way both.1) in
           let there : Lies v r.way.set r.way.way block =
@@ -64,9 +64,9 @@ works-held : (v : View) (set way block : ℕ) (xs : List Register) → Each (Hol
     → is_held (way_in_set set way) xs ≡ false → is_busy block xs ≡ false
 works-held v set way block [] held lies free = refl
 works-held v set way block (r ∷ rest) held lies free =
-    let parts = or-false ((r.way.set == set) && (r.way.way == way)) (is_held (way_in_set set way) rest) free in
+    let parts = or_parts ((r.way.set == set) && (r.way.way == way)) (is_held (way_in_set set way) rest) free in
     let more = works-held v set way block rest held.1 lies parts.1 in
-    elim (bool-cases (works_on r block)) [
+    elim (cases_Bool (works_on r block)) [
       | inl on ↦
           let in_set : r.way.set ≡ set = sym (held.0.own block on).1 ∙ lies.1 in
           let in_way : r.way.way ≡ way = sym (held.0.lies block way on lies.2) in
@@ -145,10 +145,6 @@ pub record WorksOn (r : Register) (victim : Option ℕ) : Type 0 where
 own-on : (own b : ℕ) (t : Bool) → own ≡ b → ((own == b) || t) ≡ true
 own-on own b t e = rw (eq-eqb own b e) refl
 
-or-right : (s t : Bool) → t ≡ true → (s || t) ≡ true
-or-right true t h = refl
-or-right false t h = h
-
 or-either : (s t : Bool) → (s || t) ≡ true → (s ≡ true) ⊎ (t ≡ true)
 or-either true t h = inl refl
 or-either false t h = inr h
@@ -167,7 +163,7 @@ acquire-works-on block way acquire (Some victim) = record {
   ];
   on = λ b. elim [
     | inl e ↦ own-on block b (victim == b) e
-    | inr e ↦ let same : victim ≡ b = cc in or-right (block == b) (victim == b) (eq-eqb victim b same)
+    | inr e ↦ let same : victim ≡ b = cc in or_right (block == b) (victim == b) (eq-eqb victim b same)
   ];
 }
 
@@ -199,9 +195,9 @@ new-holds v block way task victim may works = record {
 
 differs-back : (s t : WayOfSet) → ((s.set == t.set) && (s.way == t.way)) ≡ false → ((t.set == s.set) && (t.way == s.way)) ≡ false
 differs-back s t h =
-    elim (bool-cases ((t.set == s.set) && (t.way == s.way))) [
+    elim (cases_Bool ((t.set == s.set) && (t.way == s.way))) [
       | inl e ↦
-          let both = and-true (t.set == s.set) (t.way == s.way) e in
+          let both = and_parts (t.set == s.set) (t.way == s.way) e in
           let first = eq-eqb s.set t.set (sym (eqb-true t.set s.set both.0)) in
           let second = eq-eqb s.way t.way (sym (eqb-true t.way s.way both.1)) in
           let bad : true ≡ false = rw (first, second) at h in
@@ -213,14 +209,14 @@ held-end : (way : WayOfSet) (xs : List Register) (r : Register) → is_held way 
     → ((r.way.set == way.set) && (r.way.way == way.way)) ≡ false → is_held way (xs ++ r ∷ []) ≡ false
 held-end way [] r h one = rw one refl
 held-end way (x ∷ rest) r h one =
-    let parts = or-false ((x.way.set == way.set) && (x.way.way == way.way)) (is_held way rest) h in
+    let parts = or_parts ((x.way.set == way.set) && (x.way.way == way.way)) (is_held way rest) h in
     rw parts.0 (held-end way rest r parts.1 one)
 
 -- registers whose ways are apart stay so with one more whose way is not held
 pub ways-apart-end : (xs : List Register) (r : Register) → WaysApart xs → is_held r.way xs ≡ false → WaysApart (xs ++ r ∷ [])
 ways-apart-end [] r apart free = (refl, tt)
 ways-apart-end (x ∷ rest) r apart free =
-    let parts = or-false ((x.way.set == r.way.set) && (x.way.way == r.way.way)) (is_held r.way rest) free in
+    let parts = or_parts ((x.way.set == r.way.set) && (x.way.way == r.way.way)) (is_held r.way rest) free in
     (held-end x.way rest r apart.0 (differs-back x.way r.way parts.0), ways-apart-end rest r apart.1 parts.1)
 
 -- what a register holds does not rest on the log, the room or the registers
@@ -243,7 +239,7 @@ any-follows p q [] r f h = cc
 any-follows p q (x ∷ rest) r f h =
     elim (or-either (p x) (list_any p rest) h) [
       | inl e ↦ rw (f x e) refl
-      | inr e ↦ or-right (q x) (list_any q (rest ++ r ∷ [])) (any-follows p q rest r f e)
+      | inr e ↦ or_right (q x) (list_any q (rest ++ r ∷ [])) (any-follows p q rest r f e)
     ]
 
 -- the view once a register is open
@@ -273,10 +269,6 @@ ways-open v home log room r fit new free holds orders = record {
 lies-here : (home : HomeState) (block way : ℕ) → way_in home block ≡ Some way → bank_of (geometry_in home) block ≡ bank_in home
 unfolding way_in geometry_in bank_in
 lies-here home block way e = (IsThere-of home.directory block way e).own
-
-none-is : (slot : Option ℕ) → is_none slot ≡ true → slot ≡ None
-none-is None h = refl
-none-is (Some block) h = cc
 
 slot-found : (v : View) (h : Layers) (set way : ℕ) (found : Option ℕ) → Means v h → set < v.geometry.sets → way < v.geometry.ways
     → IfSome found (λ b. b < (geometry_in h.home).memory_blocks) → IfSome found (λ b. set_of (geometry_in h.home) b ≡ set)

@@ -1,9 +1,9 @@
 -- What keeps the order of a set's ways.
 use Rattle.std.proofs.Common.{◌≡◌, ℕ, Bool, true, false, List, [], ◌∷◌, ◌++◌, length, Option, Some, refl, sym, ◌∙◌, arith, inl, inr}
+use Rattle.std.proofs.lemmas.Bool.{cases_Bool}
 use Rattle.tl_protocol.specs.declared.event.Event.{Event}
 use Rattle.tl_protocol.specs.declared.event.Event.TheVariants.{Load, Store, SendAcquire, SendRelease, AnswerProbe, TakeGrant, TakeReleaseAck, AcceptAcquire, SendProbe, TakeC, SendGrant, TakeGrantAck, SendGet, Serve, TakeData, Drop, SendPut, TakePutAck}
 use Rattle.tl_registers.specs.VictimWay.{grants_block, block_in, EachBefore, IsNoLater, IsInOrder}
-use Rattle.tl_registers.proofs.Booleans.{bool-cases}
 use Rattle.tl_registers.proofs.Order.{other-events-keep-order}
 
 -- the event grants nothing
@@ -62,7 +62,7 @@ order-fills slots filling filling_then log order fills h =
     order-transfers slots slots filling filling_then log order refl
     (λ w block here f. (
       here,
-      elim (bool-cases (filling w)) [
+      elim (cases_Bool (filling w)) [
         | inl t ↦ let bad : true ≡ false = sym (fills w block here t) ∙ f in cc
         | inr t ↦ t
       ],

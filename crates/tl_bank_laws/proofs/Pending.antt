@@ -1,5 +1,7 @@
 -- What an event leaves of the Grants that are pending, and of which blocks home holds.
 use Rattle.std.proofs.Common.{◌≡◌, ℕ, ◌-◌, ◌==◌, false, List, [], ◌∷◌, Option, Some, None, is_none, refl, ap, subst, inl, inr, eqb-true}
+use Rattle.std.proofs.lemmas.Bool.{cases_Bool}
+use Rattle.tl_registers.proofs.Closing.{fewer-acks}
 use Rattle.tl_types.specs.declared.permission.Grow.{Grow}
 use Rattle.tl_protocol.specs.declared.client.Client.{Client}
 use Rattle.tl_protocol.specs.declared.event.Event.{Event}
@@ -16,7 +18,6 @@ use Rattle.tl_protocol.specs.Runs.{after_next}
 use Rattle.tl_registers.specs.Agree.{IsSteady}
 use Rattle.tl_registers.specs.Pending.{is_granted, grant_pending}
 use Rattle.tl_registers.proofs.Blocks.{Keeps, event-keeps}
-use Rattle.tl_registers.proofs.Booleans.{bool-cases}
 use Rattle.tl_registers.proofs.Pending.{any_below-false, any_below-none, grant-free, free-grant}
 use Rattle.tl_bank_laws.proofs.Orders.{GrantsNothing}
 
@@ -36,7 +37,7 @@ none-pending shape s later stay h =
 -- one client's step
 put-none : (s : Block) (c : ℕ) (k : Client) → (is_granted (s.client c) ≡ false → is_granted k ≡ false) → GrantsStayNone s (with_client s c k)
 put-none s c k one x h =
-    elim (bool-cases (x == c)) [
+    elim (cases_Bool (x == c)) [
       | inl e ↦
           let here : is_granted (s.client c) ≡ false = subst (λ (y : ℕ). is_granted (s.client y) ≡ false) (eqb-true x c e) h in
           rw e (one here)
@@ -46,13 +47,6 @@ put-none s c k one x h =
 accepted-none : (s : Block) (c : ℕ) (a : List Grow) → GrantsStayNone s (accepted_from s c a)
 accepted-none s c [] x h = h
 accepted-none s c (grow ∷ rest) x h = put-none s c (record (s.client c) { a = rest }) (λ n. n) x h
-
--- a GrantAck that is taken brings no Grant
-took-ack-none : (k : Client) → is_granted k ≡ false → is_granted (took_grant_ack k) ≡ false
-took-ack-none k h =
-    let free = grant-free k h in
-    let zero_left : k.e - 1 ≡ 0 = ap (λ n. n - 1) free.1 in
-    free-grant (took_grant_ack k) (free.0, zero_left)
 
 kept-none : (shape : Shape) (s later : Block) → Keeps s later → GrantsStayNone s later
 kept-none shape s later k x = (k.probes x).grants_none
@@ -73,7 +67,7 @@ event-none shape s (TakeData block) none kept orderly = kept-none shape s _ (eve
 event-none shape s (AcceptAcquire c block) none kept orderly = accepted-none s c (s.client c).a
 event-none shape s (SendProbe c block cap) none kept orderly = put-none s c _ (λ h. h)
 event-none shape s (SendGrant c block) none kept orderly = absurd none
-event-none shape s (TakeGrantAck c block) none kept orderly = put-none (record s { accepted = None }) c (took_grant_ack (s.client c)) (took-ack-none (s.client c))
+event-none shape s (TakeGrantAck c block) none kept orderly = put-none (record s { accepted = None }) c (took_grant_ack (s.client c)) (fewer-acks (s.client c))
 event-none shape s (SendGet block) none kept orderly = λ x h. h
 event-none shape s (Drop block) none kept orderly = λ x h. h
 event-none shape s (SendPut block) none kept orderly = λ x h. h
@@ -83,7 +77,7 @@ event-none shape s (TakePutAck block) none kept orderly = λ x h. h
 pub no-grant-comes : (shape : Shape) (states : ℕ → Block) (e : Event) (b : ℕ) → IsSteady shape states → GrantsNothing e
     → grant_pending shape (states b) ≡ false → grant_pending shape (after_next shape states e b) ≡ false
 no-grant-comes shape states e b steady none h =
-    elim (bool-cases (b == block_of shape e)) [
+    elim (cases_Bool (b == block_of shape e)) [
       | inl t ↦ rw t (none-pending shape (states b) (after shape (states b) e) (event-none shape (states b) e none (steady.service b) (steady.orderly b)) h)
       | inr t ↦ rw t h
     ]
@@ -166,7 +160,7 @@ event-holds shape s (TakePutAck block) on kept orderly = refl
 pub home-holds-on : (shape : Shape) (states : ℕ → Block) (e : Event) (b : ℕ) → IsSteady shape states → HoldsOn e
     → is_none (after_next shape states e b).home ≡ is_none (states b).home
 home-holds-on shape states e b steady on =
-    elim (bool-cases (b == block_of shape e)) [
+    elim (cases_Bool (b == block_of shape e)) [
       | inl t ↦ rw t (event-holds shape (states b) e on (steady.service b) (steady.orderly b))
       | inr t ↦ rw t refl
     ]

@@ -1,10 +1,10 @@
 -- What one event leaves, block by block.
 use Rattle.std.proofs.Common.{◌≡◌, ◌≢◌, ℕ, ◌<◌, ◌==◌, refl, sym, ◌∙◌, subst, inl, inr, eqb-true}
+use Rattle.std.proofs.lemmas.Bool.{cases_Bool, eqb-false}
 use Rattle.tl_protocol.specs.declared.event.Event.{Event}
 use Rattle.tl_protocol.specs.Protocol.{Block, after, block_of}
 use Rattle.tl_copies.specs.Copies.{held_at}
 use Rattle.tl_home.specs.Homes.{HomeState, outward_in}
-use Rattle.tl_registers.proofs.Booleans.{bool-cases, neq-of}
 use Rattle.tl_bank_spec.specs.View.{View, IsOwn, block_at, client_at, shape_of}
 use Rattle.tl_bank_laws.specs.Entry.{entry_of}
 use Rattle.tl_bank_laws.specs.Layers.{Layers}
@@ -23,11 +23,11 @@ left v e = after (shape_of v.geometry) (block_at v (here v e)) e
 pub each-next : (v : View) (e : Event) (P : ℕ → Block → Type 0) → P (here v e) (left v e)
     → ((b : ℕ) → b ≢ here v e → P b (block_at v b)) → (b : ℕ) → P b (block_next v e b)
 each-next v e P at other b =
-    elim (bool-cases (b == here v e)) [
+    elim (cases_Bool (b == here v e)) [
       | inl t ↦
           let P2 : ℕ → Type 0 = λ x. P x (after (shape_of v.geometry) (block_at v x) e) in
           rw t (subst P2 (sym (eqb-true b (here v e) t)) at)
-      | inr t ↦ rw t (other b (neq-of b (here v e) t))
+      | inr t ↦ rw t (other b (eqb-false b (here v e) t))
     ]
 
 -- an event that leaves the entries of its own block leaves those of all

@@ -1,6 +1,7 @@
 -- Answering a Probe, and what it leaves.
 use Rattle.std.proofs.Common.{◌≡◌, ◌≢◌, ℕ, ◌<◌, ◌≤◌, ◌^◌, ◌==◌, not, true, false, cond, length, List, [], ◌∷◌, ◌++◌, map, Some, None, if◌then◌else◌, refl, sym, ◌∙◌, ap, subst, arith, eq-eqb}
 use Rattle.std.proofs.lemmas.Bool.Decides.{nat_tests}
+use Rattle.std.proofs.lemmas.Bool.{or_parts}
 use Rattle.tl_types.specs.Lane.{Lane, sent, is_here, with_message, without_first, bodies_of}
 use Rattle.tl_types.specs.Message.{probe_answer}
 use Rattle.tl_types.specs.Permission.{probe_perm}
@@ -37,7 +38,7 @@ use Rattle.tl_bank_laws.specs.Head.{asked_by, first_cap}
 use Rattle.tl_bank_laws.specs.Link.{HasRoom, IsHead}
 use Rattle.tl_bank_laws.specs.Layers.{Layers}
 use Rattle.tl_bank_laws.specs.Means.{Means}
-use Rattle.tl_bank_laws.proofs.Allowed.{AllFalse, all-false, client-is, or-false, share-is}
+use Rattle.tl_bank_laws.proofs.Allowed.{AllFalse, all-false, client-is, share-is}
 use Rattle.tl_bank_laws.proofs.Counts.{step-perm}
 use Rattle.tl_bank_laws.proofs.Entries.{put-is}
 use Rattle.tl_bank_laws.proofs.Heads.{HeadAllowed, head-allowed, head-first, head-list, head-own, is-head}
@@ -61,8 +62,8 @@ pub record ProbeAllowed (v : View) (t : Ticket) (share : Holding) : Type 0 where
 probe-allowed : (v : View) (t : Ticket) (share : Holding) → first_of (answer_probe_cases v t share) ≡ None → ProbeAllowed v t share
 probe-allowed v t share none =
     let f : AllFalse (answer_probe_cases v t share) = all-false (answer_probe_cases v t share) none in
-    let range = or-false (no_client v t.client) (bad_share v t.client share) f.0 in
-    let place = or-false (not (t.bank == v.number)) (other_share v share) f.1.0 in
+    let range = or_parts (no_client v t.client) (bad_share v t.client share) f.0 in
+    let place = or_parts (not (t.bank == v.number)) (other_share v share) f.1.0 in
     let free : link_full v t.client C ≡ false = f.1.1.1.1.1.1.0 in
     record {
       head = head-allowed v t B any_body (client-is v t.client range.0) place.0 f.1.1.0 f.1.1.1.1.0;

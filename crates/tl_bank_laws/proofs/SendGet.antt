@@ -1,5 +1,6 @@
 -- Home asks the memory for a block.
 use Rattle.std.proofs.Common.{◌≡◌, ℕ, ◌<◌, ◌≤◌, ◌==◌, List, Option, Some, None, if◌then◌else◌, refl, sym, ◌∙◌, ap, subst, eq-eqb}
+use Rattle.std.proofs.lemmas.Bool.{ne_eqb}
 use Rattle.std.specs.Prelude.{slice_index_or}
 use Rattle.tl_protocol.specs.Protocol.{Block}
 use Rattle.tl_protocol.specs.Runs.{MayNext}
@@ -11,7 +12,6 @@ use Rattle.tl_registers.specs.Register.{victim_in, victim_of}
 use Rattle.tl_registers.specs.Registers.{register_of}
 use Rattle.tl_registers.specs.declared.register.Task.{Task}
 use Rattle.tl_registers.specs.declared.due.Due.TheVariants.{Get}
-use Rattle.tl_registers.proofs.Booleans.{neqb-of}
 use Rattle.tl_registers.proofs.Probing.{fetching-keeps-agreement}
 use Rattle.tl_bank_spec.specs.View.{View, block_at, shape_of}
 use Rattle.tl_bank_laws.specs.Layers.{Layers}
@@ -60,10 +60,10 @@ get-keeps v h own room ways home m acts bank same outward memory shown =
           (λ b ne was. record {
             line = same.lines b ∙ was.line;
             recorded = λ x. same.recorded x b ∙ was.recorded x;
-            outward = outward b ∙ (let t = neqb-of b own ne in rw t was.outward);
+            outward = outward b ∙ (let t = ne_eqb b own ne in rw t was.outward);
             memory = memory b ∙ was.memory;
           });
-      quiet = quiet-next v e h.home home acts.is_own (λ b ne. outward b ∙ (let t = neqb-of b own ne in rw t refl));
+      quiet = quiet-next v e h.home home acts.is_own (λ b ne. outward b ∙ (let t = ne_eqb b own ne in rw t refl));
       links_size = record { bank = refl; clients = refl };
       copies_size = record { bank = refl; limit = refl; blocks = refl; clients = refl };
       home_bank = bank;

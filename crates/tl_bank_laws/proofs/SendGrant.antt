@@ -1,8 +1,11 @@
 -- Home grants the Acquire that a register serves.
 use Rattle.std.proofs.Common.{◌≡◌, ◌≢◌, ℕ, ◌<◌, ◌≤◌, ◌==◌, ◌&&◌, not, true, false, List, [], ◌∷◌, ◌++◌, filter, Option, Some, None, is_none, if◌then◌else◌, refl, sym, ◌∙◌, ap, subst, arith, inl, inr, eqb-true, eq-eqb}
+use Rattle.tl_types.proofs.Booleans.{or-else}
+use Rattle.std.proofs.Math.Bool.{or-true, and-false}
 use Rattle.std.specs.Prelude.{IsSome, slice_index_or}
 use Rattle.std.specs.List.{list_any}
-use Rattle.std.proofs.lemmas.Bool.{cases_lt}
+use Rattle.std.proofs.lemmas.Bool.{cases_lt, and_parts, cases_Bool, eqb-false, ne_eqb, not-true}
+use Rattle.tl_ways.specs.Orders.{touched}
 use Rattle.tl_types.specs.Lane.{is_here, with_message}
 use Rattle.tl_types.specs.Permission.{grant_perm}
 use Rattle.tl_types.specs.declared.channel.Channel.{Channel}
@@ -23,16 +26,14 @@ use Rattle.tl_protocol.specs.declared.home.Line.{Line}
 use Rattle.tl_protocol.specs.declared.shape.Shape.{Shape}
 use Rattle.tl_lanes.specs.Lanes.{Post, grant_post, sent_to}
 use Rattle.tl_links.specs.Table.{Table, lane_in, SameSize as SameLinks}
-use Rattle.tl_ways.specs.Orders.{touched as home_touched, without}
 use Rattle.tl_home.specs.Directories.{order_after}
 use Rattle.tl_home.specs.Homes.{HomeState, SameBank, SameMemory, SameOutward, free_at, geometry_in, line_in, order_at, recorded_in, way_in}
 use Rattle.tl_registers.specs.Agree.{Each}
 use Rattle.tl_registers.specs.Pending.{grant_pending}
 use Rattle.tl_registers.specs.Register.{works_on}
-use Rattle.tl_registers.specs.VictimWay.{IsInOrder, StandsOnce, touched}
+use Rattle.tl_registers.specs.VictimWay.{IsInOrder, StandsOnce}
 use Rattle.tl_registers.specs.declared.due.Due.TheVariants.{Grant}
 use Rattle.tl_registers.specs.declared.register.Register.{Register}
-use Rattle.tl_registers.proofs.Booleans.{and-true, bool-cases, neq-of, neqb-of, not-true, or-else, or-true}
 use Rattle.tl_registers.proofs.Closing.{granting-keeps-agreement}
 use Rattle.tl_registers.proofs.Order.{grant-keeps-order, other-events-keep-order}
 use Rattle.tl_registers.proofs.Tables.{each-follows}
@@ -47,8 +48,7 @@ use Rattle.tl_bank_laws.proofs.Orders.{order-transfers}
 use Rattle.tl_bank_laws.proofs.Pending.{home-holds-on}
 use Rattle.tl_bank_laws.proofs.Pointwise.{entries-next, homes-next, left}
 use Rattle.tl_bank_laws.proofs.SendProbe.{field-put}
-use Rattle.tl_bank_laws.proofs.Sights.{and-false}
-use Rattle.tl_bank_laws.proofs.Slots.{lies-slot, slot-lies, slots-in, slots-length, slots-some}
+use Rattle.tl_bank_laws.proofs.Slots.{lies-slot, slot-lies, slots-in, slots-length, slots-some, some-is}
 use Rattle.tl_bank_laws.proofs.Ways.{SameLies, bank-steady, each-holds-stay, same-work, slot-stays, slots-stay}
 
 -- what a Grant shows of the bank before it
@@ -153,7 +153,7 @@ recorded-then : (v : View) (h : Layers) (own c : ℕ) (cap : GrantCap) (bytes : 
     → recorded_in home x own ≡ ((with_client (block_at v own) c (sent_grant (client_at v c own) cap bytes)).client x).recorded
 recorded-then v h own c cap bytes home gave is x =
     let here : (own == own) ≡ true = eq-eqb own own refl in
-    elim (bool-cases (x == c)) [
+    elim (cases_Bool (x == c)) [
       | inl t ↦ gave.recorded x own ∙ rw (t, here) refl
       | inr t ↦ gave.recorded x own ∙ rw t (is.recorded x)
     ]
@@ -164,7 +164,7 @@ pending-other : (v : View) (c own room : ℕ) (ways : List (Option ℕ)) (b : �
     → grant_pending (shape_of v.geometry) (block_at (next_view v (SendGrant c own) room v.registers ways) b)
     ≡ grant_pending (shape_of v.geometry) (block_at v b)
 pending-other v c own room ways b ne =
-    let t : (b == own) ≡ false = neqb-of b own ne in
+    let t : (b == own) ≡ false = ne_eqb b own ne in
     let same : block_next v (SendGrant c own) b ≡ block_at v b = rw t refl in
     ap (λ (s : ℕ → Block). grant_pending (shape_of v.geometry) (s b)) (blocks-next v (SendGrant c own) room v.registers ways)
     ∙ ap (λ (s : Block). grant_pending (shape_of v.geometry) s) same
@@ -177,10 +177,10 @@ fills-on : (v : View) (c own room : ℕ) (ways : List (Option ℕ)) (set way : �
 fills-on v c own room ways set way [] other h = cc
 fills-on v c own room ways set way (r ∷ rest) other h =
     let t : View = next_view v (SendGrant c own) room v.registers ways in
-    elim (bool-cases (is_filling_by v set way r)) [
+    elim (cases_Bool (is_filling_by v set way r)) [
       | inl e ↦
-          let k = and-true ((r.way.set == set) && (r.way.way == way)) _ e in
-          let at = and-true (r.way.set == set) (r.way.way == way) k.0 in
+          let k = and_parts ((r.way.set == set) && (r.way.way == way)) _ e in
+          let at = and_parts (r.way.set == set) (r.way.way == way) k.0 in
           let ne : r.own ≢ own = λ same. other.0 same (eqb-true r.way.set set at.0) (eqb-true r.way.way way at.1) in
           let none : grant_pending (shape_of v.geometry) (block_at v r.own) ≡ false =
           not-true (grant_pending (shape_of v.geometry) (block_at v r.own)) k.1 in
@@ -201,15 +201,6 @@ own-way v own w r holds is at =
     ((holds.own own on).1, holds.lies own w on at)
 
 -- ## The ways
-
-without-same : (w : ℕ) (xs : List ℕ) → without w xs ≡ filter (λ v. not (v == w)) xs
-without-same w [] = refl
-without-same w (x ∷ rest) =
-    let more = without-same w rest in
-    elim (bool-cases (x == w)) [ inl t ↦ rw t more | inr t ↦ rw t (ap (λ (ys : List ℕ). x ∷ ys) more) ]
-
-touched-same : (w : ℕ) (xs : List ℕ) → home_touched w xs ≡ touched w xs
-touched-same w xs = ap (λ (ys : List ℕ). ys ++ w ∷ []) (without-same w xs)
 
 -- the order of the block's own set then
 own-order : (v : View) (h : Layers) (own c room w : ℕ) (ways : List (Option ℕ)) (set : ℕ) → WaysFit v h.home
@@ -233,14 +224,14 @@ own-order v h own c room w ways set fit is_own at in_set l =
     (v.log ++ SendGrant c own ∷ []) (touched w (order_at h.home set)) refl
     (λ x b here fills. (
       here,
-      elim (bool-cases (x == w)) [
+      elim (cases_Bool (x == w)) [
         | inl e ↦ rw e (and-false (is_filling v set x))
-        | inr e ↦ elim (bool-cases (is_filling v set x)) [
+        | inr e ↦ elim (cases_Bool (is_filling v set x)) [
           | inr f ↦ rw f refl
           | inl f ↦
               let still = fills-on v c own room ways set x v.registers
               (each-follows (HoldsWay v) (λ r. r.own ≡ own → r.way.set ≡ set → r.way.way ≡ x → ⊥) v.registers
-              (λ r holds is of_set of_way. neq-of x w e (sym of_way ∙ sym (own-way v own w r holds is at).1)) fit.held) f in
+              (λ r holds is of_set of_way. eqb-false x w e (sym of_way ∙ sym (own-way v own w r holds is at).1)) fit.held) f in
               let bad : true ≡ false = sym still ∙ fills in cc
         ]
       ],
@@ -259,7 +250,7 @@ other-order v h own c room w ways set fit at apart l =
     (order-transfers (slots_at v set) (slots_at v set) (is_filling v set) (is_filling t set) v.log (order_at h.home set) refl
     (λ x b here fills. (
       here,
-      elim (bool-cases (is_filling v set x)) [
+      elim (cases_Bool (is_filling v set x)) [
         | inr f ↦ f
         | inl f ↦
             let still = fills-on v c own room ways set x v.registers
@@ -269,7 +260,7 @@ other-order v h own c room w ways set fit at apart l =
       ],
     ))
     (fit.orders set l))
-    (λ x b here. neqb-of own b (λ same.
+    (λ x b here. ne_eqb own b (λ same.
     let k = slots-some v set x b here in
     apart (ap (set_of v.geometry) same ∙ (slot-lies v set x b k.1).1)))
 
@@ -288,12 +279,12 @@ order-then v h own c room w ways cap home set m gave is_own at l =
     ∙ ap (λ g. if set == set_of g own then order_after (way_in h.home own) (order_at h.home set) else order_at h.home set) m.home_geometry
     ∙ ap (λ (o : Option ℕ). if set == set_of v.geometry own then order_after o (order_at h.home set) else order_at h.home set) lies in
     subst P (sym is)
-    (elim (bool-cases (set == set_of v.geometry own)) [
+    (elim (cases_Bool (set == set_of v.geometry own)) [
       | inl e ↦
           let in_set : set_of v.geometry own ≡ set = sym (eqb-true set (set_of v.geometry own) e) in
-          rw e (subst P (sym (touched-same w (order_at h.home set))) (own-order v h own c room w ways set m.ways is_own at in_set l))
+          rw e (own-order v h own c room w ways set m.ways is_own at in_set l)
       | inr e ↦
-          let apart : set_of v.geometry own ≢ set = λ same. neq-of set (set_of v.geometry own) e (sym same) in
+          let apart : set_of v.geometry own ≢ set = λ same. eqb-false set (set_of v.geometry own) e (sym same) in
           rw e (other-order v h own c room w ways set m.ways at apart l)
     ])
 
@@ -329,10 +320,6 @@ grant-fits v h own c room w ways cap home m gave is_own at shown =
 
 -- ## The bank then
 
-way-there : (o : Option ℕ) → is_none o ≡ false → (w : ℕ) × (o ≡ Some w)
-way-there None h = cc
-way-there (Some w) h = (w, refl)
-
 pub grant-keeps : (v : View) (h : Layers) (own c : ℕ) (acquire : Accepted) (cap : GrantCap) (bytes : Option (List ℕ)) (room : ℕ)
     (ways : List (Option ℕ)) (links : Table) (home : HomeState) → Means v h → Acts v own (Grant c) → Gives v own c acquire cap bytes
     → SameLinks h.links links
@@ -350,7 +337,7 @@ grant-keeps v h own c acquire cap bytes room ways links home m acts gives same_l
     let is : IsHome h.home own s = m.home own acts.is_own in
     let leaves : left v e ≡ with_client s c k = left-is v own c acquire cap bytes gives in
     let held : is_none s.home ≡ false = ap (λ (o : Option Line). is_none o) acts.may.1.1.1.1 in
-    let at = way-there (way_at v own) (sym (m.ways.holds own acts.is_own) ∙ held) in
+    let at = some-is (way_at v own) (sym (m.ways.holds own acts.is_own) ∙ held) in
     means-next v h (record h { links = links; home = home }) e room v.registers ways m
     (record { may = acts.may; first = tt; here = acts.bank; later = tt })
     (record {
@@ -370,7 +357,7 @@ grant-keeps v h own c acquire cap bytes room ways links home m acts gives same_l
             line = gave.lines b ∙ was.line;
             recorded = λ x.
                 gave.recorded x b
-                ∙ (let t : (b == own) ≡ false = neqb-of b own ne in
+                ∙ (let t : (b == own) ≡ false = ne_eqb b own ne in
                 let off : (x == c && b == own) ≡ false = rw t (and-false (x == c)) in
                 rw off (was.recorded x));
             outward = gave.outward.outward b ∙ was.outward;

@@ -1,5 +1,6 @@
 -- A Probe is sent, and its register notes it.
 use Rattle.std.proofs.Common.{◌≡◌, ℕ, ◌^◌, ◌<◌, ◌≤◌, ◌==◌, false, length, Some, if◌then◌else◌, refl, sym, ◌∙◌, ap, subst, arith, nat_le, inl, inr, eqb-true}
+use Rattle.std.proofs.lemmas.Bool.{cases_Bool}
 use Rattle.std.proofs.lemmas.Bool.Decides.{nat_tests}
 use Rattle.std.proofs.lemmas.List.{length-map}
 use Rattle.tl_types.specs.Lane.{is_here, sent, with_message}
@@ -15,7 +16,6 @@ use Rattle.tl_links.specs.Table.{Table, lane_in, SameSize as SameLinks}
 use Rattle.tl_registers.specs.Agree.{Agree}
 use Rattle.tl_registers.specs.Registers.{noted, register_of, with_probe_of}
 use Rattle.tl_registers.specs.declared.due.Due.TheVariants.{Probe}
-use Rattle.tl_registers.proofs.Booleans.{bool-cases}
 use Rattle.tl_registers.proofs.Probing.{probing-keeps-agreement}
 use Rattle.tl_bank_spec.specs.Cases.{link_full}
 use Rattle.tl_bank_spec.specs.View.{View, block_at, lane_at, shape_of}
@@ -47,7 +47,7 @@ channel-room v h c k m l free small =
 pub field-put : {X : Type 0} (f : Client → X) (s : Block) (c : ℕ) (k : Client) → f k ≡ f (s.client c)
     → (x : ℕ) → f ((with_client s c k).client x) ≡ f (s.client x)
 field-put f s c k same x =
-    elim (bool-cases (x == c)) [
+    elim (cases_Bool (x == c)) [
       | inl t ↦ rw t (same ∙ ap (λ (y : ℕ). f (s.client y)) (sym (eqb-true x c t)))
       | inr t ↦ rw t refl
     ]

@@ -1,5 +1,6 @@
 -- The memory answers home's request.
 use Rattle.std.proofs.Common.{◌≡◌, ◌≢◌, ℕ, ◌==◌, true, List, Option, None, if◌then◌else◌, refl, sym, ◌∙◌, ap, subst, inl, inr}
+use Rattle.std.proofs.lemmas.Bool.{not-false}
 use Rattle.tl_protocol.specs.Home.{IsRequest}
 use Rattle.tl_protocol.specs.Protocol.{Block, served}
 use Rattle.tl_protocol.specs.Sizes.{IsWhole, outward_bytes}
@@ -16,7 +17,7 @@ use Rattle.tl_bank_spec.specs.View.{View, IsOwn, block_at, shape_of, ways_below}
 use Rattle.tl_bank_laws.specs.Layers.{Layers}
 use Rattle.tl_bank_laws.specs.Means.{IsHome, Means}
 use Rattle.tl_bank_laws.specs.Memory.{answered}
-use Rattle.tl_bank_laws.proofs.Allowed.{AllFalse, all-false, block-is, here-is, not-false}
+use Rattle.tl_bank_laws.proofs.Allowed.{AllFalse, all-false, block-is, here-is}
 use Rattle.tl_bank_laws.proofs.HomeSteps.{SameAt, homes-event, homes-layers}
 use Rattle.tl_bank_laws.proofs.Moves.{at-block, at-other}
 use Rattle.tl_bank_laws.proofs.Next.{means-next, next_view}

@@ -1,8 +1,9 @@
 -- What a register looks at is what the layers hold, also of the blocks of other banks.
 use Rattle.std.proofs.Common.{◌≡◌, ℕ, zero, suc, ◌<◌, ◌==◌, ◌||◌, ◌&&◌, not, Bool, true, false, List, [], ◌∷◌, map, replicate, Option, Some, None, refl, sym, ◌∙◌, ap, subst, arith, inl, inr}
+use Rattle.std.proofs.Math.Bool.{or-true, and-false}
 use Rattle.std.specs.Prelude.{◌↔◌, IsTrue, IfSome}
 use Rattle.std.specs.List.{All, list_any}
-use Rattle.std.proofs.lemmas.Bool.{cases_eq}
+use Rattle.std.proofs.lemmas.Bool.{cases_eq, ne_eqb}
 use Rattle.std.proofs.lemmas.List.Elements.{All-head, All-tail}
 use Rattle.tl_types.specs.Lane.{bodies_of}
 use Rattle.tl_types.specs.Message.{is_grant, is_probe_ack}
@@ -34,7 +35,6 @@ use Rattle.tl_registers.specs.Pending.{any_below, has_first, is_granted, is_prob
 use Rattle.tl_registers.specs.Register.{IsKnown}
 use Rattle.tl_registers.specs.Registers.{register_of}
 use Rattle.tl_registers.specs.declared.register.Register.{Register}
-use Rattle.tl_registers.proofs.Booleans.{neqb-of, or-true}
 use Rattle.tl_bank_spec.specs.View.{View, IsOwn, block_at, client_at, shape_of}
 use Rattle.tl_bank_laws.specs.Layers.{Layers}
 use Rattle.tl_bank_laws.specs.Means.{Means}
@@ -49,7 +49,7 @@ end-other : (shape : Shape) (P : ℕ → Type 0) (s : ℕ → Block) (es : List 
 end-other shape P s [] b apart all = refl
 end-other shape P s (e ∷ es) b apart all =
     let here : P (block_of shape e) = All-head (λ (x : Event). P (block_of shape x)) e es all in
-    let ne : (b == block_of shape e) ≡ false = neqb-of b (block_of shape e) (λ same. apart (subst P (sym same) here)) in
+    let ne : (b == block_of shape e) ≡ false = ne_eqb b (block_of shape e) (λ same. apart (subst P (sym same) here)) in
     let first : after_next shape s e b ≡ s b = rw ne refl in
     end-other shape P (after_next shape s e) es b apart (All-tail (λ (x : Event). P (block_of shape x)) e es all) ∙ first
 
@@ -70,7 +70,7 @@ recorded-other home c b h = rw h refl
 elsewhere : (v : View) (h : Layers) (b : ℕ) → Means v h → b < v.geometry.memory_blocks → (IsOwn v.geometry v.number b → ⊥)
     → (bank_of (geometry_in h.home) b == bank_in h.home) ≡ false
 elsewhere v h b m l apart =
-    rw (m.home_geometry, m.home_bank) (neqb-of (bank_of v.geometry b) v.number (λ same. apart (l, same)))
+    rw (m.home_geometry, m.home_bank) (ne_eqb (bank_of v.geometry b) v.number (λ same. apart (l, same)))
 
 -- ## Home
 
@@ -127,7 +127,7 @@ any-grant (x ∷ rest) = ap (λ (t : Bool). is_grant x || t) (any-grant rest)
 
 any-ack : (n : ℕ) → list_any (is_wanted Any) (replicate n GrantAck) ≡ not (n == 0)
 any-ack zero = refl
-any-ack (suc n) = ap not (sym (neqb-of (suc n) 0 (λ e. absurd (omega (arith, e)))))
+any-ack (suc n) = ap not (sym (ne_eqb (suc n) 0 (λ e. absurd (omega (arith, e)))))
 
 -- whether a block's messages on a channel have one that is looked for
 abbrev pub has : Layers → ℕ → Channel → ℕ → Wanted → Bool
@@ -173,10 +173,6 @@ any_below-some test (suc n) x l h =
     ]
 
 -- ## Who has nothing
-
-pub and-false : (t : Bool) → (t && false) ≡ false
-and-false true = refl
-and-false false = refl
 
 -- where one below n is recorded, the client is not alone
 pub alone-fails : (n c x : ℕ) (client : ℕ → Client) → x < n → ((x == c) || is_none (client x).recorded) ≡ false

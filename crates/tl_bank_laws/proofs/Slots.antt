@@ -1,13 +1,13 @@
 -- In which way each block lies, and which block is in each way.
-use Rattle.std.proofs.Common.{◌≡◌, ℕ, zero, suc, ◌<◌, ◌≤◌, ◌==◌, Bool, true, false, List, [], ◌∷◌, ◌++◌, length, Option, Some, None, refl, sym, ◌∙◌, ap, arith, inl, inr, eqb-true, eq-eqb, length-append}
+use Rattle.std.proofs.Common.{◌≡◌, ℕ, zero, suc, ◌<◌, ◌≤◌, ◌==◌, Bool, true, false, List, [], ◌∷◌, ◌++◌, length, Option, Some, None, is_none, refl, sym, ◌∙◌, ap, arith, inl, inr, eqb-true, eq-eqb, length-append}
 use Rattle.std.specs.Prelude.{◌⊎◌, slice_index_or}
-use Rattle.std.proofs.lemmas.Bool.{cases_eq, cases_lt}
+use Rattle.std.proofs.lemmas.Bool.{cases_eq, cases_lt, and_parts}
 use Rattle.std.proofs.lemmas.List.{get_or_append_left, get_or_past}
 use Rattle.std.proofs.Math.Seq.{get_or-append_seam}
+use Rattle.tl_types.proofs.Lowest.{lowest-none, lowest-one, lowest-some, none-lowest}
+use Rattle.tl_types.specs.Lowest.{lowest}
 use Rattle.tl_map.specs.Places.{bank_of, set_of}
-use Rattle.tl_registers.specs.Register.{lowest, or_this}
 use Rattle.tl_registers.specs.VictimWay.{block_in}
-use Rattle.tl_registers.proofs.Booleans.{and-true}
 use Rattle.tl_bank_spec.specs.View.{View, IsOwn, way_at, ways_below}
 use Rattle.tl_bank_spec.specs.Ways.{is_way, lies_in, slot_at, slots_below, slots_at}
 
@@ -44,63 +44,17 @@ below-same f g (suc n) same =
     let here = same n (omega arith) in
     rw (before, here) refl
 
--- ## The lowest number
-
-or_this-none : (o : Option ℕ) (t : Bool) (n : ℕ) → or_this o t n ≡ None → (o ≡ None) × (t ≡ false)
-or_this-none None true n h = cc
-or_this-none None false n h = (refl, refl)
-or_this-none (Some x) t n h = cc
-
-or_this-is : (o : Option ℕ) (t : Bool) (n c : ℕ) → or_this o t n ≡ Some c → (o ≡ Some c) ⊎ ((t ≡ true) × (n ≡ c))
-or_this-is None true n c h = inr (refl, cc)
-or_this-is None false n c h = cc
-or_this-is (Some x) t n c h = inl h
-
--- where there is no lowest, none passes
-pub lowest-none : (test : ℕ → Bool) (n x : ℕ) → lowest test n ≡ None → x < n → test x ≡ false
-lowest-none test zero x h l = absurd (omega arith)
-lowest-none test (suc n) x h l =
-    let k = or_this-none (lowest test n) (test n) n h in
-    elim (cases_eq x n) [
-      | inl e ↦ ap test e ∙ k.1
-      | inr e ↦ lowest-none test n x k.0 (omega arith)
-    ]
-
--- the lowest is below n, and passes
-pub lowest-some : (test : ℕ → Bool) (n c : ℕ) → lowest test n ≡ Some c → (c < n) × (test c ≡ true)
-lowest-some test zero c h = cc
-lowest-some test (suc n) c h =
-    elim (or_this-is (lowest test n) (test n) n c h) [
-      | inl k ↦ let r = lowest-some test n c k in (omega (arith, r.0), r.1)
-      | inr k ↦ (omega (arith, k.1), ap test (sym k.1) ∙ k.0)
-    ]
-
--- where none passes there is no lowest
-pub none-lowest : (test : ℕ → Bool) (n : ℕ) → ((x : ℕ) → x < n → test x ≡ false) → lowest test n ≡ None
-none-lowest test zero none = refl
-none-lowest test (suc n) none =
-    let before = none-lowest test n (λ x l. none x (omega arith)) in
-    let here = none n (omega arith) in
-    rw (before, here) refl
-
--- the same tests have the same lowest
-pub lowest-same : (p q : ℕ → Bool) (n : ℕ) → ((x : ℕ) → x < n → p x ≡ q x) → lowest p n ≡ lowest q n
-lowest-same p q zero same = refl
-lowest-same p q (suc n) same =
-    let before = lowest-same p q n (λ x l. same x (omega arith)) in
-    let here = same n (omega arith) in
-    rw (before, here) refl
-
--- one that passes is the lowest where no other does
-pub lowest-one : (test : ℕ → Bool) (n i : ℕ) → i < n → test i ≡ true → ((x : ℕ) → x < n → test x ≡ true → x ≡ i)
-    → lowest test n ≡ Some i
-lowest-one test n i l h one =
-    elim (lowest test n) as (λ o. lowest test n ≡ o → o ≡ Some i) [
-      | None ↦ λ e. let none = lowest-none test n i e l in let bad : true ≡ false = sym h ∙ none in cc
-      | Some c ↦ λ e. let some = lowest-some test n c e in ap Some (one c some.0 some.1)
-    ] refl
-
 -- ## Which block is in a way
+
+-- where a place is empty nothing is there
+pub none-is : (slot : Option ℕ) → is_none slot ≡ true → slot ≡ None
+none-is None h = refl
+none-is (Some block) h = cc
+
+-- and else something is
+pub some-is : (slot : Option ℕ) → is_none slot ≡ false → (x : ℕ) × (slot ≡ Some x)
+some-is None h = cc
+some-is (Some x) h = (x, refl)
 
 is_way-true : (way : ℕ) (o : Option ℕ) → is_way way o ≡ true → o ≡ Some way
 is_way-true way None h = cc
@@ -110,8 +64,8 @@ is_way-true way (Some lies) h = ap Some (eqb-true lies way h)
 pub lies-true : (v : View) (set way b : ℕ) → lies_in v set way b ≡ true
     → (bank_of v.geometry b ≡ v.number) × (set_of v.geometry b ≡ set) × (way_at v b ≡ Some way)
 lies-true v set way b h =
-    let one = and-true (bank_of v.geometry b == v.number) _ h in
-    let two = and-true (set_of v.geometry b == set) (is_way way (way_at v b)) one.1 in
+    let one = and_parts (bank_of v.geometry b == v.number) _ h in
+    let two = and_parts (set_of v.geometry b == set) (is_way way (way_at v b)) one.1 in
     (eqb-true (bank_of v.geometry b) v.number one.0, eqb-true (set_of v.geometry b) set two.0, is_way-true way (way_at v b) two.1)
 
 pub true-lies : (v : View) (set way b : ℕ) → bank_of v.geometry b ≡ v.number → set_of v.geometry b ≡ set → way_at v b ≡ Some way

@@ -1,5 +1,6 @@
 -- Home takes a client's first message on channel C, and what that leaves.
 use Rattle.std.proofs.Common.{◌≡◌, ◌≢◌, ℕ, ◌^◌, ◌<◌, ◌≤◌, ◌==◌, ◌&&◌, Bool, true, false, cond, length, slice_index_or, List, [], ◌∷◌, IsSome, Option, Some, None, refl, sym, ◌∙◌, ap, subst, arith, eqb-true, eq-eqb}
+use Rattle.std.proofs.Math.Bool.{or-true}
 use Rattle.std.specs.List.{list_any}
 use Rattle.std.proofs.lemmas.Bool.Decides.{nat_tests}
 use Rattle.tl_types.specs.Lane.{Lane, IsFirst, is_here, sent, with_message, without_first, bodies_of}
@@ -34,7 +35,6 @@ use Rattle.tl_links.specs.Table.{Table, lane_in, SameSize as SameLinks}
 use Rattle.tl_home.specs.Homes.{HomeState, SameBank, SameMemory, SameOutward, SameWays, line_in, recorded_in, way_in}
 use Rattle.tl_registers.specs.Pending.{has_first, is_probed}
 use Rattle.tl_registers.proofs.Blocks.{first-from}
-use Rattle.tl_registers.proofs.Booleans.{or-true}
 use Rattle.tl_bank_spec.specs.Cases.{any_body, begins, block_named, first_block, is_a_release, link_full}
 use Rattle.tl_bank_spec.specs.Effects.{answer_to}
 use Rattle.tl_bank_spec.specs.HomeCalls.{take_c_cases}

@@ -1,7 +1,8 @@
 -- Home takes the bytes that it asked for, and places them into the way that the block's register holds.
 use Rattle.std.proofs.Common.{◌≡◌, ◌≢◌, ℕ, ◌<◌, ◌==◌, ◌&&◌, ◌||◌, Bool, true, false, List, [], ◌∷◌, ◌++◌, set, Option, Some, None, is_none, if◌then◌else◌, refl, sym, ◌∙◌, ap, subst, inl, inr, eqb-true, eq-eqb}
+use Rattle.tl_types.proofs.Booleans.{or-else}
 use Rattle.std.specs.Prelude.{◌⊎◌}
-use Rattle.std.proofs.lemmas.Bool.{cases_eq}
+use Rattle.std.proofs.lemmas.Bool.{cases_eq, and_parts, cases_Bool}
 use Rattle.tl_map.specs.Numbers.{Numbers}
 use Rattle.tl_map.specs.Places.{bank_of, set_of}
 use Rattle.tl_map.proofs.PlaceLaws.{set_of-lt, some_sets}
@@ -17,7 +18,6 @@ use Rattle.tl_registers.specs.Pending.{grant_pending}
 use Rattle.tl_registers.specs.Register.{works_on}
 use Rattle.tl_registers.specs.Registers.{register_of}
 use Rattle.tl_registers.specs.VictimWay.{IsInOrder}
-use Rattle.tl_registers.proofs.Booleans.{and-true, bool-cases, or-else}
 use Rattle.tl_registers.proofs.Opening.{elsewhere, here}
 use Rattle.tl_registers.proofs.Order.{placing-keeps-order}
 use Rattle.tl_registers.proofs.Tables.{IsOther, each-both, one-among}
@@ -221,7 +221,7 @@ order-here v room ways block way order steady d c h =
     let placed = placing-keeps-order (slots_at v s) (is_filling v s) v.log order way block h in
     subst (λ (slots : List (Option ℕ)). IsInOrder slots (is_filling w s) (v.log ++ e ∷ []) order) (sym (slots-come v ways block way c d.inside))
     (order-next (set (slots_at v s) way (Some block)) filled (is_filling w s) v.log order e tt
-    (λ y b lies fills. elim (bool-cases (is_filling v s y)) [
+    (λ y b lies fills. elim (cases_Bool (is_filling v s y)) [
       | inl f ↦ fills-on v room ways block s y steady f
       | inr f ↦
           let is : y ≡ way = eqb-true y way (or-else (is_filling v s y) (y == way) fills f) in
@@ -300,9 +300,9 @@ data-free : (v : View) (old new : HomeState) (ways : List (Option ℕ)) (block w
 data-free v old new ways block way x y c was is =
     let w : View = with_ways v ways in
     let s : ℕ = set_of v.geometry block in
-    elim (bool-cases ((x == s) && (y == way))) [
+    elim (cases_Bool ((x == s) && (y == way))) [
       | inl t ↦
-          let at = and-true (x == s) (y == way) t in
+          let at = and_parts (x == s) (y == way) t in
           let now : free_at new x y ≡ false = is ∙ rw t refl in
           let slot : slot_at w x y ≡ Some block =
           ap (λ (n : ℕ). slot_at w n y) (eqb-true x s at.0) ∙ ap (slot_at w s) (eqb-true y way at.1) ∙ slot-comes v ways block way c in

@@ -1,5 +1,8 @@
 -- Home takes the acknowledgement of a Put: the victim is gone.
 use Rattle.std.proofs.Common.{◌≡◌, ◌≢◌, ℕ, ◌≤◌, ◌==◌, ◌&&◌, ◌||◌, not, Bool, true, false, List, ◌∷◌, [], length, map, filter, Option, Some, None, is_none, if◌then◌else◌, refl, sym, ◌∙◌, ap, arith, inl, inr, eqb-true}
+use Rattle.tl_types.proofs.Booleans.{or-else}
+use Rattle.std.proofs.Math.Bool.{or-true}
+use Rattle.std.proofs.lemmas.Bool.{cases_Bool, or_parts, not-false, and_parts}
 use Rattle.std.specs.List.{list_any}
 use Rattle.tl_protocol.specs.Home.{IsData}
 use Rattle.tl_protocol.specs.Pending.{IsServiceAt}
@@ -16,7 +19,6 @@ use Rattle.tl_registers.specs.declared.way_of_set.WayOfSet.{WayOfSet}
 use Rattle.tl_registers.specs.Agree.{Each}
 use Rattle.tl_registers.specs.Register.{is_block, victim_in}
 use Rattle.tl_registers.specs.Registers.{ended, is_evict, is_held, task_without, without_evict, without_victim}
-use Rattle.tl_registers.proofs.Booleans.{bool-cases, or-else, or-false, or-true, not-false, and-true}
 use Rattle.tl_registers.proofs.Closing.{ending-keeps-agreement}
 use Rattle.tl_registers.proofs.Tables.{each-filter, each-follows, each-map}
 use Rattle.tl_home.specs.Homes.{HomeState, SameBank, SameHome, SameMemory, order_at, outward_in, way_in}
@@ -32,7 +34,7 @@ use Rattle.tl_bank_laws.proofs.HomeSteps.{SameAt, homes-event, homes-layers}
 use Rattle.tl_bank_laws.proofs.Moves.{Lies, at-block, at-other, lies-of}
 use Rattle.tl_bank_laws.proofs.Next.{means-next, next_view, registers-next}
 use Rattle.tl_bank_laws.proofs.Orders.{order-fills}
-use Rattle.tl_bank_laws.proofs.Slots.{below-at, slot-lies, slots-some, true-lies}
+use Rattle.tl_bank_laws.proofs.Slots.{below-at, slot-lies, slots-some, true-lies, none-is}
 use Rattle.tl_bank_laws.proofs.Ways.{bank-steady, same-work, ways-stay}
 
 -- ## What may be taken
@@ -66,16 +68,12 @@ pub passing-lacks : (v : View) (h : Layers) (block : ℕ) → Means v h → ((bl
 passing-lacks v h block m busy =
     lacks-home (shape_of v.geometry) (block_at v block) (block_at v block).home ((bank-steady v h m).service block) refl busy
 
-none-of : (x : Option ℕ) → is_none x ≡ true → x ≡ None
-none-of None h = refl
-none-of (Some y) h = cc
-
 -- so it lies nowhere
 pub passing-nowhere : (v : View) (h : Layers) (block : ℕ) → Means v h → IsOwn v.geometry v.number block
     → ((block_at v block).outward ≡ Quiet → ⊥) → way_at v block ≡ None
 passing-nowhere v h block m own busy =
     let lacks = passing-lacks v h block m busy in
-    none-of (way_at v block) (sym (m.ways.holds block own) ∙ ap is_none lacks)
+    none-is (way_at v block) (sym (m.ways.holds block own) ∙ ap is_none lacks)
 
 -- ## Home
 
@@ -109,7 +107,7 @@ filter-few : (test : Register → Bool) (xs : List Register) → length (filter 
 filter-few test [] = omega arith
 filter-few test (r ∷ rest) =
     let few = filter-few test rest in
-    elim (bool-cases (test r)) [
+    elim (cases_Bool (test r)) [
       | inl e ↦ rw e (omega (arith, few))
       | inr e ↦ rw e (omega (arith, few))
     ]
@@ -132,9 +130,9 @@ Works own b task = ((own == b) || is_block b (victim_in own task)) ≡ true
 fewer : (own victim b : ℕ) (task : Task) → Works own b (task_without victim task) → Works own b task
 fewer own victim b (Acquire acquire) h = h
 fewer own victim b (Replace acquire other) h =
-    elim (bool-cases (own == b)) [
+    elim (cases_Bool (own == b)) [
       | inl e ↦ rw e refl
-      | inr e ↦ elim (bool-cases (other == victim)) [
+      | inr e ↦ elim (cases_Bool (other == victim)) [
         | inl t ↦ let g : ((own == b) || false) ≡ true = (rw t at h) in let bad = or-else (own == b) false g e in cc
         | inr t ↦ (rw t at h)
       ]
@@ -145,10 +143,10 @@ fewer own victim b Evict h = h
 still : (own victim b : ℕ) (task : Task) → b ≢ victim → Works own b task → Works own b (task_without victim task)
 still own victim b (Acquire acquire) ne h = h
 still own victim b (Replace acquire other) ne h =
-    elim (bool-cases (other == victim)) [
+    elim (cases_Bool (other == victim)) [
       | inr t ↦ rw t h
       | inl t ↦
-          elim (bool-cases (own == b)) [
+          elim (cases_Bool (own == b)) [
             | inl e ↦ rw (t, e) refl
             | inr e ↦
                 let is : (other == b) ≡ true = or-else (own == b) (other == b) h e in
@@ -162,7 +160,7 @@ evict-own : (own b : ℕ) (task : Task) → is_evict task ≡ true → Works own
 evict-own own b (Acquire acquire) is h = cc
 evict-own own b (Replace acquire other) is h = cc
 evict-own own b Evict is h =
-    elim (bool-cases (own == b)) [
+    elim (cases_Bool (own == b)) [
       | inl e ↦ sym (eqb-true own b e)
       | inr e ↦ let bad = or-else (own == b) (own == b) h e in let worse : true ≡ false = sym bad ∙ e in cc
     ]
@@ -190,9 +188,9 @@ ended-holds v block q nowhere holds = record {
 held-ended : (way : WayOfSet) (block : ℕ) (xs : List Register) → is_held way xs ≡ false → is_held way (ended block xs) ≡ false
 held-ended way block [] h = refl
 held-ended way block (q ∷ rest) h =
-    let both = or-false ((q.way.set == way.set) && (q.way.way == way.way)) (is_held way rest) h in
+    let both = or_parts ((q.way.set == way.set) && (q.way.way == way.way)) (is_held way rest) h in
     let more = held-ended way block rest both.1 in
-    elim (bool-cases (is_evict q.task && (q.own == block))) [
+    elim (cases_Bool (is_evict q.task && (q.own == block))) [
       | inl e ↦ rw e more
       | inr e ↦ rw (e, both.0) more
     ]
@@ -201,7 +199,7 @@ held-ended way block (q ∷ rest) h =
 ended-apart : (block : ℕ) (xs : List Register) → WaysApart xs → WaysApart (ended block xs)
 ended-apart block [] h = tt
 ended-apart block (q ∷ rest) h =
-    elim (bool-cases (is_evict q.task && (q.own == block))) [
+    elim (cases_Bool (is_evict q.task && (q.own == block))) [
       | inl e ↦ rw e (ended-apart block rest h.1)
       | inr e ↦ rw e (held-ended q.way block rest h.0, ended-apart block rest h.1)
     ]
@@ -212,11 +210,11 @@ any-ended : (P Q : Register → Bool) (block : ℕ) (xs : List Register)
     → list_any P xs ≡ true → list_any Q (ended block xs) ≡ true
 any-ended P Q block [] f h = cc
 any-ended P Q block (q ∷ rest) f h =
-    elim (bool-cases (P q)) [
+    elim (cases_Bool (P q)) [
       | inl e ↦ let here = f.0 e in rw here.0 (rw here.1 refl)
       | inr e ↦
           let more = any-ended P Q block rest f.1 (or-else (P q) (list_any P rest) h e) in
-          elim (bool-cases (is_evict q.task && (q.own == block))) [
+          elim (cases_Bool (is_evict q.task && (q.own == block))) [
             | inl t ↦ rw t more
             | inr t ↦ rw t (rw more (or-true (Q (without_victim block q))))
           ]
@@ -233,12 +231,12 @@ ended-fills v block s way b held nowhere at fills =
     → ((is_evict q.task && (q.own == block)) ≡ false) × (is_filling_by (ended_view v block) s way (without_victim block q) ≡ true))
     v.registers
     (λ q holds by. (
-      elim (bool-cases (is_evict q.task && (q.own == block))) [
+      elim (cases_Bool (is_evict q.task && (q.own == block))) [
         | inr e ↦ e
         | inl e ↦
-            let gone = and-true (is_evict q.task) (q.own == block) e in
-            let parts = and-true ((q.way.set == s) && (q.way.way == way)) _ by in
-            let in_way = and-true (q.way.set == s) (q.way.way == way) parts.0 in
+            let gone = and_parts (is_evict q.task) (q.own == block) e in
+            let parts = and_parts ((q.way.set == s) && (q.way.way == way)) _ by in
+            let in_way = and_parts (q.way.set == s) (q.way.way == way) parts.0 in
             let set_is : s ≡ q.way.set = sym (eqb-true q.way.set s in_way.0) in
             let way_is : way ≡ q.way.way = sym (eqb-true q.way.way way in_way.1) in
             let there : lies_in v q.way.set q.way.way b ≡ true =

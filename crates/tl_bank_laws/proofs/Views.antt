@@ -3,6 +3,7 @@ use Rattle.std.proofs.Common.{◌≡◌, ◌≢◌, ℕ, ◌/◌, ◌%◌, ◌<�
 use Rattle.std.specs.Prelude.{◌↔◌, IfSome, IsSome, slice_get, slice_index}
 use Rattle.std.proofs.lemmas.Bool.Decides.{nat_tests}
 use Rattle.std.proofs.lemmas.Option.{slice_get-get_or, same_Some}
+use Rattle.std.proofs.lemmas.Bool.{or_parts, or_from}
 use Rattle.tl_types.specs.Permission.{rank}
 use Rattle.tl_types.specs.declared.permission.Perm.TheVariants.{None as p_None, Tip}
 use Rattle.tl_map.specs.Places.{bank_of, block_at as block_of_address}
@@ -21,14 +22,14 @@ use Rattle.tl_bank_spec.specs.View.{View, IsOwn, shape_of, block_at, client_at, 
 use Rattle.tl_bank_spec.specs.Views.{not_own, no_part, byte_at, peeked, MayRead, MayWrite, passing, outward_at}
 use Rattle.tl_bank_laws.specs.Layers.{Layers}
 use Rattle.tl_bank_laws.specs.Means.{Means}
-use Rattle.tl_bank_laws.proofs.Allowed.{or-false, client-is, block-is, here-is}
+use Rattle.tl_bank_laws.proofs.Allowed.{client-is, block-is, here-is}
 use Rattle.tl_bank_laws.proofs.Loads.{Reads, load-keeps}
 
 -- ## What the bank has
 
 -- the block is of this bank
 pub own-is : (v : View) (b : ℕ) → not_own v b ≡ false → IsOwn v.geometry v.number b
-own-is v b h = let both = or-false (no_block v b) (elsewhere v b) h in (block-is v b both.0, here-is v b both.1)
+own-is v b h = let both = or_parts (no_block v b) (elsewhere v b) h in (block-is v b both.0, here-is v b both.1)
 
 own-by : (g n : ℕ) (t : Bool) → t ≡ true → g ≡ n → (not t || not (g == n)) ≡ false
 own-by g n true h e = ap not (eq-eqb g n e)
@@ -39,14 +40,10 @@ own-not v b own = let l = own.0 in own-by (bank_of v.geometry b) v.number _ (gri
 
 -- and the client is there
 pub part-is : (v : View) (c b : ℕ) → no_part v c b ≡ false → (c < v.geometry.clients) × IsOwn v.geometry v.number b
-part-is v c b h = let both = or-false (no_client v c) (not_own v b) h in (client-is v c both.0, own-is v b both.1)
-
-or-both : (s t : Bool) → s ≡ false → t ≡ false → (s || t) ≡ false
-or-both false t h l = l
-or-both true t h l = cc
+part-is v c b h = let both = or_parts (no_client v c) (not_own v b) h in (client-is v c both.0, own-is v b both.1)
 
 pub part-not : (v : View) (c b : ℕ) → c < v.geometry.clients → IsOwn v.geometry v.number b → no_part v c b ≡ false
-part-not v c b lt own = or-both (no_client v c) (not_own v b) (grind (arith, nat_tests)) (own-not v b own)
+part-not v c b lt own = or_from (no_client v c) (not_own v b) (grind (arith, nat_tests)) (own-not v b own)
 
 -- ## The directory
 

@@ -1,5 +1,8 @@
 -- What an event that moves no block and opens or closes no register leaves of the registers and of the ways that they hold.
 use Rattle.std.proofs.Common.{◌≡◌, ℕ, ◌<◌, ◌==◌, ◌&&◌, ◌||◌, Bool, true, false, List, [], ◌∷◌, Option, None, is_none, if◌then◌else◌, refl, sym, ◌∙◌, ap, subst, inl, inr}
+use Rattle.tl_types.proofs.Booleans.{or-else}
+use Rattle.std.proofs.Math.Bool.{or-true}
+use Rattle.std.proofs.lemmas.Bool.{and_parts, cases_Bool, not-true}
 use Rattle.std.specs.Prelude.{slice_index_or}
 use Rattle.std.specs.List.{list_any}
 use Rattle.tl_map.specs.Places.{bank_of, set_of}
@@ -14,7 +17,6 @@ use Rattle.tl_registers.specs.declared.register.Register.{Register}
 use Rattle.tl_registers.specs.declared.register.Task.{Task}
 use Rattle.tl_registers.specs.declared.way_of_set.WayOfSet.{WayOfSet}
 use Rattle.tl_registers.proofs.Agreement.{events-leave-registers, every-run-is-steady}
-use Rattle.tl_registers.proofs.Booleans.{and-true, bool-cases, not-true, or-else, or-true}
 use Rattle.tl_home.specs.Homes.{HomeState, SameWays, order_at, way_in}
 use Rattle.tl_bank_spec.specs.View.{View, shape_of, block_at, way_at}
 use Rattle.tl_bank_spec.specs.Ways.{is_way, lies_in, slot_at, slots_at}
@@ -151,7 +153,7 @@ NoGrantComes v t =
 filling-by-follows : (v t : View) (set way : ℕ) (r q : Register) → NoGrantComes v t → q.own ≡ r.own → q.way ≡ r.way
     → is_filling_by v set way r ≡ true → is_filling_by t set way q ≡ true
 filling-by-follows v t set way r q none own in_way h =
-    let k = and-true ((r.way.set == set) && (r.way.way == way)) _ h in
+    let k = and_parts ((r.way.set == set) && (r.way.way == way)) _ h in
     let here : ((q.way.set == set) && (q.way.way == way)) ≡ true =
     ap (λ (w : WayOfSet). (w.set == set) && (w.way == way)) in_way ∙ k.0 in
     let free : grant_pending (shape_of t.geometry) (block_at t q.own) ≡ false =
@@ -166,7 +168,7 @@ filling-follows v t set way [] [] none work h = cc
 filling-follows v t set way [] (q ∷ more) none work h = absurd work
 filling-follows v t set way (r ∷ rest) [] none work h = absurd work
 filling-follows v t set way (r ∷ rest) (q ∷ more) none work h =
-    elim (bool-cases (is_filling_by v set way r)) [
+    elim (cases_Bool (is_filling_by v set way r)) [
       | inl e ↦ let now = filling-by-follows v t set way r q none work.0 work.1 e in rw now refl
       | inr e ↦
           let later = filling-follows v t set way rest more none work.3 (or-else (is_filling_by v set way r) _ h e) in

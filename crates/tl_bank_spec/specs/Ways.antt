@@ -1,7 +1,7 @@
 -- In which way each block lies, and which way a register takes (this project's own).
 use Rattle.std.specs.Prelude.{◌≡◌, ℕ, zero, suc, ◌==◌, ◌&&◌, not, Bool, false, List, [], ◌∷◌, ◌++◌, length, Option, Some, None, is_none, nat_le}
+use Rattle.tl_types.specs.Lowest.{lowest}
 use Rattle.tl_map.specs.Places.{bank_of, set_of}
-use Rattle.tl_registers.specs.Register.{lowest}
 use Rattle.tl_registers.specs.Registers.{is_held}
 use Rattle.tl_registers.specs.VictimWay.{IsChosen}
 use Rattle.tl_registers.specs.declared.way_of_set.WayOfSet.{WayOfSet}

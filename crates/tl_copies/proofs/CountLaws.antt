@@ -1,8 +1,9 @@
 -- What a table counts is what the map has below the number of blocks, and its first copy is the order's.
-use Rattle.std.proofs.Common.{◌≡◌, ◌≢◌, ℕ, ◌+◌, ◌==◌, Bool, true, false, List, [], ◌∷◌, length, Option, Some, None, is_some, if◌then◌else◌, refl, ◌∙◌, ap, arith, count_by, ◌≤◌}
+use Rattle.std.proofs.Common.{◌≡◌, ◌≢◌, ℕ, ◌+◌, ◌==◌, Bool, true, false, List, [], ◌∷◌, length, Option, Some, None, is_some, if◌then◌else◌, refl, sym, ◌∙◌, ap, arith, count_by, ◌≤◌}
 use Rattle.std.specs.List.{find, AllByRecursion}
 use Rattle.std.proofs.lemmas.List.Sums.{sum_by-cons}
 use Rattle.std.proofs.lemmas.Bool.Decides.{nat_tests}
+use Rattle.std.proofs.lemmas.Bool.{ne_eqb}
 use Rattle.tl_types.specs.Count.{count_below}
 use Rattle.tl_types.proofs.Counts.{count_below-same, count_below-none, count_below-change}
 use Rattle.tl_copies.specs.declared.held.Held.{Held}
@@ -11,9 +12,6 @@ use Rattle.tl_copies.specs.Held.{is_copy, has_copy}
 use Rattle.tl_copies.specs.Entries.{found, oldest_in, AreApart, IsTable}
 use Rattle.tl_copies.specs.Copies.{Tables, held_at, order_in, entries, copies}
 use Rattle.tl_copies.proofs.EntryLaws.{blocks, not_first, same}
-
-differs : (a b : ℕ) → b ≢ a → (a == b) ≡ false
-differs a b d = grind (arith, nat_tests)
 
 abbrev one_if : Bool → ℕ
 one_if passes = if passes then 1 else 0
@@ -24,7 +22,7 @@ pub count_below-found : (test : Option Held → Bool) (n : ℕ) (es : List Entry
 count_below-found test n [] none a = count_below-none (λ b. test (found b [])) n (λ k h. none)
 count_below-found test n (e ∷ rest) none a =
     let gone : test (found e.block rest) ≡ false = ap test a.1 ∙ none in
-    let agree : (k : ℕ) → k ≢ e.block → test (found k (e ∷ rest)) ≡ test (found k rest) = λ k d. rw (differs e.block k d) refl in
+    let agree : (k : ℕ) → k ≢ e.block → test (found k (e ∷ rest)) ≡ test (found k rest) = λ k d. rw (ne_eqb e.block k (λ same. d (sym same))) refl in
     let here : test (found e.block (e ∷ rest)) ≡ test (Some e.held) = rw (same e.block) refl in
     let one : count_below (λ b. test (found b (e ∷ rest))) n + one_if (test (found e.block rest))
     ≡ count_below (λ b. test (found b rest)) n + one_if (test (found e.block (e ∷ rest))) =
@@ -60,7 +58,7 @@ find-agree : (p q : ℕ → Bool) (xs : List ℕ) → AllByRecursion (λ x. p x 
 find-agree p q [] a = refl
 find-agree p q (x ∷ rest) a = rw (a.0, find-agree p q rest a.1) refl
 
--- a block that is not found differs from each of the table's
+-- a block that is not found ne_eqb from each of the table's
 none_of : (block : ℕ) (held : Held) (es whole : List Entry) → found block es ≡ None
     → AllByRecursion (λ x. has_copy (if block == x then Some held else found x whole) ≡ has_copy (found x whole)) (blocks es)
 none_of block held [] whole n = tt

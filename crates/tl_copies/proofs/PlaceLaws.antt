@@ -4,15 +4,12 @@ use Rattle.std.specs.Prelude.{remove}
 use Rattle.std.specs.List.{refill}
 use Rattle.std.proofs.lemmas.List.{take_at, length-set}
 use Rattle.std.proofs.lemmas.Bool.Decides.{nat_tests}
+use Rattle.std.proofs.lemmas.Bool.{ne_eqb}
 use Rattle.tl_copies.specs.declared.held.Held.{Held}
 use Rattle.tl_copies.specs.declared.table.Entry.{Entry}
 use Rattle.tl_copies.specs.Held.{is_granted, is_renewed}
 use Rattle.tl_copies.specs.Entries.{found, without, replaced, kept, IsPlace}
 use Rattle.tl_copies.proofs.EntryLaws.{entry}
-
--- another block's entry is passed over
-differs : (a b : ℕ) → a ≢ b → (a == b) ≡ false
-differs a b d = grind (arith, nat_tests)
 
 tail_place : (block : ℕ) (e : Entry) (rest : List Entry) (i : ℕ) → IsPlace block (e ∷ rest) (suc i) → IsPlace block rest i
 tail_place block e rest i p = record {
@@ -22,7 +19,7 @@ tail_place block e rest i p = record {
 }
 
 head_differs : (block : ℕ) (e : Entry) (rest : List Entry) (i : ℕ) → IsPlace block (e ∷ rest) (suc i) → (e.block == block) ≡ false
-head_differs block e rest i p = differs e.block block (p.first 0 e (omega arith))
+head_differs block e rest i p = ne_eqb e.block block (p.first 0 e (omega arith))
 
 -- what stands at the place is what the table has of the block
 pub found-place : (block : ℕ) (es : List Entry) (place : ℕ) (d : Entry) → IsPlace block es place

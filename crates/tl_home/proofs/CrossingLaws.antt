@@ -1,11 +1,10 @@
 -- What passes of each block, after something comes to pass or is taken.
 use Rattle.std.proofs.Common.{◌≡◌, ◌≢◌, ℕ, zero, suc, ◌+◌, ◌<◌, ◌==◌, Bool, true, false, List, [], ◌∷◌, ◌++◌, length, slice_index_or, if◌then◌else◌, refl, sym, ◌∙◌, ap, arith, eq-eqb, inl, inr}
 use Rattle.std.specs.Prelude.{remove, ◌≤◌, ◌⊎◌}
-use Rattle.std.proofs.lemmas.Bool.{cases_eq}
+use Rattle.std.proofs.lemmas.Bool.{cases_eq, ne_eqb}
 use Rattle.tl_protocol.specs.declared.home.Outward.TheVariants.{Quiet}
 use Rattle.tl_home.specs.declared.crossings.Crossing.{Crossing}
 use Rattle.tl_home.specs.Crossings.{outward_of, AreApart, without, IsPlace}
-use Rattle.tl_home.proofs.DirectoryLaws.{differs}
 
 -- a block of which nothing passes is not the first's, and nothing of it passes in the rest
 quiet_first : (block : ℕ) (e : Crossing) (rest : List Crossing) → AreApart (e ∷ rest) → outward_of block (e ∷ rest) ≡ Quiet
@@ -13,7 +12,7 @@ quiet_first : (block : ℕ) (e : Crossing) (rest : List Crossing) → AreApart (
 quiet_first block e rest apart quiet =
     elim (cases_eq e.block block) [
       | inl same ↦ absurd (apart.0 (rw (eq-eqb e.block block same) at quiet))
-      | inr other ↦ (other, rw (differs e.block block other) at quiet)
+      | inr other ↦ (other, rw (ne_eqb e.block block other) at quiet)
     ]
 
 -- something comes to pass
@@ -22,16 +21,16 @@ pub outward_of-append : (x : Crossing) (list : List Crossing) → AreApart list 
 outward_of-append x [] apart quiet b =
     elim (cases_eq b x.block) [
       | inl same ↦ rw (eq-eqb b x.block same, eq-eqb x.block b (sym same)) refl
-      | inr other ↦ rw (differs b x.block other, differs x.block b (λ same. other (sym same))) refl
+      | inr other ↦ rw (ne_eqb b x.block other, ne_eqb x.block b (λ same. other (sym same))) refl
     ]
 outward_of-append x (e ∷ rest) apart quiet b =
     let first = quiet_first x.block e rest apart quiet in
     let later = outward_of-append x rest apart.2 first.1 b in
     elim (cases_eq e.block b) [
       | inl same ↦
-          let other : (b == x.block) ≡ false = differs b x.block (λ is. first.0 (same ∙ is)) in
+          let other : (b == x.block) ≡ false = ne_eqb b x.block (λ is. first.0 (same ∙ is)) in
           rw (eq-eqb e.block b same, other) refl
-      | inr other ↦ rw (differs e.block b other) later
+      | inr other ↦ rw (ne_eqb e.block b other) later
     ]
 
 pub AreApart-append : (x : Crossing) (list : List Crossing) → AreApart list → outward_of x.block list ≡ Quiet → x.outward ≢ Quiet
@@ -40,7 +39,7 @@ AreApart-append x [] apart quiet passes = (passes, refl, tt)
 AreApart-append x (e ∷ rest) apart quiet passes =
     let first = quiet_first x.block e rest apart quiet in (
       apart.0,
-      outward_of-append x rest apart.2 first.1 e.block ∙ ap (λ there. if there then x.outward else outward_of e.block rest) (differs e.block x.block first.0)
+      outward_of-append x rest apart.2 first.1 e.block ∙ ap (λ there. if there then x.outward else outward_of e.block rest) (ne_eqb e.block x.block first.0)
           ∙ apart.1,
       AreApart-append x rest apart.2 first.1 passes,
     )
@@ -57,13 +56,13 @@ outward_of-without block (e ∷ rest) apart b =
     elim (cases_eq e.block block) [
       | inl same ↦ rw (eq-eqb e.block block same) (elim (cases_eq b block) [
         | inl is ↦ rw (eq-eqb b block is, is, ← same) apart.1
-        | inr other ↦ rw (differs b block other, differs e.block b (λ at. other (sym at ∙ same))) refl
+        | inr other ↦ rw (ne_eqb b block other, ne_eqb e.block b (λ at. other (sym at ∙ same))) refl
       ])
       | inr apart_there ↦
           let later = outward_of-without block rest apart.2 b in
-          rw (differs e.block block apart_there) (elim (cases_eq e.block b) [
-            | inl is ↦ rw (eq-eqb e.block b is, differs b block (λ at. apart_there (is ∙ at))) refl
-            | inr other ↦ rw (differs e.block b other) later
+          rw (ne_eqb e.block block apart_there) (elim (cases_eq e.block b) [
+            | inl is ↦ rw (eq-eqb e.block b is, ne_eqb b block (λ at. apart_there (is ∙ at))) refl
+            | inr other ↦ rw (ne_eqb e.block b other) later
           ])
     ]
 
@@ -73,9 +72,9 @@ AreApart-without block (e ∷ rest) apart =
     elim (cases_eq e.block block) [
       | inl same ↦ rw (eq-eqb e.block block same) apart.2
       | inr other ↦
-          rw (differs e.block block other) (
+          rw (ne_eqb e.block block other) (
             apart.0,
-            outward_of-without block rest apart.2 e.block ∙ ap (λ there. if there then Quiet else outward_of e.block rest) (differs e.block block other)
+            outward_of-without block rest apart.2 e.block ∙ ap (λ there. if there then Quiet else outward_of e.block rest) (ne_eqb e.block block other)
                 ∙ apart.1,
             AreApart-without block rest apart.2,
           )
@@ -87,7 +86,7 @@ pub outward_of-quiet : (block : ℕ) (list : List Crossing) → outward_of block
 outward_of-quiet block list quiet b =
     elim (cases_eq b block) [
       | inl same ↦ rw (eq-eqb b block same, same) quiet
-      | inr other ↦ rw (differs b block other) refl
+      | inr other ↦ rw (ne_eqb b block other) refl
     ]
 
 -- of one block fewer something passes, where anything did
@@ -97,8 +96,8 @@ length-without block (e ∷ rest) passes =
     elim (cases_eq e.block block) [
       | inl same ↦ rw (eq-eqb e.block block same) (omega arith)
       | inr other ↦
-          let later = length-without block rest (rw (differs e.block block other) at passes) in
-          rw (differs e.block block other) (omega (arith, later))
+          let later = length-without block rest (rw (ne_eqb e.block block other) at passes) in
+          rw (ne_eqb e.block block other) (omega (arith, later))
     ]
 
 -- ## Places
@@ -111,7 +110,7 @@ tail_place block e rest i p = record {
 }
 
 head_differs : (block : ℕ) (e : Crossing) (rest : List Crossing) (i : ℕ) → IsPlace block (e ∷ rest) (suc i) → (e.block == block) ≡ false
-head_differs block e rest i p = differs e.block block (p.first 0 e (omega arith))
+head_differs block e rest i p = ne_eqb e.block block (p.first 0 e (omega arith))
 
 -- what stands at the place is what passes
 pub outward_of-place : (block : ℕ) (list : List Crossing) (place : ℕ) (d : Crossing) → IsPlace block list place
@@ -155,7 +154,7 @@ held_by holder n (e ∷ rest) apart =
         | inl found ↦ inl (found.0, later_passes found.0 e rest apart found.1, found.2)
         | inr none ↦ inr (λ b passes is. elim (cases_eq e.block b) [
           | inl same ↦ other (ap holder same ∙ is)
-          | inr differ ↦ none b (rw (differs e.block b differ) at passes) is
+          | inr differ ↦ none b (rw (ne_eqb e.block b differ) at passes) is
         ])
       ]
     ]
@@ -193,7 +192,7 @@ length-held holder (suc n) list apart inside own =
           | inl same ↦
               absurd (passes (outward_of-without block list apart b ∙ ap (λ there. if there then Quiet else outward_of b list) (eq-eqb b block same)))
           | inr other ↦
-              (other, λ quiet. passes (outward_of-without block list apart b ∙ ap (λ there. if there then Quiet else outward_of b list) (differs b block other) ∙ quiet))
+              (other, λ quiet. passes (outward_of-without block list apart b ∙ ap (λ there. if there then Quiet else outward_of b list) (ne_eqb b block other) ∙ quiet))
         ]
 
 pub ruleset puts = (outward_of-append, AreApart-append)

@@ -2,8 +2,10 @@
 use Rattle.std.proofs.Common.{◌≡◌, ◌≢◌, ℕ, ◌<◌, ◌==◌, ◌&&◌, Bool, true, false, List, Option, None, Some, if◌then◌else◌, refl, sym, ◌∙◌, ap, arith, eq-eqb, eqb-true, inl, inr, subst}
 use Rattle.std.specs.Prelude.{IfSome, IfNone, is_none, not, ◌≤◌}
 use Rattle.std.specs.Option.{option_map}
-use Rattle.std.proofs.lemmas.Bool.{cases_eq, cases_order}
+use Rattle.std.proofs.lemmas.Bool.{cases_eq, cases_order, and_parts, ne_eqb}
 use Rattle.std.proofs.lemmas.Bool.Decides.{nat_tests}
+use Rattle.tl_types.proofs.Lowest.{none-lowest, lowest-same, lowest-some, lowest-one}
+use Rattle.tl_types.specs.Lowest.{lowest}
 use Rattle.tl_types.specs.declared.permission.Perm.{Perm}
 use Rattle.tl_types.specs.declared.permission.Perm.TheVariants.{None as NoAccess}
 use Rattle.tl_map.specs.Numbers.{Numbers}
@@ -11,16 +13,11 @@ use Rattle.tl_map.specs.Places.{bank_of, set_of, tag_of, place_of}
 use Rattle.tl_map.specs.declared.place.Place.{Place}
 use Rattle.tl_map.proofs.PlaceLaws.{place_of-alone}
 use Rattle.tl_ways.specs.Lines.{Line as Entry, perm_of}
-use Rattle.tl_ways.specs.Orders.{lowest, chosen, touched}
+use Rattle.tl_ways.specs.Orders.{chosen, touched}
 use Rattle.tl_ways.specs.Rows.{tag_in_line}
 use Rattle.tl_ways.specs.Tables.{Table, IsSameSize, line_at, order_at, set_count, tag_at, chosen_at}
 use Rattle.tl_ways.specs.Stores.{Store, bytes_at}
 use Rattle.tl_home.specs.Directories.{Directory, has_tag, way_by_tag, copy_at, perm_at, way_of, line_of, recorded_of, free_in, order_of, order_after, IsDirectory, IsHeld, IsPlaced}
-use Rattle.tl_home.proofs.LowestLaws.{lowest-passes, lowest-none, lowest-same, lowest-only}
-
--- two numbers are one, or the test tells them apart
-pub differs : (a b : ℕ) → a ≢ b → (a == b) ≡ false
-differs a b d = grind (arith, nat_tests)
 
 -- a negation the other way round
 pub not_flip : (b : Bool) (negated : Bool) → not b ≡ negated → b ≡ not negated
@@ -37,7 +34,7 @@ has_tag-same (Some tag) other is = eq-eqb tag other (cc)
 
 has_tag-not : (tag : Option ℕ) (other : ℕ) → tag ≢ Some other → has_tag tag other ≡ false
 has_tag-not None other never = refl
-has_tag-not (Some tag) other never = differs tag other (λ same. never (ap Some same))
+has_tag-not (Some tag) other never = ne_eqb tag other (λ same. never (ap Some same))
 
 -- no two blocks of one bank have one set and one tag
 pub same_block : (g : Numbers) (a b : ℕ) → bank_of g a ≡ bank_of g b → set_of g a ≡ set_of g b → tag_of g a ≡ tag_of g b → a ≡ b
@@ -63,11 +60,11 @@ IsThere-of d block way is =
     let test = λ (w : ℕ). has_tag (tag_at d.table (set_of d.geometry block) w) (tag_of d.geometry block) in
     let parts : (((bank_of d.geometry block == d.bank) ≡ true) × (lowest test d.table.ways ≡ Some way)) =
     in_bank (bank_of d.geometry block == d.bank) (lowest test d.table.ways) way is in
-    let found : ((test way ≡ true) × (way < d.table.ways)) = lowest-passes test d.table.ways way parts.1 in
+    let found = lowest-some test d.table.ways way parts.1 in
     record {
       own = eqb-true (bank_of d.geometry block) d.bank parts.0;
-      inside = found.1;
-      tag = has_tag-is (tag_at d.table (set_of d.geometry block) way) (tag_of d.geometry block) found.0;
+      inside = found.0;
+      tag = has_tag-is (tag_at d.table (set_of d.geometry block) way) (tag_of d.geometry block) found.1;
     }
 
 -- a block lies in the only way of its set with its tag
@@ -77,8 +74,8 @@ unfolding way_of
 way_of-found d block way there alone =
     let test = λ (w : ℕ). has_tag (tag_at d.table (set_of d.geometry block) w) (tag_of d.geometry block) in
     rw (eq-eqb (bank_of d.geometry block) d.bank there.own)
-    (lowest-only test d.table.ways way there.inside (has_tag-same (tag_at d.table (set_of d.geometry block) way) (tag_of d.geometry block) there.tag)
-    (λ other passes. alone other (has_tag-is (tag_at d.table (set_of d.geometry block) other) (tag_of d.geometry block) passes)))
+    (lowest-one test d.table.ways way there.inside (has_tag-same (tag_at d.table (set_of d.geometry block) way) (tag_of d.geometry block) there.tag)
+    (λ other below passes. alone other (has_tag-is (tag_at d.table (set_of d.geometry block) other) (tag_of d.geometry block) passes)))
 
 -- a block whose tag no way has lies nowhere
 pub way_of-none : (d : Directory) (block : ℕ)
@@ -86,7 +83,7 @@ pub way_of-none : (d : Directory) (block : ℕ)
 unfolding way_of
 way_of-none d block never =
     let none : way_by_tag d.table (set_of d.geometry block) (tag_of d.geometry block) ≡ None =
-    lowest-none (λ w. has_tag (tag_at d.table (set_of d.geometry block) w) (tag_of d.geometry block)) d.table.ways
+    none-lowest (λ w. has_tag (tag_at d.table (set_of d.geometry block) w) (tag_of d.geometry block)) d.table.ways
     (λ way below. has_tag-not (tag_at d.table (set_of d.geometry block) way) (tag_of d.geometry block) (never way)) in
     rw none (either (bank_of d.geometry block == d.bank) None)
   where
@@ -97,7 +94,7 @@ way_of-none d block never =
 -- a block of another bank lies nowhere
 pub way_of-elsewhere : (d : Directory) (block : ℕ) → bank_of d.geometry block ≢ d.bank → way_of d block ≡ None
 unfolding way_of
-way_of-elsewhere d block other = rw (differs (bank_of d.geometry block) d.bank other) refl
+way_of-elsewhere d block other = rw (ne_eqb (bank_of d.geometry block) d.bank other) refl
 
 -- what a search of the block's set finds is its way
 pub way_of-find : (d : Directory) (block set tag : ℕ) (result : Option ℕ) → bank_of d.geometry block ≡ d.bank → set ≡ set_of d.geometry block
@@ -163,12 +160,7 @@ pub record Changes (d after : Directory) (block set way : ℕ) (entry : Option E
 -- another tag is not an entry's
 not_tagged : (line : Option Entry) (tag other : ℕ) → OnlyTag line tag → other ≢ tag → has_tag (tag_in_line line) other ≡ false
 not_tagged None tag other only apart = refl
-not_tagged (Some entry) tag other only apart = differs entry.tag other (λ same. apart (sym same ∙ only))
-
-pub both : (a b : Bool) → (a && b) ≡ true → (a ≡ true) × (b ≡ true)
-both true true is = (refl, refl)
-both true false is = absurd (cc)
-both false b is = absurd (cc)
+not_tagged (Some entry) tag other only apart = ne_eqb entry.tag other (λ same. apart (sym same ∙ only))
 
 module _ {d after : Directory} {block set way : ℕ} {entry : Option Entry} (c : Changes d after block set way entry) where
   -- whether a place is the one that changes
@@ -189,7 +181,7 @@ module _ {d after : Directory} {block set way : ℕ} {entry : Option Entry} (c :
       → has_tag (tag_at after.table (set_of d.geometry b) y) (tag_of d.geometry b) ≡ has_tag (tag_at d.table (set_of d.geometry b) y) (tag_of d.geometry b)
   tags-agree b apart own y false is = rw (line-same (set_of d.geometry b) y is) refl
   tags-agree b apart own y true is =
-      let parts = both (set_of d.geometry b == set) (y == way) is in
+      let parts = and_parts (set_of d.geometry b == set) (y == way) is in
       let sets : set_of d.geometry b ≡ set = eqb-true (set_of d.geometry b) set parts.0 in
       let at : y ≡ way = eqb-true y way parts.1 in
       let tags : tag_of d.geometry b ≢ tag_of d.geometry block = other_tag b apart own sets in
@@ -224,14 +216,14 @@ module _ {d after : Directory} {block set way : ℕ} {entry : Option Entry} (c :
               ∙ ap (λ n. lowest (λ y. has_tag (tag_at after.table (set_of d.geometry b) y) (tag_of d.geometry b)) n) c.ways
               ∙ lowest-same (λ y. has_tag (tag_at after.table (set_of d.geometry b) y) (tag_of d.geometry b))
               (λ y. has_tag (tag_at d.table (set_of d.geometry b) y) (tag_of d.geometry b)) d.table.ways
-              (λ y. tags-agree b apart own y (here (set_of d.geometry b) y) refl)
+              (λ y below. tags-agree b apart own y (here (set_of d.geometry b) y) refl)
 
   -- and not where the change is
   not_here : (b y : ℕ) → b ≢ block → way_of d b ≡ Some y → (there : Bool) → here (set_of d.geometry b) y ≡ there → there ≡ false
   not_here b y apart lies false is = refl
   not_here b y apart lies true is =
       let at = IsThere-of d b y lies in
-      let parts = both (set_of d.geometry b == set) (y == way) is in
+      let parts = and_parts (set_of d.geometry b == set) (y == way) is in
       let sets : set_of d.geometry b ≡ set = eqb-true (set_of d.geometry b) set parts.0 in
       let w : y ≡ way = eqb-true y way parts.1 in
       let tags = other_tag b apart at.own sets in
@@ -276,7 +268,7 @@ pub by_block : {X : Type 0} (b block : ℕ) (after here before : X) → (b ≡ b
 by_block {X} b block after here before same other =
     elim (cases_eq b block) [
       | inl is ↦ rw (eq-eqb b block is) (same is)
-      | inr apart ↦ rw (differs b block apart) (other apart)
+      | inr apart ↦ rw (ne_eqb b block apart) (other apart)
     ]
 
 -- ## An entry is replaced
@@ -297,7 +289,7 @@ pub here_true : (x y : ℕ) → (x == x && y == y) ≡ true
 here_true x y = rw (eq-eqb x x refl, eq-eqb y y refl) refl
 
 pub at_way : (x y set way : ℕ) → y ≢ way → (x == set && y == way) ≡ false
-at_way x y set way apart = rw (differs y way apart) (and_false (x == set))
+at_way x y set way apart = rw (ne_eqb y way apart) (and_false (x == set))
   where
     and_false : (b : Bool) → (b && false) ≡ false
     and_false true = refl
@@ -381,7 +373,7 @@ module _ {d after : Directory} {block set way : ℕ} {old new : Entry} (r : Repl
       by_place : (there : Bool) → (x == set && y == way) ≡ there → is_none (if x == set && y == way then Some new else line_at d.table x y) ≡ is_none (line_at d.table x y)
       by_place false is = rw is refl
       by_place true is =
-          let parts = both (x == set) (y == way) is in
+          let parts = and_parts (x == set) (y == way) is in
           rw (is, eqb-true x set parts.0, eqb-true y way parts.1, r.held.line) refl
 
   -- one client's record is the new one
@@ -393,7 +385,7 @@ module _ {d after : Directory} {block set way : ℕ} {old new : Entry} (r : Repl
             rw (same, recorded_of-held after x block set way new held_after, recorded_of-held d x block set way old r.held, perms x, eq-eqb block block refl)
             (and_true (x == client) perm (perm_of old x))
         | inr apart ↦
-            rw (recorded_of-other changes x b apart, differs b block apart) (and_false (x == client) perm (recorded_of d x b))
+            rw (recorded_of-other changes x b apart, ne_eqb b block apart) (and_false (x == client) perm (recorded_of d x b))
       ]
     where
       and_true : (a : Bool) (p q : Perm) → (if a then p else q) ≡ (if a && true then p else q)
@@ -468,7 +460,7 @@ replaces-itself m g bank t after s block set way old view held size lines =
         → (if x == set && y == way then Some old else line_at t x y) ≡ line_at t x y
     by_place x y line false is = rw is refl
     by_place x y line true is =
-        let parts = both (x == set) (y == way) is in
+        let parts = and_parts (x == set) (y == way) is in
         rw (is, eqb-true x set parts.0, eqb-true y way parts.1, line) refl
 
 -- the orders stay where the code's do
@@ -579,7 +571,7 @@ IsDirectory-replaced g bank t after s store set way old new sound line tag size 
   where
     at : (x y : ℕ) → (x == set && y == way) ≡ true → line_at t x y ≡ Some old
     at x y is =
-        let parts = both (x == set) (y == way) is in
+        let parts = and_parts (x == set) (y == way) is in
         rw (eqb-true x set parts.0, eqb-true y way parts.1) line
 
     outside : (x y : ℕ) → t.ways ≤ y → (there : Bool) → (x == set && y == way) ≡ there → (if x == set && y == way then Some new else line_at t x y) ≡ None

@@ -1,4 +1,3 @@
-pub mod LowestLaws
 pub mod DirectoryLaws
 pub mod MoveLaws
 pub mod CrossingLaws

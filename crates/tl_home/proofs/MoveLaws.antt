@@ -1,7 +1,7 @@
 -- What the directory holds of each block after one leaves or comes.
 use Rattle.std.proofs.Common.{◌≡◌, ◌≢◌, ℕ, ◌<◌, ◌==◌, ◌&&◌, Bool, true, false, List, Option, None, Some, if◌then◌else◌, refl, sym, ◌∙◌, ap, arith, eqb-true, inl, inr, subst}
 use Rattle.std.specs.Prelude.{is_none, ◌≤◌}
-use Rattle.std.proofs.lemmas.Bool.{cases_eq}
+use Rattle.std.proofs.lemmas.Bool.{cases_eq, and_parts}
 use Rattle.tl_types.specs.declared.permission.Perm.TheVariants.{None as NoAccess}
 use Rattle.tl_map.specs.Numbers.{Numbers}
 use Rattle.tl_map.specs.Places.{bank_of, set_of, tag_of, place_of}
@@ -10,7 +10,7 @@ use Rattle.tl_ways.specs.Rows.{tag_in_line}
 use Rattle.tl_ways.specs.Tables.{Table, IsSameSize, line_at, set_count, tag_at}
 use Rattle.tl_ways.specs.Stores.{Store, bytes_at}
 use Rattle.tl_home.specs.Directories.{Directory, way_of, line_of, recorded_of, free_in, is_way, IsDirectory, IsHeld, IsPlaced}
-use Rattle.tl_home.proofs.DirectoryLaws.{Changes, way_of-other, line_of-other, recorded_of-other, way_of-found, way_of-none, line_of-held, line_of-none, recorded_of-held, recorded_of-none, by_block, both, here_true, at_way, dir, untagged, free_line}
+use Rattle.tl_home.proofs.DirectoryLaws.{Changes, way_of-other, line_of-other, recorded_of-other, way_of-found, way_of-none, line_of-held, line_of-none, recorded_of-held, recorded_of-none, by_block, here_true, at_way, dir, untagged, free_line}
 
 -- whether a place is free after a way changes
 free_by : (there : Bool) (entry line : Option Entry) → is_none (if there then entry else line) ≡ (if there then is_none entry else is_none line)
@@ -245,7 +245,7 @@ IsDirectory-filled g bank t after s store block set way entry sound inside place
         → (if x == set && y == way then Some entry else line_at t x y) ≡ None
     outside x y past false is = rw is (sound.outside x y past)
     outside x y past true is =
-        let at : y ≡ way = eqb-true y way (both (x == set) (y == way) is).1 in
+        let at : y ≡ way = eqb-true y way (and_parts (x == set) (y == way) is).1 in
         absurd (omega arith)
 
     after_tag : ℕ → ℕ → Option ℕ
@@ -259,7 +259,7 @@ IsDirectory-filled g bank t after s store block set way entry sound inside place
 
     clash : (x v w k : ℕ) → (x == set && v == way) ≡ true → entry.tag ≡ k → tag_at t x w ≡ Some k → ⊥
     clash x v w k is tag old =
-        let sets' : x ≡ set = eqb-true x set (both (x == set) (v == way) is).0 in
+        let sets' : x ≡ set = eqb-true x set (and_parts (x == set) (v == way) is).0 in
         alone w (rw (← sets', tag) old)
 
     distinct : (x v w k : ℕ) (here there : Bool) → (x == set && v == way) ≡ here → (x == set && w == way) ≡ there
@@ -267,7 +267,7 @@ IsDirectory-filled g bank t after s store block set way entry sound inside place
         → tag_in_line (if x == set && w == way then Some entry else line_at t x w) ≡ Some k → v ≡ w
     distinct x v w k false false a b first second = sound.distinct x v w k (old_tag x v k a first) (old_tag x w k b second)
     distinct x v w k true true a b first second =
-        eqb-true v way (both (x == set) (v == way) a).1 ∙ sym (eqb-true w way (both (x == set) (w == way) b).1)
+        eqb-true v way (and_parts (x == set) (v == way) a).1 ∙ sym (eqb-true w way (and_parts (x == set) (w == way) b).1)
     distinct x v w k true false a b first second = absurd (clash x v w k a (new_tag x v k a first) (old_tag x w k b second))
     distinct x v w k false true a b first second = absurd (clash x w v k b (new_tag x w k b second) (old_tag x v k a first))
 
@@ -277,7 +277,7 @@ IsDirectory-filled g bank t after s store block set way entry sound inside place
     placed x y line true is found =
         let new_is : Some entry ≡ Some line = rw is at found in
         let same : entry ≡ line = cc in
-        let sets' : x ≡ set = eqb-true x set (both (x == set) (y == way) is).0 in
+        let sets' : x ≡ set = eqb-true x set (and_parts (x == set) (y == way) is).0 in
         let here : place_of g block ≡ record { bank = bank; set = x; tag = line.tag } = rw (sets', ← same) place in
         record { block = block; inside = inside; place = here }
 

@@ -1,13 +1,14 @@
 -- The directory with home's copies, by block (how it is kept is this project's own).
 use Rattle.std.specs.Prelude.{◌≡◌, ℕ, ◌<◌, ◌≤◌, ◌==◌, Bool, false, List, Option, None, Some, is_none, if◌then◌else◌}
 use Rattle.std.specs.Option.{option_map}
+use Rattle.tl_types.specs.Lowest.{lowest}
 use Rattle.tl_types.specs.declared.permission.Perm.{Perm}
 use Rattle.tl_types.specs.declared.permission.Perm.TheVariants.{None as NoAccess}
 use Rattle.tl_map.specs.Numbers.{Numbers}
 use Rattle.tl_map.specs.Places.{bank_of, set_of, tag_of, place_of}
 use Rattle.tl_protocol.specs.declared.home.Line.{Line}
 use Rattle.tl_ways.specs.Lines.{Line as Entry, perm_of}
-use Rattle.tl_ways.specs.Orders.{lowest, touched}
+use Rattle.tl_ways.specs.Orders.{touched}
 use Rattle.tl_ways.specs.Tables.{Table, line_at, order_at, set_count, tag_at}
 use Rattle.tl_ways.specs.Stores.{Store, bytes_at}
 

@@ -1,5 +1,6 @@
 -- What one more event of a log leaves of each client, and of home, on each block.
 use Rattle.std.proofs.Common.{◌≡◌, ℕ, ◌==◌, ◌&&◌, Bool, true, false, cond, List, [], ◌∷◌, ◌++◌, refl, sym, ap, ◌∙◌, subst, eqb-true}
+use Rattle.std.proofs.lemmas.Bool.{and_parts}
 use Rattle.tl_protocol.specs.declared.client.Client.{Client}
 use Rattle.tl_protocol.specs.declared.event.Event.{Event}
 use Rattle.tl_protocol.specs.declared.shape.Shape.{Shape}
@@ -61,12 +62,6 @@ field_if :
 field_if f k old true same = same refl
 field_if f k old false same = refl
 
--- two tests that are both met
-both_true : (t u : Bool) → (t && u) ≡ true → (t ≡ true) × (u ≡ true)
-both_true true true h = (refl, refl)
-both_true true false h = cc
-both_true false u h = cc
-
 -- a field that the event leaves as it was is so for each client of each block
 pub field-append :
     {X : Type 0} (f : Client → X) (shape : Shape) (image : List ℕ) (log : List Event) (e : Event) (c : ℕ) (k : Client)
@@ -77,7 +72,7 @@ pub field-append :
 field-append f shape image log e c k is same x block =
     ap f (client-append shape image log e c k is x block)
     ∙ field_if f k ((end_of shape image log block).client x) ((x == c) && (block == block_of shape e))
-    (λ h. let at = both_true (x == c) (block == block_of shape e) h in
+    (λ h. let at = and_parts (x == c) (block == block_of shape e) h in
     same ∙ (ap (λ (y : ℕ). f ((end_of shape image log (block_of shape e)).client y)) (sym (eqb-true x c at.0))
     ∙ ap (λ (b : ℕ). f ((end_of shape image log b).client x)) (sym (eqb-true block (block_of shape e) at.1))))
 

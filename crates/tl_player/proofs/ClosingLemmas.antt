@@ -24,14 +24,3 @@ Close-more sites i site closings more closing lt at h last is =
     subst (λ (xs : List SiteState). Close xs more) (sym t)
     (subst (λ (ys : List BankClosing). Close (take i sites ++ site ∷ []) ys) (sym is)
     (Close-push (take i sites) closings site closing h last))
-
-few_if : (t : Bool) → cond t 8 16 ≤ 16
-few_if true = omega arith
-few_if false = omega arith
-
--- no geometry has more than 16 clients
-pub few_clients : (g : Numbers) → IsLawful g → g.clients ≤ 16
-few_clients g lawful =
-    let most : g.clients ≤ most_clients g.version = lawful.clients.most in
-    let few : most_clients g.version ≤ 16 = few_if (g.version == 1) in
-    omega arith

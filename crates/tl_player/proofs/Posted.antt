@@ -1,6 +1,8 @@
 -- The message that an event sent waits where its ticket says.
 use Rattle.std.proofs.Common.{◌≡◌, ℕ, ◌-◌, ◌<◌, ◌==◌, Bool, true, false, List, [], ◌∷◌, ◌++◌, length, Option, Some, None, IsSome, slice_get, refl, sym, ◌∙◌, ap, subst, arith, eq-eqb, nat_lt, nat_le, ◌&&◌, if◌then◌else◌}
 use Rattle.std.proofs.lemmas.Bool.{le-ltb, lt-leb}
+use Rattle.std.proofs.Math.Bool.{and-false}
+use Rattle.tl_types.proofs.Lanes.{is_here-self}
 use Rattle.tl_types.specs.Lane.{Lane, bodies_of, message_at, sent, is_here, with_message}
 use Rattle.tl_types.specs.Channel.{same_channel}
 use Rattle.tl_types.specs.declared.channel.Channel.{Channel}
@@ -48,21 +50,6 @@ message_at-sent lane m =
     let place : sent lane - lane.taken ≡ length lane.messages = omega arith in
     rw (past, place) (last_of lane.messages m)
 
-same : (l : Channel) → same_channel l l ≡ true
-same A = refl
-same B = refl
-same C = refl
-same D = refl
-same E = refl
-
-here : (c : ℕ) (l : Channel) → is_here c l c l ≡ true
-here c l = rw (eq-eqb c c refl) (same l)
-
--- nothing is both so and not so
-and_false : (t : Bool) → (t && false) ≡ false
-and_false true = refl
-and_false false = refl
-
 -- ## One event
 
 sent-here : (post : Option Post) (c block : ℕ) (l : Channel) (body : Body) (lane : Lane)
@@ -70,7 +57,7 @@ sent-here : (post : Option Post) (c block : ℕ) (l : Channel) (body : Body) (la
     → sent_to post block c l lane ≡ with_message lane (record { block = block; body = body })
 sent-here post c block l body lane is =
     subst (λ (p : Option Post). sent_to p block c l lane ≡ with_message lane (record { block = block; body = body })) (sym is)
-    (rw (here c l) refl)
+    (rw (is_here-self c l) refl)
 
 -- the ticket is of a client that is there, and of the bank itself
 known : (v w : View) (e : Event) (c : ℕ) (l : Channel) → Extends v w e → c < v.geometry.clients
@@ -102,7 +89,7 @@ there v w e c l body x lt post untaken =
 -- taking from another channel
 away : (c : ℕ) (k l : Channel) (lane : Lane) → same_channel l k ≡ false
     → taken_from (Some (record { client = c; channel = k })) c l lane ≡ lane
-away c k l lane other = rw (other, and_false (c == c)) refl
+away c k l lane other = rw (other, and-false (c == c)) refl
 
 -- ## Each event that sends
 

@@ -1,18 +1,25 @@
 -- What a change of one client leaves of what holds of the whole block.
 use Rattle.std.proofs.Common.{◌≡◌, ◌≢◌, ℕ, ◌<◌, ◌≤◌, Bool, true, false, List, [], Option, Some, None, inl, inr, ⊎_elim, sym, refl, ap, ◌∙◌, subst, arith, cond, ◌==◌, if◌then◌else◌, eqb-true}
 use Rattle.std.proofs.lemmas.Bool.{eqb-false, cases_lt}
-use Rattle.tl_types.specs.declared.permission.Perm.TheVariants.{None as p_None, Tip}
+use Rattle.tl_types.specs.declared.permission.Perm.{Perm}
+use Rattle.tl_types.specs.declared.permission.Perm.TheVariants.{None as p_None, Branch, Tip}
 use Rattle.tl_types.specs.declared.wait.Wait.TheVariants.{ForGrant}
 use Rattle.tl_protocol.specs.declared.shape.Shape.{Shape}
 use Rattle.tl_protocol.specs.declared.client.Client.{Client}
 use Rattle.tl_protocol.specs.declared.home.Line.{Line}
 use Rattle.tl_protocol.specs.declared.home.Accepted.{Accepted}
 use Rattle.tl_protocol.specs.declared.home.Outward.{Outward}
-use Rattle.tl_protocol.specs.Protocol.{Block, NoGrant, NoProbe, NobodyRecorded, with_client}
+use Rattle.tl_protocol.specs.Protocol.{Block, NoGrant, NoProbe, NobodyRecorded, with_client, is_none}
 use Rattle.tl_protocol.specs.Client.{fresh_client, NoProbePending, NoGrantPending}
 use Rattle.tl_protocol.specs.Pending.{IsGrantPending, beside}
 use Rattle.tl_types.specs.Permission.{rank}
 use Rattle.tl_protocol.proofs.Invariant.{ClientIs, IsServed, Service, IsAlone, IsDirty, HomeIs, Invariant}
+
+-- a record that the test of None meets is None
+pub none_is : (p : Perm) → is_none p ≡ true → p ≡ p_None
+none_is p_None h = refl
+none_is Branch h = cc
+none_is Tip h = cc
 
 -- ## One client of all
 

@@ -2,6 +2,7 @@
 use Rattle.std.proofs.Common.{◌≡◌, ◌≢◌, ℕ, zero, suc, ◌+◌, ◌-◌, ◌*◌, ◌/◌, ◌%◌, ◌<◌, ◌≤◌, Bool, cond, List, ◌++◌, length, take, drop, get_or, slice_index, nat_le, nat_lt, ⊎_elim, sym, refl, ap, ◌∙◌, subst, arith, length-append, length-drop, length-take-le, get_or-take, get_or-drop, div-add-mod', mul-le-mul_right, le-leb, lt-ltb, le-ltb}
 use Rattle.std.proofs.lemmas.List.{append_assoc, get_or_append_left, get_or-append_right}
 use Rattle.std.proofs.lemmas.Bool.{lt-leb, and_from, and_left, and_right, cases_lt, cases_order}
+use Rattle.tl_types.proofs.Image.{length-image_bytes}
 use Rattle.tl_protocol.specs.declared.event.Access.{Access}
 use Rattle.tl_protocol.specs.declared.event.Event.{Event}
 use Rattle.tl_protocol.specs.declared.event.Event.TheVariants.{Store}
@@ -101,11 +102,6 @@ pub record IsNow (size : ℕ) (byte : ℕ → ℕ) (from : ℕ) (now : List ℕ)
   pub long : length now ≡ size
   pub each : (i : ℕ) → i < size → get_or now i 0 ≡ byte (from + i)
 
--- as many bytes of the image as were asked for
-pub image_long : (image : List ℕ) (from n : ℕ) → length (image_bytes image from n) ≡ n
-image_long image from zero = refl
-image_long image from (suc n) = ap suc (image_long image (from + 1) n)
-
 -- each of them
 pub image_each :
     (image : List ℕ) (from n i : ℕ) → i < n → get_or (image_bytes image from n) i 0 ≡ slice_index image (from + i)
@@ -117,7 +113,7 @@ image_each image from (suc n) (suc i) l =
 
 -- a block of the image
 pub image_now : (image : List ℕ) (size from : ℕ) → IsNow size (slice_index image) from (image_bytes image from size)
-image_now image size from = record { long = image_long image from size; each = image_each image from size }
+image_now image size from = record { long = length-image_bytes image from size; each = image_each image from size }
 
 -- a store in the block
 pub store_now :

@@ -1,6 +1,7 @@
 -- What a register does next is of the block that it works on.
 use Rattle.std.proofs.Common.{◌≡◌, ℕ, Bool, true, false, [], ◌∷◌, Option, Some, None, if◌then◌else◌, refl, sym, ◌∙◌, subst, inl, inr}
 use Rattle.std.specs.Prelude.{◌⊎◌}
+use Rattle.tl_types.specs.Lowest.{lowest}
 use Rattle.tl_types.specs.declared.permission.ProbeCap.TheVariants.{ToN}
 use Rattle.tl_protocol.specs.Protocol.{Block}
 use Rattle.tl_protocol.specs.declared.home.Accepted.{Accepted}
@@ -14,7 +15,7 @@ use Rattle.tl_registers.specs.declared.register.Task.TheVariants.{Acquire, Repla
 use Rattle.tl_registers.specs.Agree.{IsToProbe, IsOf, EveryActionIsOfItsRegister}
 use Rattle.tl_registers.specs.NextAction.{acts, first, probe_victim, await_probes, give_up, await_put, probes_before, fetch, probe_others, grant, serve, cases}
 use Rattle.tl_registers.specs.Pending.{probe_pending, grant_pending, is_quiet}
-use Rattle.tl_registers.specs.Register.{must_probe, lowest, victim_in}
+use Rattle.tl_registers.specs.Register.{must_probe, victim_in}
 use Rattle.tl_registers.proofs.Permitted.{probes-first, gone, fetched, granting, away-first}
 
 -- the same, told by the task

@@ -1,5 +1,7 @@
 -- The open registers and the protocol's state agree after each event that leaves the registers.
 use Rattle.std.proofs.Common.{◌≡◌, sym, ℕ, ◌==◌, ◌||◌, eq-eqb, true, false, List, [], ◌∷◌, Option, Some, None, refl, ◌∙◌, inl, inr}
+use Rattle.std.proofs.Math.Bool.{or-true}
+use Rattle.std.proofs.lemmas.Bool.{cases_Bool}
 use Rattle.tl_types.specs.declared.permission.ProbeCap.{ProbeCap}
 use Rattle.tl_types.specs.declared.permission.ProbeCap.TheVariants.{ToN}
 use Rattle.tl_protocol.specs.declared.home.Accepted.{Accepted}
@@ -17,7 +19,6 @@ use Rattle.tl_registers.specs.Register.{has_probed, is_other, works_on, is_block
 use Rattle.tl_registers.proofs.Blocks.{Keeps, nothing-keeps, event-keeps}
 use Rattle.tl_registers.proofs.Pending.{any_below-none, any_below-false}
 use Rattle.tl_registers.specs.Pending.{is_granted, grant_pending}
-use Rattle.tl_registers.proofs.Booleans.{bool-cases, or-true}
 
 -- ## One block
 
@@ -39,7 +40,7 @@ leaves-kept shape s later r k h = record {
 -- a Grant that is pending was before
 was-pending : (shape : Shape) (s later : Block) → Keeps s later → grant_pending shape later ≡ true → grant_pending shape s ≡ true
 was-pending shape s later k pending =
-    elim (bool-cases (grant_pending shape s)) [
+    elim (cases_Bool (grant_pending shape s)) [
       | inl e ↦ e
       | inr e ↦
           let none : grant_pending shape later ≡ false =
@@ -113,7 +114,7 @@ pub events-leave-registers : EventsLeaveRegisters
 events-leave-registers shape states registers e leaves steady agree =
     let later : ℕ → Block = after_next shape states e in
     let k : (block : ℕ) → Keeps (states block) (later block) =
-    λ block. elim (bool-cases (block == block_of shape e)) [
+    λ block. elim (cases_Bool (block == block_of shape e)) [
       | inl t ↦ rw t (event-keeps shape (states block) e leaves (steady.service block) (steady.orderly block))
       | inr t ↦ rw t (nothing-keeps (states block))
     ] in

@@ -1,5 +1,6 @@
 -- What an event that leaves the registers leaves of the blocks that they work on.
 use Rattle.std.proofs.Common.{◌≡◌, ℕ, ◌≤◌, ◌==◌, true, false, List, [], ◌∷◌, Option, Some, None, refl, sym, ◌∙◌, ap, subst, arith, inl, inr, eqb-true}
+use Rattle.std.proofs.lemmas.Bool.{cases_Bool}
 use Rattle.std.specs.List.{list_any}
 use Rattle.tl_types.specs.Message.{upward_from, upward_to, upward_bytes, is_grant}
 use Rattle.tl_types.specs.Permission.{rank}
@@ -24,7 +25,6 @@ use Rattle.tl_protocol.proofs.Pending.{every_message_leads_down}
 use Rattle.tl_registers.specs.Agree.{LeavesRegisters}
 use Rattle.tl_registers.specs.Fit.{IsPutting, IsGetting}
 use Rattle.tl_registers.proofs.Probes.{KeepsProbes, same-probes, released-probes, answered-probes, took_grant-probes, took_c-probes, fewer-grants}
-use Rattle.tl_registers.proofs.Booleans.{bool-cases}
 
 -- What such an event does to a block: no Acquire is accepted or done with, the Probes of each client are kept, and home and what
 -- is outward change only as a register that works on the block can bear.
@@ -44,7 +44,7 @@ pub record Keeps (s later : Block) : Type 0 where
 -- what a step of one client keeps, the others keep too
 pub put-probes : (s : Block) (c : ℕ) (k : Client) → KeepsProbes (s.client c) k → (x : ℕ) → KeepsProbes (s.client x) ((with_client s c k).client x)
 put-probes s c k one x =
-    elim (bool-cases (x == c)) [
+    elim (cases_Bool (x == c)) [
       | inl e ↦
           let P = λ (y : ℕ). KeepsProbes (s.client y) k in
           let here : KeepsProbes (s.client x) k = subst P (sym (eqb-true x c e)) one in

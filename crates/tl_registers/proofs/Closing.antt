@@ -1,7 +1,8 @@
 -- What a register carries out, and what closes it, keeps the agreement.
 use Rattle.std.proofs.Common.{◌≡◌, ◌≢◌, ℕ, ◌-◌, ◌<◌, ◌==◌, ◌&&◌, ◌||◌, not, Bool, true, false, List, [], ◌∷◌, map, filter, Option, Some, None, refl, sym, ◌∙◌, ap, subst, arith, inl, inr, eqb-true, eq-eqb}
+use Rattle.tl_types.proofs.Booleans.{or-else}
 use Rattle.std.specs.Prelude.{◌⊎◌}
-use Rattle.std.proofs.lemmas.Bool.{cases_eq}
+use Rattle.std.proofs.lemmas.Bool.{cases_eq, cases_Bool, or_parts, not-true, eqb-false}
 use Rattle.tl_types.specs.declared.message.Upward.{Upward}
 use Rattle.tl_types.specs.declared.permission.Grow.{Grow}
 use Rattle.tl_types.specs.declared.permission.ProbeCap.{ProbeCap}
@@ -31,7 +32,6 @@ use Rattle.tl_registers.proofs.Opening.{elsewhere, here, fits-elsewhere}
 use Rattle.tl_registers.proofs.Pending.{any_below-false, free-probe, grant-free, free-grant}
 use Rattle.tl_registers.proofs.Probes.{same-probes}
 use Rattle.tl_registers.proofs.Tables.{each-follows, each-map, each-filter, apart-map, apart-filter}
-use Rattle.tl_registers.proofs.Booleans.{bool-cases, or-false, or-else, not-true, neq-of}
 
 -- ## Who works on a block
 
@@ -55,17 +55,17 @@ leaves-at shape states q victim block t h =
 works-how : (shape : Shape) (states : ℕ → Block) (q : Register) (task : Task) (block : ℕ) → TaskFits shape states q task
     → WorksOn q task block → WorksHow shape states q block
 works-how shape states q (Acquire acquire) block h on =
-    elim (bool-cases (q.own == block)) [
+    elim (cases_Bool (q.own == block)) [
       | inl e ↦ served-at shape states q block acquire e h
       | inr e ↦ let bad = or-else (q.own == block) false on e in cc
     ]
 works-how shape states q (Replace acquire victim) block h on =
-    elim (bool-cases (q.own == block)) [
+    elim (cases_Bool (q.own == block)) [
       | inl e ↦ served-at shape states q block acquire e h.0
       | inr e ↦ leaves-at shape states q victim block (or-else (q.own == block) (victim == block) on e) h.2
     ]
 works-how shape states q Evict block h on =
-    elim (bool-cases (q.own == block)) [
+    elim (cases_Bool (q.own == block)) [
       | inl e ↦ leaves-at shape states q q.own block e h
       | inr e ↦ let t = or-else (q.own == block) (q.own == block) on e in let bad : true ≡ false = sym t ∙ e in cc
     ]
@@ -75,7 +75,7 @@ someone : (shape : Shape) (states : ℕ → Block) (registers : List Register) (
     → is_busy block registers ≡ true → (q : Register) × WorksHow shape states q block
 someone shape states [] block h busy = cc
 someone shape states (q ∷ rest) block h busy =
-    elim (bool-cases (works_on q block)) [
+    elim (cases_Bool (works_on q block)) [
       | inl e ↦ (q, works-how shape states q q.task block h.0.task e)
       | inr e ↦ someone shape states rest block h.1 (or-else (works_on q block) (is_busy block rest) busy e)
     ]
@@ -88,7 +88,7 @@ granted-probe : (shape : Shape) (s : Block) (q : Register) (acquire : Accepted) 
     → ProbeFits (s.client x) (probes_before acquire.grow) (has_probed q x) (is_other (Some acquire.client) x)
     → ProbeFits ((with_client s c k).client x) (probes_before acquire.grow) (has_probed q x) (is_other (Some acquire.client) x)
 granted-probe shape s q acquire c k x client-is b c-is h =
-    elim (bool-cases (x == c)) [
+    elim (cases_Bool (x == c)) [
       | inr e ↦ rw e h
       | inl e ↦
           let x-is : x ≡ c = eqb-true x c e in
@@ -112,7 +112,7 @@ granted-fits : (shape : Shape) (states later : ℕ → Block) (q : Register) (ta
     → later own ≡ with_client (states own) c k → k.b ≡ ((states own).client c).b → k.c ≡ ((states own).client c).c
     → WorksOn q task own → TaskFits shape states q task → TaskFits shape later q task
 granted-fits shape states later q (Acquire acquire) c own grow line k accepted home is b same-c on h =
-    elim (bool-cases (q.own == own)) [
+    elim (cases_Bool (q.own == own)) [
       | inr e ↦ let bad = or-else (q.own == own) false on e in cc
       | inl e ↦
           let own-is = eqb-true q.own own e in
@@ -132,7 +132,7 @@ granted-fits shape states later q (Acquire acquire) c own grow line k accepted h
           }))
     ]
 granted-fits shape states later q (Replace acquire victim) c own grow line k accepted home is b same-c on h =
-    elim (bool-cases (q.own == own)) [
+    elim (cases_Bool (q.own == own)) [
       | inl e ↦
           let own-is = eqb-true q.own own e in
           let lacks : (states own).home ≡ None = ap (λ (x : ℕ). (states x).home) (sym own-is) ∙ h.1.lacks in
@@ -159,7 +159,7 @@ pub each-at : (shape : Shape) (states : ℕ → Block) (e : Event) (registers : 
     → Each (Fits shape states) registers → Each (Fits shape (after_next shape states e)) registers
 each-at shape states e registers on h =
     each-follows (Fits shape states) (Fits shape (after_next shape states e)) registers
-    (λ q fits. elim (bool-cases (works_on q (block_of shape e))) [
+    (λ q fits. elim (cases_Bool (works_on q (block_of shape e))) [
       | inl t ↦ on q t fits
       | inr t ↦ fits-elsewhere shape states e q t fits
     ]) h
@@ -218,17 +218,17 @@ end-task shape states later q (Acquire acquire) victim served other stays h =
 end-task shape states later q (Replace acquire block) victim served other stays h =
     let P = λ (s : Block). IsServed shape s q acquire in
     let own = other q.own (not-own shape states q acquire victim served h.0) in
-    elim (bool-cases (block == victim)) [
+    elim (cases_Bool (block == victim)) [
       | inl e ↦ rw e (subst P (sym own) h.0)
       | inr e ↦
           let Q = λ (s : Block). Awaits s in
           let R = λ (s : Block). Leaves shape s q in
-          rw e (subst P (sym own) h.0, subst Q (sym own) h.1, subst R (sym (other block (neq-of block victim e))) h.2)
+          rw e (subst P (sym own) h.0, subst Q (sym own) h.1, subst R (sym (other block (eqb-false block victim e))) h.2)
     ]
 end-task shape states later q Evict victim served other stays h =
-    elim (bool-cases (q.own == victim)) [
+    elim (cases_Bool (q.own == victim)) [
       | inl e ↦ let bad : not (q.own == victim) ≡ false = rw e refl in let worse : true ≡ false = sym stays ∙ bad in cc
-      | inr e ↦ let R = λ (s : Block). Leaves shape s q in subst R (sym (other q.own (neq-of q.own victim e))) h
+      | inr e ↦ let R = λ (s : Block). Leaves shape s q in subst R (sym (other q.own (eqb-false q.own victim e))) h
     ]
 
 -- the task of a register does not say which clients it has probed
@@ -247,7 +247,7 @@ below-without : (blocks own victim : ℕ) (task : Task) → IsBelow blocks (vict
     → IsBelow blocks (victim_in own (task_without victim task))
 below-without blocks own victim (Acquire acquire) h = h
 below-without blocks own victim (Replace acquire block) h =
-    elim (bool-cases (block == victim)) [ inl e ↦ rw e tt | inr e ↦ rw e h ]
+    elim (cases_Bool (block == victim)) [ inl e ↦ rw e tt | inr e ↦ rw e h ]
 below-without blocks own victim Evict h = h
 
 -- a register that goes on without a victim works on none but its blocks
@@ -256,9 +256,9 @@ fewer-works : (own victim block : ℕ) (task : Task)
     → ((own == block) || is_block block (victim_in own task)) ≡ true
 fewer-works own victim block (Acquire acquire) h = h
 fewer-works own victim block (Replace acquire b) h =
-    elim (bool-cases (own == block)) [
+    elim (cases_Bool (own == block)) [
       | inl e ↦ rw e refl
-      | inr e ↦ elim (bool-cases (b == victim)) [
+      | inr e ↦ elim (cases_Bool (b == victim)) [
         | inl t ↦ let g : ((own == block) || false) ≡ true = (rw t at h) in let bad = or-else (own == block) false g e in cc
         | inr t ↦ (rw t at h)
       ]
@@ -271,13 +271,13 @@ still-works : (own victim block : ℕ) (task : Task) → block ≢ victim
     → ((own == block) || is_block block (victim_in own task)) ≡ false
 still-works own victim block (Acquire acquire) ne h = h
 still-works own victim block (Replace acquire b) ne h =
-    elim (bool-cases (b == victim)) [
+    elim (cases_Bool (b == victim)) [
       | inr t ↦ (rw t at h)
       | inl t ↦
           let g : ((own == block) || false) ≡ false = (rw t at h) in
-          let here : (own == block) ≡ false = (or-false (own == block) false g).0 in
+          let here : (own == block) ≡ false = (or_parts (own == block) false g).0 in
           let there : (b == block) ≡ false =
-          elim (bool-cases (b == block)) [ inr n ↦ n | inl n ↦ absurd (ne (sym (eqb-true b block n) ∙ eqb-true b victim t)) ] in
+          elim (cases_Bool (b == block)) [ inr n ↦ n | inl n ↦ absurd (ne (sym (eqb-true b block n) ∙ eqb-true b victim t)) ] in
           rw (here, there) refl
     ]
 still-works own victim block Evict ne h = h
@@ -288,11 +288,11 @@ gone-works : (own victim block : ℕ) (task : Task) → block ≢ victim → not
 gone-works own victim block (Acquire acquire) ne h = cc
 gone-works own victim block (Replace acquire b) ne h = cc
 gone-works own victim block Evict ne h =
-    elim (bool-cases (own == victim)) [
+    elim (cases_Bool (own == victim)) [
       | inr e ↦ let bad : not (own == victim) ≡ true = rw e refl in let worse : true ≡ false = sym bad ∙ h in cc
       | inl e ↦
           let other : (own == block) ≡ false =
-          elim (bool-cases (own == block)) [ inr n ↦ n | inl n ↦ absurd (ne (sym (eqb-true own block n) ∙ eqb-true own victim e)) ] in
+          elim (cases_Bool (own == block)) [ inr n ↦ n | inl n ↦ absurd (ne (sym (eqb-true own block n) ∙ eqb-true own victim e)) ] in
           rw other refl
     ]
 
@@ -303,10 +303,10 @@ was-free : (test : Register → Bool) (f : Register → Register) (block : ℕ) 
     → is_busy block (map f (filter test xs)) ≡ false → is_busy block xs ≡ false
 was-free test f block [] gone still h = refl
 was-free test f block (q ∷ rest) gone still h =
-    elim (bool-cases (test q)) [
+    elim (cases_Bool (test q)) [
       | inl e ↦
           let g : (works_on (f q) block || is_busy block (map f (filter test rest))) ≡ false = (rw e at h) in
-          let both = or-false (works_on (f q) block) (is_busy block (map f (filter test rest))) g in
+          let both = or_parts (works_on (f q) block) (is_busy block (map f (filter test rest))) g in
           let here = still q both.0 in
           let more = was-free test f block rest gone still both.1 in
           rw (here, more) refl
@@ -368,7 +368,7 @@ no-copy shape s (Some line) kept is out = let quiet = kept.quiet line is in let 
 acknowledged : (shape : Shape) (states : ℕ → Block) (registers : List Register) (victim : ℕ) → IsServiceAt shape (states victim)
     → Agree shape states registers → (states victim).outward ≡ PutAck → IsAtRest shape (record (states victim) { outward = Quiet })
 acknowledged shape states registers victim kept agree out =
-    elim (bool-cases (is_busy victim registers)) [
+    elim (cases_Bool (is_busy victim registers)) [
       | inr free ↦ let quiet = (agree.at_rest victim free).quiet in let bad : PutAck ≡ Quiet = sym out ∙ quiet in cc
       | inl busy ↦
           let who = someone shape states registers victim agree.fits busy in
@@ -461,7 +461,7 @@ putting-keeps-agreement shape states registers block agree may busy =
 
 granted-by : (k : Client) → 0 < k.e → is_granted k ≡ true
 granted-by k l =
-    elim (bool-cases (is_granted k)) [
+    elim (cases_Bool (is_granted k)) [
       | inl e ↦ e
       | inr e ↦ let free = grant-free k e in absurd (omega (arith, free.1))
     ]
@@ -469,7 +469,7 @@ granted-by k l =
 -- where one client is granted, a Grant is pending
 pending-at : (shape : Shape) (s : Block) (c : ℕ) → c < shape.clients → is_granted (s.client c) ≡ true → grant_pending shape s ≡ true
 pending-at shape s c l h =
-    elim (bool-cases (grant_pending shape s)) [
+    elim (cases_Bool (grant_pending shape s)) [
       | inl e ↦ e
       | inr e ↦ let bad : true ≡ false = sym h ∙ any_below-false (λ x. is_granted (s.client x)) shape.clients c e l in cc
     ]
@@ -478,11 +478,11 @@ pending-at shape s c l h =
 not-victim : (shape : Shape) (states : ℕ → Block) (q : Register) (own : ℕ) (acquire : Accepted) → Fits shape states q
     → (states own).accepted ≡ Some acquire → (q.own == own) ≡ false → works_on q own ≡ false
 not-victim shape states q own acquire fits accepted ne =
-    elim (bool-cases (works_on q own)) [
+    elim (cases_Bool (works_on q own)) [
       | inr e ↦ e
       | inl e ↦ elim (works-how shape states q q.task own fits.task e) [
         | inl leaves ↦ let bad : Some acquire ≡ None = sym accepted ∙ leaves.not_accepted in cc
-        | inr served ↦ absurd (neq-of q.own own ne served.2)
+        | inr served ↦ absurd (eqb-false q.own own ne served.2)
       ]
     ]
 
@@ -492,7 +492,7 @@ own-alone : (shape : Shape) (states : ℕ → Block) (q : Register) (task : Task
     → ((q.own == block) || is_block block (victim_in q.own task)) ≡ false
 own-alone shape states q (Acquire a) own block acquire is accepted pending h ne =
     let other : (q.own == block) ≡ false =
-    elim (bool-cases (q.own == block)) [ inr n ↦ n | inl n ↦ absurd (ne (sym (eqb-true q.own block n) ∙ is)) ] in
+    elim (cases_Bool (q.own == block)) [ inr n ↦ n | inl n ↦ absurd (ne (sym (eqb-true q.own block n) ∙ is)) ] in
     rw other refl
 own-alone shape states q (Replace a victim) own block acquire is accepted pending h ne =
     let here : grant_pending shape (states q.own) ≡ true = ap (λ (x : ℕ). grant_pending shape (states x)) is ∙ pending in
@@ -509,7 +509,7 @@ home-holds : (shape : Shape) (states : ℕ → Block) (registers : List Register
     → Agree shape states registers → (states own).accepted ≡ Some acquire → grant_pending shape (states own) ≡ true
     → (line : Line) × ((states own).home ≡ Some line)
 home-holds shape states registers own acquire agree accepted pending =
-    elim (bool-cases (is_busy own registers)) [
+    elim (cases_Bool (is_busy own registers)) [
       | inr free ↦ let bad : None ≡ Some acquire = sym (agree.at_rest own free).not_accepted ∙ accepted in cc
       | inl busy ↦
           let who = someone shape states registers own agree.fits busy in
@@ -523,7 +523,7 @@ free-closed : (own block : ℕ) (registers : List Register) → Each (λ q. (q.o
     → is_busy block (closed own registers) ≡ false → is_busy block registers ≡ false
 free-closed own block [] each h = refl
 free-closed own block (q ∷ rest) each h =
-    elim (bool-cases (q.own == own)) [
+    elim (cases_Bool (q.own == own)) [
       | inl e ↦
           let g : is_busy block (closed own rest) ≡ false = (rw e at h) in
           let here = each.0 e in
@@ -531,13 +531,13 @@ free-closed own block (q ∷ rest) each h =
           rw (here, more) refl
       | inr e ↦
           let g : (works_on q block || is_busy block (closed own rest)) ≡ false = (rw e at h) in
-          let both = or-false (works_on q block) (is_busy block (closed own rest)) g in
+          let both = or_parts (works_on q block) (is_busy block (closed own rest)) g in
           let here = both.0 in
           let more = free-closed own block rest each.1 both.1 in
           rw (here, more) refl
     ]
 
-fewer-acks : (k : Client) → is_granted k ≡ false → is_granted (took_grant_ack k) ≡ false
+pub fewer-acks : (k : Client) → is_granted k ≡ false → is_granted (took_grant_ack k) ≡ false
 fewer-acks k h =
     let free = grant-free k h in
     let none : k.e - 1 ≡ 0 = omega (arith, free.1) in

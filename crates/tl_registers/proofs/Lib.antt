@@ -1,10 +1,8 @@
 pub mod Actions
 pub mod Agreement
 pub mod Blocks
-pub mod Booleans
 pub mod Closing
 pub mod Held
-pub mod Lowest
 pub mod Opening
 pub mod Order
 pub mod Pending

@@ -1,5 +1,7 @@
 -- A register that opens fits the state, and the others still do.
 use Rattle.std.proofs.Common.{◌≡◌, ◌≢◌, ℕ, zero, suc, ◌<◌, ◌≤◌, ◌==◌, ◌||◌, true, false, List, [], ◌∷◌, replicate, get_or, Option, Some, None, refl, sym, ◌∙◌, ap, subst, inl, inr, eqb-true, eq-eqb}
+use Rattle.tl_types.proofs.Booleans.{or-else}
+use Rattle.std.proofs.lemmas.Bool.{cases_Bool, or_parts, ne_eqb}
 use Rattle.std.specs.Prelude.{◌⊎◌}
 use Rattle.std.specs.List.{list_any}
 use Rattle.tl_types.specs.Message.{is_probe_ack}
@@ -33,7 +35,6 @@ use Rattle.tl_registers.proofs.Blocks.{Keeps, nothing-keeps, put-probes}
 use Rattle.tl_registers.proofs.Pending.{any_below-none, free-grant}
 use Rattle.tl_registers.proofs.Probes.{same-probes}
 use Rattle.tl_registers.proofs.Tables.{each-both, each-end, busy-end, apart-end}
-use Rattle.tl_registers.proofs.Booleans.{bool-cases, or-false, or-else, neqb-of}
 
 -- ## Nothing is under way
 
@@ -56,7 +57,7 @@ fresh-probes : (shape : Shape) (client : ℕ → Client) (r : Register) (asking 
     → ((x : ℕ) → has_probed r x ≡ false) → NobodyIsProbed shape client → ProbesFit shape client r asking cap
 fresh-probes shape client r asking cap none unprobed = λ x l.
     let free = unprobed x l in
-    let both = or-false (has_first (client x).b) (list_any is_probe_ack (client x).c) free in
+    let both = or_parts (has_first (client x).b) (list_any is_probe_ack (client x).c) free in
     record {
       sent = λ h. let bad : true ≡ false = sym h ∙ free in cc;
       asks = no-asks cap (client x).b both.0;
@@ -83,7 +84,7 @@ leaves-fresh shape s r none rest = record {
 
 evict-works : (own block : ℕ) (way : WayOfSet) → works_on (opened own way Evict) block ≡ true → own ≡ block
 evict-works own block way on =
-    elim (bool-cases (own == block)) [
+    elim (cases_Bool (own == block)) [
       | inl e ↦ eqb-true own block e
       | inr e ↦ let bad : (own == block) || (own == block) ≡ false = rw e refl in cc
     ]
@@ -108,7 +109,7 @@ evicting-keeps-agreement shape states registers own way steady agree few known f
 -- an event leaves the other blocks
 pub elsewhere : (shape : Shape) (states : ℕ → Block) (e : Event) (block : ℕ) → block ≢ block_of shape e
     → after_next shape states e block ≡ states block
-elsewhere shape states e block ne = rw (neqb-of block (block_of shape e) ne) refl
+elsewhere shape states e block ne = rw (ne_eqb block (block_of shape e) ne) refl
 
 pub here : (shape : Shape) (states : ℕ → Block) (e : Event) (block : ℕ) → block ≡ block_of shape e
     → after_next shape states e block ≡ after shape (states block) e
@@ -130,7 +131,7 @@ each-free : (block : ℕ) (registers : List Register) → is_busy block register
     → Each (λ q. works_on q block ≡ false) registers
 each-free block [] h = tt
 each-free block (q ∷ rest) h =
-    let k = or-false (works_on q block) (is_busy block rest) h in (k.0, each-free block rest k.1)
+    let k = or_parts (works_on q block) (is_busy block rest) h in (k.0, each-free block rest k.1)
 
 -- what is left of the block when its Acquire is accepted
 abbrev accepted-block : Block → ℕ → Grow → List Grow → Block
@@ -158,12 +159,12 @@ served-fresh shape s r c grow rest none inside kept free = record {
 acquire-works : (own block : ℕ) (way : WayOfSet) (acquire : Accepted) (victim : Option ℕ)
     → works_on (opened own way (acquire_task acquire victim)) block ≡ true → (own ≡ block) ⊎ (victim ≡ Some block)
 acquire-works own block way acquire None on =
-    elim (bool-cases (own == block)) [
+    elim (cases_Bool (own == block)) [
       | inl e ↦ inl (eqb-true own block e)
       | inr e ↦ let bad = or-else (own == block) false on e in cc
     ]
 acquire-works own block way acquire (Some victim) on =
-    elim (bool-cases (own == block)) [
+    elim (cases_Bool (own == block)) [
       | inl e ↦ inl (eqb-true own block e)
       | inr e ↦ inr (ap Some (eqb-true victim block (or-else (own == block) (victim == block) on e)))
     ]

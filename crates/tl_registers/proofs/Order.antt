@@ -1,11 +1,13 @@
 -- The order of ways that Grants touch gives the way whose block was granted longest ago.
 use Rattle.std.proofs.Common.{◌≡◌, ◌≢◌, ℕ, zero, suc, ◌+◌, ◌≤◌, ◌==◌, ◌&&◌, ◌||◌, not, Bool, true, false, List, [], ◌∷◌, ◌++◌, length, filter, Option, Some, None, if◌then◌else◌, refl, sym, ◌∙◌, ap, subst, arith, inl, inr, eqb-true, eq-eqb, set, length-set, get_or-set_other}
+use Rattle.std.proofs.Math.Bool.{or-true}
 use Rattle.std.specs.Prelude.{◌⊎◌}
-use Rattle.std.proofs.lemmas.Bool.{cases_eq}
+use Rattle.std.proofs.lemmas.Bool.{cases_eq, cases_Bool, eqb-false, ne_eqb}
+use Rattle.tl_ways.proofs.OrderLaws.{among-end, among-front, among-either, among-without, without-among}
+use Rattle.tl_ways.specs.Orders.{IsAmong, without}
 use Rattle.tl_protocol.specs.declared.event.Event.{Event}
 use Rattle.tl_protocol.specs.declared.event.Event.TheVariants.{SendGrant}
-use Rattle.tl_registers.specs.VictimWay.{grants_block, last_grant_from, last_grant, block_in, first_not_held, IsAmong, IsNoLater, EachBefore, FirstInOrderIsOldest, FreeSetIsInOrder, GrantKeepsOrder, OtherEventsKeepOrder, PlacingKeepsOrder, ClearingKeepsOrder}
-use Rattle.tl_registers.proofs.Booleans.{bool-cases, or-true, neq-of, neqb-of}
+use Rattle.tl_registers.specs.VictimWay.{grants_block, last_grant_from, last_grant, block_in, first_not_held, IsNoLater, EachBefore, FirstInOrderIsOldest, FreeSetIsInOrder, GrantKeepsOrder, OtherEventsKeepOrder, PlacingKeepsOrder, ClearingKeepsOrder}
 
 -- ## The last Grant of a block
 
@@ -46,39 +48,19 @@ last_grant-same block log e n = last_grant-append block log e ∙ rw n refl
 
 -- ## What is among the ways
 
-abbrev without : ℕ → List ℕ → List ℕ
-without w order = filter (λ v. not (v == w)) order
-
-among-without : (w v : ℕ) (order : List ℕ) → IsAmong v order → v ≢ w → IsAmong v (without w order)
-among-without w v [] m ne = m
-among-without w v (x ∷ rest) m ne =
-    elim (bool-cases (x == w)) [
-      | inl e ↦ rw e (elim m [ inl q ↦ absurd (ne (q ∙ eqb-true x w e)) | inr q ↦ among-without w v rest q ne ])
-      | inr e ↦ rw e (elim m [ inl q ↦ inl q | inr q ↦ inr (among-without w v rest q ne) ])
-    ]
-
-without-among : (w v : ℕ) (order : List ℕ) → IsAmong v (without w order) → IsAmong v order × (v ≢ w)
-without-among w v [] m = absurd m
-without-among w v (x ∷ rest) m =
-    elim (bool-cases (x == w)) [
-      | inl e ↦ let m2 : IsAmong v (without w rest) = (rw e at m) in let k = without-among w v rest m2 in (inr k.0, k.1)
+-- what stays beside a way that leaves was there, and is another
+stays-apart : (w v : ℕ) (order : List ℕ) → IsAmong v (without w order) → v ≢ w
+stays-apart w v [] m = absurd m
+stays-apart w v (x ∷ rest) m =
+    elim (cases_Bool (x == w)) [
+      | inl e ↦ let m2 : IsAmong v (without w rest) = (rw e at m) in stays-apart w v rest m2
       | inr e ↦
           let m2 : IsAmong v (x ∷ without w rest) = (rw e at m) in
           elim m2 [
-            | inl q ↦ (inl q, λ z. neq-of x w e (sym q ∙ z))
-            | inr q ↦ let k = without-among w v rest q in (inr k.0, k.1)
+            | inl q ↦ λ z. eqb-false x w e (sym q ∙ z)
+            | inr q ↦ stays-apart w v rest q
           ]
     ]
-
-among-end : (v w : ℕ) (xs : List ℕ) → IsAmong v (xs ++ w ∷ []) → IsAmong v xs ⊎ (v ≡ w)
-among-end v w [] m = elim m [ inl q ↦ inr q | inr q ↦ absurd q ]
-among-end v w (x ∷ rest) m =
-    elim m [ inl q ↦ inl (inl q) | inr q ↦ elim (among-end v w rest q) [ inl z ↦ inl (inr z) | inr z ↦ inr z ] ]
-
-end-among : (v w : ℕ) (xs : List ℕ) → IsAmong v xs ⊎ (v ≡ w) → IsAmong v (xs ++ w ∷ [])
-end-among v w [] m = elim m [ inl q ↦ absurd q | inr q ↦ inl q ]
-end-among v w (x ∷ rest) m =
-    elim m [ inl q ↦ elim q [ inl z ↦ inl z | inr z ↦ inr (end-among v w rest (inl z)) ] | inr q ↦ inr (end-among v w rest (inr q)) ]
 
 -- ## What holds of each and all that come after it
 
@@ -94,18 +76,18 @@ before-follows R Q (x ∷ rest) f h = (
 before-without : (R : ℕ → ℕ → Type 0) (w : ℕ) (xs : List ℕ) → EachBefore R xs → EachBefore R (without w xs)
 before-without R w [] h = tt
 before-without R w (x ∷ rest) h =
-    elim (bool-cases (x == w)) [
+    elim (cases_Bool (x == w)) [
       | inl e ↦ rw e (before-without R w rest h.1)
-      | inr e ↦ rw e (λ v m. h.0 v (without-among w v rest m).0, before-without R w rest h.1)
+      | inr e ↦ rw e (λ v m. h.0 v (without-among w v rest m), before-without R w rest h.1)
     ]
 
 before-end : (R : ℕ → ℕ → Type 0) (w : ℕ) (xs : List ℕ) → EachBefore R xs → ((v : ℕ) → IsAmong v xs → R v w)
     → EachBefore R (xs ++ w ∷ [])
 before-end R w [] h last = (λ v m. absurd m, tt)
 before-end R w (x ∷ rest) h last = (
-  λ v m. elim (among-end v w rest m) [
-    | inl q ↦ h.0 v q
-    | inr q ↦ let P : ℕ → Type 0 = λ y. R x y in subst P (sym q) (last x (inl refl))
+  λ v m. elim (among-either v w rest m) [
+    | inr q ↦ h.0 v q
+    | inl q ↦ let P : ℕ → Type 0 = λ y. R x y in subst P (sym q) (last x (inl refl))
   ],
   before-end R w rest h.1 (λ v m. last v (inr m)),
 )
@@ -117,7 +99,7 @@ first-of : (R : ℕ → ℕ → Type 0) (held : ℕ → Bool) (order : List ℕ)
     → IsAmong w order × (held w ≡ false) × ((v : ℕ) → IsAmong v order → held v ≡ false → (v ≡ w) ⊎ R w v)
 first-of R held [] w r h = cc
 first-of R held (x ∷ rest) w r h =
-    elim (bool-cases (held x)) [
+    elim (cases_Bool (held x)) [
       | inl e ↦
           let h2 : first_not_held held rest ≡ Some w = (rw e at h) in
           let k = first-of R held rest w r.1 h2 in
@@ -135,7 +117,7 @@ pub first-in-order-is-oldest : FirstInOrderIsOldest
 first-in-order-is-oldest slots held filling log order w ordered holds h =
     let k = first-of (IsNoLater slots filling log) held order w ordered.rises h in
     let full : (v : ℕ) → held v ≡ false → filling v ≡ false =
-    λ v n. elim (bool-cases (filling v)) [ inl m ↦ let bad = holds v m in cc | inr m ↦ m ] in
+    λ v n. elim (cases_Bool (filling v)) [ inl m ↦ let bad = holds v m in cc | inr m ↦ m ] in
     record {
       inside = ordered.only w k.0;
       not_held = k.1;
@@ -181,9 +163,9 @@ grant-keeps-order slots filling log order w block c ordered l is once =
     let before = IsNoLater slots filling log in
     let after = IsNoLater slots later (log ++ e ∷ []) in
     let not-this : (v b : ℕ) → v ≢ w → block_in slots v ≡ Some b → grants_block b e ≡ false =
-    λ v b ne at. neqb-of block b (λ q. ne (once w v is (at ∙ ap Some (sym q)))) in
+    λ v b ne at. ne_eqb block b (λ q. ne (once w v is (at ∙ ap Some (sym q)))) in
     let was : (v : ℕ) → v ≢ w → later v ≡ false → filling v ≡ false =
-    λ v ne f. let nv = neqb-of v w ne in elim (bool-cases (filling v)) [ inr q ↦ q | inl q ↦ let bad : later v ≡ true = rw (q, nv) refl in cc ] in
+    λ v ne f. let nv = ne_eqb v w ne in elim (cases_Bool (filling v)) [ inr q ↦ q | inl q ↦ let bad : later v ≡ true = rw (q, nv) refl in cc ] in
     let granted : last_grant block (log ++ e ∷ []) ≡ length log + 1 =
     let t : (block == block) ≡ true = eq-eqb block block refl in last_grant-append block log e ∙ rw t refl in
     record {
@@ -191,14 +173,14 @@ grant-keeps-order slots filling log order w block c ordered l is once =
           before-end after w (without w order)
           (before-follows before after (without w order)
           (λ u v m n r b d f g here there.
-          let mu = (without-among w u order m).1 in
-          let nv = (without-among w v order n).1 in
+          let mu = stays-apart w u order m in
+          let nv = stays-apart w v order n in
           let p = last_grant-same b log e (not-this u b mu here) in
           let q = last_grant-same d log e (not-this v d nv there) in
           omega (arith, p, q, r b d (was u mu f) (was v nv g) here there))
           (before-without before w order ordered.rises))
           (λ v m b d f g here there.
-          let ne = (without-among w v order m).1 in
+          let ne = stays-apart w v order m in
           let p = last_grant-same b log e (not-this v b ne here) in
           let in_log = last_grant-inside b log in
           let both : Some block ≡ Some d = sym is ∙ there in
@@ -206,12 +188,12 @@ grant-keeps-order slots filling log order w block c ordered l is once =
           let q : last_grant d (log ++ e ∷ []) ≡ last_grant block (log ++ e ∷ []) = ap (λ y. last_grant y (log ++ e ∷ [])) (sym same) in
           omega (arith, p, q, in_log, granted));
       all = λ v m. elim (cases_eq v w) [
-        | inl q ↦ end-among v w (without w order) (inr q)
-        | inr q ↦ end-among v w (without w order) (inl (among-without w v order (ordered.all v m) q))
+        | inl q ↦ subst (λ (y : ℕ). IsAmong y (without w order ++ w ∷ [])) (sym q) (among-end w (without w order))
+        | inr q ↦ among-front v w (without w order) (among-without w v order q (ordered.all v m))
       ];
-      only = λ v m. elim (among-end v w (without w order) m) [
-        | inl q ↦ ordered.only v (without-among w v order q).0
-        | inr q ↦ omega (arith, q)
+      only = λ v m. elim (among-either v w (without w order) m) [
+        | inr q ↦ ordered.only v (without-among w v order q)
+        | inl q ↦ omega (arith, q)
       ];
     }
 
@@ -232,7 +214,7 @@ placing-keeps-order slots filling log order w block ordered =
     let was : (v : ℕ) → later v ≡ false → (v ≢ w) × (filling v ≡ false) =
     λ v f. (
       λ q. let t = eq-eqb v w q in let bad : later v ≡ true = rw t (or-true (filling v)) in cc,
-      elim (bool-cases (filling v)) [ inr q ↦ q | inl q ↦ let bad : later v ≡ true = rw q refl in cc ],
+      elim (cases_Bool (filling v)) [ inr q ↦ q | inl q ↦ let bad : later v ≡ true = rw q refl in cc ],
     ) in
     record {
       rises = before-follows (IsNoLater slots filling log) (IsNoLater (set slots w (Some block)) later log) order

@@ -1,7 +1,8 @@
 -- Whether a Probe or a Grant is pending, as the protocol says it.
 use Rattle.std.proofs.Common.{◌≡◌, ℕ, zero, suc, ◌<◌, ◌==◌, not, Bool, true, false, List, [], ◌∷◌, refl, ◌∙◌, ap, arith, inl, inr, eqb-true, eq-eqb}
+use Rattle.tl_types.proofs.Booleans.{or-else}
 use Rattle.std.specs.List.{list_any}
-use Rattle.std.proofs.lemmas.Bool.{cases_eq}
+use Rattle.std.proofs.lemmas.Bool.{cases_eq, cases_Bool, or_parts, not-false}
 use Rattle.tl_types.specs.Message.{is_probe_ack, is_grant}
 use Rattle.tl_protocol.specs.declared.client.Client.{Client}
 use Rattle.tl_protocol.specs.declared.home.Outward.{Outward}
@@ -11,7 +12,6 @@ use Rattle.tl_protocol.specs.Client.{NoProbePending, NoGrantPending}
 use Rattle.tl_protocol.specs.Pending.{IsGrantPending}
 use Rattle.tl_protocol.specs.Protocol.{Block, NoProbe, NoGrant}
 use Rattle.tl_registers.specs.Pending.{has_first, is_probed, is_granted, any_below, probe_pending, grant_pending, is_quiet, PendingIsTheProtocols}
-use Rattle.tl_registers.proofs.Booleans.{bool-cases, or-false, not-false, or-else}
 
 -- ## Tests below a number
 
@@ -19,7 +19,7 @@ use Rattle.tl_registers.proofs.Booleans.{bool-cases, or-false, not-false, or-els
 pub any_below-false : (test : ℕ → Bool) (n x : ℕ) → any_below test n ≡ false → x < n → test x ≡ false
 any_below-false test zero x h l = absurd (omega arith)
 any_below-false test (suc n) x h l =
-    let k = or-false (any_below test n) (test n) h in
+    let k = or_parts (any_below test n) (test n) h in
     elim (cases_eq x n) [
       | inl e ↦ ap test e ∙ k.1
       | inr e ↦ any_below-false test n x k.0 (omega arith)
@@ -41,7 +41,7 @@ no-first (x ∷ xs) h = cc
 
 pub probe-free : (k : Client) → is_probed k ≡ false → NoProbePending k
 probe-free k h =
-    let both = or-false (has_first k.b) (list_any is_probe_ack k.c) h in
+    let both = or_parts (has_first k.b) (list_any is_probe_ack k.c) h in
     (no-first k.b both.0, both.1)
 
 pub free-probe : (k : Client) → NoProbePending k → is_probed k ≡ false
@@ -49,7 +49,7 @@ free-probe k h = rw (h.0, h.1) refl
 
 pub grant-free : (k : Client) → is_granted k ≡ false → NoGrantPending k
 grant-free k h =
-    let both = or-false (list_any is_grant k.d) (not (k.e == 0)) h in
+    let both = or_parts (list_any is_grant k.d) (not (k.e == 0)) h in
     (both.0, eqb-true k.e 0 (not-false (k.e == 0) both.1))
 
 pub free-grant : (k : Client) → NoGrantPending k → is_granted k ≡ false
@@ -75,7 +75,7 @@ grant-none shape s h = any_below-none (λ c. is_granted (s.client c)) shape.clie
 any_below-some : (test : ℕ → Bool) (n : ℕ) → any_below test n ≡ true → (x : ℕ) × (test x ≡ true)
 any_below-some test zero h = cc
 any_below-some test (suc n) h =
-    elim (bool-cases (any_below test n)) [
+    elim (cases_Bool (any_below test n)) [
       | inl e ↦ any_below-some test n e
       | inr e ↦ (n, or-else (any_below test n) (test n) h e)
     ]
@@ -86,7 +86,7 @@ above-zero (suc n) h = omega arith
 
 some-pending : (k : Client) → is_granted k ≡ true → IsGrantPending k
 some-pending k h =
-    elim (bool-cases (list_any is_grant k.d)) [
+    elim (cases_Bool (list_any is_grant k.d)) [
       | inl e ↦ inl e
       | inr e ↦ let one = or-else (list_any is_grant k.d) (not (k.e == 0)) h e in inr (above-zero k.e one)
     ]

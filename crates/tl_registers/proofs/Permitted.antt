@@ -1,7 +1,11 @@
 -- What a register does next is permitted.
 use Rattle.std.proofs.Common.{◌≡◌, ◌≤◌, eq-eqb, ◌≢◌, ℕ, zero, suc, ◌<◌, ◌==◌, ◌&&◌, ◌||◌, not, Bool, true, false, List, [], ◌∷◌, Option, Some, None, if◌then◌else◌, refl, sym, ◌∙◌, ap, subst, arith, inl, inr, eqb-true}
+use Rattle.tl_types.proofs.Booleans.{or-else}
 use Rattle.std.specs.Prelude.{◌⊎◌}
-use Rattle.std.proofs.lemmas.Bool.{cases_eq}
+use Rattle.std.proofs.lemmas.Bool.{cases_eq, cases_Bool, and_parts, not-true}
+use Rattle.tl_protocol.proofs.Blocks.{none_is}
+use Rattle.tl_types.proofs.Lowest.{lowest-none, lowest-some}
+use Rattle.tl_types.specs.Lowest.{lowest}
 use Rattle.tl_types.specs.Permission.{rank, probe_perm}
 use Rattle.tl_types.specs.declared.permission.Perm.{Perm}
 use Rattle.tl_types.specs.declared.permission.Perm.TheVariants.{None as p_None, Branch, Tip}
@@ -25,40 +29,10 @@ use Rattle.tl_registers.specs.declared.register.Task.TheVariants.{Acquire, Repla
 use Rattle.tl_registers.specs.Fit.{event_of, ProbesFit, Leaves, IsServed, TaskFits, EveryActionIsPermitted}
 use Rattle.tl_registers.specs.NextAction.{Case, passes, waits, acts, first, probes, probe_victim, await_probes, give_up, await_put, probes_before, fetch, probe_others, grant, serve, cases}
 use Rattle.tl_registers.specs.Pending.{is_probed, probe_pending, grant_pending, is_quiet}
-use Rattle.tl_registers.specs.Register.{has_probed, is_above, is_other, must_probe, or_this, lowest, victim_in, IsBelow}
+use Rattle.tl_registers.specs.Register.{has_probed, is_above, is_other, must_probe, victim_in, IsBelow}
 use Rattle.tl_registers.proofs.Pending.{any_below-false, probe-free, no-probe, no-grant, grant-none, some-granted, quiet-is}
-use Rattle.tl_registers.proofs.Booleans.{bool-cases, or-else, and-true, not-true}
 
 -- ## The lowest client to probe
-
-or_this-none : (o : Option ℕ) (t : Bool) (n : ℕ) → or_this o t n ≡ None → (o ≡ None) × (t ≡ false)
-or_this-none None true n h = cc
-or_this-none None false n h = (refl, refl)
-or_this-none (Some x) t n h = cc
-
-or_this-is : (o : Option ℕ) (t : Bool) (n c : ℕ) → or_this o t n ≡ Some c → (o ≡ Some c) ⊎ ((t ≡ true) × (n ≡ c))
-or_this-is None true n c h = inr (refl, cc)
-or_this-is None false n c h = cc
-or_this-is (Some x) t n c h = inl h
-
--- where there is no lowest, none passes
-lowest-none : (test : ℕ → Bool) (n x : ℕ) → lowest test n ≡ None → x < n → test x ≡ false
-lowest-none test zero x h l = absurd (omega arith)
-lowest-none test (suc n) x h l =
-    let k = or_this-none (lowest test n) (test n) n h in
-    elim (cases_eq x n) [
-      | inl e ↦ ap test e ∙ k.1
-      | inr e ↦ lowest-none test n x k.0 (omega arith)
-    ]
-
--- the lowest is below n, and passes
-lowest-some : (test : ℕ → Bool) (n c : ℕ) → lowest test n ≡ Some c → (c < n) × (test c ≡ true)
-lowest-some test zero c h = cc
-lowest-some test (suc n) c h =
-    elim (or_this-is (lowest test n) (test n) n c h) [
-      | inl k ↦ let r = lowest-some test n c k in (omega (arith, r.0), r.1)
-      | inr k ↦ (omega (arith, k.1), ap test (sym k.1) ∙ k.0)
-    ]
 
 -- ## Permissions
 
@@ -86,8 +60,8 @@ no-tip-below Tip h = cc
 to-probe : (r : Register) (s : Block) (asking : Option ℕ) (cap : ProbeCap) (x : ℕ) → must_probe r s asking cap x ≡ true
     → (is_other asking x ≡ true) × (is_above (s.client x).recorded cap ≡ true) × (has_probed r x ≡ false)
 to-probe r s asking cap x h =
-    let one = and-true (is_other asking x) (is_above (s.client x).recorded cap && not (has_probed r x)) h in
-    let two = and-true (is_above (s.client x).recorded cap) (not (has_probed r x)) one.1 in
+    let one = and_parts (is_other asking x) (is_above (s.client x).recorded cap && not (has_probed r x)) h in
+    let two = and_parts (is_above (s.client x).recorded cap) (not (has_probed r x)) one.1 in
     (one.0, two.0, not-true (has_probed r x) two.1)
 
 -- once nobody is to be probed and no Probe is pending, no other client has more than the cap
@@ -97,9 +71,9 @@ settled : (shape : Shape) (s : Block) (r : Register) (asking : Option ℕ) (cap 
 settled shape s r asking cap fits none quiet x l other =
     let m : must_probe r s asking cap x ≡ false = lowest-none (must_probe r s asking cap) shape.clients x none l in
     let q : is_probed (s.client x) ≡ false = any_below-false (λ c. is_probed (s.client c)) shape.clients x quiet l in
-    elim (bool-cases (is_above (s.client x).recorded cap)) [
+    elim (cases_Bool (is_above (s.client x).recorded cap)) [
       | inr e ↦ e
-      | inl e ↦ elim (bool-cases (has_probed r x)) [
+      | inl e ↦ elim (cases_Bool (has_probed r x)) [
         | inl h ↦ (fits x l).answered other h q
         | inr h ↦ let bad : must_probe r s asking cap x ≡ true = rw (other, e, h) refl in cc
       ]
@@ -113,7 +87,7 @@ may-probe shape s r asking cap c fits h free =
     let at = lowest-some (must_probe r s asking cap) shape.clients c h in
     let why = to-probe r s asking cap c at.1 in
     let clear : is_probed (s.client c) ≡ false =
-    elim (bool-cases (is_probed (s.client c))) [ inr e ↦ e | inl e ↦ let bad = (fits c at.0).sent e in cc ] in
+    elim (cases_Bool (is_probed (s.client c))) [ inr e ↦ e | inl e ↦ let bad = (fits c at.0).sent e in cc ] in
     (at.0, (above (s.client c).recorded cap why.1, probe-free (s.client c) clear, no-grant shape s free))
 
 -- ## The first case that applies
@@ -179,23 +153,18 @@ away-may shape s r own block (Some line) due is kept fits h =
 -- ## The own block is served
 
 is-other : (c x : ℕ) → x ≢ c → is_other (Some c) x ≡ true
-is-other c x ne = elim (bool-cases (x == c)) [ inl e ↦ absurd (ne (eqb-true x c e)) | inr e ↦ rw e refl ]
-
-none-is : (p : Perm) → is_none p ≡ true → p ≡ p_None
-none-is p_None h = refl
-none-is Branch h = cc
-none-is Tip h = cc
+is-other c x ne = elim (cases_Bool (x == c)) [ inl e ↦ absurd (ne (eqb-true x c e)) | inr e ↦ rw e refl ]
 
 -- where a client is alone, every other one is recorded None
 alone-is : (n c : ℕ) (client : ℕ → Client) (x : ℕ) → is_alone n c client ≡ true → x < n → x ≢ c → (client x).recorded ≡ p_None
 alone-is zero c client x h l ne = absurd (omega arith)
 alone-is (suc n) c client x h l ne =
-    let k = and-true ((n == c) || is_none (client n).recorded) (is_alone n c client) h in
+    let k = and_parts ((n == c) || is_none (client n).recorded) (is_alone n c client) h in
     elim (cases_eq x n) [
       | inl e ↦
           let ne2 : n ≢ c = λ m. ne (e ∙ m) in
-          let f : (n == c) ≡ false = elim (bool-cases (n == c)) [ inl m ↦ absurd (ne2 (eqb-true n c m)) | inr m ↦ m ] in
-          ap (λ (y : ℕ). (client y).recorded) e ∙ none-is (client n).recorded (or-else (n == c) (is_none (client n).recorded) k.0 f)
+          let f : (n == c) ≡ false = elim (cases_Bool (n == c)) [ inl m ↦ absurd (ne2 (eqb-true n c m)) | inr m ↦ m ] in
+          ap (λ (y : ℕ). (client y).recorded) e ∙ none_is (client n).recorded (or-else (n == c) (is_none (client n).recorded) k.0 f)
       | inr e ↦ alone-is n c client x k.1 (omega arith) ne
     ]
 
@@ -280,7 +249,7 @@ serve-may shape s r acquire (Some line) due is kept fits h =
           let at = lowest-some (must_probe r s (Some c) cap) shape.clients k.0 k.1 in
           let why = to-probe r s (Some c) cap k.0 at.1 in
           let free : grant_pending shape s ≡ false =
-          elim (bool-cases (grant_pending shape s)) [ inr e ↦ e | inl e ↦ no-room-to-probe shape s acquire k.0 kept fits.accepted e why.0 why.1 ] in
+          elim (cases_Bool (grant_pending shape s)) [ inr e ↦ e | inl e ↦ no-room-to-probe shape s acquire k.0 kept fits.accepted e why.0 why.1 ] in
           subst P (sym k.2) (refl, may-probe shape s r (Some c) cap k.0 fits.probes k.1 free)
       | inr k ↦
           let free = granting (grant_pending shape s) c due k.2 in

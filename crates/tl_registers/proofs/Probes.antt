@@ -1,5 +1,6 @@
 -- What each step of a client leaves of the Probes that a register sent it.
 use Rattle.std.proofs.Common.{◌≡◌, ℕ, ◌≤◌, ◌||◌, ◌==◌, not, Bool, true, false, List, [], ◌∷◌, ◌++◌, drop, refl, sym, ◌∙◌, ap, subst, arith}
+use Rattle.std.proofs.Math.Bool.{or-true}
 use Rattle.std.specs.List.{list_any}
 use Rattle.tl_types.specs.Message.{probe_answer, upward_to, is_probe_ack, is_grant}
 use Rattle.tl_types.specs.Permission.{rank, probe_perm}
@@ -20,7 +21,6 @@ use Rattle.tl_protocol.proofs.Pending.{every_answer_is_within}
 use Rattle.tl_registers.specs.Fit.{Ask, Answer, ProbeFits}
 use Rattle.tl_registers.specs.Pending.{has_first, is_probed, is_granted}
 use Rattle.tl_registers.specs.Register.{is_above}
-use Rattle.tl_registers.proofs.Booleans.{or-true}
 
 -- What a step of a client does to what is pending at it: it keeps the Probes that fit, and brings no Probe and no Grant up.
 pub record KeepsProbes (k later : Client) : Type 0 where

@@ -1,6 +1,6 @@
 -- The Probes and the Get of a register keep the agreement.
 use Rattle.std.proofs.Common.{◌≡◌, ◌≢◌, ℕ, ◌<◌, ◌==◌, ◌||◌, Bool, true, false, List, [], ◌∷◌, ◌++◌, length, Option, Some, None, refl, sym, ◌∙◌, ap, subst, arith, inl, inr, eqb-true, eq-eqb, set, length-set, get_or-set_other, get_or-set_same}
-use Rattle.std.proofs.lemmas.Bool.{cases_eq}
+use Rattle.std.proofs.lemmas.Bool.{cases_eq, cases_Bool, or_parts, eqb-false}
 use Rattle.tl_types.specs.Permission.{rank}
 use Rattle.tl_types.specs.declared.permission.Perm.{Perm}
 use Rattle.tl_types.specs.declared.permission.Perm.TheVariants.{None as p_None, Branch, Tip}
@@ -29,7 +29,6 @@ use Rattle.tl_registers.proofs.Closing.{rest-at}
 use Rattle.tl_registers.proofs.Opening.{elsewhere, here, fits-elsewhere}
 use Rattle.tl_registers.proofs.Pending.{any_below-none, free-grant}
 use Rattle.tl_registers.proofs.Tables.{IsOneOf, one-among, found-busy, each-both, each-map, apart-map}
-use Rattle.tl_registers.proofs.Booleans.{bool-cases, or-false, neq-of}
 
 -- ## A Get
 
@@ -101,7 +100,7 @@ probed-more : (shape : Shape) (s : Block) (r : Register) (asking : Option ℕ) (
     → ProbesFit shape s.client r asking cap
     → ProbesFit shape (with_client s c (sent_probe (s.client c) cap)).client (with_probed r c) asking cap
 probed-more shape s r asking cap c place h = λ x l.
-    elim (bool-cases (x == c)) [
+    elim (cases_Bool (x == c)) [
       | inl e ↦
           let is : x ≡ c = eqb-true x c e in
           let marked : has_probed (with_probed r c) x ≡ true = ap (has_probed (with_probed r c)) is ∙ marked-here r c place in
@@ -114,7 +113,7 @@ probed-more shape s r asking cap c place h = λ x l.
             answered = λ o p n. let bad : true ≡ false = sym (sent-one (s.client c) cap) ∙ n in cc;
           })
       | inr e ↦
-          let mark = marked-other r c x (neq-of x c e) in
+          let mark = marked-other r c x (eqb-false x c e) in
           let P = λ (t : Bool). ProbeFits (s.client x) cap t (is_other asking x) in
           rw e (subst P (sym mark) (h x l))
     ]
@@ -157,7 +156,7 @@ probed-ungranted : (shape : Shape) (s : Block) (c : ℕ) (cap : ProbeCap) → No
     → grant_pending shape (with_client s c (sent_probe (s.client c) cap)) ≡ false
 probed-ungranted shape s c cap free =
     any_below-none (λ x. is_granted ((with_client s c (sent_probe (s.client c) cap)).client x)) shape.clients
-    (λ x l. elim (bool-cases (x == c)) [
+    (λ x l. elim (cases_Bool (x == c)) [
       | inl e ↦
           let P = λ (y : ℕ). is_granted (s.client y) ≡ false in
           let here : is_granted (s.client c) ≡ false = subst P (eqb-true x c e) (free-grant (s.client x) (free x l)) in
@@ -254,13 +253,13 @@ works-there r Evict block cap which =
 
 -- a noted Probe does not change what a register works on
 same-works : (own c block : ℕ) (q : Register) → works_on (with_probe_of own c q) block ≡ works_on q block
-same-works own c block q = elim (bool-cases (q.own == own)) [ inl e ↦ rw e refl | inr e ↦ rw e refl ]
+same-works own c block q = elim (cases_Bool (q.own == own)) [ inl e ↦ rw e refl | inr e ↦ rw e refl ]
 
 free-noted : (own c block : ℕ) (registers : List Register) → is_busy block (noted own c registers) ≡ false
     → is_busy block registers ≡ false
 free-noted own c block [] h = refl
 free-noted own c block (q ∷ rest) h =
-    let both = or-false (works_on (with_probe_of own c q) block) (is_busy block (noted own c rest)) h in
+    let both = or_parts (works_on (with_probe_of own c q) block) (is_busy block (noted own c rest)) h in
     let here : works_on q block ≡ false = sym (same-works own c block q) ∙ both.0 in
     let more = free-noted own c block rest both.1 in
     rw (here, more) refl
@@ -294,7 +293,7 @@ probing-keeps-agreement shape states registers r c block cap steady agree found 
                 } in
                 subst P (sym same) (rw own one)
             | inr other ↦
-                let away : (q.own == r.own) ≡ false = (or-false (q.own == r.own) (is_block r.own (victim_of q)) (other r.own (on-own r r.task))).0 in
+                let away : (q.own == r.own) ≡ false = (or_parts (q.own == r.own) (is_block r.own (victim_of q)) (other r.own (on-own r r.task))).0 in
                 rw away (fits-elsewhere shape states e q (other block (works-there r r.task block cap which)) fits)
           ])
           (one-among r.own registers r agree.apart found) agree.fits);

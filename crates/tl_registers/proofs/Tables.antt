@@ -1,11 +1,11 @@
 -- Lists of registers of which no two work on one block.
 use Rattle.std.proofs.Common.{◌≡◌, ℕ, ◌==◌, ◌||◌, Bool, true, false, List, [], ◌∷◌, ◌++◌, map, filter, Some, refl, sym, ◌∙◌, ap, inl, inr}
+use Rattle.std.proofs.lemmas.Bool.{cases_Bool, or_parts, or_from}
 use Rattle.std.specs.Prelude.{◌⊎◌}
 use Rattle.tl_registers.specs.declared.register.Register.{Register}
 use Rattle.tl_registers.specs.Agree.{Each, AreApart}
 use Rattle.tl_registers.specs.Register.{works_on}
 use Rattle.tl_registers.specs.Registers.{is_busy, register_of}
-use Rattle.tl_registers.proofs.Booleans.{bool-cases, or-false}
 
 -- ## What holds of each register
 
@@ -27,7 +27,7 @@ pub each-filter : (P : Register → Type 0) (test : Register → Bool) (xs : Lis
     → Each P (filter test xs)
 each-filter P test [] h = tt
 each-filter P test (r ∷ rest) h =
-    elim (bool-cases (test r)) [
+    elim (cases_Bool (test r)) [
       | inl e ↦ rw e (h.0 e, each-filter P test rest h.1)
       | inr e ↦ rw e (each-filter P test rest h.1)
     ]
@@ -38,23 +38,20 @@ each-end P (x ∷ rest) r h one = (h.0, each-end P rest r h.1 one)
 
 -- ## Busy blocks
 
-busy-is-false : (a b : Bool) → a ≡ false → b ≡ false → (a || b) ≡ false
-busy-is-false a b h g = rw (h, g) refl
-
 pub busy-end : (block : ℕ) (xs : List Register) (r : Register) → is_busy block (xs ++ r ∷ []) ≡ false
     → (is_busy block xs ≡ false) × (works_on r block ≡ false)
-busy-end block [] r h = (refl, (or-false (works_on r block) false h).0)
+busy-end block [] r h = (refl, (or_parts (works_on r block) false h).0)
 busy-end block (x ∷ rest) r h =
-    let k = or-false (works_on x block) (is_busy block (rest ++ r ∷ [])) h in
+    let k = or_parts (works_on x block) (is_busy block (rest ++ r ∷ [])) h in
     let more = busy-end block rest r k.1 in
-    (busy-is-false (works_on x block) (is_busy block rest) k.0 more.0, more.1)
+    (or_from (works_on x block) (is_busy block rest) k.0 more.0, more.1)
 
 end-busy : (block : ℕ) (xs : List Register) (r : Register) → is_busy block xs ≡ false → works_on r block ≡ false
     → is_busy block (xs ++ r ∷ []) ≡ false
-end-busy block [] r h one = busy-is-false (works_on r block) false one refl
+end-busy block [] r h one = or_from (works_on r block) false one refl
 end-busy block (x ∷ rest) r h one =
-    let k = or-false (works_on x block) (is_busy block rest) h in
-    busy-is-false (works_on x block) (is_busy block (rest ++ r ∷ [])) k.0 (end-busy block rest r k.1 one)
+    let k = or_parts (works_on x block) (is_busy block rest) h in
+    or_from (works_on x block) (is_busy block (rest ++ r ∷ [])) k.0 (end-busy block rest r k.1 one)
 
 -- a test that fails at a block where another fails
 falls-to : (a b : Bool) → (a ≡ true → b ≡ true) → b ≡ false → a ≡ false
@@ -67,17 +64,17 @@ pub busy-map : (f : Register → Register) (block : ℕ) (xs : List Register)
     → is_busy block (map f xs) ≡ false
 busy-map f block [] fewer h = refl
 busy-map f block (r ∷ rest) fewer h =
-    let k = or-false (works_on r block) (is_busy block rest) h in
-    busy-is-false (works_on (f r) block) (is_busy block (map f rest)) (falls-to (works_on (f r) block) (works_on r block) (fewer r) k.0) (busy-map f block rest fewer k.1)
+    let k = or_parts (works_on r block) (is_busy block rest) h in
+    or_from (works_on (f r) block) (is_busy block (map f rest)) (falls-to (works_on (f r) block) (works_on r block) (fewer r) k.0) (busy-map f block rest fewer k.1)
 
 busy-filter : (test : Register → Bool) (block : ℕ) (xs : List Register) → is_busy block xs ≡ false
     → is_busy block (filter test xs) ≡ false
 busy-filter test block [] h = refl
 busy-filter test block (r ∷ rest) h =
-    let k = or-false (works_on r block) (is_busy block rest) h in
+    let k = or_parts (works_on r block) (is_busy block rest) h in
     let more = busy-filter test block rest k.1 in
-    elim (bool-cases (test r)) [
-      | inl e ↦ rw e (busy-is-false (works_on r block) (is_busy block (filter test rest)) k.0 more)
+    elim (cases_Bool (test r)) [
+      | inl e ↦ rw e (or_from (works_on r block) (is_busy block (filter test rest)) k.0 more)
       | inr e ↦ rw e more
     ]
 
@@ -94,7 +91,7 @@ apart-map f (r ∷ rest) fewer h = (
 pub apart-filter : (test : Register → Bool) (xs : List Register) → AreApart xs → AreApart (filter test xs)
 apart-filter test [] h = tt
 apart-filter test (r ∷ rest) h =
-    elim (bool-cases (test r)) [
+    elim (cases_Bool (test r)) [
       | inl e ↦ rw e (λ block on. busy-filter test block rest (h.0 block on), apart-filter test rest h.1)
       | inr e ↦ rw e (apart-filter test rest h.1)
     ]
@@ -104,11 +101,11 @@ pub apart-end : (xs : List Register) (r : Register) → ((block : ℕ) → works
 apart-end [] r free h = (λ block on. refl, tt)
 apart-end (x ∷ rest) r free h = (
   λ block on. end-busy block rest r (h.0 block on)
-      (elim (bool-cases (works_on r block)) [
+      (elim (cases_Bool (works_on r block)) [
         | inr e ↦ e
-        | inl e ↦ let k = or-false (works_on x block) (is_busy block rest) (free block e) in let none = k.0 in let bad : true ≡ false = sym on ∙ none in cc
+        | inl e ↦ let k = or_parts (works_on x block) (is_busy block rest) (free block e) in let none = k.0 in let bad : true ≡ false = sym on ∙ none in cc
       ]),
-  apart-end rest r (λ block on. (or-false (works_on x block) (is_busy block rest) (free block on)).1) h.1,
+  apart-end rest r (λ block on. (or_parts (works_on x block) (is_busy block rest) (free block on)).1) h.1,
 )
 
 -- ## One register among the others
@@ -125,8 +122,8 @@ all-other : (r : Register) (xs : List Register) → ((block : ℕ) → works_on 
     → Each (IsOneOf r) xs
 all-other r [] free = tt
 all-other r (q ∷ rest) free = (
-  inr (λ block on. (or-false (works_on q block) (is_busy block rest) (free block on)).0),
-  all-other r rest (λ block on. (or-false (works_on q block) (is_busy block rest) (free block on)).1),
+  inr (λ block on. (or_parts (works_on q block) (is_busy block rest) (free block on)).0),
+  all-other r rest (λ block on. (or_parts (works_on q block) (is_busy block rest) (free block on)).1),
 )
 
 -- the blocks of a register that is there are busy
@@ -134,8 +131,8 @@ pub found-busy : (own : ℕ) (xs : List Register) (r : Register) (block : ℕ) �
     → is_busy block xs ≡ false → ⊥
 found-busy own [] r block h on free = cc
 found-busy own (q ∷ rest) r block h on free =
-    let k = or-false (works_on q block) (is_busy block rest) free in
-    elim (bool-cases (q.own == own)) [
+    let k = or_parts (works_on q block) (is_busy block rest) free in
+    elim (cases_Bool (q.own == own)) [
       | inl e ↦
           let h2 : Some q ≡ Some r = (rw e at h) in
           let same : q ≡ r = cc in
@@ -147,7 +144,7 @@ found-busy own (q ∷ rest) r block h on free =
 pub one-among : (own : ℕ) (xs : List Register) (r : Register) → AreApart xs → register_of own xs ≡ Some r → Each (IsOneOf r) xs
 one-among own [] r apart h = cc
 one-among own (q ∷ rest) r apart h =
-    elim (bool-cases (q.own == own)) [
+    elim (cases_Bool (q.own == own)) [
       | inl e ↦
           let h2 : Some q ≡ Some r = (rw e at h) in
           let same : q ≡ r = cc in (
@@ -156,7 +153,7 @@ one-among own (q ∷ rest) r apart h =
           )
       | inr e ↦
           let h2 : register_of own rest ≡ Some r = (rw e at h) in (
-            inr (λ block on. elim (bool-cases (works_on q block)) [
+            inr (λ block on. elim (cases_Bool (works_on q block)) [
               | inr n ↦ n
               | inl n ↦ absurd (found-busy own rest r block h2 on (apart.0 block n))
             ]),

@@ -1,5 +1,6 @@
 -- The register's rule: what a register does next, the first of eight cases (this project's own).
 use Rattle.std.specs.Prelude.{ℕ, List, [], ◌∷◌, ◌++◌, Option, Some, None, if◌then◌else◌}
+use Rattle.tl_types.specs.Lowest.{lowest}
 use Rattle.tl_types.specs.declared.permission.Grow.{Grow}
 use Rattle.tl_types.specs.declared.permission.Grow.TheVariants.{NtoB, NtoT, BtoT}
 use Rattle.tl_types.specs.declared.permission.ProbeCap.{ProbeCap}
@@ -14,7 +15,7 @@ use Rattle.tl_registers.specs.declared.register.Register.{Register}
 use Rattle.tl_registers.specs.declared.register.Task.{Task}
 use Rattle.tl_registers.specs.declared.register.Task.TheVariants.{Acquire, Replace, Evict}
 use Rattle.tl_registers.specs.Pending.{probe_pending, grant_pending, is_quiet}
-use Rattle.tl_registers.specs.Register.{must_probe, lowest}
+use Rattle.tl_registers.specs.Register.{must_probe}
 
 -- What a case says: it does not apply, or the register waits, or it acts.
 pub data Case : Type 0 where

@@ -67,13 +67,3 @@ is_other (Some asking) c = not (c == asking)
 abbrev pub must_probe : Register → Block → Option ℕ → ProbeCap → ℕ → Bool
 must_probe r s asking cap c =
     is_other asking c && (is_above (s.client c).recorded cap && not (has_probed r c))
-
-abbrev pub or_this : Option ℕ → Bool → ℕ → Option ℕ
-or_this (Some x) passes n = Some x
-or_this None true n = Some n
-or_this None false n = None
-
--- the lowest number below n that passes a test
-abbrev pub lowest : (ℕ → Bool) → ℕ → Option ℕ
-lowest test zero = None
-lowest test (suc n) = or_this (lowest test n) (test n) n

@@ -1,8 +1,9 @@
 -- Which way an Acquire takes whose block home lacks, and the order of a set's ways that gives it (this project's own).
 use Rattle.std.specs.Prelude.{◌≡◌, ℕ, ◌+◌, ◌<◌, ◌≤◌, ◌==◌, ◌&&◌, ◌||◌, not, Bool, true, false, List, [], ◌∷◌, ◌++◌, length, filter, Option, Some, None, if◌then◌else◌, slice_index_or, slice_set, ◌⊎◌}
+use Rattle.tl_ways.specs.Orders.{IsAmong, touched}
+use Rattle.tl_types.specs.Lowest.{lowest}
 use Rattle.tl_protocol.specs.declared.event.Event.{Event}
 use Rattle.tl_protocol.specs.declared.event.Event.TheVariants.{SendGrant}
-use Rattle.tl_registers.specs.Register.{lowest}
 
 -- ## The victim way
 -- `slots` is the block in each way of the set, where there is one; `held` says which of its ways registers hold.
@@ -50,17 +51,9 @@ IsChosen slots held log w = IsFreeOrOldest (lowest_free slots held) slots held l
 -- ## The order in which a set's ways were granted
 -- `filling` says which ways have a block that was not granted since it came there. Registers hold them.
 
--- a Grant moves its way last
-abbrev pub touched : ℕ → List ℕ → List ℕ
-touched w order = filter (λ v. not (v == w)) order ++ w ∷ []
-
 abbrev pub first_not_held : (ℕ → Bool) → List ℕ → Option ℕ
 first_not_held held [] = None
 first_not_held held (w ∷ rest) = if held w then first_not_held held rest else Some w
-
-abbrev pub IsAmong : ℕ → List ℕ → Type 0
-IsAmong v [] = ⊥
-IsAmong v (w ∷ rest) = (v ≡ w) ⊎ IsAmong v rest
 
 -- the block of a way was granted no later than that of another, where both have been
 abbrev pub IsNoLater : List (Option ℕ) → (ℕ → Bool) → List Event → ℕ → ℕ → Type 0

@@ -1,6 +1,7 @@
 -- What a lane and a block's list in it are after a message is sent, and after the first is taken.
 use Rattle.std.proofs.Common.{◌≡◌, ℕ, ◌+◌, ◌==◌, ◌&&◌, Bool, true, false, List, [], ◌∷◌, ◌++◌, length, drop, if◌then◌else◌, refl, ◌∙◌, arith, length-append, eqb-true, eq-eqb}
 use Rattle.std.proofs.lemmas.List.{append-nil}
+use Rattle.std.proofs.lemmas.Bool.{and_parts}
 use Rattle.tl_types.specs.Channel.{place_of, same_channel}
 use Rattle.tl_types.specs.Lane.{Lane, sent, is_here, with_message, first_taken, without_first, bodies_of, IsFirst}
 use Rattle.tl_types.specs.declared.channel.Channel.{Channel}
@@ -41,16 +42,11 @@ same_channel-true E E h = refl
 pub same_channel-self : (k : Channel) → same_channel k k ≡ true
 same_channel-self k = eq-eqb (place_of k) (place_of k) refl
 
-both_true : (a b : Bool) → (a && b) ≡ true → (a ≡ true) × (b ≡ true)
-both_true true true h = (refl, refl)
-both_true true false h = cc
-both_true false b h = cc
-
 -- what is here is this client and this channel
 pub is_here-true : (client : ℕ) (channel : Channel) (x : ℕ) (l : Channel) → is_here client channel x l ≡ true
     → (x ≡ client) × (l ≡ channel)
 is_here-true client channel x l h =
-    let both = both_true (x == client) (same_channel l channel) h in
+    let both = and_parts (x == client) (same_channel l channel) h in
     (eqb-true x client both.0, same_channel-true l channel both.1)
 
 pub is_here-self : (client : ℕ) (channel : Channel) → is_here client channel client channel ≡ true

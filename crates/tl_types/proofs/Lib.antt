@@ -1,4 +1,6 @@
+pub mod Booleans
 pub mod Image
 pub mod CodeLaws
 pub mod Counts
 pub mod Lanes
+pub mod Lowest

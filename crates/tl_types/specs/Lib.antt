@@ -3,6 +3,7 @@ pub mod Channel
 pub mod Codes
 pub mod Count
 pub mod Lane
+pub mod Lowest
 pub mod Message
 pub mod Permission
 pub mod Text

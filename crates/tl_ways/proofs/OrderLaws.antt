@@ -4,20 +4,20 @@ use Rattle.std.specs.Prelude.{Option, None, Some, ◌==◌, not, find, ◌⊎◌
 use Rattle.std.proofs.lemmas.Bool.{cases_eq}
 use Rattle.std.proofs.lemmas.Bool.Decides.{nat_tests}
 use Rattle.std.proofs.lemmas.Grind.{common_steps, take_at_read}
-use Rattle.tl_ways.specs.Orders.{IsAmong, rising, without, touched, lowest}
+use Rattle.tl_ways.specs.Orders.{IsAmong, rising, without, touched}
 
 -- ## Membership
 
-among-end : (way : ℕ) (xs : List ℕ) → IsAmong way (xs ++ way ∷ [])
+pub among-end : (way : ℕ) (xs : List ℕ) → IsAmong way (xs ++ way ∷ [])
 among-end way [] = inl refl
 among-end way (x ∷ xs) = inr (among-end way xs)
 
-among-front : (way last : ℕ) (xs : List ℕ) → IsAmong way xs → IsAmong way (xs ++ last ∷ [])
+pub among-front : (way last : ℕ) (xs : List ℕ) → IsAmong way xs → IsAmong way (xs ++ last ∷ [])
 among-front way last [] none = absurd none
 among-front way last (x ∷ xs) (inl same) = inl same
 among-front way last (x ∷ xs) (inr among) = inr (among-front way last xs among)
 
-among-either : (way last : ℕ) (xs : List ℕ) → IsAmong way (xs ++ last ∷ []) → (way ≡ last) ⊎ IsAmong way xs
+pub among-either : (way last : ℕ) (xs : List ℕ) → IsAmong way (xs ++ last ∷ []) → (way ≡ last) ⊎ IsAmong way xs
 among-either way last [] (inl same) = inl same
 among-either way last [] (inr none) = absurd none
 among-either way last (x ∷ xs) (inl same) = inr (inl same)
@@ -95,7 +95,7 @@ length-without-among way (x ∷ xs) (inr among) =
     ]
 
 -- another way stays
-among-without : (way other : ℕ) (xs : List ℕ) → (other ≡ way → ⊥) → IsAmong other xs → IsAmong other (without way xs)
+pub among-without : (way other : ℕ) (xs : List ℕ) → (other ≡ way → ⊥) → IsAmong other xs → IsAmong other (without way xs)
 among-without way other [] apart none = absurd none
 among-without way other (x ∷ xs) apart (inl same) =
     rw (without-other way x xs (λ is. apart (same ∙ is))) (inl same)
@@ -111,7 +111,7 @@ kept way other x xs rest (inl same) = inl same
 kept way other x xs rest (inr among) = inr (rest among)
 
 -- and none comes
-without-among : (way other : ℕ) (xs : List ℕ) → IsAmong other (without way xs) → IsAmong other xs
+pub without-among : (way other : ℕ) (xs : List ℕ) → IsAmong other (without way xs) → IsAmong other xs
 without-among way other [] none = none
 without-among way other (x ∷ xs) among =
     elim (cases_eq x way) [
@@ -140,21 +140,6 @@ pub length-touched : (way : ℕ) (order : List ℕ) → IsAmong way order → le
 length-touched way order there =
     let less = length-without-among way order there in
     grind (arith, common_steps, less)
-
--- ## The choice
-
--- the lowest that passes where none below it does
-pub lowest-found : (test : ℕ → Bool) (i n : ℕ) → i < n → lowest test i ≡ None → test i ≡ true → lowest test n ≡ Some i
-lowest-found test i zero below none passes = absurd (omega arith)
-lowest-found test i (suc n) below none passes =
-    elim (cases_eq i n) [
-      | inl same ↦ rw (← same) (rw (none, passes) refl)
-      | inr other ↦ rw (lowest-found test i n (grind (arith, other)) none passes) refl
-    ]
-
--- one number more that does not pass
-pub lowest-more : (test : ℕ → Bool) (n : ℕ) → lowest test n ≡ None → test n ≡ false → lowest test (n + 1) ≡ None
-lowest-more test n none fails = rw (add-one, none, fails) refl
 
 -- ## The search of an order
 
@@ -208,8 +193,3 @@ touch_step way x i xs order inside is so_far =
 -- all of a list
 pub take-all : (xs : List ℕ) (i : ℕ) → length xs ≤ i → take i xs ≡ xs
 take-all xs i past = grind (arith, common_steps)
-
--- a test that is not passed
-pub not-false : (b : Bool) → not b ≡ false → b ≡ true
-not-false true h = refl
-not-false false h = absurd (cc)

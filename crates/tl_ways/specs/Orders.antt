@@ -1,6 +1,7 @@
 -- The order of a set's ways, and which way is taken next (this project's own).
 use Rattle.std.specs.Prelude.{◌≡◌, ℕ, zero, suc, ◌==◌, ◌&&◌, Bool, not, List, [], ◌∷◌, ◌++◌, Option, None, Some, if◌then◌else◌, find, ◌⊎◌}
 use Rattle.std.specs.List.{list_any}
+use Rattle.tl_types.specs.Lowest.{lowest}
 
 -- the numbers below n, rising
 abbrev pub rising : ℕ → List ℕ
@@ -29,11 +30,6 @@ is_busy busy way = list_any (λ held. held == way) busy
 abbrev pub or_else : Option ℕ → Option ℕ → Option ℕ
 or_else (Some first) second = Some first
 or_else None second = second
-
--- the lowest number below n that passes a test
-abbrev pub lowest : (ℕ → Bool) → ℕ → Option ℕ
-lowest test zero = None
-lowest test (suc n) = or_else (lowest test n) (if test n then Some n else None)
 
 -- the way that is taken next, of those that are not busy: the lowest free one, else the first in the order
 unfoldable pub chosen : (ℕ → Bool) → ℕ → List ℕ → List ℕ → Option ℕ

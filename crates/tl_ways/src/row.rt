@@ -1,6 +1,7 @@
 //! The ways of one set: which block lies in which, and in which order they are taken again.
 ghost use Rattle.std.specs.Prelude.{◌≡◌, ◌≢◌, ℕ, ◌<◌, ◌≤◌, ◌&&◌, IfNone, IfSome, IsTrue, None, Some, find, is_none, length, not, slice_set};
-ghost use Rattle.tl_ways.specs.Orders.{is_busy, lowest, rising, touched};
+ghost use Rattle.tl_types.specs.Lowest.{lowest};
+ghost use Rattle.tl_ways.specs.Orders.{is_busy, rising, touched};
 ghost use Rattle.tl_ways.specs.Rows.{IsEmpty, chosen_in, line_in, tag_in};
 
 use crate::entry::Entry;

@@ -1,11 +1,11 @@
 use Rattle.std.proofs.Common.{◌≡◌, ◌<◌, ◌==◌, ◌||◌, ◌∙◌, not, ℕ, false, true, ap, arith, refl, subst, sym}
+use Rattle.std.proofs.lemmas.Bool.{ne_eqb}
 use denote.Enum.Bare.{sameb}
 use Rattle.tl_types.specs.contracts.permission.Perm.{the_type}
 use Rattle.tl_types.specs.declared.permission.Perm.{Perm}
 use Rattle.tl_types.specs.declared.permission.Perm.TheVariants.{None as p_None, Branch, Tip}
 use Rattle.tl_protocol.specs.Protocol.{is_alone, is_none}
 use Rattle.tl_home.specs.Homes.{recorded_in}
-use Rattle.tl_registers.proofs.Booleans.{neqb-of}
 use Rattle.tl_bank_spec.specs.View.{View, IsOwn, block_at, client_at}
 use Rattle.tl_bank.specs.Shown.{shown, layers}
 use Rattle.tl_bank_laws.proofs.Sights.{alone-fails, recorded-read}
@@ -28,7 +28,7 @@ returns-then-ne c =
     c.recorded.ensures
     ∙ ap (λ (y : ℕ). recorded_in c.self.inside.home y c.args.block) c.new.ensures
     ∙ recorded-read v (layers c.self.inside) x c.args.block c.self.invariant own.0 in
-    let other : (x == c.args.client) ≡ false = neqb-of x c.args.client (λ e. c.if-number.true (e ∙ sym c.number.ensures)) in
+    let other : (x == c.args.client) ≡ false = ne_eqb x c.args.client (λ e. c.if-number.true (e ∙ sym c.number.ensures)) in
     let some : is_none (client_at v x c.args.block).recorded ≡ false =
     ap is_none (sym recorded) ∙ not-none c.recorded.result (sym c.ne.ensures ∙ c.if-ne.true) in
     let fails : ((x == c.args.client) || is_none (client_at v x c.args.block).recorded) ≡ false = rw (other, some) refl in

@@ -1,8 +1,9 @@
 use Rattle.std.proofs.Common.{rules, ◌≡◌, ◌<◌, true, length, ap, sym, ◌∙◌, subst}
 use Rattle.std.specs.Prelude.{not, find, None}
+use Rattle.std.proofs.lemmas.Bool.{not-false}
 use Rattle.tl_ways.specs.Orders.{is_busy, IsAmong}
 use Rattle.tl_ways.specs.Rows.{Row}
-use Rattle.tl_ways.proofs.OrderLaws.{find-first, among-at, none-found, take-all, not-false}
+use Rattle.tl_ways.proofs.OrderLaws.{find-first, among-at, none-found, take-all}
 use Rattle.tl_ways.proofs.row.Row.first_in_order.Goals as goal
 
 pub returns-then-not-is_busy-clause-is : goal.returns-then-not-is_busy-clause-is

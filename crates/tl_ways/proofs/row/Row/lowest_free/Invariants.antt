@@ -1,6 +1,7 @@
 use Rattle.std.proofs.Common.{◌≡◌}
 use Rattle.std.specs.Prelude.{None, ◌&&◌, not, is_none}
-use Rattle.tl_ways.specs.Orders.{is_busy, lowest}
+use Rattle.tl_types.specs.Lowest.{lowest}
+use Rattle.tl_ways.specs.Orders.{is_busy}
 use Rattle.tl_ways.specs.Rows.{line_in}
 use Rattle.tl_ways.proofs.row.Row.lowest_free.Given as goal
 
