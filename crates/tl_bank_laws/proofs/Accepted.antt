@@ -35,6 +35,7 @@ victim-free shape states r (Replace acquire victim) b h other is =
     subst (λ (y : ℕ). (states y).accepted ≡ None) (eqb-true victim b is) h.2.not_accepted
 victim-free shape states r Evict b h other is = let bad : true ≡ false = sym is ∙ other in cc
 
+-- home serves of a block the Acquire of its register in a list, if it serves none where none of the list works on the block
 accepted-of : (shape : Shape) (states : ℕ → Block) (registers : List Register) (b : ℕ) → Each (Fits shape states) registers
     → AreApart registers → (is_busy b registers ≡ false → (states b).accepted ≡ None)
     → (states b).accepted ≡ accepted_by (register_of b registers)

@@ -44,11 +44,13 @@ use Rattle.tl_bank_laws.proofs.Ways.{bank-steady}
 
 -- ## The Acquire that is there
 
+-- the ticket names the first message on A, no register works on its block, and not all registers are in use
 pub record AcceptAllowed (v : View) (t : Ticket) : Type 0 where
   pub head : HeadAllowed v t A any_body
   pub free : is_busy (block_named v t A) v.registers ≡ false
   pub room : registers_full v ≡ false
 
+-- so it is where no refusal's case holds
 pub accept-allowed : (v : View) (t : Ticket) → first_of (accept_cases v t) ≡ None → AcceptAllowed v t
 accept-allowed v t none =
     let f : AllFalse (accept_cases v t) = all-false (accept_cases v t) none in
@@ -60,6 +62,7 @@ accept-allowed v t none =
       room = both.0;
     }
 
+-- a list of Acquires begins with what its first message asks for
 acquire-begins : (xs : List Grow) (body : Body) (zs : List Body) → map AcquireBlock xs ≡ body ∷ zs
     → (rest : List Grow) × (xs ≡ grow_in body ∷ rest)
 acquire-begins [] body zs e = cc
@@ -70,6 +73,7 @@ pub record Asked (v : View) (t : Ticket) : Type 0 where
   pub rest : List Grow
   pub list : (client_at v t.client (block_named v t A)).a ≡ first_grow (lane_at v t.client A).messages ∷ rest
 
+-- so it does where the ticket names the first message on A
 asked-is : (v : View) (h : Layers) (t : Ticket) → Means v h → HeadAllowed v t A any_body → Asked v t
 asked-is v h t m ok =
     let x : Message = ok.first.0 in
@@ -84,6 +88,7 @@ pub accept-own : (v : View) (h : Layers) (t : Ticket) → Means v h → first_of
     → IsOwn v.geometry v.number (block_named v t A)
 accept-own v h t m none = head-own v h t A any_body m (accept-allowed v t none).head
 
+-- the links have the ticket's message first, where no refusal's case holds
 pub accept-head : (v : View) (h : Layers) (t : Ticket) → Means v h → first_of (accept_cases v t) ≡ None → IsHead h.links t
 accept-head v h t m none = is-head v h t A any_body m (accept-allowed v t none).head
 
@@ -107,18 +112,22 @@ pub record AcceptLeaves (s later : Block) : Type 0 where
   pub recorded : (x : ℕ) → (later.client x).recorded ≡ (s.client x).recorded
   pub entries : (x : ℕ) → entry_of (later.client x) ≡ entry_of (s.client x)
 
+-- an Acquire that is accepted leaves home's copy
 accepted-home : (s : Block) (c : ℕ) (a : List Grow) → (accepted_from s c a).home ≡ s.home
 accepted-home s c [] = refl
 accepted-home s c (grow ∷ rest) = refl
 
+-- it leaves what passes between home and the memory
 accepted-outward : (s : Block) (c : ℕ) (a : List Grow) → (accepted_from s c a).outward ≡ s.outward
 accepted-outward s c [] = refl
 accepted-outward s c (grow ∷ rest) = refl
 
+-- it leaves the block's bytes in memory
 accepted-memory : (s : Block) (c : ℕ) (a : List Grow) → (accepted_from s c a).memory ≡ s.memory
 accepted-memory s c [] = refl
 accepted-memory s c (grow ∷ rest) = refl
 
+-- so home, which accepts a client's first Acquire, leaves so much of the block
 accepted-leaves : (s : Block) (c : ℕ) (a : List Grow) → AcceptLeaves s (accepted_from s c a)
 accepted-leaves s c a = record {
   home = accepted-home s c a;
@@ -128,6 +137,7 @@ accepted-leaves s c a = record {
   entries = λ x. accepted-field entry_of (λ k rest. refl) s c a x;
 }
 
+-- so does the event, of its own block and of each other
 next-leaves : (v : View) (c block b : ℕ) → AcceptLeaves (block_at v b) (block_next v (AcceptAcquire c block) b)
 next-leaves v c block b =
     elim (cases_Bool (b == block)) [
@@ -135,6 +145,7 @@ next-leaves v c block b =
       | inr e ↦ rw e (record { home = refl; outward = refl; memory = refl; recorded = λ x. refl; entries = λ x. refl })
     ]
 
+-- what became of the layers, where the links lost the client's first message on A and the others are as they were
 accept-layers : (v : View) (h : Layers) (c block : ℕ) (links : Table) → Means v h → SameLinks h.links links
     → ((x : ℕ) (l : Channel) → lane_in links x l
     ≡ (if is_here c A x l then without_first (lane_in h.links x l) else lane_in h.links x l))
@@ -175,15 +186,18 @@ pub record Accepting (v : View) (t : Ticket) (block : ℕ) (grow : Grow) (way : 
   pub way_is : IsWayFor v (set_of v.geometry block) (way_at v block) way
   pub victim_is : victim ≡ victim_in v (set_of v.geometry block) (way_at v block) way
 
+-- a Grant that is pending later was pending before, where none comes to be
 pending-true : (old new : Bool) → (old ≡ false → new ≡ false) → new ≡ true → old ≡ true
 pending-true true new f h = refl
 pending-true false new f h = let none = f refl in cc
 
+-- a way that is held while no Grant is pending is so later, where none comes to be
 fills-on : (t old new : Bool) → (old ≡ false → new ≡ false) → (t && not old) ≡ true → (t && not new) ≡ true
 fills-on true true new f h = cc
 fills-on true false new f h = rw (f refl) refl
 fills-on false old new f h = cc
 
+-- home may accept that Acquire next
 accept-event : (v : View) (h : Layers) (t : Ticket) → Means v h → AcceptAllowed v t
     → NextEvent v (AcceptAcquire t.client (block_named v t A))
 accept-event v h t m ok =
@@ -197,6 +211,7 @@ accept-event v h t m ok =
       later = tt;
     }
 
+-- the ways fit once the register is open, where it may hold its way
 accept-ways : (v : View) (h : Layers) (t : Ticket) (block : ℕ) (grow : Grow) (way : ℕ) (victim : Option ℕ) (room : ℕ)
     → Means v h → MayHold v block way victim
     → WaysFit (opened_view v (v.log ++ AcceptAcquire t.client block ∷ []) room (accepting v t block grow way victim)) h.home
@@ -223,6 +238,7 @@ accept-ways v h t block grow way victim room m may =
     filled)
     (m.ways.orders s l))
 
+-- the bank is kept, told with the very block, grow and victim that the ticket's message and the way give
 accept-core : (v : View) (h : Layers) (t : Ticket) (way room : ℕ) (links : Table) → Means v h → first_of (accept_cases v t) ≡ None
     → IsWayFor v (set_of v.geometry (block_named v t A)) (way_at v (block_named v t A)) way → SameLinks h.links links
     → ((x : ℕ) (l : Channel) → lane_in links x l

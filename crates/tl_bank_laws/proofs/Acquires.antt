@@ -23,6 +23,7 @@ use Rattle.tl_bank_laws.proofs.Entries.{put-is}
 use Rattle.tl_bank_laws.proofs.Keep.{means-step}
 use Rattle.tl_bank_laws.proofs.Places.{place-free}
 
+-- where no refusal's case holds, the client's table has a place for a copy that waits for its Grant
 pub acquire-place : (v : View) (h : Layers) (c b : ℕ) (grow : Grow) (copy : CachedCopy) → Means v h
     → first_of (acquire_cases v c b grow) ≡ None → HasPlace h.copies c b copy ForGrant
 acquire-place v h c b grow copy m none =
@@ -34,6 +35,7 @@ pub record Asks (v : View) (c b : ℕ) (grow : Grow) (copy : CachedCopy) : Type 
   pub allowed : first_of (acquire_cases v c b grow) ≡ None
   pub copy_is : copy ≡ (client_at v c b).held
 
+-- the bank is kept once the Acquire is on A, and the client's entry waits for the Grant
 pub acquire-keeps : (v : View) (h : Layers) (c b : ℕ) (grow : Grow) (copy : CachedCopy) (room : ℕ) (links : Table) (tables : Tables)
     → Means v h → Asks v c b grow copy → SameLinks h.links links
     → ((x : ℕ) (l : Channel) → lane_in links x l

@@ -89,10 +89,12 @@ pub record Picks (v : View) (set way : ℕ) : Type 0 where
   pub not_held : holds_way v set way ≡ false
   pub is : IsChosen (slots_at v set) (holds_way v set) v.log way
 
+-- a way is free just where no block is in it
 free-is : (slot : Option ℕ) → is_free slot ≡ is_none slot
 free-is None = refl
 free-is (Some block) = refl
 
+-- the lowest free way that no register holds, or where there is none the first of the order that none holds, is such a way
 picks-free : (v : View) (set way : ℕ) (order : List ℕ) (free : Option ℕ)
     → lowest_free (slots_at v set) (holds_way v set) ≡ free → IsInOrder (slots_at v set) (is_filling v set) v.log order
     → or_else free (first_not_held (holds_way v set) order) ≡ Some way → Picks v set way
@@ -115,6 +117,7 @@ picks-free v set way order None is ordered h =
       is = subst (λ (x : Option ℕ). IsFreeOrOldest x (slots_at v set) (holds_way v set) v.log way) (sym is) oldest;
     }
 
+-- home chooses of a set the lowest free way that no register holds, else the first of the order that none holds
 chosen-of : (v : View) (home : HomeState) (set : ℕ) → WaysFit v home → set < v.geometry.sets
     → chosen (λ way. free_at home set way) v.geometry.ways (order_at home set) (held_in set v.registers)
     ≡ or_else (lowest_free (slots_at v set) (holds_way v set)) (first_not_held (holds_way v set) (order_at home set))
@@ -154,6 +157,7 @@ none-held v home set fit l h =
     second None y is = is
     second (Some z) y is = cc
 
+-- the lowest free way that no register holds, or where there is none the oldest, is such a way
 picks-by : (v : View) (set way : ℕ) (free : Option ℕ) → lowest_free (slots_at v set) (holds_way v set) ≡ free
     → IsFreeOrOldest free (slots_at v set) (holds_way v set) v.log way → Picks v set way
 picks-by v set way (Some first) is h =

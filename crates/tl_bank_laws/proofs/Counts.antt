@@ -16,6 +16,7 @@ use Rattle.tl_bank_spec.specs.Share.{recount}
 use Rattle.tl_bank_spec.specs.View.{View, shape_of, client_at, copies_at, perm_at}
 use Rattle.tl_bank_laws.proofs.Keep.{ClientStep}
 
+-- the count after one copy changed is the one told anew from its permission before and later
 recount-is : (before later : Perm) (n m : ℕ)
     → n + (if not (is_none later) then 1 else 0) ≡ m + (if not (is_none before) then 1 else 0) → m ≡ recount before later n
 recount-is p_None p_None n m h = omega arith

@@ -24,6 +24,7 @@ use Rattle.tl_bank_laws.specs.Means.{Means}
 
 -- ## One block of each register
 
+-- a block that the test finds to be the victim is the victim
 is-block : (b : ℕ) (o : Option ℕ) → is_block b o ≡ true → o ≡ Some b
 is-block b None h = cc
 is-block b (Some x) h = ap (λ (n : ℕ). Some n) (eqb-true x b h)
@@ -87,6 +88,7 @@ abbrev place : List Register → ℕ → ℕ
 place [] b = 0
 place (q ∷ rest) b = if works_on q b then 0 else place rest b + 1
 
+-- it is a place in the list, where any register works on the block
 place-inside : (xs : List Register) (b : ℕ) → is_busy b xs ≡ true → place xs b < length xs
 place-inside [] b h = cc
 place-inside (q ∷ rest) b h =
@@ -100,6 +102,7 @@ abbrev OneOf : (ℕ → Block) → Register → Type 0
 OneOf states r =
     (a b : ℕ) → works_on r a ≡ true → works_on r b ≡ true → (states a).outward ≢ Quiet → (states b).outward ≢ Quiet → a ≡ b
 
+-- of such registers, two busy blocks of which something passes and whose places are one are one
 place-same : (states : ℕ → Block) (xs : List Register) (a b : ℕ) → Each (OneOf states) xs → is_busy a xs ≡ true → is_busy b xs ≡ true
     → (states a).outward ≢ Quiet → (states b).outward ≢ Quiet → place xs a ≡ place xs b → a ≡ b
 place-same states [] a b each busy_a busy_b some_a some_b same = cc
@@ -120,6 +123,7 @@ place-same states (q ∷ rest) a b each busy_a busy_b some_a some_b same =
 
 -- ## The other registers
 
+-- without a block's register there are no more than before
 pub closed-few : (own : ℕ) (xs : List Register) → length (closed own xs) ≤ length xs
 closed-few own [] = omega arith
 closed-few own (q ∷ rest) =

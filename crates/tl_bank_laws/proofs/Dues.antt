@@ -67,9 +67,11 @@ found-each P own (q ∷ rest) r each h =
 
 -- ## The block of an action
 
+-- a register works on its own block
 own-works : (own : ℕ) (t : Bool) → ((own == own) || t) ≡ true
 own-works own t = let same : (own == own) ≡ true = eq-eqb own own refl in rw same refl
 
+-- and on its victim
 victim-works : (own block : ℕ) (victim : Option ℕ) → victim ≡ Some block → ((own == block) || is_block block victim) ≡ true
 victim-works own block victim h =
     let same : (block == block) ≡ true = eq-eqb block block refl in
@@ -107,6 +109,7 @@ pub record Acts (v : View) (own : ℕ) (due : Due) : Type 0 where
   pub bank : bank_of v.geometry (block_of (shape_of v.geometry) (event_of own due)) ≡ v.number
   pub works : works_on register (block_of (shape_of v.geometry) (event_of own due)) ≡ true
 
+-- the register that was found of a block, where there is one, may do what is due of it
 acts-found : (v : View) (h : Layers) (own : ℕ) (due : Due) (o : Option Register) → Means v h → IsOwn v.geometry v.number own
     → register_of own v.registers ≡ o → due_of (shape_of v.geometry) (block_at v) o ≡ Some due → Acts v own due
 acts-found v h own due None m is_own found is = cc
@@ -229,6 +232,7 @@ most-few version n h =
       | inr t ↦ (rw t at h)
     ]
 
+-- so each client's number is below sixteen
 pub client-few : (v : View) (h : Layers) (c : ℕ) → Means v h → c < v.geometry.clients → c < 16
 client-few v h c m l =
     let k = most-few v.geometry.version v.geometry.clients m.geometry.clients.most in omega (arith, k, l)

@@ -17,6 +17,7 @@ use Rattle.tl_bank_laws.specs.Entry.{entry_with, copy_in, wait_in, perm_in, byte
 use Rattle.tl_bank_laws.specs.Layers.{Layers}
 use Rattle.tl_bank_laws.specs.Means.{Means}
 
+-- the copy that an entry says is the one that it was made of
 pub copy_in-entry : (copy : CachedCopy) (wait : Wait) → copy_in (entry_with copy wait) ≡ copy
 copy_in-entry Absent Nothing = refl
 copy_in-entry Absent ForGrant = refl
@@ -24,6 +25,7 @@ copy_in-entry Absent ForReleaseAck = refl
 copy_in-entry (Readable bytes) wait = refl
 copy_in-entry (Writable bytes dirty) wait = refl
 
+-- so is the answer that it says its client waits for
 pub wait_in-entry : (copy : CachedCopy) (wait : Wait) → wait_in (entry_with copy wait) ≡ wait
 wait_in-entry Absent Nothing = refl
 wait_in-entry Absent ForGrant = refl
@@ -31,6 +33,7 @@ wait_in-entry Absent ForReleaseAck = refl
 wait_in-entry (Readable bytes) wait = refl
 wait_in-entry (Writable bytes dirty) wait = refl
 
+-- its permission is the copy's
 pub perm_in-entry : (copy : CachedCopy) (wait : Wait) → perm_in (entry_with copy wait) ≡ perm_of copy
 perm_in-entry Absent Nothing = refl
 perm_in-entry Absent ForGrant = refl
@@ -38,6 +41,7 @@ perm_in-entry Absent ForReleaseAck = refl
 perm_in-entry (Readable bytes) wait = refl
 perm_in-entry (Writable bytes dirty) wait = refl
 
+-- its bytes are the copy's
 pub bytes_in-entry : (copy : CachedCopy) (wait : Wait) → bytes_in (entry_with copy wait) ≡ bytes_of copy
 bytes_in-entry Absent Nothing = refl
 bytes_in-entry Absent ForGrant = refl
@@ -45,6 +49,7 @@ bytes_in-entry Absent ForReleaseAck = refl
 bytes_in-entry (Readable bytes) wait = refl
 bytes_in-entry (Writable bytes dirty) wait = refl
 
+-- there is an entry just while there is a copy or the client waits
 pub is_some-entry : (copy : CachedCopy) (wait : Wait) → is_some (entry_with copy wait) ≡ has_entry_for copy wait
 is_some-entry Absent Nothing = refl
 is_some-entry Absent ForGrant = refl
@@ -52,6 +57,7 @@ is_some-entry Absent ForReleaseAck = refl
 is_some-entry (Readable bytes) wait = refl
 is_some-entry (Writable bytes dirty) wait = refl
 
+-- an entry counts as a copy just where the client holds one
 pub has_copy-entry : (k : Client) (copy : CachedCopy) (wait : Wait) → table_has_copy (entry_with copy wait) ≡ has_copy (record k { held = copy })
 has_copy-entry k Absent Nothing = refl
 has_copy-entry k Absent ForGrant = refl
@@ -61,12 +67,14 @@ has_copy-entry k (Writable bytes dirty) wait = refl
 
 -- ## What the tables show of a client
 
+-- a client's table has as many entries as the log leaves it
 pub entries-is : (v : View) (h : Layers) (c : ℕ) → Means v h → c < v.geometry.clients → entries h.copies c ≡ entries_at v c
 entries-is v h c m lt =
     ap (λ n. count_below (λ b. is_some (held_at h.copies c b)) n) m.copies_blocks
     ∙ count_below-same (λ b. is_some (held_at h.copies c b)) (λ b. has_entry (client_at v c b)) v.geometry.memory_blocks
     (λ b l. ap (λ (o : Option Held). is_some o) (m.copies c b lt l) ∙ is_some-entry (client_at v c b).held (client_at v c b).wait)
 
+-- and as many copies
 pub copies-is : (v : View) (h : Layers) (c : ℕ) → Means v h → c < v.geometry.clients → copies h.copies c ≡ copies_at v c
 copies-is v h c m lt =
     ap (λ n. count_below (λ b. table_has_copy (held_at h.copies c b)) n) m.copies_blocks
@@ -74,18 +82,22 @@ copies-is v h c m lt =
     (λ b l. ap (λ (o : Option Held). table_has_copy o) (m.copies c b lt l)
     ∙ has_copy-entry (client_at v c b) (client_at v c b).held (client_at v c b).wait)
 
+-- the table says of each block of the memory which copy the client has
 pub copy-is : (v : View) (h : Layers) (c b : ℕ) → Means v h → c < v.geometry.clients → b < v.geometry.memory_blocks
     → copy_in (held_at h.copies c b) ≡ (client_at v c b).held
 copy-is v h c b m lt l = ap copy_in (m.copies c b lt l) ∙ copy_in-entry (client_at v c b).held (client_at v c b).wait
 
+-- and which answer it waits for
 pub wait-is : (v : View) (h : Layers) (c b : ℕ) → Means v h → c < v.geometry.clients → b < v.geometry.memory_blocks
     → wait_in (held_at h.copies c b) ≡ (client_at v c b).wait
 wait-is v h c b m lt l = ap wait_in (m.copies c b lt l) ∙ wait_in-entry (client_at v c b).held (client_at v c b).wait
 
+-- and which permission its copy has
 pub perm-is : (v : View) (h : Layers) (c b : ℕ) → Means v h → c < v.geometry.clients → b < v.geometry.memory_blocks
     → perm_in (held_at h.copies c b) ≡ perm_at v c b
 perm-is v h c b m lt l = ap perm_in (m.copies c b lt l) ∙ perm_in-entry (client_at v c b).held (client_at v c b).wait
 
+-- and which bytes
 pub bytes-is : (v : View) (h : Layers) (c b : ℕ) → Means v h → c < v.geometry.clients → b < v.geometry.memory_blocks
     → bytes_in (held_at h.copies c b) ≡ bytes_of (client_at v c b).held
 bytes-is v h c b m lt l = ap bytes_in (m.copies c b lt l) ∙ bytes_in-entry (client_at v c b).held (client_at v c b).wait
@@ -99,6 +111,7 @@ put-is old new c b copy later wait next e f after x y =
     ∙ ap (λ (p : CachedCopy). cond (is_cell c b x y) (entry_with p wait) (held_at old x y)) e
     ∙ ap (λ (w : Wait). cond (is_cell c b x y) (entry_with later w) (held_at old x y)) f
 
+-- the table has an entry of a block just while the client has a copy of it or waits for an answer about it
 pub has_entry-is : (v : View) (h : Layers) (c b : ℕ) → Means v h → c < v.geometry.clients → b < v.geometry.memory_blocks
     → is_some (held_at h.copies c b) ≡ has_entry (client_at v c b)
 has_entry-is v h c b m lt l = ap (λ (o : Option Held). is_some o) (m.copies c b lt l) ∙ is_some-entry (client_at v c b).held (client_at v c b).wait

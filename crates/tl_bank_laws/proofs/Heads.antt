@@ -27,11 +27,13 @@ pub record HeadAllowed (v : View) (t : Ticket) (k : Channel) (kind : Body → Bo
   pub serial : t.serial ≡ (lane_at v t.client k).taken
   pub first : (x : Message) × (rest : List Message) × ((lane_at v t.client k).messages ≡ x ∷ rest) × (kind x.body ≡ true)
 
+-- messages that are found to begin with one of a kind have a first, which is of that kind
 first-kind : (kind : Body → Bool) (xs : List Message) → not (begins kind xs) ≡ false
     → (x : Message) × (rest : List Message) × (xs ≡ x ∷ rest) × (kind x.body ≡ true)
 first-kind kind [] h = cc
 first-kind kind (x ∷ rest) h = (x, rest, refl, not-false (kind x.body) h)
 
+-- so does a ticket of a client that is there, which is refused neither for its bank nor its channel nor its message
 pub head-allowed : (v : View) (t : Ticket) (k : Channel) (kind : Body → Bool) → t.client < v.geometry.clients
     → not (t.bank == v.number) ≡ false → other_channel t k ≡ false → not_head v t k kind ≡ false → HeadAllowed v t k kind
 head-allowed v t k kind lt bank channel head =
@@ -44,6 +46,7 @@ head-allowed v t k kind lt bank channel head =
       first = first-kind kind (lane_at v t.client k).messages both.1;
     }
 
+-- a list of messages with a first one is not empty
 not-empty : (xs : List Message) (x : Message) (rest : List Message) → xs ≡ x ∷ rest → xs ≢ []
 not-empty xs x rest e f = let both : x ∷ rest ≡ [] = sym e ∙ f in cc
 
@@ -56,6 +59,7 @@ is-head v h t k kind m ok = record {
   serial = rw (ok.channel, m.lanes t.client k ok.client) ok.serial;
 }
 
+-- what holds of the blocks of all messages of a list holds of its first one's
 own-first : (P : ℕ → Type 0) (xs : List Message) (x : Message) (rest : List Message) → xs ≡ x ∷ rest → All (λ y. P y.block) xs
     → P (first_block xs)
 own-first P xs x rest e h =
@@ -79,6 +83,7 @@ head-list v h t k kind m ok =
     ap (λ b. list_in (client_at v t.client b) k) at
     ∙ first_heads_its_list (shape_of v.geometry) v.image v.log t.client k x rest m.lawful ok.first.2
 
+-- a first message is of the block that the list is said to begin with
 first-of : (xs : List Message) (x : Message) (rest : List Message) → xs ≡ x ∷ rest → IsFirst (first_block xs) xs
 first-of xs x rest e = let R : List Message → Type 0 = λ ys. IsFirst (first_block ys) ys in subst R (sym e) refl
 

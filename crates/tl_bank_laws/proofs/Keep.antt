@@ -56,6 +56,7 @@ pub record LayersFollow (v : View) (e : Event) (c : ℕ) (k : Client) (old new :
   pub limit : new.limit ≡ old.limit
   pub clock : new.clock ≡ stamped old.clock e
 
+-- choosing one of two parts of a client chooses its entry
 if-entry : (t : Bool) (k old : Client) → cond t (entry_of k) (entry_of old) ≡ entry_of (cond t k old)
 if-entry true k old = refl
 if-entry false k old = refl
@@ -123,6 +124,7 @@ follow-next v old new e c k m step follow =
       clock = follow.clock;
     }
 
+-- an event of one client, which the layers follow, keeps the bank
 pub means-step : (v : View) (old new : Layers) (e : Event) (c : ℕ) (k : Client) (room : ℕ)
     → Means v old → ClientStep v e c k → LayersFollow v e c k old new
     → Means (record v { log = v.log ++ e ∷ []; room = room }) new

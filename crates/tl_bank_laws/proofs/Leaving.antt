@@ -66,6 +66,7 @@ lay-there v ways block b w went l at =
     λ same. let bad : None ≡ Some w = sym went.gone ∙ (ap (λ (x : ℕ). slice_index_or ways x None) (sym same) ∙ at) in cc in
     (ne, sym (went.other b l ne) ∙ at)
 
+-- a block that is found in a way of a set then was found there before
 lies-there : (v : View) (e : Event) (room : ℕ) (ways : List (Option ℕ)) (block set way b : ℕ) → LeftWay v ways block
     → b < v.geometry.memory_blocks → lies_in (next_view v e room v.registers ways) set way b ≡ true → lies_in v set way b ≡ true
 lies-there v e room ways block set way b went l lies =
@@ -120,10 +121,12 @@ slot-kept v e room ways block set way went not_here =
       ]
     ])
 
+-- a block that home finds in a way lies in that way
 home-way : (way : ℕ) (o : Option ℕ) → is_home_way o way ≡ true → o ≡ Some way
 home-way way None h = cc
 home-way way (Some x) h = ap (λ (n : ℕ). Some n) (sym (eqb-true way x h))
 
+-- and home finds it in the way in which it lies
 way-home : (way : ℕ) (o : Option ℕ) → o ≡ Some way → is_home_way o way ≡ true
 way-home way o h = rw h (eq-eqb way way refl)
 
@@ -241,6 +244,7 @@ leaving-layers v h e new m own gave at outward =
 
 -- ## A Put
 
+-- the bank is kept once the block left home, and its Put is on the way to the memory
 pub put-keeps : (v : View) (h : Layers) (own block room : ℕ) (ways : List (Option ℕ)) (home : HomeState) → Means v h
     → Acts v own (Put block) → GaveUp h.home home block
     → ((b : ℕ) → outward_in home b ≡ (if b == block then o_Put (home_bytes (line_in h.home block)) else outward_in h.home b))
@@ -305,10 +309,12 @@ pub leave-held : (v : View) (h : Layers) (block : ℕ) (dirty : Bool) → Means 
 leave-held v h block dirty m own may =
     let held : line_in h.home block ≡ Some may.0.0 = (m.home block own).line ∙ may.0.1 in rw held refl
 
+-- home too knows the block as one of the memory
 pub leave-inside : (v : View) (h : Layers) (block : ℕ) → Means v h → block < v.geometry.memory_blocks
     → block < (geometry_in h.home).memory_blocks
 leave-inside v h block m l = rw m.home_geometry l
 
+-- a block that lies nowhere lies nowhere still, whether it is the one that left or not
 none-either : (t : Bool) (o : Option ℕ) → o ≡ None → (if t then None else o) ≡ None
 none-either true o h = refl
 none-either false o h = h
@@ -329,6 +335,7 @@ ways-left old new blocks block gave b =
 
 -- ## A drop
 
+-- the bank is kept once the block was dropped: a register that evicts it closes, and one with it as its victim goes on without
 pub drop-keeps : (v : View) (h : Layers) (own block room : ℕ) (ways : List (Option ℕ)) (home : HomeState) → Means v h
     → Acts v own (Drop block) → GaveUp h.home home block → SameOutward h.home home
     → ((b : ℕ) → b < v.geometry.memory_blocks → slice_index_or ways b None ≡ way_in home b)

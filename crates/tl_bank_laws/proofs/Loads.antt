@@ -30,6 +30,7 @@ whole-readable size Absent some whole = absurd (some refl)
 whole-readable size (Readable bytes) some whole = whole
 whole-readable size (Writable bytes dirty) some whole = whole
 
+-- so a client that may read a block has all its bytes
 pub copy-whole : (v : View) (h : Layers) (c b : ℕ) → Means v h → perm_of (client_at v c b).held ≢ p_None
     → length (bytes_of (client_at v c b).held) ≡ v.geometry.block_bytes
 copy-whole v h c b m some =
@@ -43,6 +44,7 @@ load-fits v h c address len clock m none =
     let ok = load-allowed v c address len clock none in
     (rw (copy-whole v h c (address / v.geometry.block_bytes) m ok.1) ok.0.fits, ok.0.few)
 
+-- a range that lies inside a list has as many bytes as it asks for
 range-length : (xs : List ℕ) (at n : ℕ) → at + n ≤ length xs → length (slice_range xs at (at + n)) ≡ n
 range-length xs at n h = grind (arith, common_steps)
 
@@ -70,6 +72,7 @@ entry-same tables c b o e x y =
     ] in
     split (x == c) (y == b) refl refl
 
+-- a stamp one past the later of two clocks is past the first
 pub later-is : (clock other stamp : ℕ) → stamp ≡ max clock other + 1 → clock < stamp
 later-is clock other stamp is = omega arith
 
@@ -81,6 +84,7 @@ pub record Reads (v : View) (c address len clock : ℕ) (bytes : List ℕ) (stam
       (address % v.geometry.block_bytes) (address % v.geometry.block_bytes + len)
   pub stamp_is : stamp ≡ latest v clock + 1
 
+-- the bank is kept once the load is in the log, and its stamp is the clock
 pub load-keeps : (v : View) (h : Layers) (c address len clock : ℕ) (bytes : List ℕ) (stamp index room : ℕ)
     → Means v h → Reads v c address len clock bytes stamp
     → Means (record v {

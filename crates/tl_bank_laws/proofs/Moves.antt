@@ -21,6 +21,7 @@ at-other block b x y ne = let fails : (b == block) ≡ false = ne_eqb b block ne
 
 -- ## One slot of a set
 
+-- two tests of which each passes where the other does are the same
 tests-agree : (s t : Bool) → (s ≡ true → t ≡ true) → (t ≡ true → s ≡ true) → s ≡ t
 tests-agree true t to from = sym (to refl)
 tests-agree false true to from = from refl
@@ -76,10 +77,12 @@ pub record Lies (v : View) (set way block : ℕ) : Type 0 where
   pub in_set : set_of v.geometry block ≡ set
   pub lies : way_at v block ≡ Some way
 
+-- a block of the memory that is found in a way lies there
 pub lies-of : (v : View) (set way block : ℕ) → block < v.geometry.memory_blocks → lies_in v set way block ≡ true → Lies v set way block
 lies-of v s way block l h =
     let k = lies-true v s way block h in record { inside = l; here = k.0; in_set = k.1; lies = k.2 }
 
+-- and a block that lies in a way is found there
 pub of-lies : (v : View) (set way block : ℕ) → Lies v set way block → lies_in v set way block ≡ true
 of-lies v s way block l = true-lies v s way block l.here l.in_set l.lies
 
@@ -104,6 +107,7 @@ pub moved-here : (v : View) (ways : List (Option ℕ)) (block : ℕ) (at : Optio
     → way_at (with_ways v ways) block ≡ at
 moved-here v ways block at m l = m block l ∙ at-block block at (way_at v block)
 
+-- and each other block of the memory is in the way in which it was
 pub moved-other : (v : View) (ways : List (Option ℕ)) (block b : ℕ) (at : Option ℕ) → Moves v ways block at → b < v.geometry.memory_blocks
     → b ≢ block → way_at (with_ways v ways) b ≡ way_at v b
 moved-other v ways block b at m l ne = m b l ∙ at-other block b at (way_at v b) ne
@@ -114,6 +118,7 @@ pub moved-lies : (v : View) (ways : List (Option ℕ)) (block b : ℕ) (at : Opt
 moved-lies v ways block b at s way m ne l =
     record { inside = l.inside; here = l.here; in_set = l.in_set; lies = sym (moved-other v ways block b at m l.inside ne) ∙ l.lies }
 
+-- and where it lay it still lies
 lies-moved : (v : View) (ways : List (Option ℕ)) (block b : ℕ) (at : Option ℕ) (s way : ℕ) → Moves v ways block at → b ≢ block
     → Lies v s way b → Lies (with_ways v ways) s way b
 lies-moved v ways block b at s way m ne l =
@@ -162,6 +167,7 @@ pub record Comes (v : View) (ways : List (Option ℕ)) (block way : ℕ) : Type 
   pub nowhere : way_at v block ≡ None
   pub free : slot_at v (set_of v.geometry block) way ≡ None
 
+-- a block that is in no way lies in no way of a set
 nowhere-lies : (v : View) (block s way : ℕ) → way_at v block ≡ None → Lies v s way block → ⊥
 nowhere-lies v block s way none l = let bad : None ≡ Some way = sym none ∙ l.lies in cc
 

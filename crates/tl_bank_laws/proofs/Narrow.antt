@@ -34,6 +34,7 @@ held-left way test (r ∷ rest) h =
       | inr t ↦ rw t later
     ]
 
+-- where no two registers hold one way, no two of those that are left do
 apart-left : (test : Register → Bool) (xs : List Register) → WaysApart xs → WaysApart (filter test xs)
 apart-left test [] h = tt
 apart-left test (r ∷ rest) h =
@@ -42,6 +43,7 @@ apart-left test (r ∷ rest) h =
       | inr t ↦ rw t (apart-left test rest h.1)
     ]
 
+-- the ways fit the registers that pass a test, where each that fills a way passes it
 pub ways-narrow : (v : View) (test : Register → Bool) (home : HomeState)
     → ((set way : ℕ) (r : Register) → is_filling_by v set way r ≡ true → test r ≡ true)
     → WaysFit v home → WaysFit (record v { registers = filter test v.registers }) home

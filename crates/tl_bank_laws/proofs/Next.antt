@@ -78,9 +78,11 @@ BlocksNext =
     (v : View) (e : Event) (room : ℕ) (registers : List Register) (ways : List (Option ℕ))
     → block_at (next_view v e room registers ways) ≡ block_next v e
 
+-- each block of the new view is held as the event leaves it
 pub blocks-next : BlocksNext
 blocks-next v e room registers ways = end_of-append (shape_of v.geometry) v.image v.log e
 
+-- registers that agree with what the event leaves fit the new view
 pub registers-next : RegistersNext
 registers-next v e room registers ways agree few = record {
   agree = subst (λ (t : ℕ → Block). Agree (shape_of v.geometry) t registers) (sym (blocks-next v e room registers ways)) agree;
@@ -106,25 +108,30 @@ stamps-append clock (x ∷ log) e rise later = (rise.0, stamps-append (stamped c
 abbrev Of : (ℕ → Type 0) → Message → Type 0
 Of P x = P x.block
 
+-- where all messages are of such blocks, so are those that are left without the first
 inside-first : (P : ℕ → Type 0) (taken : ℕ) (xs : List Message) → All (Of P) xs → All (Of P) (first_taken taken xs).messages
 inside-first P taken [] h = h
 inside-first P taken (x ∷ rest) h = All-tail (Of P) x rest h
 
+-- so are those of a lane, whether its first was taken or not
 inside-here : (P : ℕ → Type 0) (lane : Lane) (t : Bool) → All (Of P) lane.messages → All (Of P) (cond t (without_first lane) lane).messages
 inside-here P lane true h = inside-first P lane.taken lane.messages h
 inside-here P lane false h = h
 
+-- so are those of each lane once an event took what it takes
 inside-taken : (P : ℕ → Type 0) (place : Option Place) (x : ℕ) (l : Channel) (lane : Lane)
     → All (Of P) lane.messages → All (Of P) (taken_from place x l lane).messages
 inside-taken P None x l lane h = h
 inside-taken P (Some place) x l lane h = inside-here P lane (is_here place.client place.channel x l) h
 
+-- and once one more message of such a block is sent there, or none
 inside-with : (P : ℕ → Type 0) (lane : Lane) (message : Message) (t : Bool) → P message.block
     → All (Of P) lane.messages → All (Of P) (cond t (with_message lane message) lane).messages
 inside-with P lane message true p h =
     All-append (Of P) lane.messages (message ∷ []) h (All-cons (Of P) message [] p (All-nil (Of P)))
 inside-with P lane message false p h = h
 
+-- so are those of each lane once an event of such a block sent what it sends
 inside-sent : (P : ℕ → Type 0) (post : Option Post) (block x : ℕ) (l : Channel) (lane : Lane) → P block
     → All (Of P) lane.messages → All (Of P) (sent_to post block x l lane).messages
 inside-sent P None block x l lane p h = h
@@ -133,6 +140,7 @@ inside-sent P (Some post) block x l lane p h =
 
 -- ## The bank after it
 
+-- one more event keeps a bank, where the registers and the ways fit the new view
 pub means-next : MeansNext
 means-next v old new e room registers ways m next layers fit in_ways =
     let g : Numbers = v.geometry in

@@ -35,6 +35,7 @@ abbrev pub Lies : View → ℕ → ℕ → ℕ → Type 0
 Lies v set way block =
     (bank_of v.geometry block ≡ v.number) × (set_of v.geometry block ≡ set) × (way_at v block ≡ Some way)
 
+-- the block in a way lies there
 slot-block : (v : View) (set way block : ℕ) → slot_at v set way ≡ Some block → (block < v.geometry.memory_blocks) × Lies v set way block
 slot-block v set way block h = let there = slot-lies v set way block h in (there.0.0, (there.0.1, there.1, there.2))
 
@@ -118,6 +119,7 @@ may-hold v home block way None fit own free is way_is =
           (λ a own_a in_a at_a. fit.once a b way own_a (l, lies.0) (in_a ∙ sym lies.1) at_a lies.2));
     }
 
+-- home lacks a block of which the test finds no copy
 home-none : (home : Option Line) → is_none home ≡ true → home ≡ None
 home-none None h = refl
 home-none (Some line) h = cc
@@ -142,9 +144,11 @@ pub record WorksOn (r : Register) (victim : Option ℕ) : Type 0 where
   pub only : (b : ℕ) → works_on r b ≡ true → (r.own ≡ b) ⊎ (victim ≡ Some b)
   pub on : (b : ℕ) → (r.own ≡ b) ⊎ (victim ≡ Some b) → works_on r b ≡ true
 
+-- a register works on its own block
 own-on : (own b : ℕ) (t : Bool) → own ≡ b → ((own == b) || t) ≡ true
 own-on own b t e = rw (eq-eqb own b e) refl
 
+-- where one of two tests passes, it is the first or the second
 or-either : (s t : Bool) → (s || t) ≡ true → (s ≡ true) ⊎ (t ≡ true)
 or-either true t h = inl refl
 or-either false t h = inr h
@@ -193,6 +197,7 @@ new-holds v block way task victim may works = record {
 
 -- ## The other registers
 
+-- two ways that differ, differ in either order
 differs-back : (s t : WayOfSet) → ((s.set == t.set) && (s.way == t.way)) ≡ false → ((t.set == s.set) && (t.way == s.way)) ≡ false
 differs-back s t h =
     elim (cases_Bool ((t.set == s.set) && (t.way == s.way))) [
@@ -205,6 +210,7 @@ differs-back s t h =
       | inr e ↦ e
     ]
 
+-- a way that none holds is not held with one more register that holds another
 held-end : (way : WayOfSet) (xs : List Register) (r : Register) → is_held way xs ≡ false
     → ((r.way.set == way.set) && (r.way.way == way.way)) ≡ false → is_held way (xs ++ r ∷ []) ≡ false
 held-end way [] r h one = rw one refl
@@ -270,6 +276,7 @@ lies-here : (home : HomeState) (block way : ℕ) → way_in home block ≡ Some 
 unfolding way_in geometry_in bank_in
 lies-here home block way e = (IsThere-of home.directory block way e).own
 
+-- what home finds in a way of a set is the block that is in it, or none
 slot-found : (v : View) (h : Layers) (set way : ℕ) (found : Option ℕ) → Means v h → set < v.geometry.sets → way < v.geometry.ways
     → IfSome found (λ b. b < (geometry_in h.home).memory_blocks) → IfSome found (λ b. set_of (geometry_in h.home) b ≡ set)
     → IfSome found (λ b. way_in h.home b ≡ Some way) → is_none found ≡ free_at h.home set way → found ≡ slot_at v set way
@@ -340,6 +347,7 @@ pub record Offered (v : View) (block : ℕ) (found : Option ℕ) : Type 0 where
   pub is : IfSome found (λ way. IsWayFor v (set_of v.geometry block) (way_at v block) way)
   pub none : is_none found ≡ (lacks v block && ways_held v (set_of v.geometry block))
 
+-- so it is with what home chooses for such a block
 pub offered : (v : View) (h : Layers) (block : ℕ) (found : Option ℕ) → Means v h → IsOwn v.geometry v.number block
     → set_of v.geometry block < v.geometry.sets → way_in h.home block ≡ None
     → found ≡ chosen (λ w. free_at h.home (set_of v.geometry block) w) v.geometry.ways (order_at h.home (set_of v.geometry block))

@@ -21,6 +21,7 @@ entry-there Absent wait some = absurd (some refl)
 entry-there (Readable bytes) wait some = refl
 entry-there (Writable bytes dirty) wait some = refl
 
+-- where the test finds an entry, there is one
 some-is : (o : Option Held) → is_some o ≡ true → o ≢ None
 some-is None h = cc
 some-is (Some x) h = λ e. cc
@@ -36,10 +37,12 @@ place-there v h c b copy wait m lt l has = record {
       (ap (λ (o : Option Held). is_some o) (m.copies c b lt l) ∙ is_some-entry (client_at v c b).held (client_at v c b).wait ∙ has need) none);
 }
 
+-- a table without an entry of the block, which is not found full, has room for one more
 room-is : (has : Bool) (copies entries : ℕ) → (not has && nat_le copies entries) ≡ false → has ≡ false → entries < copies
 room-is true copies entries full h = cc
 room-is false copies entries full h = grind (arith, nat_tests)
 
+-- where there is no entry, the test finds none
 none-is : (o : Option Held) → o ≡ None → is_some o ≡ false
 none-is None h = refl
 none-is (Some x) h = cc

@@ -39,10 +39,12 @@ unprobed-put : (client : ℕ → Client) (c : ℕ) (k : Client) (x : ℕ) → (i
     → ((y : ℕ) → is_probed (client y) ≡ false) → is_probed (if x == c then k else client x) ≡ false
 unprobed-put client c k x keeps was = at_put (λ m. is_probed m ≡ false) client c k x (λ e. keeps (was c)) (λ n. was x)
 
+-- a block that home lacks stays unprobed where home accepts an Acquire
 unprobed-accepted : (s : Block) (c : ℕ) (a : List Grow) → GoneIsUnprobed s → GoneIsUnprobed (accepted_from s c a)
 unprobed-accepted s c [] was = was
 unprobed-accepted s c (grow ∷ rest) was = λ gone x. unprobed-put s.client c _ x (λ h. h) (was gone)
 
+-- and where home sends a Grant
 unprobed-granted : (shape : Shape) (s : Block) (c : ℕ) (accepted : Option Accepted) → GoneIsUnprobed s
     → GoneIsUnprobed (grants shape s c accepted)
 unprobed-granted shape s c None was = was
@@ -61,6 +63,7 @@ unprobed-given-up : (shape : Shape) (s : Block) → IsServiceAt shape s → NoPr
 unprobed-given-up shape s service none x =
     at_all (λ k. is_probed k ≡ false) shape.clients s.client service.outside refl (λ y l. free-probe (s.client y) (none y l)) x
 
+-- of a block as every run keeps it, a permitted event leaves no Probe pending while home lacks it, if it was so before
 unprobed-step : (shape : Shape) (s : Block) (e : Event) → MayOn shape s e → IsServiceAt shape s → ((x : ℕ) → IsOrderly (s.client x))
     → GoneIsUnprobed s → GoneIsUnprobed (after shape s e)
 unprobed-step shape s (Load access) may service ordered was = unprobed-left shape s (Load access) tt service ordered was
@@ -89,6 +92,7 @@ unprobed-step shape s (TakePutAck block) may service ordered was = was
 
 -- ## Every run
 
+-- so it is of every block after one permitted event
 unprobed-next : (shape : Shape) (byte : ℕ → ℕ) (s : ℕ → Block) (e : Event) → MayNext shape s e → AllKept shape byte s
     → ((block : ℕ) → GoneIsUnprobed (s block)) → (block : ℕ) → GoneIsUnprobed (after_next shape s e block)
 unprobed-next shape byte s e may kept was block =
@@ -99,6 +103,7 @@ unprobed-next shape byte s e may kept was block =
     (λ x. orderly (kept block).now ((s block).client x) ((kept block).inv.local x)) (was block))
     (λ q. was block)
 
+-- and after a run of them
 unprobed-run : (shape : Shape) (byte : ℕ → ℕ) (s : ℕ → Block) (es : List Event) → AllKept shape byte s
     → ((block : ℕ) → GoneIsUnprobed (s block)) → IsRunFrom shape s es → (block : ℕ) → GoneIsUnprobed (end_from shape s es block)
 unprobed-run shape byte s [] kept was run = was

@@ -48,17 +48,20 @@ use Rattle.tl_bank_laws.proofs.Shares.{share-count, share-enough}
 
 -- ## The Probe that is there
 
+-- a client that is not found to await a ReleaseAck does not wait for one
 not-pending : (wait : Wait) → awaits_release_ack wait ≡ false → wait ≢ ForReleaseAck
 not-pending Nothing h = λ e. cc
 not-pending ForGrant h = λ e. cc
 not-pending ForReleaseAck h = cc
 
+-- the ticket names the first message on B, the share has the client's count, no Release of the block is unanswered, and C has a place
 pub record ProbeAllowed (v : View) (t : Ticket) (share : Holding) : Type 0 where
   pub head : HeadAllowed v t B any_body
   pub count : share.count ≡ copies_at v t.client
   pub wait : (client_at v t.client (block_named v t B)).wait ≢ ForReleaseAck
   pub place : length (lane_at v t.client C).messages < 64
 
+-- so it is where no refusal's case holds
 probe-allowed : (v : View) (t : Ticket) (share : Holding) → first_of (answer_probe_cases v t share) ≡ None → ProbeAllowed v t share
 probe-allowed v t share none =
     let f : AllFalse (answer_probe_cases v t share) = all-false (answer_probe_cases v t share) none in
@@ -72,6 +75,7 @@ probe-allowed v t share none =
       place = grind (arith, nat_tests);
     }
 
+-- a list of Probes begins with what its first message asks for
 probe-begins : (bs : List ProbeCap) (body : Body) (zs : List Body) → map ProbeBlock bs ≡ body ∷ zs
     → (rest : List ProbeCap) × (bs ≡ asked_by body ∷ rest)
 probe-begins [] body zs e = cc
@@ -82,6 +86,7 @@ pub record Probed (v : View) (t : Ticket) : Type 0 where
   pub rest : List ProbeCap
   pub list : (client_at v t.client (block_named v t B)).b ≡ first_cap (lane_at v t.client B).messages ∷ rest
 
+-- so it does where the ticket names the first message on B
 probed-is : (v : View) (h : Layers) (t : Ticket) → Means v h → HeadAllowed v t B any_body → Probed v t
 probed-is v h t m ok =
     let x : Message = ok.first.0 in
@@ -108,6 +113,7 @@ pub record Answers (v : View) (t : Ticket) (share : Holding) (block : ℕ) (cap 
 abbrev done : (v : View) (t : Ticket) → Probed v t → ℕ → Client
 done v t p block = answered (client_at v t.client block) (first_cap (lane_at v t.client B).messages ∷ p.rest)
 
+-- answering the Probe is a step of the client, which has that part of the block afterwards
 probe-step : (v : View) (h : Layers) (t : Ticket) (share : Holding) (block : ℕ) → Means v h → ProbeAllowed v t share
     → (p : Probed v t) → block ≡ block_named v t B → ClientStep v (AnswerProbe t.client block) t.client (done v t p block)
 probe-step v h t share block m ok p is =
@@ -126,6 +132,7 @@ probe-step v h t share block m ok p is =
     } in
     subst (λ b. ClientStep v (AnswerProbe t.client b) t.client (done v t p b)) (sym is) step
 
+-- the links have the ticket's message first, where no refusal's case holds
 pub probe-head : (v : View) (h : Layers) (t : Ticket) (share : Holding) → Means v h → first_of (answer_probe_cases v t share) ≡ None
     → IsHead h.links t
 probe-head v h t share m none = is-head v h t B any_body m (probe-allowed v t share none).head
@@ -153,6 +160,7 @@ probe-room v h t share between m none small same took =
       counted = rw lane (omega arith);
     }
 
+-- a copy that has an entry once it is reduced had one before
 fewer-entries : (copy : CachedCopy) (to : Perm) (wait : Wait) → has_entry_for (reduced copy to) wait ≡ true → has_entry_for copy wait ≡ true
 fewer-entries Absent p_None wait h = h
 fewer-entries Absent Branch wait h = h
@@ -160,6 +168,7 @@ fewer-entries Absent Tip wait h = h
 fewer-entries (Readable bytes) to wait h = refl
 fewer-entries (Writable bytes dirty) to wait h = refl
 
+-- so the client's table has a place for what the Probe leaves
 pub probe-place : (v : View) (h : Layers) (t : Ticket) (share : Holding) (block : ℕ) (cap : ProbeCap) (copy : CachedCopy) (wait : Wait)
     (before : Perm) (answer : ProbeAnswer) → Means v h
     → Answers v t share block cap copy wait before answer → HasPlace h.copies t.client block copy wait
@@ -173,6 +182,7 @@ probe-place v h t share block cap copy wait before answer m answers =
     (subst (λ (w : Wait). has_entry_for (reduced k.held (probe_perm cap)) w ≡ true) answers.wait_is
     (subst (λ (p : CachedCopy). has_entry_for p wait ≡ true) answers.copy_is need)))
 
+-- that copy is what the client holds once it answered
 copy-done : (v : View) (t : Ticket) (share : Holding) (block : ℕ) (cap : ProbeCap) (copy : CachedCopy) (wait : Wait)
     (before : Perm) (answer : ProbeAnswer) (p : Probed v t) → Answers v t share block cap copy wait before answer
     → copy ≡ (done v t p block).held
@@ -193,6 +203,7 @@ post-is v t share block cap copy wait before answer p answers =
     ap (λ (a : ProbeAnswer). Some (record { client = t.client; channel = C; body = b_Upward (ProbeAck a) })) is
     ∙ sym (ap (λ (bs : List ProbeCap). answer_post t.client k bs) list)
 
+-- the bank is kept once the Probe is gone from B, its answer is on C, and the reduced copy is in the client's table
 pub probe-keeps : (v : View) (h : Layers) (t : Ticket) (share : Holding) (block : ℕ) (cap : ProbeCap) (copy : CachedCopy) (wait : Wait)
     (before : Perm) (answer : ProbeAnswer) (room : ℕ) (between links : Table) (tables : Tables)
     → Means v h → Answers v t share block cap copy wait before answer → SameLinks h.links between
@@ -232,6 +243,7 @@ probe-keeps v h t share block cap copy wait before answer room between links tab
 
 -- ## The share
 
+-- the share can lose the client's copy of the block, where there is one, and can gain one
 pub probe-enough : (v : View) (h : Layers) (t : Ticket) (share : Holding) (block : ℕ) (cap : ProbeCap) (copy : CachedCopy) (wait : Wait)
     (before : Perm) (answer : ProbeAnswer) → Means v h
     → Answers v t share block cap copy wait before answer → (is_none before ≡ false → 0 < share.count) × (share.count < 2 ^ 31)

@@ -25,6 +25,7 @@ quiet-is v h m none each = record {
   outward = λ b own. (m.registers.agree.at_rest b (ap (λ rs. is_busy b rs) none)).quiet;
 }
 
+-- a list of which no message is made is empty
 map-empty : {X Y : Type 0} (f : X → Y) (xs : List X) → map f xs ≡ [] → xs ≡ []
 map-empty f [] h = refl
 map-empty f (x ∷ rest) h = cc
@@ -56,6 +57,7 @@ below-more P n before here x lt =
     ] in
     split (x == n) refl
 
+-- a list of registers that is found to have length 0 is empty
 no-registers : (rs : List Register) → (length rs == 0) ≡ true → rs ≡ []
 no-registers [] h = refl
 no-registers (r ∷ rest) h = absurd (grind (arith, nat_tests))

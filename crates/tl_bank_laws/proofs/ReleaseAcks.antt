@@ -31,11 +31,13 @@ use Rattle.tl_bank_laws.proofs.Heads.{HeadAllowed, head-allowed, head-first, hea
 use Rattle.tl_bank_laws.proofs.Keep.{means-step}
 use Rattle.tl_bank_laws.proofs.Places.{place-there}
 
+-- where no refusal's case holds, the ticket names a ReleaseAck, first on D
 pub ack-allowed : (v : View) (t : Ticket) → first_of (take_release_ack_cases v t) ≡ None → HeadAllowed v t D is_a_release_ack
 ack-allowed v t none =
     let f : AllFalse (take_release_ack_cases v t) = all-false (take_release_ack_cases v t) none in
     head-allowed v t D is_a_release_ack (client-is v t.client f.0) f.1.0 f.1.1.0 f.1.1.1.1.0
 
+-- a message that is found to be a ReleaseAck is one
 ack-body : (body : Body) → is_a_release_ack body ≡ true → body ≡ b_Downward ReleaseAck
 ack-body (AcquireBlock grow) h = cc
 ack-body (ProbeBlock cap) h = cc
@@ -44,6 +46,7 @@ ack-body (b_Downward (Grant cap bytes)) h = cc
 ack-body (b_Downward ReleaseAck) h = refl
 ack-body GrantAck h = cc
 
+-- a list on D whose first message is a ReleaseAck begins with one
 ack-begins : (ds : List Downward) (zs : List Body) → map b_Downward ds ≡ b_Downward ReleaseAck ∷ zs
     → (rest : List Downward) × (ds ≡ ReleaseAck ∷ rest)
 ack-begins [] zs e = cc
@@ -58,6 +61,7 @@ ack-may v h t m ok =
     (head-list v h t D is_a_release_ack m ok
     ∙ ap (λ (b : Body). b ∷ bodies_of ok.first.0.block ok.first.1) (ack-body ok.first.0.body ok.first.3))
 
+-- a copy that has an entry while its client waits for nothing has one whatever it waits for
 fewer-entries : (copy : CachedCopy) (wait : Wait) → has_entry_for copy Nothing ≡ true → has_entry_for copy wait ≡ true
 fewer-entries Absent wait h = cc
 fewer-entries (Readable bytes) wait h = refl
@@ -74,9 +78,11 @@ pub ack-own : (v : View) (h : Layers) (t : Ticket) → Means v h → first_of (t
     → IsOwn v.geometry v.number (block_named v t D)
 ack-own v h t m none = head-own v h t D is_a_release_ack m (ack-allowed v t none)
 
+-- the links have the ticket's message first, where no refusal's case holds
 pub ack-head : (v : View) (h : Layers) (t : Ticket) → Means v h → first_of (take_release_ack_cases v t) ≡ None → IsHead h.links t
 ack-head v h t m none = is-head v h t D is_a_release_ack m (ack-allowed v t none)
 
+-- so the client's table has a place for its copy, once it waits for nothing
 pub ack-place : (v : View) (h : Layers) (t : Ticket) (block : ℕ) (copy : CachedCopy) → Means v h → Acks v t block copy
     → HasPlace h.copies t.client block copy Nothing
 ack-place v h t block copy m acks =
@@ -87,6 +93,7 @@ ack-place v h t block copy m acks =
     (λ need. fewer-entries (client_at v t.client block).held (client_at v t.client block).wait
     (let P : CachedCopy → Type 0 = λ p. has_entry_for p Nothing ≡ true in subst P acks.copy_is need))
 
+-- the bank is kept, told with the very block that the ticket's message speaks of
 ack-core : (v : View) (h : Layers) (t : Ticket) (copy : CachedCopy) (room : ℕ) (links : Table) (tables : Tables)
     → Means v h → first_of (take_release_ack_cases v t) ≡ None → copy ≡ (client_at v t.client (block_named v t D)).held
     → SameLinks h.links links
@@ -123,6 +130,7 @@ ack-core v h t copy room links tables m none copy_is same_links takes same after
       clock = refl;
     })
 
+-- the bank is kept once the ReleaseAck is gone from D, and the client waits for nothing
 pub ack-keeps : (v : View) (h : Layers) (t : Ticket) (block : ℕ) (copy : CachedCopy) (room : ℕ) (links : Table) (tables : Tables)
     → Means v h → Acks v t block copy → SameLinks h.links links
     → ((x : ℕ) (l : Channel) → lane_in links x l

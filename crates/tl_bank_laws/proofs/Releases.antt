@@ -35,11 +35,13 @@ use Rattle.tl_bank_laws.proofs.Entries.{put-is}
 use Rattle.tl_bank_laws.proofs.Keep.{ClientStep, means-step}
 use Rattle.tl_bank_laws.proofs.Places.{entry-there, place-there}
 
+-- each Release starts from a permission above None
 some-from : (prune : Prune) → prune_from prune ≢ p_None
 some-from TtoB = λ e. cc
 some-from TtoN = λ e. cc
 some-from BtoN = λ e. cc
 
+-- so where no refusal's case holds, the client's table has a place for a copy that waits for the ReleaseAck
 pub release-place : (v : View) (h : Layers) (c b : ℕ) (prune : Prune) (share : Holding) (copy : CachedCopy) → Means v h
     → first_of (release_cases v c b prune share) ≡ None → HasPlace h.copies c b copy ForReleaseAck
 release-place v h c b prune share copy m none =
@@ -48,6 +50,7 @@ release-place v h c b prune share copy m none =
     (λ need. entry-there (client_at v c b).held (client_at v c b).wait
     (λ e. some-from prune (sym ok.from ∙ e)))
 
+-- where no refusal's case holds, the Release is a step of its client, which has given up and waits afterwards
 release-step : (v : View) (c b : ℕ) (prune : Prune) (share : Holding) → first_of (release_cases v c b prune share) ≡ None
     → ClientStep v (SendRelease c b prune) c (released (client_at v c b) prune)
 release-step v c b prune share none =
@@ -69,6 +72,7 @@ pub record GivesUp (v : View) (c b : ℕ) (prune : Prune) (share : Holding) (cop
   pub copy_is : copy ≡ reduced (client_at v c b).held (prune_to prune)
   pub given_is : given ≡ surrender prune (dirty_bytes (client_at v c b).held)
 
+-- the bank is kept once the Release is on C, and the reduced copy is in the client's table, waiting for the ReleaseAck
 pub release-keeps : (v : View) (h : Layers) (c b : ℕ) (prune : Prune) (share : Holding) (copy : CachedCopy) (given : Surrender)
     (room : ℕ) (links : Table) (tables : Tables)
     → Means v h → GivesUp v c b prune share copy given → SameLinks h.links links

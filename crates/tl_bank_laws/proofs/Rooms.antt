@@ -7,6 +7,7 @@ use Rattle.tl_bank_laws.specs.Layers.{Layers}
 use Rattle.tl_bank_laws.specs.Means.{Means, WaysFit, is_filling}
 use Rattle.tl_bank_laws.proofs.Ways.{each-holds-stay, same-work, slot-stays, slots-stay}
 
+-- with other room the ways fit as before
 ways-room : (v : View) (room : ℕ) (home : HomeState) → WaysFit v home → WaysFit (record v { room = room }) home
 ways-room v room home fit =
     let t : View = record v { room = room } in

@@ -72,6 +72,7 @@ pub record Granted (old new : HomeState) (own c : ℕ) (cap : GrantCap) : Type 0
 
 -- ## What the others are recorded for
 
+-- of two Acquires that home serves of a block the one is the other
 some-is : (x y : Accepted) → Some x ≡ Some y → x ≡ y
 some-is x y h = cc
 
@@ -90,12 +91,14 @@ room-for v own c acquire cap bytes acts gives =
 recorded-outside : (shape : Shape) (s : Block) → IsServiceAt shape s → (x : ℕ) → shape.clients ≤ x → (s.client x).recorded ≡ p_None
 recorded-outside shape s kept x l = ap (λ (k : Client). k.recorded) (kept.outside x (λ m. absurd (omega (arith, l, m))))
 
+-- where there is room for a Grant of Tip, each other client is recorded None
 tip-room : (shape : Shape) (s : Block) (c : ℕ) (cap : GrantCap) → IsServiceAt shape s → RoomFor shape s c cap → grant_perm cap ≡ Tip
     → (x : ℕ) → x ≢ c → (s.client x).recorded ≡ p_None
 tip-room shape s c ToT kept room is x ne =
     elim (cases_lt x shape.clients) [ inl l ↦ room x l ne | inr l ↦ recorded-outside shape s kept x l ]
 tip-room shape s c ToB kept room is x ne = cc
 
+-- where there is room for a Grant of Branch, no client is recorded Tip
 branch-room : (shape : Shape) (s : Block) (c : ℕ) (cap : GrantCap) → IsServiceAt shape s → RoomFor shape s c cap → grant_perm cap ≡ Branch
     → (x : ℕ) → (s.client x).recorded ≢ Tip
 branch-room shape s c ToT kept room is x = cc
@@ -127,6 +130,7 @@ grant-held v h own c m acts =
 
 -- ## What the event leaves
 
+-- the event leaves the block as it was, but for the client to which this Grant is sent
 left-is : (v : View) (own c : ℕ) (acquire : Accepted) (cap : GrantCap) (bytes : Option (List ℕ)) → Gives v own c acquire cap bytes
     → left v (SendGrant c own)
     ≡ with_client (block_at v own) c (sent_grant (client_at v c own) cap (home_bytes (block_at v own).home))
@@ -139,6 +143,7 @@ left-is v own c acquire cap bytes gives =
 abbrev post-with : ℕ → GrantCap → Option (List ℕ) → Option Post
 post-with c cap bytes = Some (record { client = c; channel = D; body = b_Downward (d_Grant cap bytes) })
 
+-- what the event sends is that Grant
 post-is : (v : View) (own c : ℕ) (acquire : Accepted) (cap : GrantCap) (bytes : Option (List ℕ)) → Gives v own c acquire cap bytes
     → grant_post (shape_of v.geometry) (block_at v own) c (block_at v own).accepted ≡ post-with c cap bytes
 post-is v own c acquire cap bytes gives =
@@ -160,6 +165,7 @@ recorded-then v h own c cap bytes home gave is x =
 
 -- ## Which ways fill
 
+-- of each other block a Grant is pending just where one was
 pending-other : (v : View) (c own room : ℕ) (ways : List (Option ℕ)) (b : ℕ) → b ≢ own
     → grant_pending (shape_of v.geometry) (block_at (next_view v (SendGrant c own) room v.registers ways) b)
     ≡ grant_pending (shape_of v.geometry) (block_at v b)
@@ -320,6 +326,7 @@ grant-fits v h own c room w ways cap home m gave is_own at shown =
 
 -- ## The bank then
 
+-- the bank is kept once the Grant is on D, and home records it and touches the block's way
 pub grant-keeps : (v : View) (h : Layers) (own c : ℕ) (acquire : Accepted) (cap : GrantCap) (bytes : Option (List ℕ)) (room : ℕ)
     (ways : List (Option ℕ)) (links : Table) (home : HomeState) → Means v h → Acts v own (Grant c) → Gives v own c acquire cap bytes
     → SameLinks h.links links
@@ -374,6 +381,7 @@ grant-keeps v h own c acquire cap bytes room ways links home m acts gives same_l
     (granting-keeps-agreement shape (block_at v) v.registers c own m.registers.agree acts.may) m.registers.few)
     (grant-fits v h own c room at.0 ways cap home m gave acts.is_own at.1 shown)
 
+-- home does not lack a block of which it has a copy
 some-line : (o : Option Line) (line : Line) → o ≡ Some line → o ≢ None
 some-line o line h = λ none. let bad : None ≡ Some line = sym none ∙ h in cc
 

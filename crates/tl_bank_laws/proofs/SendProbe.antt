@@ -28,6 +28,7 @@ use Rattle.tl_bank_laws.proofs.Next.{block_next, means-next, next_view, register
 use Rattle.tl_bank_laws.proofs.Pointwise.{entries-next, homes-next}
 use Rattle.tl_bank_laws.proofs.Ways.{bank-steady, noted-work, ways-stay}
 
+-- on a channel that is not full fewer than 64 messages wait
 place-left : (n : ℕ) → nat_le 64 n ≡ false → n < 64
 place-left n h = grind (arith, nat_tests)
 

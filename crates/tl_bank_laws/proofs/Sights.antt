@@ -59,14 +59,17 @@ pub other-reset : (v : View) (h : Layers) (b : ℕ) → Means v h → (IsOwn v.g
 other-reset v h b m apart =
     end-other (shape_of v.geometry) (IsOwn v.geometry v.number) (at_reset (shape_of v.geometry) v.image) v.log b apart m.own
 
+-- home has no copy of another bank's block
 line-other : (home : HomeState) (b : ℕ) → (bank_of (geometry_in home) b == bank_in home) ≡ false → line_in home b ≡ None
 unfolding line_in line_of way_of geometry_in bank_in
 line-other home b h = rw h refl
 
+-- and records no client of it
 recorded-other : (home : HomeState) (c b : ℕ) → (bank_of (geometry_in home) b == bank_in home) ≡ false → recorded_in home c b ≡ p_None
 unfolding recorded_in recorded_of way_of geometry_in bank_in
 recorded-other home c b h = rw h refl
 
+-- a block of the memory that is not of this bank is not of home's bank
 elsewhere : (v : View) (h : Layers) (b : ℕ) → Means v h → b < v.geometry.memory_blocks → (IsOwn v.geometry v.number b → ⊥)
     → (bank_of (geometry_in h.home) b == bank_in h.home) ≡ false
 elsewhere v h b m l apart =
@@ -113,18 +116,22 @@ quiet-test false PutAck h = refl
 
 -- ## What is pending
 
+-- a Probe is found among the messages on B just where there is one
 any-probe : (caps : List ProbeCap) → list_any (is_wanted Any) (map ProbeBlock caps) ≡ has_first caps
 any-probe [] = refl
 any-probe (cap ∷ rest) = refl
 
+-- an answer is found among the messages on C just where there is one
 any-answer : (messages : List Upward) → list_any (is_wanted ProbeAck) (map b_Upward messages) ≡ list_any is_probe_ack messages
 any-answer [] = refl
 any-answer (x ∷ rest) = ap (λ (t : Bool). is_probe_ack x || t) (any-answer rest)
 
+-- a Grant is found among the messages on D just where there is one
 any-grant : (messages : List Downward) → list_any (is_wanted Grant) (map b_Downward messages) ≡ list_any is_grant messages
 any-grant [] = refl
 any-grant (x ∷ rest) = ap (λ (t : Bool). is_grant x || t) (any-grant rest)
 
+-- a GrantAck is found among the messages on E just where there is one
 any-ack : (n : ℕ) → list_any (is_wanted Any) (replicate n GrantAck) ≡ not (n == 0)
 any-ack zero = refl
 any-ack (suc n) = ap not (sym (ne_eqb (suc n) 0 (λ e. absurd (omega (arith, e)))))
@@ -133,6 +140,7 @@ any-ack (suc n) = ap not (sym (ne_eqb (suc n) 0 (λ e. absurd (omega (arith, e))
 abbrev pub has : Layers → ℕ → Channel → ℕ → Wanted → Bool
 has h c k b wanted = list_any (is_wanted wanted) (bodies_of b (lane_in h.links c k).messages)
 
+-- the links have such a message just where the block's own list has one
 has-list : (v : View) (h : Layers) (c : ℕ) (k : Channel) (b : ℕ) (wanted : Wanted) → Means v h → c < v.geometry.clients
     → has h c k b wanted ≡ list_any (is_wanted wanted) (list_in (client_at v c b) k)
 has-list v h c k b wanted m l =
@@ -160,6 +168,7 @@ granted-read v h c b m l =
 pub or-passes : (x a b t : Bool) → x ≡ a → x ≡ true → (a || b) ≡ t → x ≡ t
 or-passes x a b t is passes h = let a_is : a ≡ true = sym is ∙ passes in let rest : true ≡ t = (rw a_is at h) in passes ∙ rest
 
+-- where the first fails, the second gives the answer
 pub or-fails : (x y a b t : Bool) → x ≡ a → x ≡ false → y ≡ b → (a || b) ≡ t → y ≡ t
 or-fails x y a b t is fails last h = let a_is : a ≡ false = sym is ∙ fails in let rest : b ≡ t = (rw a_is at h) in last ∙ rest
 
@@ -191,6 +200,7 @@ alone-fails (suc n) c x client l h =
 
 -- ## The open registers
 
+-- a register that was found of a block knows its blocks
 known-found : (v : View) (h : Layers) (block : ℕ) (o : Option Register) → Means v h → register_of block v.registers ≡ o
     → IfSome o (IsKnown v.geometry.memory_blocks)
 known-found v h block None m found = tt

@@ -22,11 +22,13 @@ use Rattle.tl_bank_laws.proofs.Keep.{means-step}
 use Rattle.tl_bank_laws.proofs.Places.{entry-there, place-there}
 use Rattle.tl_bank_laws.proofs.Loads.{later-is}
 
+-- a copy that may be written is above None
 tip-some : (copy : CachedCopy) → perm_of copy ≡ Tip → perm_of copy ≢ p_None
 tip-some Absent h = cc
 tip-some (Readable bytes) h = cc
 tip-some (Writable bytes dirty) h = λ e. cc
 
+-- where no refusal's case holds, the client's table has a place for any copy of the block
 pub store-place : (v : View) (h : Layers) (c address len clock : ℕ) (copy : CachedCopy) (wait : Wait) → Means v h
     → first_of (store_cases v c address len clock) ≡ None → HasPlace h.copies c (address / v.geometry.block_bytes) copy wait
 store-place v h c address len clock copy wait m none =
@@ -44,6 +46,7 @@ pub record Writes (v : View) (c address : ℕ) (bytes : List ℕ) (clock block :
   pub wait_is : wait ≡ (client_at v c block).wait
   pub stamp_is : stamp ≡ latest v clock + 1
 
+-- the bank is kept once the store is in the log, its copy in the client's table, and its stamp is the clock
 pub store-keeps : (v : View) (h : Layers) (c address : ℕ) (bytes : List ℕ) (clock block : ℕ) (copy : CachedCopy) (wait : Wait)
     (stamp index room : ℕ) (tables : Tables)
     → Means v h → Writes v c address bytes clock block copy wait stamp → SameSize h.copies tables

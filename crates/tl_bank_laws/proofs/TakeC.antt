@@ -53,11 +53,13 @@ use Rattle.tl_bank_laws.proofs.Ways.{bank-steady, fit-stays, same-work, ways-sta
 
 -- ## The message that comes
 
+-- where no refusal's case holds, the ticket names the first message on C
 pub take_c-allowed : (v : View) (t : Ticket) → first_of (take_c_cases v t) ≡ None → HeadAllowed v t C any_body
 take_c-allowed v t none =
     let f : AllFalse (take_c_cases v t) = all-false (take_c_cases v t) none in
     head-allowed v t C any_body (client-is v t.client f.0) f.1.0 f.1.1.0 f.1.1.1.1.0
 
+-- the links have the ticket's message first, where no refusal's case holds
 pub take_c-head : (v : View) (h : Layers) (t : Ticket) → Means v h → first_of (take_c_cases v t) ≡ None → IsHead h.links t
 take_c-head v h t m none = is-head v h t C any_body m (take_c-allowed v t none)
 
@@ -97,9 +99,11 @@ take_c-comes v h t x rest m none there =
 
 -- ## What home may rely on
 
+-- what passes of a block between a client and home is as every run keeps it
 orderly-at : (v : View) (h : Layers) (c b : ℕ) → Means v h → IsOrderly (client_at v c b)
 orderly-at v h c b m = every_run_keeps_messages (shape_of v.geometry) v.image v.log m.lawful.run b c
 
+-- home, the Acquire that it serves of a block, and what is pending are as every run keeps them
 service-of : (v : View) (h : Layers) (b : ℕ) → Means v h → IsServiceAt (shape_of v.geometry) (block_at v b)
 service-of v h b m = every_run_keeps_service (shape_of v.geometry) v.image v.log m.lawful.run b
 
@@ -109,6 +113,7 @@ starts : (v : View) (h : Layers) (t : Ticket) (x : Message) → Means v h → (c
 starts v h t x m comes =
     first-from (client_at v t.client x.block) comes.message comes.more (orderly-at v h t.client x.block m) comes.list
 
+-- a Release that comes started from a permission above None
 release-from : (given : _) → upward_from (Release given) ≢ p_None
 release-from (TtoB bytes) e = cc
 release-from (TtoN bytes) e = cc
@@ -129,6 +134,7 @@ there-by v h t x (Release given) more m list from gone =
     let bad : None ≡ Some there.0 = sym gone ∙ there.1 in
     cc
 
+-- home has a copy of a block that it does not lack
 line-is : (home : Option Line) → (home ≡ None → ⊥) → (line : Line) × (home ≡ Some line)
 line-is None there = absurd (there refl)
 line-is (Some line) there = (line, refl)
@@ -148,6 +154,7 @@ left-below-tip (b_Upward message) e = to_not_tip message e
 left-below-tip (b_Downward message) e = cc
 left-below-tip GrantAck e = cc
 
+-- so beside one that left Tip nobody else would be recorded
 pub take_c-tip : (h : Layers) (t : Ticket) (x : Message) → left_by x.body ≡ Tip → (other : ℕ) → other ≢ t.client
     → recorded_in h.home other x.block ≡ p_None
 take_c-tip h t x tip other apart = absurd (left-below-tip x.body tip)
@@ -178,6 +185,7 @@ recorded-then : (k : Client) (message : Upward) (more : List Upward) → (took_c
 recorded-then k (ProbeAck answer) more = refl
 recorded-then k (Release given) more = refl
 
+-- of the message's own client is recorded what it left, of each other what was
 recorded-of : (t : Bool) (to : Perm) (k later : Client) → later.recorded ≡ to
     → cond (t && true) to k.recorded ≡ (cond t later k).recorded
 recorded-of true to k later e = sym e
@@ -225,6 +233,7 @@ home-elsewhere old home c b y to bytes s apart received was = record {
   memory = received.memory y ∙ was.memory;
 }
 
+-- home has of each block of the bank what the event leaves
 home-next : (v : View) (h : Layers) (t : Ticket) (x : Message) (home : HomeState) → Means v h → Comes v t x
     → Received h.home home t.client x.block (left_by x.body) (brought_by x.body) → (y : ℕ) → IsOwn v.geometry v.number y
     → IsHome home y (block_next v (TakeC t.client x.block) y)
@@ -261,6 +270,7 @@ lane-between v h t between m none took =
     ∙ ap (λ here. cond here (without_first (lane_in h.links t.client D)) (lane_in h.links t.client D)) elsewhere
     ∙ m.lanes t.client D ok.client
 
+-- channel D is not full where a Release comes and is not refused for that
 place-there : (is_release full : Bool) → (is_release && full) ≡ false → is_release ≡ true → full ≡ false
 place-there true full h e = h
 place-there false full h e = cc
@@ -309,6 +319,7 @@ answer-is : (c b x : ℕ) (l : Channel) (message : Upward) (more : List Upward) 
 answer-is c b x l (ProbeAck answer) more lane = refl
 answer-is c b x l (Release given) more lane = refl
 
+-- each channel has what the event leaves on it
 lanes-next : (v : View) (h : Layers) (t : Ticket) (x : Message) (between links : Table) → first_of (take_c_cases v t) ≡ None
     → Comes v t x → Passed h.links between links t x.block (is_a_release x.body) → (y : ℕ) (l : Channel)
     → lane_in links y l ≡ lane_after (shape_of v.geometry) (block_at v x.block) (TakeC t.client x.block) y l (lane_in h.links y l)
@@ -336,6 +347,7 @@ entry-then k [] = refl
 entry-then k (ProbeAck answer ∷ rest) = refl
 entry-then k (Release given ∷ rest) = refl
 
+-- so each client has the entry of each block that it had
 copies-next : (v : View) (c b x y : ℕ) → entry_of (client_at v x y) ≡ entry_of ((block_next v (TakeC c b) y).client x)
 copies-next v c b x y =
     cond_at (λ (s : Block). entry_of (client_at v x y) ≡ entry_of (s.client x)) (y == b) (took_c (block_at v y) c) (block_at v y)
@@ -345,6 +357,7 @@ copies-next v c b x y =
 
 -- ## The step
 
+-- home may take that message next
 pub take_c-event : (v : View) (h : Layers) (t : Ticket) (x : Message) → Means v h → first_of (take_c_cases v t) ≡ None → Comes v t x
     → NextEvent v (TakeC t.client x.block)
 take_c-event v h t x m none comes =
@@ -355,6 +368,7 @@ take_c-event v h t x m none comes =
       later = tt;
     }
 
+-- what became of the layers: each holds what the event leaves
 take_c-layers : (v : View) (h : Layers) (t : Ticket) (x : Message) (between links : Table) (home : HomeState) → Means v h
     → first_of (take_c_cases v t) ≡ None → Comes v t x → Passed h.links between links t x.block (is_a_release x.body)
     → Received h.home home t.client x.block (left_by x.body) (brought_by x.body)

@@ -51,6 +51,7 @@ pub record TookData (old new : HomeState) (block way : ℕ) : Type 0 where
   pub outward : (b : ℕ) → outward_in new b ≡ (if b == block then Quiet else outward_in old b)
   pub memory : SameMemory old new
 
+-- home's copy of the bytes that come is the one that the event leaves
 fetched-home : (s : Block) (out : Outward) → IsData out → fetched out ≡ (took_data s out).home
 fetched-home s Quiet h = let bad = h.1 in cc
 fetched-home s Get h = let bad = h.1 in cc
@@ -58,6 +59,7 @@ fetched-home s (Data bytes) h = refl
 fetched-home s (Put bytes) h = let bad = h.1 in cc
 fetched-home s PutAck h = let bad = h.1 in cc
 
+-- nothing passes of the block any more
 fetched-outward : (s : Block) (out : Outward) → IsData out → Quiet ≡ (took_data s out).outward
 fetched-outward s Quiet h = let bad = h.1 in cc
 fetched-outward s Get h = let bad = h.1 in cc
@@ -65,6 +67,7 @@ fetched-outward s (Data bytes) h = refl
 fetched-outward s (Put bytes) h = let bad = h.1 in cc
 fetched-outward s PutAck h = let bad = h.1 in cc
 
+-- what home records of each client stays
 fetched-client : (s : Block) (out : Outward) (x : ℕ) → ((took_data s out).client x).recorded ≡ (s.client x).recorded
 fetched-client s Quiet x = refl
 fetched-client s Get x = refl
@@ -72,6 +75,7 @@ fetched-client s (Data bytes) x = refl
 fetched-client s (Put bytes) x = refl
 fetched-client s PutAck x = refl
 
+-- the block's bytes in memory stay
 fetched-memory : (s : Block) (out : Outward) → (took_data s out).memory ≡ s.memory
 fetched-memory s Quiet = refl
 fetched-memory s Get = refl
@@ -87,6 +91,7 @@ fetched-there s (Data bytes) h = refl
 fetched-there s (Put bytes) h = let bad = h.1 in cc
 fetched-there s PutAck h = let bad = h.1 in cc
 
+-- home has of the block what taking the bytes leaves
 data-home : (old new : HomeState) (block way : ℕ) (s : Block) → IsData s.outward → TookData old new block way → IsHome old block s
     → IsHome new block (took_data s s.outward)
 data-home old new block way s came did h = record {
@@ -98,6 +103,7 @@ data-home old new block way s came did h = record {
   memory = did.memory block ∙ h.memory ∙ sym (fetched-memory s s.outward);
 }
 
+-- and of each other block what it had
 data-others : (old new : HomeState) (block way : ℕ) → TookData old new block way → (b : ℕ) → b ≢ block → SameAt old new b
 data-others old new block way did b ne = record {
   line = did.lines b ∙ at-other block b (fetched (outward_in old block)) (line_in old b) ne;
@@ -119,6 +125,7 @@ data-moves v h home block way m did b l =
     below-at (way_in home) v.geometry.memory_blocks b l ∙ did.ways b
     ∙ ap (λ (at : Option ℕ). if b == block then Some way else at) (sym (m.ways.shown b l))
 
+-- so a block that lay nowhere comes into a way where none lay
 data-into : (v : View) (h : Layers) (home : HomeState) (block way : ℕ) → Means v h → DataComes v block way
     → TookData h.home home block way → Comes v (home_ways v home) block way
 data-into v h home block way m d did = record {
@@ -136,6 +143,7 @@ works-is : (r q : Register) (block : ℕ) → works_on r block ≡ true → work
 works-is r q block own on (inl is) = is
 works-is r q block own on (inr other) = let none = other block own in let bad : true ≡ false = sym on ∙ none in cc
 
+-- a register holds its way then, be it the block's own or one that works and holds apart from that
 data-held : (v : View) (e_room : ℕ) (ways : List (Option ℕ)) (block way : ℕ) (r q : Register) → DataComes v block way
     → Comes v ways block way → r.own ≡ block → r.way.way ≡ way → set_of v.geometry block ≡ r.way.set → HoldsWay v q
     → ((q ≡ r) ⊎ IsOther r q) × ((q ≡ r) ⊎ HoldsOther r q)
@@ -172,6 +180,7 @@ data-held v room ways block way r q d c own way_is set_is holds only =
           ];
     }
 
+-- so does each open register
 data-each : (v : View) (h : Layers) (room : ℕ) (ways : List (Option ℕ)) (block way : ℕ) → Means v h → DataComes v block way
     → Comes v ways block way → Each (HoldsWay (next_view v (TakeData block) room v.registers ways)) v.registers
 data-each v h room ways block way m d c =
@@ -201,6 +210,7 @@ data-fills v room ways block way steady d =
     let fills : is_filling_by w s way r ≡ true = rw (set_r, way_r, pending) refl in
     any-found (is_filling_by w s way) block v.registers r d.found fills
 
+-- a way that was filled is filled on
 fills-on : (v : View) (room : ℕ) (ways : List (Option ℕ)) (block : ℕ) (s y : ℕ) → IsSteady (shape_of v.geometry) (block_at v)
     → is_filling v s y ≡ true → is_filling (next_view v (TakeData block) room v.registers ways) s y ≡ true
 fills-on v room ways block s y steady h =
@@ -244,6 +254,7 @@ order-there v room ways block way s order steady c ne h =
 
 -- ## The ways fit
 
+-- no two blocks of the bank and of one set lie in one way then
 data-once : (v : View) (home : HomeState) (ways : List (Option ℕ)) (block way : ℕ) → WaysFit v home → Comes v ways block way
     → (a b x : ℕ) → IsOwn v.geometry v.number a → IsOwn v.geometry v.number b → set_of v.geometry a ≡ set_of v.geometry b
     → way_at (with_ways v ways) a ≡ Some x → way_at (with_ways v ways) b ≡ Some x → a ≡ b
@@ -274,6 +285,7 @@ data-once v home ways block way fit c a b x own_a own_b sets lies_a lies_b =
           ]
     ]
 
+-- home holds just those blocks of the bank then that lie somewhere
 data-holds : (v : View) (home : HomeState) (ways : List (Option ℕ)) (block way b : ℕ) → WaysFit v home → DataComes v block way
     → Comes v ways block way → IsOwn v.geometry v.number b
     → is_none (block_next v (TakeData block) b).home ≡ is_none (way_at (with_ways v ways) b)
@@ -293,6 +305,7 @@ data-holds v home ways block way b fit d c own =
           ∙ fit.holds b own ∙ ap is_none (sym (moved-other v ways block b (Some way) c.moves own.0 ne))
     ]
 
+-- a way is free at home then just where no block is in it
 data-free : (v : View) (old new : HomeState) (ways : List (Option ℕ)) (block way x y : ℕ) → Comes v ways block way
     → free_at old x y ≡ is_none (slot_at v x y)
     → free_at new x y ≡ (if (x == set_of v.geometry block) && (y == way) then false else free_at old x y)
@@ -319,6 +332,7 @@ data-free v old new ways block way x y c was is =
           now ∙ was ∙ ap is_none (sym slot)
     ]
 
+-- a block of the bank that lies somewhere then lies in one of the ways
 data-inside : (v : View) (home : HomeState) (ways : List (Option ℕ)) (block way b x : ℕ) → WaysFit v home → DataComes v block way
     → Comes v ways block way → IsOwn v.geometry v.number b → way_at (with_ways v ways) b ≡ Some x → x < v.geometry.ways
 data-inside v home ways block way b x fit d c own lies =
@@ -330,6 +344,7 @@ data-inside v home ways block way b x fit d c own lies =
       | inr ne ↦ fit.inside b x own (sym (moved-other v ways block b (Some way) c.moves own.0 ne) ∙ lies)
     ]
 
+-- the ways fit once the block came into its way
 data-fits : (v : View) (h : Layers) (home : HomeState) (block way room : ℕ) → Means v h → DataComes v block way
     → TookData h.home home block way
     → WaysFit (next_view v (TakeData block) room v.registers (home_ways v home)) home
@@ -394,6 +409,7 @@ pub record MayPlace (home : HomeState) (number place : ℕ) : Type 0 where
   pub way : place < (geometry_in home).ways
   pub free : free_at home (set_of (geometry_in home) number) place ≡ true
 
+-- so it is where bytes came, the block's register holds the way, and no refusal's case holds
 pub data-place : (v : View) (h : Layers) (block way : ℕ) → Means v h → first_of (take_memory_cases v block) ≡ None
     → IsData (block_at v block).outward → way_held_by (register_of block v.registers) ≡ Some way → MayPlace h.home block way
 data-place v h block way m none came held =

@@ -45,6 +45,7 @@ take-own v block none =
     let f : AllFalse (take_memory_cases v block) = all-false (take_memory_cases v block) none in
     (block-is v block f.0, here-is v block f.1.0)
 
+-- an answer of the memory that acknowledges no Put is the bytes that home asked for
 data-is : (out : Outward) → is_reply out ≡ true → (out ≡ PutAck → ⊥) → IsData out
 data-is Quiet h other = cc
 data-is Get h other = cc
@@ -59,6 +60,7 @@ take-data v block none other =
     let f : AllFalse (take_memory_cases v block) = all-false (take_memory_cases v block) none in
     data-is (block_at v block).outward (not-false (is_reply (block_at v block).outward) f.1.1.0) other
 
+-- where home and what is pending are as every run keeps them, home lacks a block of which something passes
 lacks-home : (shape : Shape) (s : Block) (home : Option Line) → IsServiceAt shape s → s.home ≡ home → (s.outward ≡ Quiet → ⊥) → s.home ≡ None
 lacks-home shape s None kept is busy = is
 lacks-home shape s (Some line) kept is busy = absurd (busy (kept.quiet line is))
@@ -84,6 +86,7 @@ pub record TookPutAck (old new : HomeState) (block : ℕ) : Type 0 where
   pub outward : (b : ℕ) → outward_in new b ≡ (if b == block then Quiet else outward_in old b)
   pub memory : SameMemory old new
 
+-- home has of the block what taking the acknowledgement leaves
 put_ack-home : (old new : HomeState) (block : ℕ) (s : Block) → TookPutAck old new block → IsHome old block s
     → IsHome new block (record s { outward = Quiet })
 put_ack-home old new block s did h = record {
@@ -93,6 +96,7 @@ put_ack-home old new block s did h = record {
   memory = did.memory block ∙ h.memory;
 }
 
+-- and of each other block what it had
 put_ack-others : (old new : HomeState) (block : ℕ) → TookPutAck old new block → (b : ℕ) → b ≢ block → SameAt old new b
 put_ack-others old new block did b ne = record {
   line = did.home.lines b;
@@ -103,6 +107,7 @@ put_ack-others old new block did b ne = record {
 
 -- ## The registers then
 
+-- the registers that pass a test are no more than there were
 filter-few : (test : Register → Bool) (xs : List Register) → length (filter test xs) ≤ length xs
 filter-few test [] = omega arith
 filter-few test (r ∷ rest) =
@@ -112,6 +117,7 @@ filter-few test (r ∷ rest) =
       | inr e ↦ rw e (omega (arith, few))
     ]
 
+-- registers that are changed one by one are as many as before
 map-many : (f : Register → Register) (xs : List Register) → length (map f xs) ≡ length xs
 map-many f [] = refl
 map-many f (r ∷ rest) = let same = map-many f rest in omega (arith, same)
@@ -123,6 +129,7 @@ ended-few block xs =
     let few = filter-few (λ r. not (is_evict r.task && (r.own == block))) xs in
     omega (arith, same, few)
 
+-- a register with this own block and this task works on the block
 abbrev Works : ℕ → ℕ → Task → Type 0
 Works own b task = ((own == b) || is_block b (victim_in own task)) ≡ true
 
@@ -185,6 +192,7 @@ ended-holds v block q nowhere holds = record {
       (holds.alone b l lies);
 }
 
+-- a way that no register held is held by none of those that go on
 held-ended : (way : WayOfSet) (block : ℕ) (xs : List Register) → is_held way xs ≡ false → is_held way (ended block xs) ≡ false
 held-ended way block [] h = refl
 held-ended way block (q ∷ rest) h =
@@ -274,6 +282,7 @@ ended-fits v home block nowhere fit =
 
 -- ## The bank then
 
+-- of a block whose acknowledgement waits something passes
 put_ack-busy : (out : Outward) → out ≡ PutAck → out ≡ Quiet → ⊥
 put_ack-busy out is quiet = let bad : PutAck ≡ Quiet = sym is ∙ quiet in cc
 

@@ -31,10 +31,12 @@ use Rattle.tl_bank_laws.proofs.Loads.{Reads, load-keeps}
 pub own-is : (v : View) (b : ℕ) → not_own v b ≡ false → IsOwn v.geometry v.number b
 own-is v b h = let both = or_parts (no_block v b) (elsewhere v b) h in (block-is v b both.0, here-is v b both.1)
 
+-- a block that is there, of the bank with this number, is not found to be missing or another's
 own-by : (g n : ℕ) (t : Bool) → t ≡ true → g ≡ n → (not t || not (g == n)) ≡ false
 own-by g n true h e = ap not (eq-eqb g n e)
 own-by g n false h e = cc
 
+-- so a block of this bank is not found to be missing or another's
 pub own-not : (v : View) (b : ℕ) → IsOwn v.geometry v.number b → not_own v b ≡ false
 own-not v b own = let l = own.0 in own-by (bank_of v.geometry b) v.number _ (grind (arith, nat_tests)) own.1
 
@@ -42,11 +44,13 @@ own-not v b own = let l = own.0 in own-by (bank_of v.geometry b) v.number _ (gri
 pub part-is : (v : View) (c b : ℕ) → no_part v c b ≡ false → (c < v.geometry.clients) × IsOwn v.geometry v.number b
 part-is v c b h = let both = or_parts (no_client v c) (not_own v b) h in (client-is v c both.0, own-is v b both.1)
 
+-- nor is such a block together with a client that is there
 pub part-not : (v : View) (c b : ℕ) → c < v.geometry.clients → IsOwn v.geometry v.number b → no_part v c b ≡ false
 part-not v c b lt own = or_from (no_client v c) (not_own v b) (grind (arith, nat_tests)) (own-not v b own)
 
 -- ## The directory
 
+-- what home records of a client, of a block of the bank, is what the log leaves
 pub recorded-is : (v : View) (h : Layers) (c b : ℕ) → Means v h → IsOwn v.geometry v.number b → recorded_in h.home c b ≡ (client_at v c b).recorded
 recorded-is v h c b m own = (m.home b own).recorded c
 
@@ -56,6 +60,7 @@ recorded-covers v h c b m = (every_run_keeps_copies (shape_of v.geometry) v.imag
 
 -- ## What passes
 
+-- what passes is shown, where anything does
 passing-is : (x : Outward) → x ≢ Quiet → passing x ≡ Some x
 passing-is Quiet some = absurd (some refl)
 passing-is Get some = refl
@@ -91,6 +96,7 @@ byte-last v h c address m some =
           ∙ ap (λ a. last v.image v.log a) (div-add-mod' address size),
     )
 
+-- the byte at a place inside a whole block is found there
 byte-is : (bytes : List ℕ) (size i x : ℕ) → i < size → (length bytes ≡ size) × (slice_index bytes i ≡ x) → slice_get bytes i ≡ Some x
 byte-is bytes size i x lt both = slice_get-get_or bytes i 0 (rw both.0 lt) ∙ ap Some both.1
 
@@ -104,6 +110,7 @@ shown-byte false (Readable bytes) size i x lt has =
 shown-byte false (Writable bytes dirty) size i x lt has =
     rw (byte-is bytes size i x lt (has (λ e. cc))) refl
 
+-- the byte that is shown of a copy is the one last stored at its address
 pub peeks-last : (v : View) (h : Layers) (c address : ℕ) → Means v h
     → IfSome (peeked v c address) (λ byte. byte ≡ last v.image v.log address)
 peeks-last v h c address m =
@@ -127,6 +134,7 @@ shown-where false (Readable bytes) size i x lt has =
 shown-where false (Writable bytes dirty) size i x lt has =
     ((λ h. (refl, λ e. cc)), (λ h. rw (byte-is bytes size i x lt (has (λ e. cc))) refl))
 
+-- and it is shown just where a client of the bank has a copy that may be read
 pub peeks-where : (v : View) (h : Layers) (c address : ℕ) → Means v h → IsSome (peeked v c address) ↔ MayRead v c address
 peeks-where v h c address m =
     let size : ℕ = v.geometry.block_bytes in

@@ -49,10 +49,12 @@ SameWork [] (q ∷ more) = ⊥
 SameWork (r ∷ rest) [] = ⊥
 SameWork (r ∷ rest) (q ∷ more) = (q.own ≡ r.own) × (q.way ≡ r.way) × (q.task ≡ r.task) × SameWork rest more
 
+-- the same registers are of the same work
 pub same-work : (registers : List Register) → SameWork registers registers
 same-work [] = tt
 same-work (r ∷ rest) = (refl, refl, refl, same-work rest)
 
+-- a register that notes a Probe, or does not, keeps its own block, its way and its task
 with-probe : (c : ℕ) (r : Register) (t : Bool)
     → ((if t then with_probed r c else r).own ≡ r.own) × ((if t then with_probed r c else r).way ≡ r.way)
     × ((if t then with_probed r c else r).task ≡ r.task)
@@ -65,11 +67,13 @@ noted-work block c [] = tt
 noted-work block c (r ∷ rest) =
     let k = with-probe c r (r.own == block) in (k.0, k.1, k.2, noted-work block c rest)
 
+-- registers of one own block and one task work on the same blocks
 works-same : (r q : Register) (b : ℕ) → q.own ≡ r.own → q.task ≡ r.task → works_on q b ≡ works_on r b
 works-same r q b own task =
     ap (λ (n : ℕ). (n == b) || is_block b (victim_in n q.task)) own
     ∙ ap (λ (t : Task). (r.own == b) || is_block b (victim_in r.own t)) task
 
+-- registers of the same work hold the same ways
 pub held-same : (way : WayOfSet) (xs ys : List Register) → SameWork xs ys → is_held way ys ≡ is_held way xs
 held-same way [] [] h = refl
 held-same way [] (q ∷ more) h = absurd h
@@ -78,6 +82,7 @@ held-same way (r ∷ rest) (q ∷ more) h =
     ap (λ (w : WayOfSet). ((w.set == way.set) && (w.way == way.way)) || is_held way more) h.1
     ∙ ap (λ (t : Bool). ((r.way.set == way.set) && (r.way.way == way.way)) || t) (held-same way rest more h.3)
 
+-- where no two registers hold one way, no two of those of the same work do
 pub apart-same : (xs ys : List Register) → SameWork xs ys → WaysApart xs → WaysApart ys
 apart-same [] [] h apart = tt
 apart-same [] (q ∷ more) h apart = absurd h
@@ -100,12 +105,14 @@ pub lies-stay : (v : View) (log : List Event) (room : ℕ) (registers : List Reg
 lies-stay v log room registers ways same set way b l =
     ap (λ (o : Option ℕ). (bank_of v.geometry b == v.number) && ((set_of v.geometry b == set) && is_way way o)) (same b l)
 
+-- so the same block is in a way of a set
 pub slot-stays : (v : View) (log : List Event) (room : ℕ) (registers : List Register) (ways : List (Option ℕ)) → SameLies v ways
     → (set way : ℕ) → slot_at (record v { log = log; room = room; registers = registers; ways = ways }) set way ≡ slot_at v set way
 slot-stays v log room registers ways same set way =
     slot-same v (record v { log = log; room = room; registers = registers; ways = ways }) set way refl
     (λ b l. lies-stay v log room registers ways same set way b l)
 
+-- and the same blocks in all ways of a set
 pub slots-stay : (v : View) (log : List Event) (room : ℕ) (registers : List Register) (ways : List (Option ℕ)) → SameLies v ways
     → (set : ℕ) → slots_at (record v { log = log; room = room; registers = registers; ways = ways }) set ≡ slots_at v set
 slots-stay v log room registers ways same set =
@@ -132,6 +139,7 @@ holds-stay v log room registers ways r q same own way task h =
           ∙ lies);
     }
 
+-- so does each register of a list of the same work
 pub each-holds-stay : (v : View) (log : List Event) (room : ℕ) (registers : List Register) (ways : List (Option ℕ))
     (xs ys : List Register) → SameLies v ways → SameWork xs ys → Each (HoldsWay v) xs
     → Each (HoldsWay (record v { log = log; room = room; registers = registers; ways = ways })) ys
@@ -150,6 +158,7 @@ abbrev pub NoGrantComes : View → View → Type 0
 NoGrantComes v t =
     (b : ℕ) → grant_pending (shape_of v.geometry) (block_at v b) ≡ false → grant_pending (shape_of t.geometry) (block_at t b) ≡ false
 
+-- a way that a register fills is filled by one of the same block and way, where no Grant comes
 filling-by-follows : (v t : View) (set way : ℕ) (r q : Register) → NoGrantComes v t → q.own ≡ r.own → q.way ≡ r.way
     → is_filling_by v set way r ≡ true → is_filling_by t set way q ≡ true
 filling-by-follows v t set way r q none own in_way h =
