@@ -9,6 +9,7 @@ or_else-cases : (first second : Option ℕ) (way : ℕ) → or_else first second
 or_else-cases None second way is = inr (refl, is)
 or_else-cases (Some first) second way is = inl is
 
+-- a number given only where a test is met: the test is met, and it is that number
 passing : (b : Bool) (n way : ℕ) → (if b then Some n else None) ≡ Some way → (b ≡ true) × (n ≡ way)
 passing true n way is = (refl, cc)
 passing false n way is = absurd (cc)

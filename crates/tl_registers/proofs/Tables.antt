@@ -38,6 +38,7 @@ each-end P (x ∷ rest) r h one = (h.0, each-end P rest r h.1 one)
 
 -- ## Busy blocks
 
+-- a block that is busy neither by one register nor by the others is not busy
 busy-is-false : (a b : Bool) → a ≡ false → b ≡ false → (a || b) ≡ false
 busy-is-false a b h g = rw (h, g) refl
 
@@ -49,6 +50,7 @@ busy-end block (x ∷ rest) r h =
     let more = busy-end block rest r k.1 in
     (busy-is-false (works_on x block) (is_busy block rest) k.0 more.0, more.1)
 
+-- a block that is not busy, and on which the register put last does not work, is not busy then
 end-busy : (block : ℕ) (xs : List Register) (r : Register) → is_busy block xs ≡ false → works_on r block ≡ false
     → is_busy block (xs ++ r ∷ []) ≡ false
 end-busy block [] r h one = busy-is-false (works_on r block) false one refl
@@ -70,6 +72,7 @@ busy-map f block (r ∷ rest) fewer h =
     let k = or-false (works_on r block) (is_busy block rest) h in
     busy-is-false (works_on (f r) block) (is_busy block (map f rest)) (falls-to (works_on (f r) block) (works_on r block) (fewer r) k.0) (busy-map f block rest fewer k.1)
 
+-- a block that is not busy stays so where registers are left out
 busy-filter : (test : Register → Bool) (block : ℕ) (xs : List Register) → is_busy block xs ≡ false
     → is_busy block (filter test xs) ≡ false
 busy-filter test block [] h = refl
@@ -121,6 +124,7 @@ IsOther r q = (block : ℕ) → works_on r block ≡ true → works_on q block �
 abbrev pub IsOneOf : Register → Register → Type 0
 IsOneOf r q = (q ≡ r) ⊎ IsOther r q
 
+-- where none of a register's blocks is busy, each of these registers is that one or works on none of them
 all-other : (r : Register) (xs : List Register) → ((block : ℕ) → works_on r block ≡ true → is_busy block xs ≡ false)
     → Each (IsOneOf r) xs
 all-other r [] free = tt
