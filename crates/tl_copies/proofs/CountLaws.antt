@@ -13,6 +13,7 @@ use Rattle.tl_copies.specs.Entries.{found, oldest_in, AreApart, IsTable}
 use Rattle.tl_copies.specs.Copies.{Tables, held_at, order_in, entries, copies}
 use Rattle.tl_copies.proofs.EntryLaws.{blocks, not_first, same}
 
+-- one if a test is met
 abbrev one_if : Bool → ℕ
 one_if passes = if passes then 1 else 0
 
@@ -31,6 +32,7 @@ count_below-found test n (e ∷ rest) none a =
     let more : one_if (test (found e.block (e ∷ rest))) ≡ one_if (test (Some e.held)) = ap one_if here in
     omega (arith, one, none_there, more, count_below-found test n rest none a.2, sum_by-cons (λ (x : Entry). if test (Some x.held) then 1 else 0) e rest)
 
+-- a test that every entry passes counts all entries
 count_by-all : (es : List Entry) → count_by (λ (e : Entry). true) es ≡ length es
 count_by-all [] = refl
 count_by-all (e ∷ rest) = omega (arith, count_by-all rest, sum_by-cons (λ (x : Entry). if true then 1 else 0) e rest)
@@ -44,6 +46,7 @@ pub copies-found : (n : ℕ) (es : List Entry) → AreApart n es
     → count_below (λ b. has_copy (found b es)) n ≡ count_by (λ (e : Entry). is_copy e.held) es
 copies-found n es a = count_below-found has_copy n es refl a
 
+-- an entry adds at most one to a count
 at_most_one : (v : Bool) → (if v then 1 else 0) ≤ 1
 at_most_one true = omega arith
 at_most_one false = omega arith
@@ -78,6 +81,7 @@ find-oldest n (e ∷ rest) a =
 
 -- ## What a client's table says of the map
 
+-- what holds of everything holds of each in a list
 all_of : {X : Type 0} (P : X → Type 0) (xs : List X) → ((x : X) → P x) → AllByRecursion P xs
 all_of P [] h = tt
 all_of P (x ∷ rest) h = (h x, all_of P rest h)

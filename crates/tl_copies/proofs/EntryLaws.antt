@@ -45,6 +45,7 @@ AreApart-append n x (e ∷ rest) a f l =
 
 -- ## An entry taken out
 
+-- where a block's entry is taken out, the first or a later one, what the table has of another block stays
 out_other : (here : Bool) (block b : ℕ) (e : Entry) (rest : List Entry) → (e.block == block) ≡ here → (block == b) ≡ false
     → found b (without block rest) ≡ found b rest
     → found b (if here then rest else e ∷ without block rest) ≡ (if e.block == b then Some e.held else found b rest)
@@ -57,6 +58,7 @@ pub found-without_other : (block b : ℕ) (es : List Entry) → (block == b) ≡
 found-without_other block b [] o = refl
 found-without_other block b (e ∷ rest) o = out_other (e.block == block) block b e rest refl o (found-without_other block b rest o)
 
+-- a block without an entry has none either where one is taken out, the first or a later one
 out_none : (here : Bool) (block b : ℕ) (e : Entry) (rest : List Entry) → (e.block == b) ≡ false → found b rest ≡ None
     → found b (without block rest) ≡ None → found b (if here then rest else e ∷ without block rest) ≡ None
 out_none true block b e rest o n ih = n
@@ -68,6 +70,7 @@ found-without_none block b (e ∷ rest) n =
     let p = not_first (e.block == b) e.held (found b rest) n in
     out_none (e.block == block) block b e rest p.0 p.1 (found-without_none block b rest p.1)
 
+-- a block is not found any more where its entry is taken out, the first or a later one
 out_here : (here : Bool) (block : ℕ) (e : Entry) (rest : List Entry) → (e.block == block) ≡ here → found e.block rest ≡ None
     → found block (without block rest) ≡ None → found block (if here then rest else e ∷ without block rest) ≡ None
 out_here true block e rest h n ih = subst (λ b. found b rest ≡ None) (eqb-true e.block block h) n
@@ -78,6 +81,7 @@ pub found-without_here : (n block : ℕ) (es : List Entry) → AreApart n es →
 found-without_here n block [] a = refl
 found-without_here n block (e ∷ rest) a = out_here (e.block == block) block e rest refl a.1 (found-without_here n block rest a.2)
 
+-- the blocks stay apart where an entry is taken out, the first or a later one
 out_apart : (here : Bool) (n block : ℕ) (e : Entry) (rest : List Entry) → AreApart n (e ∷ rest) → AreApart n (without block rest)
     → AreApart n (if here then rest else e ∷ without block rest)
 out_apart true n block e rest a ih = a.2
@@ -87,6 +91,7 @@ pub AreApart-without : (n block : ℕ) (es : List Entry) → AreApart n es → A
 AreApart-without n block [] a = tt
 AreApart-without n block (e ∷ rest) a = out_apart (e.block == block) n block e rest a (AreApart-without n block rest a.2)
 
+-- a table gets no longer where an entry is taken out, the first or a later one
 out_shorter : (here : Bool) (block : ℕ) (e : Entry) (rest : List Entry) → length (without block rest) ≤ length rest
     → length (if here then rest else e ∷ without block rest) ≤ length (e ∷ rest)
 out_shorter true block e rest ih = omega arith
@@ -96,6 +101,7 @@ pub length-without : (block : ℕ) (es : List Entry) → length (without block e
 length-without block [] = omega arith
 length-without block (e ∷ rest) = out_shorter (e.block == block) block e rest (length-without block rest)
 
+-- where the block is found, taking its entry out, the first or a later one, leaves one entry less
 out_one : (here : Bool) (block : ℕ) (e : Entry) (rest : List Entry) (old : Held)
     → (if here then Some e.held else found block rest) ≡ Some old
     → (found block rest ≡ Some old → length (without block rest) + 1 ≡ length rest)
@@ -112,6 +118,7 @@ length-without_found block (e ∷ rest) old f =
 
 -- ## An entry changed
 
+-- where a block's entry is changed, the first or a later one, what the table has of another block stays
 new_other : (here : Bool) (block b : ℕ) (held : Held) (e : Entry) (rest : List Entry) → (e.block == block) ≡ here
     → (block == b) ≡ false
     → found b (replaced block held rest) ≡ found b rest
@@ -127,6 +134,7 @@ found-replaced_other block b held [] o = refl
 found-replaced_other block b held (e ∷ rest) o =
     new_other (e.block == block) block b held e rest refl o (found-replaced_other block b held rest o)
 
+-- a block that is found has the new copy where its entry is changed, the first or a later one
 new_here : (here : Bool) (block : ℕ) (held old : Held) (e : Entry) (rest : List Entry) → (e.block == block) ≡ here
     → (if here then Some e.held else found block rest) ≡ Some old
     → (found block rest ≡ Some old → found block (replaced block held rest) ≡ Some held)
@@ -140,6 +148,7 @@ found-replaced_here block held old [] f = cc
 found-replaced_here block held old (e ∷ rest) f =
     new_here (e.block == block) block held old e rest refl f (found-replaced_here block held old rest)
 
+-- a block without an entry has none either where one is changed, the first or a later one
 new_none : (here : Bool) (block b : ℕ) (held : Held) (e : Entry) (rest : List Entry) → (e.block == block) ≡ here
     → (e.block == b) ≡ false → found b rest ≡ None
     → found b (replaced block held rest) ≡ None
@@ -156,6 +165,7 @@ found-replaced_none block b held (e ∷ rest) n =
     let p = not_first (e.block == b) e.held (found b rest) n in
     new_none (e.block == block) block b held e rest refl p.0 p.1 (found-replaced_none block b held rest p.1)
 
+-- the blocks stay apart where an entry is changed, the first or a later one
 new_apart : (here : Bool) (n block : ℕ) (held : Held) (e : Entry) (rest : List Entry) → (e.block == block) ≡ here
     → AreApart n (e ∷ rest)
     → AreApart n (replaced block held rest) → AreApart n (if here then entry block held ∷ rest else e ∷ replaced block held rest)
@@ -169,6 +179,7 @@ AreApart-replaced n block held [] a = tt
 AreApart-replaced n block held (e ∷ rest) a =
     new_apart (e.block == block) n block held e rest refl a (AreApart-replaced n block held rest a.2)
 
+-- a table stays as long as it is where an entry is changed, the first or a later one
 new_length : (here : Bool) (block : ℕ) (held : Held) (e : Entry) (rest : List Entry)
     → length (replaced block held rest) ≡ length rest
     → length (if here then entry block held ∷ rest else e ∷ replaced block held rest) ≡ length (e ∷ rest)
@@ -181,6 +192,7 @@ length-replaced block held (e ∷ rest) = new_length (e.block == block) block he
 
 -- ## A copy kept
 
+-- a kept copy, put last or in its entry's place, is what the table then has of its block
 kept_is : (granted : Bool) (n block b : ℕ) (held : Held) (es : List Entry) → is_granted (found block es) held ≡ granted
     → AreApart n es → (b == block) ≡ true
     → found b (if granted then without block es ++ entry block held ∷ [] else replaced block held es) ≡ Some held
@@ -192,6 +204,7 @@ kept_is false n block b held es g a h = rw (eqb-true b block h) (old_one (found 
     old_one None f = let is : is_granted None held ≡ false = rw f at g in cc
     old_one (Some old) f = found-replaced_here block held old es f
 
+-- a kept copy, put last or in its entry's place, leaves what the table has of another block
 kept_other : (granted : Bool) (block b : ℕ) (held : Held) (es : List Entry) → (b == block) ≡ false
     → found b (if granted then without block es ++ entry block held ∷ [] else replaced block held es) ≡ found b es
 kept_other true block b held es o =
@@ -207,12 +220,14 @@ found-kept n block held es a b = by_test (b == block) refl
     by_test true h = kept_is (is_granted (found block es) held) n block b held es refl a h
     by_test false h = kept_other (is_granted (found block es) held) block b held es h
 
+-- the blocks stay apart where a copy of a block of the memory is put last or in its entry's place
 kept_apart : (granted : Bool) (n block : ℕ) (held : Held) (es : List Entry) → AreApart n es → block < n
     → AreApart n (if granted then without block es ++ entry block held ∷ [] else replaced block held es)
 kept_apart true n block held es a l =
     AreApart-append n (entry block held) (without block es) (AreApart-without n block es a) (found-without_here n block es a) l
 kept_apart false n block held es a l = AreApart-replaced n block held es a
 
+-- a table that has room for a new entry stays within its limit where a copy is put last or in its entry's place
 kept_length : (granted : Bool) (limit block : ℕ) (held : Held) (es : List Entry) (old : Option Held) → found block es ≡ old
     → length es ≤ limit
     → (old ≡ None → length es < limit)
@@ -253,6 +268,7 @@ found-without n block es a b = by_test (b == block) refl
 abbrev pub blocks : List Entry → List ℕ
 blocks es = map (λ (e : Entry). e.block) es
 
+-- an entry taken out, the first or a later one, takes its block out of the order
 out_order : (here : Bool) (block : ℕ) (e : Entry) (rest : List Entry)
     → blocks (without block rest) ≡ order_without block (blocks rest)
     → blocks (if here then rest else e ∷ without block rest) ≡ (if here then blocks rest else e.block ∷ order_without block (blocks rest))
@@ -263,16 +279,19 @@ pub order-without : (block : ℕ) (es : List Entry) → blocks (without block es
 order-without block [] = refl
 order-without block (e ∷ rest) = out_order (e.block == block) block e rest (order-without block rest)
 
+-- an entry changed, the first or a later one, leaves the order
 new_order : (here : Bool) (block : ℕ) (held : Held) (e : Entry) (rest : List Entry) → (e.block == block) ≡ here
     → blocks (replaced block held rest) ≡ blocks rest
     → blocks (if here then entry block held ∷ rest else e ∷ replaced block held rest) ≡ blocks (e ∷ rest)
 new_order true block held e rest h ih = ap (λ b. b ∷ blocks rest) (sym (eqb-true e.block block h))
 new_order false block held e rest h ih = rw ih refl
 
+-- a changed entry leaves the order
 order-replaced : (block : ℕ) (held : Held) (es : List Entry) → blocks (replaced block held es) ≡ blocks es
 order-replaced block held [] = refl
 order-replaced block held (e ∷ rest) = new_order (e.block == block) block held e rest refl (order-replaced block held rest)
 
+-- a copy put last moves its block to the end of the order, and one put in its entry's place leaves the order
 kept_order : (granted : Bool) (block : ℕ) (held : Held) (es : List Entry)
     → blocks (if granted then without block es ++ entry block held ∷ [] else replaced block held es) ≡ order_after granted block (blocks es)
 kept_order true block held es =

@@ -11,6 +11,7 @@ use Rattle.tl_copies.specs.Held.{is_granted, is_renewed}
 use Rattle.tl_copies.specs.Entries.{found, without, replaced, kept, IsPlace}
 use Rattle.tl_copies.proofs.EntryLaws.{entry}
 
+-- a place past the first is one less in the rest
 tail_place : (block : ℕ) (e : Entry) (rest : List Entry) (i : ℕ) → IsPlace block (e ∷ rest) (suc i) → IsPlace block rest i
 tail_place block e rest i p = record {
   inside = omega (arith, p.inside);
@@ -18,6 +19,7 @@ tail_place block e rest i p = record {
   first = λ k d h. p.first (suc k) d (omega arith);
 }
 
+-- where the place is past the first, the first is another block's
 head_differs : (block : ℕ) (e : Entry) (rest : List Entry) (i : ℕ) → IsPlace block (e ∷ rest) (suc i) → (e.block == block) ≡ false
 head_differs block e rest i p = ne_eqb e.block block (p.first 0 e (omega arith))
 
@@ -67,6 +69,7 @@ pub kept-new : (block : ℕ) (held : Held) (es : List Entry) → found block es 
     → kept block held es ≡ es ++ entry block held ∷ []
 kept-new block held es n = rw n (ap (λ (zs : List Entry). zs ++ entry block held ∷ []) (without-none block es n))
 
+-- whether a block's Grant came is told by the entry at its place
 granted_is : (block : ℕ) (held : Held) (es : List Entry) (place : ℕ) (old : Entry) (renewed : Bool) → IsPlace block es place
     → old ≡ slice_index_or es place old → is_renewed old.held held ≡ renewed → is_granted (found block es) held ≡ renewed
 granted_is block held es place old renewed p o r =

@@ -13,9 +13,11 @@ use Rattle.tl_copies.specs.Copies.{Tables, clients_of, held_at, order_in, is_cel
 use Rattle.tl_copies.proofs.EntryLaws.{blocks, found-kept, found-without, order-kept, order-without, IsTable-kept, IsTable-without}
 use Rattle.tl_copies.proofs.CountLaws.{entries-table}
 
+-- the bank, the limit, the blocks and the clients' tables, as contracts see them
 abbrev pub tables_of : ℕ → ℕ → ℕ → List (List Entry) → Tables
 tables_of bank limit n tables = record { bank = bank; limit = limit; blocks = n; tables = tables }
 
+-- a client that is there has its own table, whatever stands in for a missing one
 any_default : (tables : List (List Entry)) (i : ℕ) (d u : List Entry) → i < length tables
     → slice_index_or tables i d ≡ slice_index_or tables i u
 any_default [] i d u h = absurd (omega arith)
@@ -28,6 +30,7 @@ pub table_at : (tables : List (List Entry)) (client : ℕ) (table : List Entry) 
     → slice_index_or tables client [] ≡ table
 table_at tables client table h e = sym (e ∙ any_default tables client table [] h)
 
+-- what is read off a client's table is the new table's where that client's changed, and else stays
 set_at : {X : Type 0} (f : List Entry → X) (tables : List (List Entry)) (client x : ℕ) (new : List Entry) (here : Bool)
     → client < length tables → (x == client) ≡ here
     → f (slice_index_or (slice_set tables client new) x []) ≡ (if here then f new else f (slice_index_or tables x []))
@@ -78,6 +81,7 @@ pub on_ok : {T E P Q : Type 0} (r : Result T E) → (P → Q) → OnOk r P → O
 on_ok (Ok x) f p = f p
 on_ok (Err e) f p = p
 
+-- a number of entries that does not reach the limit is below it
 at_most : (a b : ℕ) → (b ≤ a → ⊥) → a < b
 at_most a b h =
     elim (cases_order a b) [
@@ -90,6 +94,7 @@ at_most a b h =
 abbrev IsFull : ℕ → ℕ → List Entry → Type 0
 IsFull limit block old = (found block old ≡ None) × (limit ≤ length old)
 
+-- a table stays one whether a copy was kept or there was no room for it
 kept_sound : {T E : Type 0} (result : Result T E) (limit n block : ℕ) (held : Held) (old new : List Entry)
     → OnOk result (new ≡ kept block held old) → OnErr result (new ≡ old) → (IsErr result ↔ IsFull limit block old)
     → IsTable limit n old → block < n → IsTable limit n new

@@ -102,6 +102,7 @@ length-without block (e ∷ rest) passes =
 
 -- ## Places
 
+-- a place past the first is one less in the rest
 tail_place : (block : ℕ) (e : Crossing) (rest : List Crossing) (i : ℕ) → IsPlace block (e ∷ rest) (suc i) → IsPlace block rest i
 tail_place block e rest i p = record {
   inside = omega (arith, p.inside);
@@ -109,6 +110,7 @@ tail_place block e rest i p = record {
   first = λ k d h. p.first (suc k) d (omega arith);
 }
 
+-- where the place is past the first, the first is another block's
 head_differs : (block : ℕ) (e : Crossing) (rest : List Crossing) (i : ℕ) → IsPlace block (e ∷ rest) (suc i) → (e.block == block) ≡ false
 head_differs block e rest i p = ne_eqb e.block block (p.first 0 e (omega arith))
 

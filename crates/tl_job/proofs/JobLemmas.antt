@@ -34,6 +34,7 @@ name_by_rows : (o : Option (Box SubCommand Global)) → option_map (λ p. p.0) (
 name_by_rows None = refl
 name_by_rows (Some b) = refl
 
+-- what was met is known by its name and its rows
 joined : (o : Option (Text × List Row)) (name : Text) (rows : List Row) → Some name ≡ option_map (λ p. p.0) o → Some rows ≡ option_map (λ p. p.1) o → o ≡ Some (name, rows)
 joined None name rows a b = cc
 joined (Some p) name rows a b = ap₂ (λ (n : Text) (r : List Row). Some (n, r)) (same_Some _ _ (sym a)) (same_Some _ _ (sym b))
@@ -61,13 +62,16 @@ asked_by a words m same none rows =
 pub job_along : (r : Result Job JobError) (x y : Option (Bool × Text)) → x ≡ y → IfOk r (λ j. x ≡ Some (j.traces, string_bytes j.file)) → IfOk r (λ j. y ≡ Some (j.traces, string_bytes j.file))
 job_along r x y e h = let P : Option (Bool × Text) → Type 0 = λ v. IfOk r (λ j. v ≡ Some (j.traces, string_bytes j.file)) in subst P e h
 
+-- a parse with a fault gives no job
 is_refused : (kinds : Kinds) (k : ErrorKind) (job : Option (Bool × Text)) → IsAmong k kinds → unless_refused kinds job ≡ None
 is_refused [] k job among = absurd among
 is_refused (x ∷ xs) k job among = refl
 
+-- an error that is a fault of usage is not one for want of memory
 not_memory : (k : ErrorKind) → fault_of_kind k ≡ Usage → k ≡ OutOfMemory → ⊥
 not_memory k h e = let bad : Memory ≡ Usage = rw e at h in cc
 
+-- the fault of an answer, and Usage where it has none
 abbrev fault_in : {T : Type 0} → Result T JobError → JobError
 fault_in (Ok x) = Usage
 fault_in (Err e) = e

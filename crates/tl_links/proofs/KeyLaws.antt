@@ -20,6 +20,7 @@ fresh slab key [] k n = tt
 fresh slab key (x ∷ rest) k n =
     (λ e. let there : IsSome (get slab key) = subst (λ y. IsSome (get slab y)) (sym e) k.0 in cc, fresh slab key rest k.2 n)
 
+-- keys that differ do so either way round
 flipped : (a b : ℕ) → a ≢ b → b ≢ a
 flipped a b d = λ e. d (sym e)
 
@@ -40,10 +41,12 @@ same_keys old new key slot [] u d k = tt
 same_keys old new key slot (x ∷ rest) u d k =
     (subst IsSome (sym (u.others x (flipped key x d.0))) k.0, k.1, same_keys old new key slot rest u d.1 k.2)
 
+-- a key that is none of these, nor the one put last, is none of them all
 one_more_other : (x key : ℕ) (keys : List ℕ) → NotAmong x keys → x ≢ key → NotAmong x (keys ++ key ∷ [])
 one_more_other x key [] d e = (e, tt)
 one_more_other x key (y ∷ rest) d e = (d.0, one_more_other x key rest d.1 e)
 
+-- a key that has a message, and is none of these, may be put last
 one_more_key : (slab : Slab Message) (key : ℕ) (keys : List ℕ) → AreKeys slab keys → NotAmong key keys → ContainsKey slab key
     → AreKeys slab (keys ++ key ∷ [])
 one_more_key slab key [] k d c = (c, tt, tt)
@@ -65,6 +68,7 @@ in_order-append old new key message keys k n u =
     let last : in_order new (key ∷ []) ≡ message ∷ [] = ap (λ (slot : Option Message). cons_option slot []) u.changed in
     filter_map-append (λ x. get new x) keys (key ∷ []) ∙ rw (same_order old new key (Some message) keys u apart, last) refl
 
+-- a key that has a message puts one more in front
 length-cons_option : (slot : Option Message) (messages : List Message) → IsSome slot
     → length (cons_option slot messages) ≡ length messages + 1
 length-cons_option None messages h = cc
@@ -75,10 +79,12 @@ pub length-in_order : (slab : Slab Message) (keys : List ℕ) → AreKeys slab k
 length-in_order slab [] k = refl
 length-in_order slab (x ∷ rest) k = omega (arith, length-cons_option (get slab x) (in_order slab rest) k.0, length-in_order slab rest k.2)
 
+-- the message put in front is the first
 first-cons_option : (slot : Option Message) (messages : List Message) → IsSome slot → slice_get (cons_option slot messages) 0 ≡ slot
 first-cons_option None messages h = cc
 first-cons_option (Some message) messages h = refl
 
+-- and the others are one place further on
 next-cons_option : (slot : Option Message) (messages : List Message) (i : ℕ) → IsSome slot
     → slice_get (cons_option slot messages) (suc i) ≡ slice_get messages i
 next-cons_option None messages i h = cc

@@ -38,11 +38,13 @@ beat_at (beat ∷ rest) (suc i) h l =
     let past : suc i * 8 ≡ length beat + i * 8 = omega (arith, h.0) in
     rw (past, drop-append-add beat (concat rest) (i * 8)) (beat_at rest i h.1 (omega arith))
 
+-- a beat that is there has eight bytes
 AreBeats-at : (beats : List (List ℕ)) (i : ℕ) → AreBeats beats → i < length beats → length (get_or beats i []) ≡ 8
 AreBeats-at [] i h l = absurd (omega arith)
 AreBeats-at (beat ∷ rest) zero h l = h.0
 AreBeats-at (beat ∷ rest) (suc i) h l = AreBeats-at rest i h.1 (omega arith)
 
+-- the first of some beats have eight bytes each too
 AreBeats-take : (beats : List (List ℕ)) (i : ℕ) → AreBeats beats → AreBeats (take i beats)
 AreBeats-take beats zero h = tt
 AreBeats-take [] (suc i) h = tt

@@ -99,6 +99,7 @@ address_is g address a some =
     ] in
     (is, omega (arith, block_inside (address / g.block_bytes) g.memory_blocks g.block_bytes below))
 
+-- a block that is written has the new bytes, and every other block its own
 chunk : (xs ys : List ℕ) (n at k of b : ℕ) → at ≡ of * n → at + n ≤ length xs → k ≡ n → length ys ≡ n
     → (b ≡ of) ⊎ ((b < of) ⊎ (of < b))
     → slice_chunk (put_mid at k xs ys) n b ≡ (if b == of then ys else slice_chunk xs n b)
@@ -120,6 +121,7 @@ chunk xs ys n at k of b e f s l (inr (inr more)) =
     let above : of * n + n ≤ b * n = block_inside of b n more in
     rw elsewhere (ap (λ (zs : List ℕ). take n zs) (drop-put_mid at k xs ys (b * n) (omega arith) (omega arith) (l ∙ sym s)))
 
+-- a memory is as long after a write as before
 length-put_mid : (xs ys : List ℕ) (at k : ℕ) → at + k ≤ length xs → length ys ≡ k → length (put_mid at k xs ys) ≡ length xs
 length-put_mid xs ys at k f l =
     omega (arith, length-append (take at xs) (ys ++ drop k (drop at xs)), length-append ys (drop k (drop at xs)), length-take at xs, length-drop k (drop at xs), length-drop at xs)

@@ -40,6 +40,7 @@ written v w block x own =
       put = ap (λ (t : Block). t.outward) is;
     }
 
+-- what an action sends is there once its event is logged
 done-by : (v w : View) (own : ℕ) (due : Due) → Extends v w (event_of own due) → IsRun (shape_of w.geometry) w.image w.log
     → AllOwn w → IsDone w own (action_of v due)
 done-by v w own (due_Probe client block cap) x run all = there-probe v w client block cap x run

@@ -52,6 +52,7 @@ message_at-sent lane m =
 
 -- ## One event
 
+-- a message that is sent to a client on a channel goes last on that lane
 sent-here : (post : Option Post) (c block : ℕ) (l : Channel) (body : Body) (lane : Lane)
     → post ≡ Some (record { client = c; channel = l; body = body })
     → sent_to post block c l lane ≡ with_message lane (record { block = block; body = body })
@@ -105,6 +106,7 @@ there-release v w c b prune x run =
     let e : Event = SendRelease c b prune in
     there v w e c C _ x (may-next v w e x run).1.0 refl (λ lane. refl)
 
+-- where a Probe waits, answering it sends a message on C
 answer-posts : (c : ℕ) (k : Client) (caps : List ProbeCap) → HasFirst caps
     → (body : Body) × (answer_post c k caps ≡ Some (record { client = c; channel = C; body = body }))
 answer-posts c k [] first = let no : [] ≡ first.0 ∷ first.1 = first.2 in cc
@@ -130,6 +132,7 @@ there-probe v w c b cap x run =
     let e : Event = SendProbe c b cap in
     there v w e c B (ProbeBlock cap) x (may-next v w e x run).1.0 refl (λ lane. refl)
 
+-- where an Acquire is accepted, granting it sends a message on D
 grant-posts : (shape : Shape) (s : Block) (c : ℕ) (accepted : Option Accepted) (acquire : Accepted) → accepted ≡ Some acquire
     → (body : Body) × (grant_post shape s c accepted ≡ Some (record { client = c; channel = D; body = body }))
 grant-posts shape s c None acquire is = cc
@@ -176,6 +179,7 @@ there-ack v w c lawful release x run =
     there v w e c D (b_Downward ReleaseAck) x (may-next v w e x run).1.0 (acks v c messages lawful refl release)
     (λ lane. away c C D lane refl)
 
+-- a ReleaseAck that is shown was sent, and its ticket is the next one
 if-sent : (t : Bool) (next ack : Ticket) → Some ack ≡ (if t then Some next else None) → (t ≡ true) × (ack ≡ next)
 if-sent true next ack is = (refl, cc)
 if-sent false next ack is = cc

@@ -30,10 +30,12 @@ IsOfTask r task (Drop block) = victim_in r.own task ≡ Some block
 abbrev IsAway : ℕ → Due → Type 0
 IsAway block due = ((c : ℕ) × (due ≡ Probe c block ToN)) ⊎ ((due ≡ Put block) ⊎ (due ≡ Drop block))
 
+-- home gives a block up by a Put or a Drop of it
 given : (t : Bool) (block : ℕ) (due : Due) → Some (if t then Put block else Drop block) ≡ Some due → (due ≡ Put block) ⊎ (due ≡ Drop block)
 given true block due h = inl (cc)
 given false block due h = inr (cc)
 
+-- what is done next with a block that leaves home is a Probe toN, a Put or a Drop of it
 away-is : (shape : Shape) (s : Block) (r : Register) (block : ℕ) (home : Option Line) (due : Due)
     → first (probe_victim shape r block s home ∷ await_probes shape s ∷ give_up block home ∷ await_put ∷ []) ≡ Some due
     → IsAway block due
@@ -45,6 +47,7 @@ away-is shape s r block (Some line) due h =
       | inr k ↦ inr (given line.dirty block due k.2)
     ]
 
+-- an action on the victim that leaves home is of the task that replaces it
 replaced : (r : Register) (acquire : Accepted) (victim : ℕ) (due : Due) → IsAway victim due → IsOfTask r (Replace acquire victim) due
 replaced r acquire victim due h =
     let P = λ (d : Due). IsOfTask r (Replace acquire victim) d in
@@ -53,6 +56,7 @@ replaced r acquire victim due h =
       | inr k ↦ elim k [ inl e ↦ subst P (sym e) refl | inr e ↦ subst P (sym e) refl ]
     ]
 
+-- an action on the own block that leaves home is of the task that evicts it
 evicted : (r : Register) (due : Due) → IsAway r.own due → IsOfTask r Evict due
 evicted r due h =
     let P = λ (d : Due). IsOfTask r Evict d in
@@ -61,6 +65,7 @@ evicted r due h =
       | inr k ↦ elim k [ inl e ↦ subst P (sym e) refl | inr e ↦ subst P (sym e) refl ]
     ]
 
+-- what is done next to serve an Acquire is of the task that serves it
 serve-is : (shape : Shape) (s : Block) (r : Register) (acquire : Accepted) (home : Option Line) (due : Due)
     → first (fetch s home ∷ probe_others shape r acquire s ∷ await_probes shape s ∷ grant shape acquire s ∷ []) ≡ Some due
     → IsOfTask r (Acquire acquire) due
@@ -76,6 +81,7 @@ serve-is shape s r acquire (Some line) due h =
       | inr k ↦ let g = granting (grant_pending shape s) acquire.client due k.2 in subst P g.1 (acquire, refl, refl)
     ]
 
+-- what a register does next for a task is of that task
 task-is : (shape : Shape) (states : ℕ → Block) (r : Register) (task : Task) (due : Due)
     → first (cases shape states r task) ≡ Some due → IsOfTask r task due
 task-is shape states r (Acquire acquire) due h = serve-is shape (states r.own) r acquire (states r.own).home due h
@@ -85,6 +91,7 @@ task-is shape states r (Replace acquire block) due h =
     replaced r acquire block due (away-is shape s r block s.home due (sym e ∙ h))
 task-is shape states r Evict due h = evicted r due (away-is shape (states r.own) r r.own (states r.own).home due h)
 
+-- an action of a register's task is of the register
 due-of : (r : Register) (due : Due) → IsOfTask r r.task due → IsOf r due
 due-of r (Probe c block cap) h = h
 due-of r (Grant c) h = h

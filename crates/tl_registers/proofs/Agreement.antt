@@ -22,10 +22,12 @@ use Rattle.tl_registers.specs.Pending.{is_granted, grant_pending}
 
 -- ## One block
 
+-- the Probes of a block that is kept still fit
 probes-kept : (shape : Shape) (s later : Block) (r : Register) (asking : Option ℕ) (cap : ProbeCap) → Keeps s later
     → ProbesFit shape s.client r asking cap → ProbesFit shape later.client r asking cap
 probes-kept shape s later r asking cap k h = λ x l. (k.probes x).keeps cap (has_probed r x) (is_other asking x) (h x l)
 
+-- where nobody is probed of a block that is kept, nobody is afterwards
 nobody-kept : (shape : Shape) (s later : Block) → Keeps s later → NobodyIsProbed shape s.client → NobodyIsProbed shape later.client
 nobody-kept shape s later k h = λ x l. (k.probes x).brings_none (h x l)
 
@@ -76,6 +78,7 @@ rest-kept shape s later k h = record {
 abbrev pub KeepsFor : (ℕ → Block) → (ℕ → Block) → Register → Type 0
 KeepsFor states later r = (block : ℕ) → works_on r block ≡ true → Keeps (states block) (later block)
 
+-- a register works on the block, told by the task
 abbrev pub WorksOn : Register → Task → ℕ → Type 0
 WorksOn r task block = (r.own == block) || is_block block (victim_in r.own task) ≡ true
 
@@ -85,6 +88,7 @@ on-own r task = rw (eq-eqb r.own r.own refl) refl
 pub on-victim : (r : Register) (acquire : Accepted) (victim : ℕ) → WorksOn r (Replace acquire victim) victim
 on-victim r acquire victim = rw (eq-eqb victim victim refl) (or-true (r.own == victim))
 
+-- a register's task still fits where the blocks that it works on are kept
 task-kept : (shape : Shape) (states later : ℕ → Block) (r : Register) (task : Task)
     → ((block : ℕ) → WorksOn r task block → Keeps (states block) (later block))
     → TaskFits shape states r task → TaskFits shape later r task
@@ -104,6 +108,7 @@ pub fits-kept : (shape : Shape) (states later : ℕ → Block) (r : Register) �
 fits-kept shape states later r k h =
     record { known = h.known; places = h.places; task = task-kept shape states later r r.task k h.task }
 
+-- where every block is kept each register still fits
 each-kept : (shape : Shape) (states later : ℕ → Block) (registers : List Register)
     → ((block : ℕ) → Keeps (states block) (later block)) → Each (Fits shape states) registers → Each (Fits shape later) registers
 each-kept shape states later [] k h = tt

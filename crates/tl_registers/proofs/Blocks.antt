@@ -52,6 +52,7 @@ put-probes s c k one x =
       | inr e ↦ rw e (same-probes (s.client x) (s.client x) refl refl refl (λ h. h))
     ]
 
+-- a client's step that keeps its Probes keeps the block
 client-keeps : (s : Block) (c : ℕ) (k : Client) → KeepsProbes (s.client c) k → Keeps s (with_client s c k)
 client-keeps s c k one = record {
   accepted = refl;
@@ -105,6 +106,7 @@ first-from k m rest orderly is =
     let lead : Lead k.recorded (m ∷ rest) _ = (rw is at (orderly.leads none)) in
     lead.0
 
+-- the first message of C does not lead above what home records
 first-down : (k : Client) (c : List Upward) → IsOrderly k → k.c ≡ c → (m : Upward) (rest : List Upward) → c ≡ m ∷ rest
     → rank (upward_to m) ≤ rank k.recorded
 first-down k c orderly is m rest e =
@@ -112,6 +114,7 @@ first-down k c orderly is m rest e =
     let down = every_message_leads_down m in
     omega (arith, ap rank from, down)
 
+-- where home has no copy, the first message of C carries no data
 bytes-none : (shape : Shape) (s : Block) (c : ℕ) (m : Upward) (rest : List Upward) (bytes : Option (List ℕ)) → IsServiceAt shape s
     → IsOrderly (s.client c) → (s.client c).c ≡ m ∷ rest → s.home ≡ None → upward_bytes m ≡ bytes → bytes ≡ None
 bytes-none shape s c m rest None kept orderly is none e = refl
@@ -128,15 +131,18 @@ no-data : (shape : Shape) (s : Block) (c : ℕ) (messages : List Upward) → IsS
 no-data shape s c [] kept orderly is none = refl
 no-data shape s c (m ∷ rest) kept orderly is none = bytes-none shape s c m rest (upward_bytes m) kept orderly is none refl
 
+-- home that has no copy after a message of C had none before
 no-home : (home : Option Line) (bytes : Option (List ℕ)) → home_after home bytes ≡ None → home ≡ None
 no-home home None h = h
 no-home home (Some bytes) h = cc
 
+-- home that has a copy has one after a message of C
 after-data : (home : Option Line) (bytes : Option (List ℕ)) (line : Line) → home ≡ Some line
     → (now : Line) × (home_after home bytes ≡ Some now)
 after-data home None line h = (line, h)
 after-data home (Some bytes) line h = (record { bytes = bytes; dirty = true }, refl)
 
+-- home keeps the block as it takes a message of C
 take_c-keeps : (shape : Shape) (s : Block) (c : ℕ) → IsServiceAt shape s → IsOrderly (s.client c) → Keeps s (took_c s c)
 take_c-keeps shape s c kept orderly =
     let messages = (s.client c).c in
@@ -153,6 +159,7 @@ take_c-keeps shape s c kept orderly =
 
 -- ## The memory answers, and home takes its data
 
+-- the memory's answer keeps the block
 serve-keeps : (s : Block) (out : Outward) → s.outward ≡ out → Keeps s (served s out)
 serve-keeps s Quiet is = nothing-keeps s
 serve-keeps s Get is = record {
@@ -178,6 +185,7 @@ serve-keeps s (Put bytes) is = record {
 }
 serve-keeps s PutAck is = nothing-keeps s
 
+-- home keeps the block as it takes the memory's data
 take_data-keeps : (s : Block) (out : Outward) → s.outward ≡ out → Keeps s (took_data s out)
 take_data-keeps s Quiet is = nothing-keeps s
 take_data-keeps s Get is = nothing-keeps s

@@ -5,12 +5,15 @@ use Rattle.std.proofs.lemmas.List.Elements.{filter_more}
 use Rattle.tl_registers.specs.declared.register.Register.{Register}
 use Rattle.tl_registers.specs.Registers.{held_in}
 
+-- the way of a set that a register holds
 abbrev way_of : Register → ℕ
 way_of r = r.way.way
 
+-- a register holds a way of the set
 abbrev is_in : ℕ → Register → Bool
 is_in set r = r.way.set == set
 
+-- a register that is counted adds its way, and one that is not adds none
 map-one : (t : Bool) (r : Register) → map way_of (cond t (r ∷ []) []) ≡ (if t then r.way.way ∷ [] else [])
 map-one true r = refl
 map-one false r = refl

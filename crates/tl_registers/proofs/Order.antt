@@ -11,6 +11,7 @@ use Rattle.tl_registers.specs.VictimWay.{grants_block, last_grant_from, last_gra
 
 -- ## The last Grant of a block
 
+-- counted on from some place in the log, one event more is the last Grant of its block, and leaves that of the others
 last-append : (block n found : ℕ) (es : List Event) (e : Event)
     → last_grant_from block n found (es ++ e ∷ [])
     ≡ (if grants_block block e then n + length es + 1 else last_grant_from block n found es)
@@ -27,10 +28,12 @@ last_grant-append block log e =
     let z : 0 + length log + 1 ≡ length log + 1 = omega arith in
     last-append block 0 0 log e ∙ rw z refl
 
+-- a place within the log, or that of one event more, is within the longer log
 found-one : (t : Bool) (n found : ℕ) → found ≤ n → (if t then n + 1 else found) ≤ n + 1
 found-one true n found l = omega arith
 found-one false n found l = omega arith
 
+-- counted on from a place within the log, the last Grant stands within it
 found-inside : (block n found : ℕ) (log : List Event) → found ≤ n → last_grant_from block n found log ≤ n + length log
 found-inside block n found [] l = omega arith
 found-inside block n found (e ∷ es) l =
@@ -73,6 +76,7 @@ before-follows R Q (x ∷ rest) f h = (
   before-follows R Q rest (λ w v m n. f w v (inr m) (inr n)) h.1,
 )
 
+-- each still stands in the relation to all that come after it where a way is taken out
 before-without : (R : ℕ → ℕ → Type 0) (w : ℕ) (xs : List ℕ) → EachBefore R xs → EachBefore R (without w xs)
 before-without R w [] h = tt
 before-without R w (x ∷ rest) h =
@@ -81,6 +85,7 @@ before-without R w (x ∷ rest) h =
       | inr e ↦ rw e (λ v m. h.0 v (without-among w v rest m), before-without R w rest h.1)
     ]
 
+-- and where a way is put last to which each of the others stands in it
 before-end : (R : ℕ → ℕ → Type 0) (w : ℕ) (xs : List ℕ) → EachBefore R xs → ((v : ℕ) → IsAmong v xs → R v w)
     → EachBefore R (xs ++ w ∷ [])
 before-end R w [] h last = (λ v m. absurd m, tt)
@@ -94,6 +99,7 @@ before-end R w (x ∷ rest) h last = (
 
 -- ## The first way that no register holds
 
+-- the first way that no register holds stands in the relation to each other way that none holds
 first-of : (R : ℕ → ℕ → Type 0) (held : ℕ → Bool) (order : List ℕ) (w : ℕ) → EachBefore R order
     → first_not_held held order ≡ Some w
     → IsAmong w order × (held w ≡ false) × ((v : ℕ) → IsAmong v order → held v ≡ false → (v ≡ w) ⊎ R w v)
@@ -134,6 +140,7 @@ first-in-order-is-oldest slots held filling log order w ordered holds h =
 
 -- ## What keeps the order
 
+-- where all ways are free, the last Grants rise along any order of them
 free-rises : (slots : List (Option ℕ)) (filling : ℕ → Bool) (log : List Event) (order : List ℕ)
     → ((w : ℕ) → block_in slots w ≡ None) → EachBefore (IsNoLater slots filling log) order
 free-rises slots filling log [] free = tt
@@ -199,9 +206,11 @@ grant-keeps-order slots filling log order w block c ordered l is once =
 
 -- ## What stands in a way after a change
 
+-- another way keeps its block
 block_in-other : (slots : List (Option ℕ)) (w v : ℕ) (x : Option ℕ) → v ≢ w → block_in (set slots w x) v ≡ block_in slots v
 block_in-other slots w v x ne = get_or-set_other slots w v x None ne
 
+-- a way that is emptied has no block
 block_in-cleared : (slots : List (Option ℕ)) (w : ℕ) → block_in (set slots w None) w ≡ None
 block_in-cleared [] w = refl
 block_in-cleared (x ∷ slots) zero = refl

@@ -35,6 +35,7 @@ any_below-none test (suc n) h =
 
 -- ## One client
 
+-- where there is no first one there is none
 no-first : {X : Type 0} (xs : List X) → has_first xs ≡ false → xs ≡ []
 no-first [] h = refl
 no-first (x ∷ xs) h = cc
@@ -80,10 +81,12 @@ any_below-some test (suc n) h =
       | inr e ↦ (n, or-else (any_below test n) (test n) h e)
     ]
 
+-- a number of GrantAcks that is not 0 is above 0
 above-zero : (n : ℕ) → not (n == 0) ≡ true → 0 < n
 above-zero zero h = cc
 above-zero (suc n) h = omega arith
 
+-- where the test finds a Grant pending at a client, it is pending there
 some-pending : (k : Client) → is_granted k ≡ true → IsGrantPending k
 some-pending k h =
     elim (cases_Bool (list_any is_grant k.d)) [

@@ -30,24 +30,29 @@ pub record KeepsProbes (k later : Client) : Type 0 where
 
 -- ## The messages on C
 
+-- a Release that joins C is no answer to a Probe
 any-release : (c : List Upward) (given : Surrender) → list_any is_probe_ack (c ++ Release given ∷ []) ≡ list_any is_probe_ack c
 any-release [] given = refl
 any-release (message ∷ rest) given = ap (λ t. is_probe_ack message || t) (any-release rest given)
 
+-- with an answer to a Probe put last on C, there is one on C
 any-answer : (c : List Upward) (m : Upward) → is_probe_ack m ≡ true → list_any is_probe_ack (c ++ m ∷ []) ≡ true
 any-answer [] m h = rw h refl
 any-answer (message ∷ rest) m h = rw (any-answer rest m h) (or-true (is_probe_ack message))
 
+-- where a Release joins C, each answer to a Probe still leaves at most the cap
 release-answers : (cap : ProbeCap) (c : List Upward) (given : Surrender) → Answer cap c → Answer cap (c ++ Release given ∷ [])
 release-answers cap [] given h = tt
 release-answers cap (ProbeAck answer ∷ rest) given h = (h.0, release-answers cap rest given h.1)
 release-answers cap (Release other ∷ rest) given h = release-answers cap rest given h
 
+-- and where a message joins C that leaves at most the cap if it answers a Probe
 more-answers : (cap : ProbeCap) (c : List Upward) (m : Upward) → Answer cap (m ∷ []) → Answer cap c → Answer cap (c ++ m ∷ [])
 more-answers cap [] m one h = one
 more-answers cap (ProbeAck answer ∷ rest) m one h = (h.0, more-answers cap rest m one h.1)
 more-answers cap (Release given ∷ rest) m one h = more-answers cap rest m one h
 
+-- a ReleaseAck that joins D is no Grant
 any-ack : (d : List Downward) → list_any is_grant (d ++ ReleaseAck ∷ []) ≡ list_any is_grant d
 any-ack [] = refl
 any-ack (message ∷ rest) = ap (λ t. is_grant message || t) (any-ack rest)

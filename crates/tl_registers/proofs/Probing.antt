@@ -32,6 +32,7 @@ use Rattle.tl_registers.proofs.Tables.{IsOneOf, one-among, found-busy, each-both
 
 -- ## A Get
 
+-- the task of a register that sends a Get for its own block still fits
 fetched-task : (shape : Shape) (states later : ℕ → Block) (q : Register) (task : Task) (acquire : Accepted) → task ≡ Acquire acquire
     → later q.own ≡ record (states q.own) { outward = Get } → (states q.own).home ≡ None → TaskFits shape states q task
     → TaskFits shape later q task
@@ -78,20 +79,25 @@ fetching-keeps-agreement shape states registers r acquire agree found task may =
 
 -- ## A Probe
 
+-- with one more Probe of the cap on B, each there still asks for it
 ask-more : (cap : ProbeCap) (b : List ProbeCap) → Ask cap b → Ask cap (b ++ cap ∷ [])
 ask-more cap [] h = (refl, tt)
 ask-more cap (first ∷ rest) h = (h.0, ask-more cap rest h.1)
 
+-- with one more Probe on B there is a first one
 first-more : (b : List ProbeCap) (cap : ProbeCap) → has_first (b ++ cap ∷ []) ≡ true
 first-more [] cap = refl
 first-more (first ∷ rest) cap = refl
 
+-- a client to which a Probe was sent has one pending
 sent-one : (k : Client) (cap : ProbeCap) → is_probed (sent_probe k cap) ≡ true
 sent-one k cap = rw (first-more k.b cap) refl
 
+-- a Probe that is noted of one client leaves what is noted of another
 marked-other : (r : Register) (c x : ℕ) → x ≢ c → has_probed (with_probed r c) x ≡ has_probed r x
 marked-other r c x ne = get_or-set_other r.probed c x true false ne
 
+-- a client of which a Probe is noted has been probed
 marked-here : (r : Register) (c : ℕ) → c < length r.probed → has_probed (with_probed r c) c ≡ true
 marked-here r c l = get_or-set_same r.probed c true false l
 
@@ -118,6 +124,7 @@ probed-more shape s r asking cap c place h = λ x l.
           rw e (subst P (sym mark) (h x l))
     ]
 
+-- None is above no cap
 none-above : (p : Perm) (cap : ProbeCap) → p ≡ p_None → is_above p cap ≡ false
 none-above p ToB e = ap (λ q. is_above q ToB) e
 none-above p ToN e = ap (λ q. is_above q ToN) e
@@ -142,6 +149,7 @@ noted-elsewhere shape s r asking cap c place nobody h = λ x l.
           subst P (sym (marked-other r c x ne)) (h x l)
     ]
 
+-- a permission that is no other than None is None
 unrecorded : (p : Perm) → ((p ≢ p_None) → ⊥) → p ≡ p_None
 unrecorded p_None h = refl
 unrecorded Branch h = absurd (h (λ e. cc))
@@ -164,6 +172,7 @@ probed-ungranted shape s c cap free =
       | inr e ↦ rw e (free-grant (s.client x) (free x l))
     ])
 
+-- a block that leaves home, and is still there, does so with one more Probe toN, which is noted
 leaves-probed : (shape : Shape) (s later : Block) (r : Register) (c : ℕ) → c < length r.probed
     → (s.home ≡ None → ⊥) → later ≡ with_client s c (sent_probe (s.client c) ToN) → Leaves shape s r
     → Leaves shape later (with_probed r c)
@@ -176,6 +185,7 @@ leaves-probed shape s later r c place there now h =
       putting = h.putting;
     })
 
+-- a block that is served is so with one more Probe before its Grant, which is noted
 served-probed : (shape : Shape) (s later : Block) (r : Register) (acquire : Accepted) (c : ℕ) → c < length r.probed
     → NoGrant shape s → later ≡ with_client s c (sent_probe (s.client c) (probes_before acquire.grow)) → IsServed shape s r acquire
     → IsServed shape later (with_probed r c) acquire
@@ -189,6 +199,7 @@ served-probed shape s later r acquire c place free now h =
       held = λ pending. let bad : true ≡ false = sym pending ∙ probed-ungranted shape s c (probes_before acquire.grow) free in cc;
     })
 
+-- a block that is served, and of which nobody is recorded, is so where another block's Probe is noted
 served-noted : (shape : Shape) (s : Block) (r : Register) (acquire : Accepted) (c : ℕ) → c < length r.probed
     → ((x : ℕ) → (s.client x).recorded ≡ p_None) → IsServed shape s r acquire → IsServed shape s (with_probed r c) acquire
 served-noted shape s r acquire c place nobody h = record {
@@ -255,6 +266,7 @@ works-there r Evict block cap which =
 same-works : (own c block : ℕ) (q : Register) → works_on (with_probe_of own c q) block ≡ works_on q block
 same-works own c block q = elim (cases_Bool (q.own == own)) [ inl e ↦ rw e refl | inr e ↦ rw e refl ]
 
+-- a block that is not busy after a Probe is noted was not before
 free-noted : (own c block : ℕ) (registers : List Register) → is_busy block (noted own c registers) ≡ false
     → is_busy block registers ≡ false
 free-noted own c block [] h = refl

@@ -46,6 +46,7 @@ busy-end block (x ∷ rest) r h =
     let more = busy-end block rest r k.1 in
     (or_from (works_on x block) (is_busy block rest) k.0 more.0, more.1)
 
+-- a block that is not busy, and on which the register put last does not work, is not busy then
 end-busy : (block : ℕ) (xs : List Register) (r : Register) → is_busy block xs ≡ false → works_on r block ≡ false
     → is_busy block (xs ++ r ∷ []) ≡ false
 end-busy block [] r h one = or_from (works_on r block) false one refl
@@ -67,6 +68,7 @@ busy-map f block (r ∷ rest) fewer h =
     let k = or_parts (works_on r block) (is_busy block rest) h in
     or_from (works_on (f r) block) (is_busy block (map f rest)) (falls-to (works_on (f r) block) (works_on r block) (fewer r) k.0) (busy-map f block rest fewer k.1)
 
+-- a block that is not busy stays so where registers are left out
 busy-filter : (test : Register → Bool) (block : ℕ) (xs : List Register) → is_busy block xs ≡ false
     → is_busy block (filter test xs) ≡ false
 busy-filter test block [] h = refl
@@ -118,6 +120,7 @@ IsOther r q = (block : ℕ) → works_on r block ≡ true → works_on q block �
 abbrev pub IsOneOf : Register → Register → Type 0
 IsOneOf r q = (q ≡ r) ⊎ IsOther r q
 
+-- where none of a register's blocks is busy, each of these registers is that one or works on none of them
 all-other : (r : Register) (xs : List Register) → ((block : ℕ) → works_on r block ≡ true → is_busy block xs ≡ false)
     → Each (IsOneOf r) xs
 all-other r [] free = tt

@@ -10,21 +10,25 @@ use Rattle.tl_runner.specs.Bank.{IsReplayed}
 use Rattle.tl_rules.specs.Plain.{state_of_plain, IsStep, IsReset}
 use Rattle.tl_rules.specs.PlainState.{PlainState}
 
+-- a run goes on with an event that is permitted in its end
 run_pushed :
     (shape : Shape) (image : List ℕ) (log : List Event) (e : Event) → IsRun shape image log
     → MayNext shape (end_of shape image log) e → IsRun shape image (log ++ e ∷ [])
 run_pushed shape image log e run may = ((runs_grow_by_one shape image).2 log e).0.1 (run, may)
 
+-- with one event more it ends in what that event leaves
 end_pushed :
     (shape : Shape) (image : List ℕ) (log : List Event) (e : Event) (block : ℕ)
     → end_of shape image (log ++ e ∷ []) block ≡ after_next shape (end_of shape image log) e block
 end_pushed shape image log e block = ap (λ (s : ℕ → Block). s block) ((runs_grow_by_one shape image).2 log e).1
 
+-- on its own block an event leaves what it does to that block
 own_next : (shape : Shape) (s : ℕ → Block) (e : Event) → after_next shape s e (block_of shape e) ≡ after shape (s (block_of shape e)) e
 own_next shape s e =
     ap (λ (t : Bool). cond t (after shape (s (block_of shape e)) e) (s (block_of shape e)))
     (eq-eqb (block_of shape e) (block_of shape e) refl)
 
+-- an event leaves the other blocks
 other_next : (shape : Shape) (s : ℕ → Block) (e : Event) (block : ℕ) → block ≢ block_of shape e → after_next shape s e block ≡ s block
 other_next shape s e block other =
     ap (λ (t : Bool). cond t (after shape (s block) e) (s block)) (ne_eqb block (block_of shape e) other)

@@ -21,6 +21,7 @@ use Rattle.tl_script.specs.Each.{◌>>=◌, Fails, each}
 abbrev pub with_front : {B : Type 0} → List B → Result (List B) ScriptError → Result (List B) ScriptError
 with_front front read = read >>= λ ys. Ok (front ++ ys)
 
+-- a fault of what is read first is the fault of the whole
 fails_along : {Y Z : Type 0} (e : ScriptError) (read : Result Y ScriptError) (next : Y → Result Z ScriptError) → Fails e read → Fails e (read >>= next)
 fails_along error.Memory read next h = tt
 fails_along error.NotToml read next h = rw h
@@ -30,6 +31,7 @@ fails_along (error.Command c i) read next h = rw h
 fails_along error.TooMany read next h = rw h
 fails_along (error.Step i) read next h = rw h
 
+-- a value that is read next goes behind those read before
 regroup : {B : Type 0} (front : List B) (y : B) (read : Result (List B) ScriptError) → with_front front (read >>= λ ys. Ok (y ∷ ys)) ≡ with_front (front ++ y ∷ []) read
 regroup {B} front y (Ok ys) = ap (λ (zs : List B). Ok zs) (simp append_assoc)
 regroup front y (Err e) = refl
@@ -62,6 +64,7 @@ pub list_any-long : (vs : List (Vec (Bor (List ℕ)) Global)) → list_any (λ v
 list_any-long [] = refl
 list_any-long (v ∷ vs) = rw (length-map, list_any-long vs)
 
+-- no document is read where the bytes are a text that writes none, or no text
 if_utf8 : (b : Bool) (parsed document : Option Members) → (b ≡ true → parsed ≡ document) → document ≡ None → cond b parsed None ≡ document
 if_utf8 true parsed document h none = h refl
 if_utf8 false parsed document h none = sym none

@@ -26,6 +26,7 @@ use Rattle.tl_words.specs.declared.step.Step.{Step}
 
 -- ## The geometry
 
+-- numbers that make a geometry are not refused, and it has them
 not_refused : (o : Option GeometryError) (u g : Numbers) → unless_refused o u ≡ Ok g → (o ≡ None) × (u ≡ g)
 not_refused None u g e = (refl, cc)
 not_refused (Some cause) u g e = cc
@@ -37,16 +38,19 @@ made_of n g e = not_refused (refusal_of n) (unsigned_of n) g e
 
 -- ## The image
 
+-- an image that is taken is not too long, and is the bytes that were read
 no_longer : (long : Bool) (bytes image : List ℕ) (e : ScriptError) → cond long (Err e) (Ok bytes) ≡ Ok image → (long ≡ false) × (bytes ≡ image)
 no_longer true bytes image e h = cc
 no_longer false bytes image e h = (refl, cc)
 
+-- an image that is taken has room
 kept : (room : ℕ) (read : Result (List ℕ) ScriptError) (image : List ℕ) (e : ScriptError) → (read >>= λ bytes. cond (nat_lt room (length bytes)) (Err e) (Ok bytes)) ≡ Ok image → length image ≤ room
 kept room (Err f) image e h = cc
 kept room (Ok bytes) image e h =
     let p = no_longer (nat_lt room (length bytes)) bytes image e h in
     rw (← p.1) (ltb-false room (length bytes) p.0)
 
+-- an image, given or not, is no longer than the memory
 inside_in : (g : Numbers) (value : Option Data) (image : List ℕ) → image_in g value ≡ Ok image → length image ≤ g.memory_blocks * g.block_bytes
 inside_in g None image h =
     let none : [] ≡ image = cc in
@@ -60,6 +64,7 @@ inside_of g document image h = inside_in g (get_member (name_of key.Image) docum
 
 -- ## The commands
 
+-- a list that is read is one longer than the rest of it, which is read too
 joined : {B : Type 0} (first : Result B ScriptError) (others : Result (List B) ScriptError) (ys : List B) → (first >>= λ y. others >>= λ rest. Ok (y ∷ rest)) ≡ Ok ys
     → (rest : List B) × ((others ≡ Ok rest) × (length ys ≡ length rest + 1))
 joined (Err e) others ys h = cc
@@ -68,6 +73,7 @@ joined (Ok y) (Ok rest) ys h =
     let whole : y ∷ rest ≡ ys = cc in
     (rest, (refl, rw (← whole) (omega arith)))
 
+-- as many values are read as there are texts
 one_each : {A B : Type 0} (f : ℕ → A → Result B ScriptError) (i : ℕ) (xs : List A) (ys : List B) → each f i xs ≡ Ok ys → length ys ≡ length xs
 one_each f i [] ys h =
     let none : [] ≡ ys = cc in
@@ -76,14 +82,17 @@ one_each f i (x ∷ xs) ys h =
     let j = joined (f i x) (each f (i + 1) xs) ys h in
     omega (arith, j.1.1, one_each f (i + 1) xs j.0 j.1.0)
 
+-- commands that are taken are not too many, and are those that were read
 counted : (many : Bool) (read : Result (List (List Command)) ScriptError) (cs : List (List Command)) (e : ScriptError) → cond many (Err e) read ≡ Ok cs → (many ≡ false) × (read ≡ Ok cs)
 counted true read cs e h = cc
 counted false read cs e h = (refl, h)
 
+-- where none of three limits is passed, the first is not
 first_false : (a b c : Bool) → (a || b || c) ≡ false → a ≡ false
 first_false true b c h = h
 first_false false b c h = refl
 
+-- with empty lists for the clients that have none, there is a list for each client
 padded : (clients given : ℕ) (read : Result (List (List Command)) ScriptError) (cs : List (List Command)) → ((ys : List (List Command)) → read ≡ Ok ys → length ys ≡ given) → given ≤ clients
     → (read >>= λ ys. Ok (ys ++ replicate (clients - length ys) [])) ≡ Ok cs → length cs ≡ clients
 padded clients given (Err e) cs h few done = cc
@@ -101,10 +110,12 @@ each_client_of g lists steps cs h =
 
 -- ## What fits
 
+-- a command that is taken fits, and is the one that was read
 fits_if : (fit : Bool) (d c : Command) (e : ScriptError) → cond fit (Ok d) (Err e) ≡ Ok c → (fit ≡ true) × (d ≡ c)
 fits_if true d c e h = (refl, cc)
 fits_if false d c e h = cc
 
+-- a command that is taken fits the geometry
 command_fits_in : (g : Numbers) (client index : ℕ) (read : Option Command) (c : Command) → if_fits g client index read ≡ Ok c → fits g c ≡ true
 command_fits_in g client index None c h = cc
 command_fits_in g client index (Some d) c h =
@@ -112,10 +123,12 @@ command_fits_in g client index (Some d) c h =
     let P : Command → Type 0 = λ x. fits g x ≡ true in
     subst P p.1 p.0
 
+-- so does the command that a text writes
 command_fits : (g : Numbers) (client index : ℕ) (text : List ℕ) (c : Command) → command_at g client index text ≡ Ok c → fits g c ≡ true
 unfolding command_at
 command_fits g client index text c h = command_fits_in g client index (command_of text) c h
 
+-- what holds of the first value that is read, and of the others, holds of the list
 taken : {B : Type 0} (p : B → Bool) (first : Result B ScriptError) (others : Result (List B) ScriptError) (ys : List B) → (first >>= λ y. others >>= λ rest. Ok (y ∷ rest)) ≡ Ok ys
     → ((y : B) → first ≡ Ok y → p y ≡ true) → ((rest : List B) → others ≡ Ok rest → list_all p rest ≡ true) → list_all p ys ≡ true
 taken p (Err e) others ys h one more = cc
@@ -132,14 +145,17 @@ each_has p f holds i [] ys h =
     rw (← none) refl
 each_has p f holds i (x ∷ xs) ys h = taken p (f i x) (each f (i + 1) xs) ys h (λ y e. holds i x y e) (λ rest e. each_has p f holds (i + 1) xs rest e)
 
+-- all commands that are read of a client fit
 client_fits : (g : Numbers) (client : ℕ) (texts : List (List ℕ)) (cs : List Command) → client_at g client texts ≡ Ok cs → list_all (fits g) cs ≡ true
 unfolding client_at
 client_fits g client texts cs h = each_has (fits g) (command_at g client) (λ i text c e. command_fits g client i text c e) 0 texts cs h
 
+-- clients without commands have none that does not fit
 empty_fit : (g : Numbers) (n : ℕ) → all_fit g (replicate n []) ≡ true
 empty_fit g zero = refl
 empty_fit g (suc n) = empty_fit g n
 
+-- with empty lists put last, all commands still fit
 padded_fit : (g : Numbers) (n : List (List Command) → ℕ) (read : Result (List (List Command)) ScriptError) (cs : List (List Command)) → ((ys : List (List Command)) → read ≡ Ok ys → all_fit g ys ≡ true)
     → (read >>= λ ys. Ok (ys ++ replicate (n ys) [])) ≡ Ok cs → all_fit g cs ≡ true
 padded_fit g n (Err e) cs h done = cc
@@ -147,6 +163,7 @@ padded_fit g n (Ok ys) cs h done =
     let whole : ys ++ replicate (n ys) [] ≡ cs = cc in
     rw (← whole, list_all-append) (and_from _ _ (h ys refl) (empty_fit g (n ys)))
 
+-- all commands that are read of all clients fit
 all_fit_of : (g : Numbers) (lists : List (List (List ℕ))) (steps : List (List ℕ)) (cs : List (List Command)) → counted_of g lists steps ≡ Ok cs → all_fit g cs ≡ true
 unfolding counted_of commands_of
 all_fit_of g lists steps cs h =
@@ -155,11 +172,13 @@ all_fit_of g lists steps cs h =
 
 -- ## The steps
 
+-- where none of three limits is passed, the last is not
 last_false : (a b c : Bool) → (a || b || c) ≡ false → c ≡ false
 last_false true b c h = cc
 last_false false true c h = cc
 last_false false false c h = h
 
+-- where commands are taken there are at most 4,096 texts of steps
 few_texts : (g : Numbers) (lists : List (List (List ℕ))) (steps : List (List ℕ)) (cs : List (List Command)) → counted_of g lists steps ≡ Ok cs → length steps ≤ 4096
 unfolding counted_of commands_of
 few_texts g lists steps cs h =

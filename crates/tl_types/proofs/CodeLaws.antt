@@ -54,21 +54,27 @@ every_kind GrantAck = refl
 
 -- ## A parameter that stands for a value is its own
 
+-- a parameter that stands for what an Acquire asks for is its own
 grow_is : (n : ℕ) (x : Grow) → grow_at n ≡ Some x → grow_param x ≡ n
 grow_is n x e = grind (arith, common_steps)
 
+-- a parameter that stands for the cap of a Probe is its own
 probe_is : (n : ℕ) (x : ProbeCap) → probe_at n ≡ Some x → probe_param x ≡ n
 probe_is n x e = grind (arith, common_steps)
 
+-- a parameter that stands for the cap of a Grant is its own
 grant_is : (n : ℕ) (x : GrantCap) → grant_at n ≡ Some x → grant_param x ≡ n
 grant_is n x e = grind (arith, common_steps)
 
+-- a parameter that stands for what a Release gives up is its own
 prune_is : (n : ℕ) (x : Prune) → prune_at n ≡ Some x → prune_param x ≡ n
 prune_is n x e = grind (arith, common_steps)
 
+-- a parameter that stands for what a message with dirty bytes gives up is its own
 dirty_is : (n : ℕ) (x : DirtyPrune) → dirty_at n ≡ Some x → dirty_param x ≡ n
 dirty_is n x e = grind (arith, common_steps)
 
+-- a parameter that stands for what a ProbeAck reports is its own
 report_is : (n : ℕ) (x : ProbeReport) → report_at n ≡ Some x → report_param x ≡ n
 report_is n x e = grind (arith, common_steps)
 
@@ -112,6 +118,7 @@ with_param make (Some x) code kind channel n opcode param on codes_ same is e =
     let its : code_of (make x) ≡ (n, code x) = codes_ x in
     subst (λ (k : Kind). IsCodeOf k channel opcode param) kind_is (on x, cc)
 
+-- codes that stand for a kind on A are its own
 on_a : (opcode param : ℕ) (kind : Kind) → kind_on_a opcode param ≡ Some kind → IsCodeOf kind A opcode param
 on_a o p k e =
     either (o == 0) _ _ k e (λ t h. plain PutFullData k A 0 o p refl refl t h)
@@ -119,11 +126,13 @@ on_a o p k e =
     (λ e6. either (o == 6) _ _ k e6
     (λ t h. with_param AcquireBlock (grow_at p) grow_param k A 6 o p (λ x. refl) (λ x. refl) t (grow_is p) h) (λ never. cc)))
 
+-- codes that stand for a kind on B are its own
 on_b : (opcode param : ℕ) (kind : Kind) → kind_on_b opcode param ≡ Some kind → IsCodeOf kind B opcode param
 on_b o p k e =
     either (o == 6) _ _ k e
     (λ t h. with_param ProbeBlock (probe_at p) probe_param k B 6 o p (λ x. refl) (λ x. refl) t (probe_is p) h) (λ never. cc)
 
+-- codes that stand for a kind on C are its own
 on_c : (opcode param : ℕ) (kind : Kind) → kind_on_c opcode param ≡ Some kind → IsCodeOf kind C opcode param
 on_c o p k e =
     either (o == 4) _ _ k e
@@ -136,6 +145,7 @@ on_c o p k e =
     (λ t h. with_param ReleaseData (dirty_at p) dirty_param k C 7 o p (λ x. refl) (λ x. refl) t (dirty_is p) h)
     (λ never. cc))))
 
+-- codes that stand for a kind on D are its own
 on_d : (opcode param : ℕ) (kind : Kind) → kind_on_d opcode param ≡ Some kind → IsCodeOf kind D opcode param
 on_d o p k e =
     either (o == 0) _ _ k e (λ t h. plain AccessAck k D 0 o p refl refl t h)
@@ -146,6 +156,7 @@ on_d o p k e =
     (λ t h. with_param GrantData (grant_at p) grant_param k D 5 o p (λ x. refl) (λ x. refl) t (grant_is p) h)
     (λ e6. either (o == 6) _ _ k e6 (λ t h. plain ReleaseAck k D 6 o p refl refl t h) (λ never. cc)))))
 
+-- codes that stand for a kind on E are its own
 on_e : (opcode param : ℕ) (kind : Kind) → kind_on_e opcode param ≡ Some kind → IsCodeOf kind E opcode param
 on_e o p k e = either (o == 0) _ _ k e (λ t h. plain GrantAck k E 0 o p refl refl t h) (λ never. cc)
 

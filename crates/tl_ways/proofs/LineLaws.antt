@@ -15,9 +15,11 @@ use Rattle.tl_ways.specs.Lines.{Line, IsDirectory, is_owner, perm_by, perm_of}
 is_owner-same : (client : ℕ) → is_owner (Some client) client ≡ true
 is_owner-same client = grind (arith, nat_tests)
 
+-- a client that differs from the owner does not pass the test
 is_owner-other : (owner client : ℕ) → client ≢ owner → is_owner (Some owner) client ≡ false
 is_owner-other owner client other = grind (arith, nat_tests, other)
 
+-- nor does one that is not the owner, whether there is an owner or none
 is_owner-none : (owner : Option ℕ) (client : ℕ) → (owner ≡ Some client → ⊥) → is_owner owner client ≡ false
 is_owner-none None client other = refl
 is_owner-none (Some owner) client other =

@@ -36,10 +36,12 @@ abbrev AreBytes : List ℕ → Type 0
 AreBytes [] = Unit {0}
 AreBytes (b ∷ bs) = (b < 256) × AreBytes bs
 
+-- numbers that are each below 256 are bytes
 each_is : (bytes : List ℕ) → All (λ b. b < 256) bytes → AreBytes bytes
 each_is [] h = tt
 each_is (b ∷ bs) h = (h 0 b (omega arith), each_is bs (λ k d lt. h (suc k) d (omega arith)))
 
+-- bytes are read back as they were printed
 all_read : (bytes : List ℕ) → AreBytes bytes → bytes_of (hex_text bytes) ≡ Some bytes
 all_read [] h = refl
 all_read (b ∷ bs) h =
@@ -51,6 +53,7 @@ all_read (b ∷ bs) h =
 pub bytes_read : (bytes : List ℕ) → All (λ b. b < 256) bytes → bytes_of (hex_text bytes) ≡ Some bytes
 bytes_read bytes h = all_read bytes (each_is bytes h)
 
+-- bytes are printed in lower case
 all_lower : (bytes : List ℕ) → AreBytes bytes → list_all is_lower_hex (hex_text bytes) ≡ true
 all_lower [] h = refl
 all_lower (b ∷ bs) h =
@@ -67,6 +70,7 @@ abbrev after : ℕ → List ℕ → ℕ
 after n [] = n
 after n (b ∷ bs) = after (n * 256 + b) bs
 
+-- the digits of bytes write the number that the bytes write
 number_read : (n : ℕ) (bytes : List ℕ) → AreBytes bytes → digits_value_after 16 n (hex_text bytes) ≡ after n bytes
 number_read n [] h = refl
 number_read n (b ∷ bs) h = rw (byte_more n b h.0) (number_read (n * 256 + b) bs h.1)
@@ -75,6 +79,7 @@ number_read n (b ∷ bs) h = rw (byte_more n b h.0) (number_read (n * 256 + b) b
 four : (a b c d n : ℕ) → from_be_bytes w32 (a ∷ b ∷ c ∷ d ∷ []) ≡ n → after 0 (a ∷ b ∷ c ∷ d ∷ []) ≡ n
 four a b c d n h = omega (arith, h)
 
+-- the four parts of an address are bytes
 are_bytes : (address : ℕ) → AreBytes (to_be_bytes w32 address)
 are_bytes address = (omega arith, (omega arith, (omega arith, (omega arith, tt))))
 

@@ -5,6 +5,7 @@ use Rattle.tl_words.specs.Words.{texts}
 use Rattle.tl_words.specs.Step.{acquire_of, release_of}
 use Rattle.tl_words.specs.Ticket.{ticket_in}
 
+-- a reader that refuses none, one, two, and four or more words refuses any number but three
 only_three : {B : Type 0} (f : List (List ℕ) → Option B) → f [] ≡ None → ((a : List ℕ) → f (a ∷ []) ≡ None) → ((a b : List ℕ) → f (a ∷ b ∷ []) ≡ None)
     → ((a b c d : List ℕ) (ws : List (List ℕ)) → f (a ∷ b ∷ c ∷ d ∷ ws) ≡ None) → (ws : List (List ℕ)) → (length ws ≡ 3 → ⊥) → f ws ≡ None
 only_three f none one two more [] h = none
@@ -13,6 +14,7 @@ only_three f none one two more (a ∷ b ∷ []) h = two a b
 only_three f none one two more (a ∷ b ∷ c ∷ []) h = absurd (h (omega arith))
 only_three f none one two more (a ∷ b ∷ c ∷ d ∷ ws) h = more a b c d ws
 
+-- words that are not three have not three texts
 texts_three : (words : List (Bor (List ℕ))) → (length words ≡ 3 → ⊥) → length (texts words) ≡ 3 → ⊥
 texts_three words h e = h (rw length-map at e)
 

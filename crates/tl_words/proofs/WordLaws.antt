@@ -7,10 +7,12 @@ use Rattle.std.specs.Str.Parse.{digits_value}
 use Rattle.tl_words.specs.Words.{is_plain, number_of}
 use Rattle.tl_words.proofs.WordLemmas.{own, chosen_false, not_zero}
 
+-- a number given only where a test is met: the test is met, and it is that number
 chosen : (b : Bool) (v n : ℕ) → cond b (Some v) None ≡ Some n → (b ≡ true) × (v ≡ n)
 chosen true v n e = (refl, same_Some _ _ e)
 chosen false v n e = cc
 
+-- a text that starts with 0, as only a single character may, is a single character
 single : (text : List ℕ) → (nat_lt 1 (length text) && eqb (get_or text 0 0) 48) ≡ false → 0 < length text → get_or text 0 0 ≡ 48 → length text ≡ 1
 single text h some e = elim (cases_lt 1 (length text)) [
   | inl lt ↦ absurd (false≢true (sym h ∙ and_from _ _ (lt-ltb 1 (length text) lt) (eq-eqb (get_or text 0 0) 48 e)))

@@ -20,9 +20,11 @@ one_less c =
     (passes-at c.args.block c.args.self.now c.in-Some.place c.in-Some.ensures
     (subst (λ (list : List Crossing). AreApart list) c.self.view_is c.self.invariant.apart))
 
+-- before, it had at most eight
 few_before : (c : goal.After-remove-outward) → length c.args.self.now ≤ 8
 few_before c = subst (λ (list : List Crossing). length list ≤ 8) c.self.view_is c.self.invariant.few
 
+-- and what is left has at most eight
 fewer : (c : goal.After-remove-outward) → length c.remove-outward.new.self.items ≤ 8
 fewer c = let one = one_less c in let few = few_before c in omega (arith, one, few)
 

@@ -5,6 +5,7 @@ use Rattle.tl_ways.specs.Tables.{line_at}
 use Rattle.tl_home.proofs.DirectoryLaws.{block_found, block_lies, free-is, on_some}
 use Rattle.tl_home.proofs.directory.Directory.block_at.Goals as goal
 
+-- the place with this bank, set and tag
 abbrev place : ℕ → ℕ → ℕ → Place
 place bank set tag = record { bank = bank; set = set; tag = tag }
 

@@ -3,6 +3,7 @@ use Rattle.tl_home.proofs.DirectoryLaws.{dir, orders-kept}
 use Rattle.tl_home.proofs.MoveLaws.{Clears, clears, ways-cleared, lines-cleared, recorded-cleared, free-cleared}
 use Rattle.tl_home.proofs.directory.Directory.clear.Goals as goal
 
+-- the way in which the block lies is freed
 step : (c : goal.After-clear) → Clears c.args.self.now (dir c.self.inside.geometry c.self.inside.bank c.clear.new.self c.self.inside.store) c.args.block c.unwrap-held.result.set c.unwrap-held.result.way c.unwrap-held.result.entry
 step c =
     let held : IsHeld c.args.self.now c.args.block c.unwrap-held.result.set c.unwrap-held.result.way c.unwrap-held.result.entry =

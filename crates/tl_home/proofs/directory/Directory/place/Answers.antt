@@ -25,6 +25,7 @@ invariant_of-self c =
     c.requires.own set tag (way_of-no_line c.args.self.now c.args.block c.requires.away))
     c.place.ensures.size c.place.ensures.lines c.write.ensures.sets c.write.ensures.ways
 
+-- the free way is filled with the block's new entry and its bytes
 step : (c : goal.After-write) → Fills c.args.self.now (dir c.self.inside.geometry c.self.inside.bank c.place.new.self c.write.new.self) c.args.block c.place-place.result.set c.args.way c.new.result c.args.bytes
 step c =
     fills c.args.self.now c.self.inside.geometry c.self.inside.bank c.self.inside.ways c.place.new.self c.self.inside.store c.write.new.self c.args.block c.place-place.result.set c.args.way c.new.result c.args.bytes

@@ -26,6 +26,7 @@ invariant_of-self c =
     (subst (λ (d : Directory). line_at d.table c.unwrap-held.result.set c.unwrap-held.result.way ≡ Some c.unwrap-held.result.entry) (sym c.self.view_is) held.line)
     c.set.ensures.tag c.place.ensures.size c.place.ensures.lines refl refl
 
+-- the block's entry is replaced by the one in which the permission is set
 step : (c : goal.After-place) → Replaces c.args.self.now (dir c.self.inside.geometry c.self.inside.bank c.place.new.self c.self.inside.store) c.args.block c.unwrap-held.result.set c.unwrap-held.result.way c.unwrap-held.result.entry c.set.new.self
 step c =
     let held : IsHeld c.args.self.now c.args.block c.unwrap-held.result.set c.unwrap-held.result.way c.unwrap-held.result.entry =

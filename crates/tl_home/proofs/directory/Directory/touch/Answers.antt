@@ -4,6 +4,7 @@ use Rattle.tl_home.specs.Directories.{Directory, IsHeld}
 use Rattle.tl_home.proofs.DirectoryLaws.{Replaces, dir, replaces-itself, ways-kept, lines-kept, recorded-kept, free-kept, orders-touched}
 use Rattle.tl_home.proofs.directory.Directory.touch.Goals as goal
 
+-- the block's entry is replaced by itself
 step : (c : goal.After-touch) → Replaces c.args.self.now (dir c.self.inside.geometry c.self.inside.bank c.touch.new.self c.self.inside.store) c.args.block c.unwrap-held.result.set c.unwrap-held.result.way c.unwrap-held.result.entry c.unwrap-held.result.entry
 step c =
     let held : IsHeld c.args.self.now c.args.block c.unwrap-held.result.set c.unwrap-held.result.way c.unwrap-held.result.entry =

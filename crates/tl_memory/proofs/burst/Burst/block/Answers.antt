@@ -4,6 +4,7 @@ use Rattle.std.proofs.Common.{Ok, Err}
 use Rattle.tl_memory.proofs.BeatLaws.{concat-take_more, room_for_beat}
 use Rattle.tl_memory.proofs.burst.Burst.block.Goals as goal
 
+-- what is said where a call succeeds holds where it did
 at_ok : {T E P : Type 0} (r : Result T E) → IsOk r → OnOk r P → P
 at_ok (Ok x) h p = p
 at_ok (Err e) h p = cc
