@@ -83,11 +83,6 @@ asked-is v h t m ok =
       list = list.1 ∙ ap (λ (grow : Grow). grow ∷ list.0) (sym (ap first_grow ok.first.2));
     }
 
--- the block is one of this bank
-pub accept-own : (v : View) (h : Layers) (t : Ticket) → Means v h → first_of (accept_cases v t) ≡ None
-    → IsOwn v.geometry v.number (block_named v t A)
-accept-own v h t m none = head-own v h t A any_body m (accept-allowed v t none).head
-
 -- the links have the ticket's message first, where no refusal's case holds
 pub accept-head : (v : View) (h : Layers) (t : Ticket) → Means v h → first_of (accept_cases v t) ≡ None → IsHead h.links t
 accept-head v h t m none = is-head v h t A any_body m (accept-allowed v t none).head
@@ -185,11 +180,6 @@ pub record Accepting (v : View) (t : Ticket) (block : ℕ) (grow : Grow) (way : 
   pub grow_is : grow ≡ first_grow (lane_at v t.client A).messages
   pub way_is : IsWayFor v (set_of v.geometry block) (way_at v block) way
   pub victim_is : victim ≡ victim_in v (set_of v.geometry block) (way_at v block) way
-
--- a Grant that is pending later was pending before, where none comes to be
-pending-true : (old new : Bool) → (old ≡ false → new ≡ false) → new ≡ true → old ≡ true
-pending-true true new f h = refl
-pending-true false new f h = let none = f refl in cc
 
 -- a way that is held while no Grant is pending is so later, where none comes to be
 fills-on : (t old new : Bool) → (old ≡ false → new ≡ false) → (t && not old) ≡ true → (t && not new) ≡ true

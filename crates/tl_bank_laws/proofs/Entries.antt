@@ -97,11 +97,6 @@ pub perm-is : (v : View) (h : Layers) (c b : ℕ) → Means v h → c < v.geomet
     → perm_in (held_at h.copies c b) ≡ perm_at v c b
 perm-is v h c b m lt l = ap perm_in (m.copies c b lt l) ∙ perm_in-entry (client_at v c b).held (client_at v c b).wait
 
--- and which bytes
-pub bytes-is : (v : View) (h : Layers) (c b : ℕ) → Means v h → c < v.geometry.clients → b < v.geometry.memory_blocks
-    → bytes_in (held_at h.copies c b) ≡ bytes_of (client_at v c b).held
-bytes-is v h c b m lt l = ap bytes_in (m.copies c b lt l) ∙ bytes_in-entry (client_at v c b).held (client_at v c b).wait
-
 -- the tables after a copy was put in, said of another name of that copy
 pub put-is : (old new : Tables) (c b : ℕ) (copy later : CachedCopy) (wait next : Wait) → copy ≡ later → wait ≡ next
     → ((x y : ℕ) → held_at new x y ≡ cond (is_cell c b x y) (entry_with copy wait) (held_at old x y))

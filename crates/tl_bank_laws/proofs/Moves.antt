@@ -245,16 +245,3 @@ slot-goes-other v ways block way s other g ne =
     let is : other ≡ way = cc in
     ne (sym l.in_set, is))
     (nowhere-lies (with_ways v ways) block s other (moved-here v ways block None g.moves g.inside))
-
--- the slots of its set then
-pub slots-go : (v : View) (ways : List (Option ℕ)) (block way : ℕ) → Goes v ways block way → way < v.geometry.ways
-    → slots_at (with_ways v ways) (set_of v.geometry block) ≡ set (slots_at v (set_of v.geometry block)) way None
-slots-go v ways block way g l =
-    slots-one v (with_ways v ways) (set_of v.geometry block) way None refl l (slot-goes v ways block way g)
-    (λ other ne. slot-goes-other v ways block way (set_of v.geometry block) other g (λ both. ne both.1))
-
--- those of another set are as they were
-pub slots-go-other : (v : View) (ways : List (Option ℕ)) (block way s : ℕ) → Goes v ways block way → s ≢ set_of v.geometry block
-    → slots_at (with_ways v ways) s ≡ slots_at v s
-slots-go-other v ways block way s g ne =
-    slots-none v (with_ways v ways) s refl (λ other. slot-goes-other v ways block way s other g (λ both. ne both.0))

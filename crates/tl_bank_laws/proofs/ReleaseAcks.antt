@@ -78,10 +78,6 @@ pub ack-own : (v : View) (h : Layers) (t : Ticket) → Means v h → first_of (t
     → IsOwn v.geometry v.number (block_named v t D)
 ack-own v h t m none = head-own v h t D is_a_release_ack m (ack-allowed v t none)
 
--- the links have the ticket's message first, where no refusal's case holds
-pub ack-head : (v : View) (h : Layers) (t : Ticket) → Means v h → first_of (take_release_ack_cases v t) ≡ None → IsHead h.links t
-ack-head v h t m none = is-head v h t D is_a_release_ack m (ack-allowed v t none)
-
 -- so the client's table has a place for its copy, once it waits for nothing
 pub ack-place : (v : View) (h : Layers) (t : Ticket) (block : ℕ) (copy : CachedCopy) → Means v h → Acks v t block copy
     → HasPlace h.copies t.client block copy Nothing

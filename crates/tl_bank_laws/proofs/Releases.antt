@@ -41,15 +41,6 @@ some-from TtoB = λ e. cc
 some-from TtoN = λ e. cc
 some-from BtoN = λ e. cc
 
--- so where no refusal's case holds, the client's table has a place for a copy that waits for the ReleaseAck
-pub release-place : (v : View) (h : Layers) (c b : ℕ) (prune : Prune) (share : Holding) (copy : CachedCopy) → Means v h
-    → first_of (release_cases v c b prune share) ≡ None → HasPlace h.copies c b copy ForReleaseAck
-release-place v h c b prune share copy m none =
-    let ok : ReleaseAllowed v c b prune share = release-allowed v c b prune share none in
-    place-there v h c b copy ForReleaseAck m ok.client ok.block
-    (λ need. entry-there (client_at v c b).held (client_at v c b).wait
-    (λ e. some-from prune (sym ok.from ∙ e)))
-
 -- where no refusal's case holds, the Release is a step of its client, which has given up and waits afterwards
 release-step : (v : View) (c b : ℕ) (prune : Prune) (share : Holding) → first_of (release_cases v c b prune share) ≡ None
     → ClientStep v (SendRelease c b prune) c (released (client_at v c b) prune)

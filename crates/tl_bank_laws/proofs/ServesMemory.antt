@@ -53,13 +53,6 @@ pub outward-is : (v : View) (h : Layers) (block : ℕ) → Means v h → IsOwn v
     → outward_in h.home block ≡ (block_at v block).outward
 outward-is v h block m own = (m.home block own).outward
 
--- home has the request too
-pub serve-request : (v : View) (h : Layers) (block : ℕ) → Means v h → first_of (serve_memory_cases v block) ≡ None
-    → IsRequest (outward_in h.home block)
-serve-request v h block m none =
-    let ok = serve-allowed v block none in
-    subst IsRequest (sym (outward-is v h block m ok.own)) ok.request
-
 -- what passes is a whole block
 pub serve-whole : (v : View) (h : Layers) (block : ℕ) → Means v h → first_of (serve_memory_cases v block) ≡ None
     → IsWhole v.geometry.block_bytes (outward_bytes (outward_in h.home block))

@@ -28,15 +28,6 @@ tip-some Absent h = cc
 tip-some (Readable bytes) h = cc
 tip-some (Writable bytes dirty) h = λ e. cc
 
--- where no refusal's case holds, the client's table has a place for any copy of the block
-pub store-place : (v : View) (h : Layers) (c address len clock : ℕ) (copy : CachedCopy) (wait : Wait) → Means v h
-    → first_of (store_cases v c address len clock) ≡ None → HasPlace h.copies c (address / v.geometry.block_bytes) copy wait
-store-place v h c address len clock copy wait m none =
-    let block : ℕ = address / v.geometry.block_bytes in
-    let ok = store-allowed v c address len clock none in
-    place-there v h c block copy wait m ok.0.client ok.0.block
-    (λ need. entry-there (client_at v c block).held (client_at v c block).wait (tip-some (client_at v c block).held ok.1))
-
 -- what a store shows of the bank before it
 pub record Writes (v : View) (c address : ℕ) (bytes : List ℕ) (clock block : ℕ) (copy : CachedCopy) (wait : Wait) (stamp : ℕ) : Type 0 where
   pub allowed : first_of (store_cases v c address (length bytes) clock) ≡ None

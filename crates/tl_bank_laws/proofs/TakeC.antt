@@ -59,10 +59,6 @@ take_c-allowed v t none =
     let f : AllFalse (take_c_cases v t) = all-false (take_c_cases v t) none in
     head-allowed v t C any_body (client-is v t.client f.0) f.1.0 f.1.1.0 f.1.1.1.1.0
 
--- the links have the ticket's message first, where no refusal's case holds
-pub take_c-head : (v : View) (h : Layers) (t : Ticket) → Means v h → first_of (take_c_cases v t) ≡ None → IsHead h.links t
-take_c-head v h t m none = is-head v h t C any_body m (take_c-allowed v t none)
-
 -- a message is first of its block on C, and the client has it first
 pub record Comes (v : View) (t : Ticket) (x : Message) : Type 0 where
   pub client : t.client < v.geometry.clients
@@ -153,11 +149,6 @@ left-below-tip (ProbeBlock cap) e = cc
 left-below-tip (b_Upward message) e = to_not_tip message e
 left-below-tip (b_Downward message) e = cc
 left-below-tip GrantAck e = cc
-
--- so beside one that left Tip nobody else would be recorded
-pub take_c-tip : (h : Layers) (t : Ticket) (x : Message) → left_by x.body ≡ Tip → (other : ℕ) → other ≢ t.client
-    → recorded_in h.home other x.block ≡ p_None
-take_c-tip h t x tip other apart = absurd (left-below-tip x.body tip)
 
 -- where it leaves Branch the client was recorded above None, so nobody else Tip
 pub take_c-branch : (v : View) (h : Layers) (t : Ticket) (x : Message) → Means v h → Comes v t x → left_by x.body ≡ Branch
@@ -274,42 +265,6 @@ lane-between v h t between m none took =
 place-there : (is_release full : Bool) → (is_release && full) ≡ false → is_release ≡ true → full ≡ false
 place-there true full h e = h
 place-there false full h e = cc
-
--- a Release finds a place for its answer
-pub take_c-room : (v : View) (h : Layers) (t : Ticket) (x : Message) (between : Table) → Means v h
-    → first_of (take_c_cases v t) ≡ None → Comes v t x → length v.log < 2 ^ 63 → SameLinks h.links between
-    → ((y : ℕ) (l : Channel) → lane_in between y l
-    ≡ cond (is_here t.client t.channel y l) (without_first (lane_in h.links y l)) (lane_in h.links y l))
-    → is_a_release x.body ≡ true → HasRoom between t.client D
-take_c-room v h t x between m none comes small same took release =
-    let f : AllFalse (take_c_cases v t) = all-false (take_c_cases v t) none in
-    let free : link_full v t.client D ≡ false =
-    place-there (begins is_a_release (lane_at v t.client C).messages) (link_full v t.client D) f.1.1.1.1.1.0 (comes.is_release ∙ release) in
-    let lane = lane-between v h t between m none took in
-    let counted : sent (lane_at v t.client D) ≤ length v.log = m.lawful.counted t.client D in
-    record {
-      client = rw (same.clients, m.links_clients) comes.client;
-      place = rw lane (grind (arith, nat_tests));
-      counted = rw lane (omega arith);
-    }
-
--- the ticket of the answer is the next on D
-pub take_c-answer : (v : View) (h : Layers) (t : Ticket) (x : Message) (between : Table) → Means v h
-    → first_of (take_c_cases v t) ≡ None → Comes v t x → SameLinks h.links between
-    → ((y : ℕ) (l : Channel) → lane_in between y l
-    ≡ cond (is_here t.client t.channel y l) (without_first (lane_in h.links y l)) (lane_in h.links y l))
-    → cond (is_a_release x.body)
-    (Some (record { bank = between.bank; client = t.client; channel = D; serial = sent (lane_in between t.client D) })) None
-    ≡ answer_to v t
-take_c-answer v h t x between m none comes same took =
-    ap (λ r. cond r (Some (record { bank = between.bank; client = t.client; channel = D; serial = sent (lane_in between t.client D) })) None)
-    (sym comes.is_release)
-    ∙ ap (λ (lane : Lane). cond (begins is_a_release (lane_at v t.client C).messages)
-    (Some (record { bank = between.bank; client = t.client; channel = D; serial = sent lane })) None)
-    (lane-between v h t between m none took)
-    ∙ ap (λ bank. cond (begins is_a_release (lane_at v t.client C).messages)
-    (Some (record { bank = bank; client = t.client; channel = D; serial = sent (lane_at v t.client D) })) None)
-    (same.bank ∙ m.links_bank)
 
 -- the answer is what the event sends
 answer-is : (c b x : ℕ) (l : Channel) (message : Upward) (more : List Upward) (lane : Lane)

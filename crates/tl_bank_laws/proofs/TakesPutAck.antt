@@ -53,13 +53,6 @@ data-is (Data bytes) h other = (bytes, refl)
 data-is (Put bytes) h other = cc
 data-is PutAck h other = absurd (other refl)
 
--- what may be taken, and is no acknowledgement, is the bytes of a Get
-pub take-data : (v : View) (block : ℕ) → first_of (take_memory_cases v block) ≡ None → ((block_at v block).outward ≡ PutAck → ⊥)
-    → IsData (block_at v block).outward
-take-data v block none other =
-    let f : AllFalse (take_memory_cases v block) = all-false (take_memory_cases v block) none in
-    data-is (block_at v block).outward (not-false (is_reply (block_at v block).outward) f.1.1.0) other
-
 -- where home and what is pending are as every run keeps them, home lacks a block of which something passes
 lacks-home : (shape : Shape) (s : Block) (home : Option Line) → IsServiceAt shape s → s.home ≡ home → (s.outward ≡ Quiet → ⊥) → s.home ≡ None
 lacks-home shape s None kept is busy = is
@@ -312,8 +305,3 @@ put_ack-keeps v h home block room m none is did =
     (omega (arith, few, were)))
     (ways-stay (ended_view v block) e room registers ways h.home home steady tt tt (same-work registers) did.home.ways
     (below-at (way_in home) v.geometry.memory_blocks) (ended-fits v h.home block nowhere m.ways))
-
--- what home holds of it is the acknowledgement
-pub put_ack-waits : (v : View) (h : Layers) (block : ℕ) → Means v h → first_of (take_memory_cases v block) ≡ None
-    → (block_at v block).outward ≡ PutAck → outward_in h.home block ≡ PutAck
-put_ack-waits v h block m none is = (m.home block (take-own v block none)).outward ∙ is

@@ -173,11 +173,6 @@ writer-is v h c b m lt own tip d = (
   (λ may. ap Some (only-writer v h c d b m tip may.2)),
 )
 
--- and where there is none
-pub writer-none : (v : View) (b : ℕ) → ((c : ℕ) → c < v.geometry.clients → IsOwn v.geometry v.number b → perm_at v c b ≢ Tip)
-    → (d : ℕ) → (None ≡ Some d) ↔ MayWrite v d b
-writer-none v b nobody d = ((λ e. cc), (λ may. absurd (nobody d may.0 may.1 may.2)))
-
 -- ## A load
 
 -- the bytes of a load are those last stored before it

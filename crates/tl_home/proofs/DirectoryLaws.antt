@@ -96,16 +96,6 @@ pub way_of-elsewhere : (d : Directory) (block : ℕ) → bank_of d.geometry bloc
 unfolding way_of
 way_of-elsewhere d block other = rw (ne_eqb (bank_of d.geometry block) d.bank other) refl
 
--- what a search of the block's set finds is its way
-pub way_of-find : (d : Directory) (block set tag : ℕ) (result : Option ℕ) → bank_of d.geometry block ≡ d.bank → set ≡ set_of d.geometry block
-    → tag ≡ tag_of d.geometry block → IfSome result (λ way. tag_at d.table set way ≡ Some tag) → IfSome result (λ way. way < d.table.ways)
-    → IfSome result (λ way. (other : ℕ) → tag_at d.table set other ≡ Some tag → other ≡ way)
-    → IfNone result ((way : ℕ) → tag_at d.table set way ≢ Some tag) → result ≡ way_of d block
-way_of-find d block set tag None own sets tags found inside alone none =
-    sym (way_of-none d block (rw (← sets, ← tags) none))
-way_of-find d block set tag (Some way) own sets tags found inside alone none =
-    sym (way_of-found d block way (record { own = own; inside = inside; tag = rw (← sets, ← tags) found }) (rw (← sets, ← tags) alone))
-
 -- ## A block that home holds
 
 -- home's copy of it

@@ -13,24 +13,6 @@ pub answers-refused : (first : Option Refusal) (room : ℕ) (refusal : Refusal) 
 answers-refused None room refusal unchanged done answer is other same says = absurd (other is.0)
 answers-refused (Some r) room refusal unchanged done answer is other same says = (same, says ∙ ap Refused is)
 
--- the same, of a call that takes no memory
-pub answers-some : (first : Option Refusal) (refusal : Refusal) (unchanged done : Type 0) (answer : Answer)
-    → first ≡ Some refusal → unchanged → answer ≡ Refused refusal → Answers first unchanged done answer
-answers-some first refusal unchanged done answer is same says =
-    subst (λ (o : Option Refusal). Answers o unchanged done answer) (sym is) (same, says)
-
--- a call that was not refused
-pub answers-done : (first : Option Refusal) (unchanged done : Type 0) (answer : Answer) → first ≡ None → done
-    → Answers first unchanged done answer
-answers-done first unchanged done answer none did =
-    subst (λ (o : Option Refusal). Answers o unchanged done answer) (sym none) did
-
--- what is said in other words
-pub answers-map : (first : Option Refusal) (unchanged done unchanged' done' : Type 0) (answer : Answer)
-    → (unchanged → unchanged') → (done → done') → Answers first unchanged done answer → Answers first unchanged' done' answer
-answers-map None unchanged done unchanged' done' answer same did h = did h
-answers-map (Some refusal) unchanged done unchanged' done' answer same did h = (same h.0, h.1)
-
 -- a refusal that was made an answer
 pub err-answers : {E : Type 0} (result : Result Answer E) (first : Option Refusal) (room : ℕ) (refusal : Refusal) (unchanged : Type 0)
     (done : Answer → Type 0) → IfOk result (λ answer. answer ≡ Refused refusal) → OnOk result (refusal ≢ Memory)

@@ -60,13 +60,3 @@ IsReplayed-push old new image log e r step =
                 other_next old.shape s e block other ∙ (r.end block l ∙ sym (step.others block other))
           ]);
     }
-
--- the empty log
-pub IsReplayed-reset :
-    (p : PlainState) (shape : Shape) (image : List ℕ) → IsReset shape image p → IsReplayed p image []
-IsReplayed-reset p shape image r = record {
-  run = tt;
-  end =
-      subst (λ (s : Shape). (block : ℕ) → block < s.blocks → end_of s image [] block ≡ state_of_plain p block) (sym r.same_shape)
-      (λ block l. sym (r.blocks block l));
-}

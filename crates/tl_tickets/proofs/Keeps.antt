@@ -127,14 +127,6 @@ was_full n inbox p v is some_number capacity held =
     let account = subst (λ (u : Known). Each (Agrees shown.0 held.0) u.puts) (sender_known p v is some_number) shown.1 in
     (shown.0, held.0, held.1 ∙ sym capacity, account.0)
 
--- where the inbox was empty, nothing waited of what was put
-pub was_empty : (inbox : InboxView) (p : PassView) (v : Known) → known p ≡ v → p.number ≡ 0 → p.senders ≡ inbox.senders → Held 0 (Shows v) → WasEmpty inbox p
-was_empty inbox p v is zero_number same held =
-    let shown = held.2 in
-    let v_is = receiver_known p v is zero_number in
-    let fact = shown.2 (ap (λ u. u.takes) v_is) in
-    (held.0, held.1, subst (λ (y : ℕ × List Sent). AreFrom y.0 (y.1 ++ held.0)) (λ i. ((ap (λ u. u.made) v_is ∙ same) i, (sym fact.0 ∙ ap (λ u. u.taken) v_is) i)) fact.2)
-
 -- an element of a longer list is an old one or the last
 at_end : (l : List Known) (a b : Known) (j : ℕ) → get_elem? (l ++ a ∷ []) j ≡ some b → (get_elem? l j ≡ some b) ⊎ ((j ≡ length l) × (a ≡ b))
 at_end [] a b zero e = inr (refl, some-injective a b e)

@@ -68,7 +68,3 @@ lowest-at test i (suc n) below none passes =
       | inl same ↦ rw (← same) (rw (none, passes) refl)
       | inr other ↦ rw (lowest-at test i n (omega arith) none passes) refl
     ]
-
--- where none did and one number more does not pass, there is none
-pub lowest-more : (test : ℕ → Bool) (n : ℕ) → lowest test n ≡ None → test n ≡ false → lowest test (n + 1) ≡ None
-lowest-more test n none fails = rw (add-one, none, fails) refl
