@@ -14,13 +14,13 @@ use Rattle.tl_protocol.specs.Protocol.{Block, block_of, after, served, took_data
 use Rattle.tl_protocol.specs.Runs.{MayNext}
 use Rattle.tl_lanes.specs.Lanes.{lane_after}
 use Rattle.tl_lanes.specs.Lawful.{TakesFirst}
-use Rattle.tl_registers.proofs.Opening.{elsewhere, here}
 use Rattle.tl_bank_spec.specs.View.{View, IsOwn, IsLater, shape_of, block_at, client_at, stamped}
 use Rattle.tl_home.specs.Homes.{HomeState, SameBank, line_in, recorded_in, outward_in, memory_in}
 use Rattle.tl_bank_laws.specs.Entry.{entry_of}
 use Rattle.tl_bank_laws.specs.Layers.{Layers}
 use Rattle.tl_bank_laws.specs.Means.{Means, IsHome}
 use Rattle.tl_bank_laws.proofs.Next.{NextEvent, NextLayers, block_next}
+use Rattle.tl_bank_laws.proofs.Pointwise.{each-next, here, homes-next, left, quiet-next}
 
 -- ## The events
 
@@ -34,6 +34,7 @@ IsHomes (SendPut block) = Unit {0}
 IsHomes (TakePutAck block) = Unit {0}
 IsHomes e = ⊥
 
+-- such an event leaves each lane
 homes-lane : (shape : Shape) (s : Block) (e : Event) (x : ℕ) (l : Channel) (lane : Lane) → IsHomes e → lane_after shape s e x l lane ≡ lane
 homes-lane shape s (SendGet block) x l lane h = refl
 homes-lane shape s (Serve block) x l lane h = refl
@@ -43,6 +44,7 @@ homes-lane shape s (SendPut block) x l lane h = refl
 homes-lane shape s (TakePutAck block) x l lane h = refl
 homes-lane shape s e x l lane h = absurd h
 
+-- and takes no message
 homes-first : (shape : Shape) (image : List ℕ) (log : List Event) (e : Event) → IsHomes e → TakesFirst shape image log e
 homes-first shape image log (SendGet block) h = tt
 homes-first shape image log (Serve block) h = tt
@@ -52,6 +54,7 @@ homes-first shape image log (SendPut block) h = tt
 homes-first shape image log (TakePutAck block) h = tt
 homes-first shape image log e h = absurd h
 
+-- and has no stamp
 homes-later : (clock : ℕ) (e : Event) → IsHomes e → IsLater clock e
 homes-later clock (SendGet block) h = tt
 homes-later clock (Serve block) h = tt
@@ -61,6 +64,7 @@ homes-later clock (SendPut block) h = tt
 homes-later clock (TakePutAck block) h = tt
 homes-later clock e h = absurd h
 
+-- so the clock stays
 homes-clock : (clock : ℕ) (e : Event) → IsHomes e → clock ≡ stamped clock e
 homes-clock clock (SendGet block) h = refl
 homes-clock clock (Serve block) h = refl
@@ -70,6 +74,7 @@ homes-clock clock (SendPut block) h = refl
 homes-clock clock (TakePutAck block) h = refl
 homes-clock clock e h = absurd h
 
+-- the memory leaves each client as it is
 served-clients : (s : Block) (out : Outward) → (served s out).client ≡ s.client
 served-clients s Quiet = refl
 served-clients s Get = refl
@@ -77,6 +82,7 @@ served-clients s (Data bytes) = refl
 served-clients s (Put bytes) = refl
 served-clients s PutAck = refl
 
+-- so does home when it takes the bytes
 took_data-clients : (s : Block) (out : Outward) → (took_data s out).client ≡ s.client
 took_data-clients s Quiet = refl
 took_data-clients s Get = refl
@@ -97,13 +103,8 @@ homes-clients shape s e h = absurd h
 -- and each client of each block
 pub homes-client : (v : View) (e : Event) (b x : ℕ) → IsHomes e → (block_next v e b).client x ≡ client_at v x b
 homes-client v e b x h =
-    let shape : Shape = shape_of v.geometry in
-    elim (cases_eq b (block_of shape e)) [
-      | inl q ↦
-          ap (λ (s : Block). s.client x) (here shape (block_at v) e b q)
-          ∙ ap (λ (client : ℕ → Client). client x) (homes-clients shape (block_at v b) e h)
-      | inr ne ↦ ap (λ (s : Block). s.client x) (elsewhere shape (block_at v) e b ne)
-    ]
+    each-next v e (λ y s. s.client x ≡ client_at v x y)
+    (ap (λ (client : ℕ → Client). client x) (homes-clients (shape_of v.geometry) (block_at v (here v e)) e h)) (λ y ne. refl) b
 
 -- ## Home
 
@@ -114,6 +115,7 @@ pub record SameAt (old new : HomeState) (b : ℕ) : Type 0 where
   pub outward : outward_in new b ≡ outward_in old b
   pub memory : memory_in new b ≡ memory_in old b
 
+-- what home has of a block is what it had
 same-home : (old new : HomeState) (b : ℕ) (s : Block) → SameAt old new b → IsHome old b s → IsHome new b s
 same-home old new b s same h = record {
   line = same.line ∙ h.line;
@@ -125,24 +127,8 @@ same-home old new b s same h = record {
 -- What became of home: its part of the event's block follows, and it has of each other block what it had.
 pub record HomeFollows (v : View) (e : Event) (old new : HomeState) : Type 0 where
   pub bank : SameBank old new
-  pub here : IsHome new (block_of (shape_of v.geometry) e) (after (shape_of v.geometry) (block_at v (block_of (shape_of v.geometry) e)) e)
-  pub others : (b : ℕ) → b ≢ block_of (shape_of v.geometry) e → SameAt old new b
-
-home-follows : (v : View) (h : Layers) (home : HomeState) (e : Event) → Means v h → HomeFollows v e h.home home → (b : ℕ)
-    → IsOwn v.geometry v.number b → IsHome home b (block_next v e b)
-home-follows v h home e m follows b own =
-    let shape : Shape = shape_of v.geometry in
-    let block : ℕ = block_of shape e in
-    elim (cases_eq b block) [
-      | inl q ↦
-          let here_is : block_next v e block ≡ after shape (block_at v block) e = here shape (block_at v) e block refl in
-          let there : IsHome home block (block_next v e block) =
-          subst (λ (s : Block). IsHome home block s) (sym here_is) follows.here in
-          subst (λ (y : ℕ). IsHome home y (block_next v e y)) (sym q) there
-      | inr ne ↦
-          subst (λ (s : Block). IsHome home b s) (sym (elsewhere shape (block_at v) e b ne))
-          (same-home h.home home b (block_at v b) (follows.others b ne) (m.home b own))
-    ]
+  pub at : IsHome new (here v e) (left v e)
+  pub others : (b : ℕ) → b ≢ here v e → SameAt old new b
 
 -- ## One more such event
 
@@ -163,8 +149,8 @@ pub homes-layers : (v : View) (h : Layers) (home : HomeState) (e : Event) → Me
 homes-layers v h home e m is own follows = record {
   lanes = λ x l inside. sym (homes-lane (shape_of v.geometry) (block_at v (block_of (shape_of v.geometry) e)) e x l _ is);
   copies = λ x y k l. m.copies x y k l ∙ ap entry_of (sym (homes-client v e y x is));
-  home = home-follows v h home e m follows;
-  quiet = λ b no. (follows.others b (λ q. no (subst (λ (y : ℕ). IsOwn v.geometry v.number y) (sym q) own))).outward;
+  home = homes-next v h e home m follows.at (λ b ne is_home. same-home h.home home b (block_at v b) (follows.others b ne) is_home);
+  quiet = quiet-next v e h.home home own (λ b ne. (follows.others b ne).outward);
   links_size = record { bank = refl; clients = refl };
   copies_size = record { bank = refl; limit = refl; blocks = refl; clients = refl };
   home_bank = follows.bank;

@@ -1,6 +1,6 @@
 -- A register that opens holds a way of its own.
 use Rattle.std.proofs.Common.{◌≡◌, ℕ, ◌<◌, ◌==◌, ◌&&◌, ◌||◌, Bool, true, false, List, [], ◌∷◌, ◌++◌, Option, Some, None, refl, sym, ◌∙◌, ap, subst, inl, inr, eqb-true, eq-eqb}
-use Rattle.std.proofs.lemmas.Bool.{cases_Bool, or_parts, and_parts, or_right}
+use Rattle.std.proofs.lemmas.Bool.{cases_Bool, or_parts, and_parts, or_right, or_cases}
 use Rattle.std.specs.Prelude.{◌⊎◌, IfSome, is_none, is_some}
 use Rattle.std.specs.List.{list_any}
 use Rattle.tl_map.specs.Numbers.{Numbers}
@@ -148,20 +148,15 @@ pub record WorksOn (r : Register) (victim : Option ℕ) : Type 0 where
 own-on : (own b : ℕ) (t : Bool) → own ≡ b → ((own == b) || t) ≡ true
 own-on own b t e = rw (eq-eqb own b e) refl
 
--- where one of two tests passes, it is the first or the second
-or-either : (s t : Bool) → (s || t) ≡ true → (s ≡ true) ⊎ (t ≡ true)
-or-either true t h = inl refl
-or-either false t h = inr h
-
 -- one that serves an Acquire
 pub acquire-works-on : (block : ℕ) (way : WayOfSet) (acquire : Accepted) (victim : Option ℕ)
     → WorksOn (opened block way (acquire_task acquire victim)) victim
 acquire-works-on block way acquire None = record {
-  only = λ b h. elim (or-either (block == b) false h) [ inl e ↦ inl (eqb-true block b e) | inr e ↦ cc ];
+  only = λ b h. elim (or_cases (block == b) false h) [ inl e ↦ inl (eqb-true block b e) | inr e ↦ cc ];
   on = λ b. elim [ inl e ↦ own-on block b false e | inr e ↦ cc ];
 }
 acquire-works-on block way acquire (Some victim) = record {
-  only = λ b h. elim (or-either (block == b) (victim == b) h) [
+  only = λ b h. elim (or_cases (block == b) (victim == b) h) [
     | inl e ↦ inl (eqb-true block b e)
     | inr e ↦ inr (ap Some (eqb-true victim b e))
   ];
@@ -174,7 +169,7 @@ acquire-works-on block way acquire (Some victim) = record {
 -- one that sends its block away
 pub evict-works-on : (block : ℕ) (way : WayOfSet) → WorksOn (opened block way Evict) None
 evict-works-on block way = record {
-  only = λ b h. elim (or-either (block == b) (block == b) h) [ inl e ↦ inl (eqb-true block b e) | inr e ↦ inl (eqb-true block b e) ];
+  only = λ b h. elim (or_cases (block == b) (block == b) h) [ inl e ↦ inl (eqb-true block b e) | inr e ↦ inl (eqb-true block b e) ];
   on = λ b. elim [ inl e ↦ own-on block b (block == b) e | inr e ↦ cc ];
 }
 
@@ -243,7 +238,7 @@ pub any-follows : (p q : Register → Bool) (xs : List Register) (r : Register) 
     → list_any p xs ≡ true → list_any q (xs ++ r ∷ []) ≡ true
 any-follows p q [] r f h = cc
 any-follows p q (x ∷ rest) r f h =
-    elim (or-either (p x) (list_any p rest) h) [
+    elim (or_cases (p x) (list_any p rest) h) [
       | inl e ↦ rw (f x e) refl
       | inr e ↦ or_right (q x) (list_any q (rest ++ r ∷ [])) (any-follows p q rest r f e)
     ]

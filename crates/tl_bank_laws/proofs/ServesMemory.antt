@@ -144,7 +144,7 @@ serve-keeps v h home block room m none did =
     (homes-event v e tt (ok.own.0, ok.request) ok.own.1)
     (homes-layers v h home e m tt ok.own (record {
       bank = did.bank;
-      here = serve-home h.home home block (block_at v block) did (m.home block ok.own);
+      at = serve-home h.home home block (block_at v block) did (m.home block ok.own);
       others = serve-others h.home home block did;
     }))
     (fit-stays v e room ways steady tt m.registers)

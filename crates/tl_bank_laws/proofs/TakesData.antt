@@ -394,7 +394,7 @@ data-keeps v h home block way room m none came held did =
     (homes-event v e tt (d.own.0, came) d.own.1)
     (homes-layers v h home e m tt d.own (record {
       bank = did.bank;
-      here = data-home h.home home block way (block_at v block) came did (m.home block d.own);
+      at = data-home h.home home block way (block_at v block) came did (m.home block d.own);
       others = data-others h.home home block way did;
     }))
     (fit-stays v e room ways (bank-steady v h m) tt m.registers)

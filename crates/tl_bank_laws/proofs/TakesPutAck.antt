@@ -4,6 +4,7 @@ use Rattle.tl_types.proofs.Booleans.{or-else}
 use Rattle.std.proofs.Math.Bool.{or-true}
 use Rattle.std.proofs.lemmas.Bool.{cases_Bool, or_parts, not-false, and_parts}
 use Rattle.std.specs.List.{list_any}
+use Rattle.std.proofs.lemmas.List.{length-map}
 use Rattle.tl_protocol.specs.Home.{IsData}
 use Rattle.tl_protocol.specs.Pending.{IsServiceAt}
 use Rattle.tl_protocol.specs.Protocol.{Block}
@@ -110,15 +111,10 @@ filter-few test (r ∷ rest) =
       | inr e ↦ rw e (omega (arith, few))
     ]
 
--- registers that are changed one by one are as many as before
-map-many : (f : Register → Register) (xs : List Register) → length (map f xs) ≡ length xs
-map-many f [] = refl
-map-many f (r ∷ rest) = let same = map-many f rest in omega (arith, same)
-
 -- there are no more than before
 pub ended-few : (block : ℕ) (xs : List Register) → length (ended block xs) ≤ length xs
 ended-few block xs =
-    let same = map-many (without_victim block) (without_evict block xs) in
+    let same = length-map (without_evict block xs) (without_victim block) in
     let few = filter-few (λ r. not (is_evict r.task && (r.own == block))) xs in
     omega (arith, same, few)
 
@@ -297,7 +293,7 @@ put_ack-keeps v h home block room m none is did =
     (homes-event v e tt (own.0, is) own.1)
     (homes-layers v h home e m tt own (record {
       bank = did.bank;
-      here = put_ack-home h.home home block (block_at v block) did (m.home block own);
+      at = put_ack-home h.home home block (block_at v block) did (m.home block own);
       others = put_ack-others h.home home block did;
     }))
     (registers-next v e room registers ways

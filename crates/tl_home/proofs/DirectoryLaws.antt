@@ -3,7 +3,6 @@ use Rattle.std.proofs.Common.{◌≡◌, ◌≢◌, ℕ, ◌<◌, ◌==◌, ◌&
 use Rattle.std.specs.Prelude.{IfSome, IfNone, is_none, not, ◌≤◌}
 use Rattle.std.specs.Option.{option_map}
 use Rattle.std.proofs.lemmas.Bool.{cases_eq, cases_order, and_parts, ne_eqb}
-use Rattle.std.proofs.lemmas.Bool.Decides.{nat_tests}
 use Rattle.tl_types.proofs.Lowest.{none-lowest, lowest-same, lowest-some, lowest-one}
 use Rattle.tl_types.specs.Lowest.{lowest}
 use Rattle.tl_types.specs.declared.permission.Perm.{Perm}

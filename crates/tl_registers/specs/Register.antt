@@ -1,5 +1,5 @@
 -- A miss register, and whom it has still to probe (this project's own).
-use Rattle.std.specs.Prelude.{ℕ, zero, suc, ◌<◌, ◌==◌, ◌&&◌, ◌||◌, not, nat_lt, Bool, true, false, Option, Some, None, slice_index_or, slice_set, replicate}
+use Rattle.std.specs.Prelude.{ℕ, ◌<◌, ◌==◌, ◌&&◌, ◌||◌, not, nat_lt, Bool, true, false, Option, Some, None, slice_index_or, slice_set, replicate}
 use Rattle.tl_types.specs.Permission.{rank, probe_perm}
 use Rattle.tl_types.specs.declared.permission.Perm.{Perm}
 use Rattle.tl_types.specs.declared.permission.ProbeCap.{ProbeCap}

@@ -1,5 +1,5 @@
 -- Which way an Acquire takes whose block home lacks, and the order of a set's ways that gives it (this project's own).
-use Rattle.std.specs.Prelude.{◌≡◌, ℕ, ◌+◌, ◌<◌, ◌≤◌, ◌==◌, ◌&&◌, ◌||◌, not, Bool, true, false, List, [], ◌∷◌, ◌++◌, length, filter, Option, Some, None, if◌then◌else◌, slice_index_or, slice_set, ◌⊎◌}
+use Rattle.std.specs.Prelude.{◌≡◌, ℕ, ◌+◌, ◌<◌, ◌≤◌, ◌==◌, ◌&&◌, ◌||◌, not, Bool, true, false, List, [], ◌∷◌, ◌++◌, length, Option, Some, None, if◌then◌else◌, slice_index_or, slice_set}
 use Rattle.tl_ways.specs.Orders.{IsAmong, touched}
 use Rattle.tl_types.specs.Lowest.{lowest}
 use Rattle.tl_protocol.specs.declared.event.Event.{Event}

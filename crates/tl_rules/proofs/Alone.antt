@@ -1,11 +1,9 @@
 -- No other client is recorded above None.
-use Rattle.std.proofs.Common.{◌≡◌, ◌≢◌, ◌<◌, ◌==◌, ◌||◌, ◌&&◌, ℕ, zero, suc, Bool, true, false, refl, arith, inl, inr, rules}
+use Rattle.std.proofs.Common.{◌≡◌, ◌≢◌, ◌<◌, ℕ, zero, suc, true, refl, arith, inl, inr}
 use Rattle.std.proofs.lemmas.Bool.{cases_eq, and_parts, and_from, or_left, or_right, ne_eqb, eq-eqb}
-use Rattle.std.proofs.lemmas.Bool.Decides.{nat_tests}
 use Rattle.tl_protocol.proofs.Blocks.{none_is}
 use Rattle.tl_types.proofs.Booleans.{or-else}
-use Rattle.tl_types.specs.declared.permission.Perm.{Perm}
-use Rattle.tl_types.specs.declared.permission.Perm.TheVariants.{None as p_None, Branch, Tip}
+use Rattle.tl_types.specs.declared.permission.Perm.TheVariants.{None as p_None}
 use Rattle.tl_protocol.specs.declared.client.Client.{Client}
 use Rattle.tl_protocol.specs.Protocol.{is_alone, is_none}
 

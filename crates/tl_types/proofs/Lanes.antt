@@ -1,5 +1,5 @@
 -- What a lane and a block's list in it are after a message is sent, and after the first is taken.
-use Rattle.std.proofs.Common.{◌≡◌, ℕ, ◌+◌, ◌==◌, ◌&&◌, Bool, true, false, List, [], ◌∷◌, ◌++◌, length, drop, if◌then◌else◌, refl, ◌∙◌, arith, length-append, eqb-true, eq-eqb}
+use Rattle.std.proofs.Common.{◌≡◌, ℕ, ◌+◌, ◌==◌, Bool, true, false, List, [], ◌∷◌, ◌++◌, length, drop, if◌then◌else◌, refl, ◌∙◌, arith, length-append, eqb-true, eq-eqb}
 use Rattle.std.proofs.lemmas.List.{append-nil}
 use Rattle.std.proofs.lemmas.Bool.{and_parts}
 use Rattle.tl_types.specs.Channel.{place_of, same_channel}
