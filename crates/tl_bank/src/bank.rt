@@ -33,6 +33,7 @@ mod memory_calls;
 mod open;
 mod protocol_view;
 mod refusals;
+mod ticket_refusals;
 mod views;
 
 /// A bank can't be made for want of memory alone.

@@ -73,8 +73,8 @@ pub record Granted (old new : HomeState) (own c : ℕ) (cap : GrantCap) : Type 0
 -- ## What the others are recorded for
 
 -- of two Acquires that home serves of a block the one is the other
-some-is : (x y : Accepted) → Some x ≡ Some y → x ≡ y
-some-is x y h = cc
+one-acquire : (x y : Accepted) → Some x ≡ Some y → x ≡ y
+one-acquire x y h = cc
 
 -- the Grant leaves the others what it has room for
 room-for : (v : View) (own c : ℕ) (acquire : Accepted) (cap : GrantCap) (bytes : Option (List ℕ)) → Acts v own (Grant c)
@@ -83,7 +83,7 @@ room-for v own c acquire cap bytes acts gives =
     let shape = shape_of v.geometry in
     let s : Block = block_at v own in
     let asked : Accepted = record { client = c; grow = acts.may.1.1.0.0 } in
-    let same : asked ≡ acquire = some-is asked acquire (sym acts.may.1.1.0.1 ∙ gives.accepted) in
+    let same : asked ≡ acquire = one-acquire asked acquire (sym acts.may.1.1.0.1 ∙ gives.accepted) in
     let cap_is : granted shape s asked ≡ cap = ap (granted shape s) same ∙ sym gives.cap_is in
     subst (λ (k : GrantCap). RoomFor shape s c k) cap_is acts.may.1.1.0.2
 

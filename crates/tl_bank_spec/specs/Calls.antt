@@ -49,23 +49,24 @@ release_cases v client block prune share =
     ∷ (other_perm v client block (prune_from prune), WrongFrom)
     ∷ (link_full v client C, LinkFull) ∷ []
 
--- A ticket's tests: its client and bank are there, it names the channel, a message waits, and it names that message.
-abbrev pub ticket_cases : View → Ticket → Channel → (Body → Bool) → List (Bool × Refusal)
-ticket_cases v ticket channel kind =
-    (no_client v ticket.client, OutOfRange)
-    ∷ (not (ticket.bank == v.number), WrongBank)
-    ∷ (other_channel ticket channel, NotHead)
+-- Whether a ticket is that of the first message: it names the channel, a message waits there, and it names that one.
+abbrev pub message_cases : View → Ticket → Channel → (Body → Bool) → List (Bool × Refusal)
+message_cases v ticket channel kind =
+    (other_channel ticket channel, NotHead)
     ∷ (is_empty (waiting_at v ticket channel), NothingThere)
     ∷ (not_head v ticket channel kind, NotHead) ∷ []
+
+-- A ticket's tests: its client and bank are there, and it is that of the first message.
+abbrev pub ticket_cases : View → Ticket → Channel → (Body → Bool) → List (Bool × Refusal)
+ticket_cases v ticket channel kind =
+    (no_client v ticket.client, OutOfRange) ∷ (not (ticket.bank == v.number), WrongBank) ∷ message_cases v ticket channel kind
 
 -- The same where the call takes a share as well.
 abbrev pub shared_ticket_cases : View → Ticket → Holding → Channel → (Body → Bool) → List (Bool × Refusal)
 shared_ticket_cases v ticket share channel kind =
     (no_client v ticket.client || bad_share v ticket.client share, OutOfRange)
     ∷ (not (ticket.bank == v.number) || other_share v share, WrongBank)
-    ∷ (other_channel ticket channel, NotHead)
-    ∷ (is_empty (waiting_at v ticket channel), NothingThere)
-    ∷ (not_head v ticket channel kind, NotHead) ∷ []
+    ∷ message_cases v ticket channel kind
 
 abbrev pub answer_probe_cases : View → Ticket → Holding → List (Bool × Refusal)
 answer_probe_cases v ticket share =

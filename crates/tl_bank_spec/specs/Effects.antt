@@ -1,5 +1,5 @@
 -- What the calls of home and of the memory leave, and what they answer (this project's own).
-use Rattle.std.specs.Prelude.{◌≡◌, ℕ, ◌+◌, ◌==◌, ◌≤◌, Bool, List, [], ◌∷◌, ◌++◌, Option, Some, None, if◌then◌else◌}
+use Rattle.std.specs.Prelude.{◌≡◌, ℕ, ◌+◌, ◌==◌, ◌≤◌, List, [], ◌∷◌, ◌++◌, Option, Some, None, if◌then◌else◌}
 use Rattle.tl_types.specs.declared.channel.Channel.TheVariants.{A, B, C, D}
 use Rattle.tl_types.specs.declared.message.Body.{Body}
 use Rattle.tl_types.specs.declared.message.Body.TheVariants.{AcquireBlock, ProbeBlock, Upward as b_Upward, Downward as b_Downward, GrantAck}
@@ -9,7 +9,7 @@ use Rattle.tl_types.specs.declared.permission.Grow.TheVariants.{NtoB}
 use Rattle.tl_types.specs.declared.ticket.Ticket.{Ticket}
 use Rattle.tl_map.specs.Places.{set_of}
 use Rattle.tl_protocol.specs.declared.event.Event.{Event}
-use Rattle.tl_protocol.specs.declared.event.Event.TheVariants.{AcceptAcquire, TakeC, TakeData, TakePutAck}
+use Rattle.tl_protocol.specs.declared.event.Event.TheVariants.{AcceptAcquire, TakeData, TakePutAck}
 use Rattle.tl_protocol.specs.declared.home.Outward.{Outward}
 use Rattle.tl_protocol.specs.declared.home.Outward.TheVariants.{Quiet, Get, Data, Put, PutAck}
 use Rattle.tl_registers.specs.Fit.{event_of}
@@ -19,9 +19,9 @@ use Rattle.tl_registers.specs.declared.due.Due.{Due}
 use Rattle.tl_registers.specs.declared.due.Due.TheVariants.{Probe as due_Probe, Grant as due_Grant, Get as due_Get, Put as due_Put, Drop as due_Drop}
 use Rattle.tl_registers.specs.declared.register.Register.{Register}
 use Rattle.tl_registers.specs.declared.register.Task.TheVariants.{Evict}
-use Rattle.tl_bank_spec.specs.Cases.{begins, block_named, is_a_release, waiting_at}
+use Rattle.tl_bank_spec.specs.Cases.{begins, is_a_release, waiting_at}
 use Rattle.tl_bank_spec.specs.HomeCases.{due_at}
-use Rattle.tl_bank_spec.specs.View.{View, block_at, next_ticket, way_at}
+use Rattle.tl_bank_spec.specs.View.{View, next_ticket, way_at}
 use Rattle.tl_bank_spec.specs.Ways.{IsWayFor, victim_in, way_in_set}
 use Rattle.tl_bank_spec.specs.declared.action.Action.{Action}
 use Rattle.tl_bank_spec.specs.declared.action.Action.TheVariants.{Probe as did_Probe, Grant as did_Grant, Get as did_Get, Put as did_Put, Drop as did_Drop}

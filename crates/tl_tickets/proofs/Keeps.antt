@@ -10,7 +10,7 @@ use Rattle.tl_tickets.specs.declared.sent.Sent.{Sent}
 use Rattle.tl_types.specs.declared.ticket.Ticket.{Ticket}
 use Rattle.tl_tickets.specs.declared.sent.Put.{Put}
 use Rattle.tl_tickets.specs.declared.sent.Known.{Known}
-use Rattle.tl_tickets.specs.Inbox.{InboxView, PassView, tickets_of, AreFrom, sent, WasFull, WasEmpty}
+use Rattle.tl_tickets.specs.Inbox.{InboxView, PassView, tickets_of, AreFrom, sent, WasFull}
 use Rattle.tl_tickets.specs.Delivery.{put_by, receiver, sender, nothing, known, with_sender, new_sender, together, Agrees, FitsPuts, FitsTaker, Delivers, Puts, Takes, Shows}
 use Rattle.tl_tickets.proofs.Filters.{tickets_of-append, own_ticket, other_ticket, no_tickets}
 

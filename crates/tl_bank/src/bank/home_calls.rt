@@ -16,7 +16,7 @@ ghost use Rattle.tl_bank_spec.specs.Refusal.{IsRefused, first_of};
 ghost use Rattle.tl_bank_spec.specs.View.{way_at};
 
 use crate::bank::Bank;
-use crate::bank::home_refusals::is_release;
+use crate::bank::ticket_refusals::is_release;
 use crate::link;
 use tl_bank_spec::Refusal;
 use tl_links::Links;

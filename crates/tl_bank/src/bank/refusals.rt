@@ -3,7 +3,7 @@ ghost use Rattle.std.specs.Prelude.{◌≡◌, ◌<◌, ◌||◌};
 ghost use Rattle.tl_types.specs.declared.channel.Channel.{Channel};
 ghost use Rattle.tl_bank_laws.specs.Head.{first_cap, first_granted};
 ghost use Rattle.tl_bank_spec.specs.Calls.{load_cases, store_cases, acquire_cases, release_cases, answer_probe_cases, take_grant_cases, take_release_ack_cases};
-ghost use Rattle.tl_bank_spec.specs.Cases.{no_client, no_block, bad_access, bad_share, elsewhere, waits, copies_full, link_full, clock_full, first_block, release_pending, is_a_grant, is_a_release_ack};
+ghost use Rattle.tl_bank_spec.specs.Cases.{no_client, no_block, bad_access, bad_share, elsewhere, waits, copies_full, link_full, clock_full, first_block, release_pending};
 ghost use Rattle.tl_bank_spec.specs.Refusal.{first_of};
 ghost use Rattle.tl_bank_spec.specs.View.{client_at, lane_at, perm_at, has_entry, entries_at, copies_at};
 
@@ -12,7 +12,7 @@ use crate::entry;
 use crate::share::Share;
 use tl_bank_spec::Refusal;
 use tl_protocol::CachedCopy;
-use tl_types::{BlockNo, Body, Channel, ClientId, Grow, Perm, ProbeCap, Prune, Ticket, Wait};
+use tl_types::{BlockNo, Channel, ClientId, Grow, Perm, ProbeCap, Prune, Ticket, Wait};
 
 /// How many bytes an access has at most.
 const MOST: usize = 8;
@@ -182,7 +182,7 @@ impl Bank {
     }
 
     /// Whether a share is of another client, or of this bank with another count than the client's copies.
-    fn is_bad_share(&self, client: ClientId, share: &Share) -> bool
+    pub(super) fn is_bad_share(&self, client: ClientId, share: &Share) -> bool
         requires { client < self.now.geometry.clients }
         ensures { result ≡ bad_share self.now client share.now }
     {
@@ -283,24 +283,8 @@ impl Bank {
     pub(super) fn answer_probe_refusal(&self, ticket: &Ticket, share: &Share) -> Option<Refusal>
         ensures { result ≡ first_of (answer_probe_cases self.now ticket.now share.now) }
     {
-        if ticket.client.number() >= self.geometry.clients()
-            || self.is_bad_share(ticket.client, share)
-        {
-            return Some(Refusal::OutOfRange);
-        }
-        if ticket.bank.number() != self.number.number()
-            || share.bank().number() != self.number.number()
-        {
-            return Some(Refusal::WrongBank);
-        }
-        if ticket.channel.index() != Channel::B.index() {
-            return Some(Refusal::NotHead);
-        }
-        if self.links.waiting(ticket.client, Channel::B) == 0 {
-            return Some(Refusal::NothingThere);
-        }
-        if ticket.serial != self.links.taken(ticket.client, Channel::B) {
-            return Some(Refusal::NotHead);
+        if let Some(refusal) = self.shared_ticket_refusal(ticket, share, Channel::B) {
+            return Some(refusal);
         }
         if self.is_release_pending(ticket.client) {
             return Some(Refusal::ReleasePending);
@@ -322,25 +306,10 @@ impl Bank {
     pub(super) fn take_grant_refusal(&self, ticket: &Ticket, share: &Share) -> Option<Refusal>
         ensures { result ≡ first_of (take_grant_cases self.now ticket.now share.now) }
     {
-        if ticket.client.number() >= self.geometry.clients()
-            || self.is_bad_share(ticket.client, share)
-        {
-            return Some(Refusal::OutOfRange);
+        if let Some(refusal) = self.shared_ticket_refusal(ticket, share, Channel::D) {
+            return Some(refusal);
         }
-        if ticket.bank.number() != self.number.number()
-            || share.bank().number() != self.number.number()
-        {
-            return Some(Refusal::WrongBank);
-        }
-        if ticket.channel.index() != Channel::D.index() {
-            return Some(Refusal::NotHead);
-        }
-        let Some(message) = self.links.first(ticket.client, Channel::D) else {
-            return Some(Refusal::NothingThere);
-        };
-        if ticket.serial != self.links.taken(ticket.client, Channel::D)
-            || !is_grant(&message.body)
-        {
+        if !self.is_grant_first(ticket.client) {
             return Some(Refusal::NotHead);
         }
         if self.is_link_full(ticket.client, Channel::E) {
@@ -352,43 +321,12 @@ impl Bank {
     pub(super) fn take_release_ack_refusal(&self, ticket: &Ticket) -> Option<Refusal>
         ensures { result ≡ first_of (take_release_ack_cases self.now ticket.now) }
     {
-        if ticket.client.number() >= self.geometry.clients() {
-            return Some(Refusal::OutOfRange);
+        if let Some(refusal) = self.ticket_refusal(ticket, Channel::D) {
+            return Some(refusal);
         }
-        if ticket.bank.number() != self.number.number() {
-            return Some(Refusal::WrongBank);
-        }
-        if ticket.channel.index() != Channel::D.index() {
-            return Some(Refusal::NotHead);
-        }
-        let Some(message) = self.links.first(ticket.client, Channel::D) else {
-            return Some(Refusal::NothingThere);
-        };
-        if ticket.serial != self.links.taken(ticket.client, Channel::D)
-            || !is_release_ack(&message.body)
-        {
+        if !self.is_release_ack_first(ticket.client) {
             return Some(Refusal::NotHead);
         }
         None
-    }
-}
-
-/// Whether a message is a ReleaseAck.
-fn is_release_ack(body: &Body) -> bool
-    ensures { result ≡ is_a_release_ack body.now }
-{
-    match body {
-        Body::Downward(message) => !message.is_grant(),
-        _ => false,
-    }
-}
-
-/// Whether a message is a Grant.
-fn is_grant(body: &Body) -> bool
-    ensures { result ≡ is_a_grant body.now }
-{
-    match body {
-        Body::Downward(message) => message.is_grant(),
-        _ => false,
     }
 }
