@@ -4,6 +4,7 @@ use Rattle.tl_bank_spec.specs.View.{View, ways_below}
 use Rattle.tl_bank.specs.declared.bank.Bank.TheInside.{Inside}
 use Rattle.tl_bank_laws.specs.Layers.{Layers}
 
+-- the view of a bank's fields, with the way that home has for each block of the memory
 abbrev pub shown : Inside → View
 shown b = record {
   geometry = b.geometry;
@@ -15,6 +16,7 @@ shown b = record {
   ways = ways_below (way_in b.home) b.geometry.memory_blocks;
 }
 
+-- the layers of a bank's fields, with the limit of its registers and its clock
 abbrev pub layers : Inside → Layers
 layers b = record {
   links = b.links;

@@ -12,6 +12,7 @@ use Rattle.tl_copies.specs.Copies.{Tables, clients_of, entries, held_at}
 use Rattle.tl_copies.specs.declared.held.Held.{Held}
 use Rattle.tl_bank_spec.specs.View.{has_entry_for}
 
+-- whether a copy is dirty: only one that may be written can be
 abbrev pub is_dirty : CachedCopy → Bool
 is_dirty Absent = false
 is_dirty (Readable bytes) = false
@@ -37,23 +38,28 @@ pub record HasPlace (tables : Tables) (c block : ℕ) (copy : CachedCopy) (wait 
 
 -- ## What an entry says
 
+-- the copy with a permission, bytes and a dirty flag: none at None, and at Branch the flag is not read
 abbrev pub copy_with : Perm → List ℕ → Bool → CachedCopy
 copy_with p_None bytes dirty = Absent
 copy_with Branch bytes dirty = Readable bytes
 copy_with Tip bytes dirty = Writable bytes dirty
 
+-- the copy that an entry says; none where there is no entry
 abbrev pub copy_in : Option Held → CachedCopy
 copy_in None = Absent
 copy_in (Some held) = copy_with held.perm held.bytes held.dirty
 
+-- the answer that the client waits for by its entry; nothing where there is no entry
 abbrev pub wait_in : Option Held → Wait
 wait_in None = Nothing
 wait_in (Some held) = held.wait
 
+-- the permission that an entry says; None where there is no entry
 abbrev pub perm_in : Option Held → Perm
 perm_in None = p_None
 perm_in (Some held) = held.perm
 
+-- the bytes that an entry has; none where there is no entry
 abbrev pub bytes_in : Option Held → List ℕ
 bytes_in None = []
 bytes_in (Some held) = held.bytes

@@ -20,6 +20,7 @@ asked_by (b_Upward message) = ToN
 asked_by (b_Downward message) = ToN
 asked_by GrantAck = ToN
 
+-- what the first message leaves at most, read so; toN where there is no message
 abbrev pub first_cap : List Message → ProbeCap
 first_cap [] = ToN
 first_cap (x ∷ rest) = asked_by x.body
@@ -33,6 +34,7 @@ granted_by (b_Downward (Grant cap bytes)) own = clean_copy (grant_perm cap) (byt
 granted_by (b_Downward ReleaseAck) own = Absent
 granted_by GrantAck own = Absent
 
+-- the copy that the first message makes of a client's own, read so; none where there is no message
 abbrev pub first_granted : List Message → CachedCopy → CachedCopy
 first_granted [] own = Absent
 first_granted (x ∷ rest) own = granted_by x.body own

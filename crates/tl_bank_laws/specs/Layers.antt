@@ -4,6 +4,7 @@ use Rattle.tl_links.specs.Table.{Table}
 use Rattle.tl_copies.specs.Copies.{Tables}
 use Rattle.tl_home.specs.Homes.{HomeState}
 
+-- the links, the clients' tables of copies, home with the memory, and two numbers that the bank keeps
 pub record Layers : Type 0 where
   pub links : Table
   pub copies : Tables

@@ -26,6 +26,7 @@ use Rattle.tl_bank_laws.specs.Layers.{Layers}
 
 -- ## The Acquire that home serves
 
+-- the Acquire that a task serves: an evict task serves none
 abbrev pub acquire_in : Task → Option Accepted
 acquire_in (Acquire acquire) = Some acquire
 acquire_in (Replace acquire victim) = Some acquire
@@ -73,6 +74,7 @@ is_filling_by v set way r =
 abbrev pub is_filling : View → ℕ → ℕ → Bool
 is_filling v set way = list_any (is_filling_by v set way) v.registers
 
+-- The view, home, the registers and the log agree on the ways of the bank's blocks.
 pub record WaysFit (v : View) (home : HomeState) : Type 0 where
   -- each block lies where home has it
   pub shown : (b : ℕ) → b < v.geometry.memory_blocks → way_at v b ≡ way_in home b
@@ -95,6 +97,7 @@ pub record WaysFit (v : View) (home : HomeState) : Type 0 where
 
 -- ## All layers
 
+-- A view and the layers of one bank agree: the log is lawful, and each layer holds what it leaves.
 pub record Means (v : View) (layers : Layers) : Type 0 where
   -- the log is a run that takes the messages of each channel in order, on own blocks, and its stamps rise
   pub lawful : Lawful (shape_of v.geometry) v.image v.log

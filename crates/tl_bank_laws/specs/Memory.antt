@@ -4,6 +4,7 @@ use Rattle.tl_protocol.specs.declared.home.Outward.TheVariants.{Quiet, Get, Data
 use Rattle.tl_bank_spec.specs.declared.reply.Reply.{Reply}
 use Rattle.tl_bank_spec.specs.declared.reply.Reply.TheVariants.{AccessAckData, AccessAck}
 
+-- AccessAckData with the bytes that wait for home; anything else is read as AccessAck
 abbrev pub answered : Outward → Reply
 answered Quiet = AccessAck
 answered Get = AccessAck

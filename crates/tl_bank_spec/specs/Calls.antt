@@ -18,6 +18,7 @@ use Rattle.tl_bank_spec.specs.declared.refusal.Refusal.TheVariants.{NoPermission
 abbrev pub block_named_by : View → ℕ → ℕ
 block_named_by v address = block_of_address v.geometry address
 
+-- the cases in which a load is refused, in the order in which they are tested
 abbrev pub load_cases : View → ℕ → ℕ → ℕ → ℕ → List (Bool × Refusal)
 load_cases v client address len clock =
     (no_client v client || bad_access v address len, OutOfRange)
@@ -25,6 +26,7 @@ load_cases v client address len clock =
     ∷ (may_not_read v client (block_named_by v address), NoPermission)
     ∷ (clock_full v clock, ClockFull) ∷ []
 
+-- the cases in which a store is refused, in the order in which they are tested
 abbrev pub store_cases : View → ℕ → ℕ → ℕ → ℕ → List (Bool × Refusal)
 store_cases v client address len clock =
     (no_client v client || bad_access v address len, OutOfRange)
@@ -32,6 +34,7 @@ store_cases v client address len clock =
     ∷ (may_not_write v client (block_named_by v address), NoPermission)
     ∷ (clock_full v clock, ClockFull) ∷ []
 
+-- the cases in which a client's Acquire is refused, in the order in which they are tested
 abbrev pub acquire_cases : View → ℕ → ℕ → Grow → List (Bool × Refusal)
 acquire_cases v client block grow =
     (no_client v client || no_block v block, OutOfRange)
@@ -41,6 +44,7 @@ acquire_cases v client block grow =
     ∷ (copies_full v client block, CopiesFull)
     ∷ (link_full v client A, LinkFull) ∷ []
 
+-- the cases in which a client's Release is refused, in the order in which they are tested
 abbrev pub release_cases : View → ℕ → ℕ → Prune → Holding → List (Bool × Refusal)
 release_cases v client block prune share =
     (no_client v client || no_block v block || bad_share v client share, OutOfRange)
@@ -68,14 +72,17 @@ shared_ticket_cases v ticket share channel kind =
     ∷ (not (ticket.bank == v.number) || other_share v share, WrongBank)
     ∷ message_cases v ticket channel kind
 
+-- the cases in which the answer to a Probe is refused, in the order in which they are tested
 abbrev pub answer_probe_cases : View → Ticket → Holding → List (Bool × Refusal)
 answer_probe_cases v ticket share =
     shared_ticket_cases v ticket share B any_body
     ++ (release_pending v ticket.client (block_named v ticket B), ReleasePending)
     ∷ (link_full v ticket.client C, LinkFull) ∷ []
 
+-- the cases in which the taking of a Grant is refused, in the order in which they are tested
 abbrev pub take_grant_cases : View → Ticket → Holding → List (Bool × Refusal)
 take_grant_cases v ticket share = shared_ticket_cases v ticket share D is_a_grant ++ (link_full v ticket.client E, LinkFull) ∷ []
 
+-- the cases in which the taking of a ReleaseAck is refused, in the order in which they are tested
 abbrev pub take_release_ack_cases : View → Ticket → List (Bool × Refusal)
 take_release_ack_cases v ticket = ticket_cases v ticket D is_a_release_ack

@@ -19,9 +19,11 @@ use Rattle.tl_bank_spec.specs.View.{View, client_at, lane_at, perm_at, has_entry
 
 -- ## Out of range, and of another bank
 
+-- there is no such client
 abbrev pub no_client : View → ℕ → Bool
 no_client v client = nat_le v.geometry.clients client
 
+-- the block is not of the memory
 abbrev pub no_block : View → ℕ → Bool
 no_block v block = not (has_block v.geometry block)
 
@@ -65,6 +67,7 @@ abbrev pub copies_full : View → ℕ → ℕ → Bool
 copies_full v client block =
     not (has_entry (client_at v client block)) && nat_le v.geometry.copies (entries_at v client)
 
+-- what is waited for is a ReleaseAck
 abbrev pub awaits_release_ack : Wait → Bool
 awaits_release_ack Nothing = false
 awaits_release_ack ForGrant = false
@@ -84,6 +87,7 @@ clock_full v clock = latest v clock == 2 ^ 64 - 1
 abbrev pub link_full : View → ℕ → Channel → Bool
 link_full v client channel = nat_le 64 (length (lane_at v client channel).messages)
 
+-- no message waits
 abbrev pub is_empty : List Message → Bool
 is_empty [] = true
 is_empty (first ∷ rest) = false
@@ -98,9 +102,11 @@ abbrev pub first_block : List Message → ℕ
 first_block [] = 0
 first_block (first ∷ rest) = first.block
 
+-- a kind that every message is of
 abbrev pub any_body : Body → Bool
 any_body body = true
 
+-- the message is a Grant
 abbrev pub is_a_grant : Body → Bool
 is_a_grant (AcquireBlock grow) = false
 is_a_grant (ProbeBlock cap) = false
@@ -108,6 +114,7 @@ is_a_grant (b_Upward message) = false
 is_a_grant (b_Downward message) = is_grant message
 is_a_grant GrantAck = false
 
+-- the message is a ReleaseAck
 abbrev pub is_a_release_ack : Body → Bool
 is_a_release_ack (AcquireBlock grow) = false
 is_a_release_ack (ProbeBlock cap) = false
@@ -115,10 +122,12 @@ is_a_release_ack (b_Upward message) = false
 is_a_release_ack (b_Downward message) = not (is_grant message)
 is_a_release_ack GrantAck = false
 
+-- a message of C is a Release
 abbrev pub is_release : Upward → Bool
 is_release (ProbeAck answer) = false
 is_release (Release surrender) = true
 
+-- the message, of whichever channel, is a Release
 abbrev pub is_a_release : Body → Bool
 is_a_release (AcquireBlock grow) = false
 is_a_release (ProbeBlock cap) = false

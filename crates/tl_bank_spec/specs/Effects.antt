@@ -38,6 +38,7 @@ pub record Serves (old new : View) (event : Event) (open_then : List Register) (
 
 -- ## accept
 
+-- what an AcquireBlock asks for; any other message is read as NtoB
 abbrev pub grow_in : Body → Grow
 grow_in (AcquireBlock grow) = grow
 grow_in (ProbeBlock cap) = NtoB
@@ -141,6 +142,7 @@ registers_then block (Data bytes) registers = registers
 registers_then block (Put bytes) registers = registers
 registers_then block PutAck registers = ended block registers
 
+-- the way that a register holds; none where there is no register
 abbrev pub way_held_by : Option Register → Option ℕ
 way_held_by None = None
 way_held_by (Some register) = Some register.way.way

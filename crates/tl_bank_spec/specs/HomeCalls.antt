@@ -10,11 +10,13 @@ use Rattle.tl_bank_spec.specs.Ways.{registers_full}
 use Rattle.tl_bank_spec.specs.declared.refusal.Refusal.{Refusal}
 use Rattle.tl_bank_spec.specs.declared.refusal.Refusal.TheVariants.{NothingThere, NoRegister, BlockBusy, NotYet, OutOfRange, WrongBank, LinkFull}
 
+-- the cases in which the accepting of an Acquire is refused, in the order in which they are tested
 abbrev pub accept_cases : View → Ticket → List (Bool × Refusal)
 accept_cases v ticket =
     ticket_cases v ticket A any_body
     ++ (busy v (block_named v ticket A), BlockBusy) ∷ (no_register v (block_named v ticket A), NoRegister) ∷ []
 
+-- the cases in which the next action of a block's register is refused, in the order in which they are tested
 abbrev pub advance_cases : View → ℕ → List (Bool × Refusal)
 advance_cases v block =
     (no_block v block, OutOfRange)
@@ -22,12 +24,15 @@ advance_cases v block =
     ∷ (is_none (due_at v block), NotYet)
     ∷ (due_full v (due_at v block), LinkFull) ∷ []
 
+-- the cases in which the taking of a message from C is refused, in the order in which they are tested
 abbrev pub take_c_cases : View → Ticket → List (Bool × Refusal)
 take_c_cases v ticket = ticket_cases v ticket C any_body ++ (answer_full v ticket, LinkFull) ∷ []
 
+-- the cases in which the taking of a GrantAck is refused, in the order in which they are tested
 abbrev pub take_grant_ack_cases : View → Ticket → List (Bool × Refusal)
 take_grant_ack_cases v ticket = ticket_cases v ticket E any_body
 
+-- the cases in which the eviction of a block is refused, in the order in which they are tested
 abbrev pub evict_cases : View → ℕ → List (Bool × Refusal)
 evict_cases v block =
     (no_block v block, OutOfRange)
@@ -36,12 +41,14 @@ evict_cases v block =
     ∷ (lacks v block, NotYet)
     ∷ (registers_full v, NoRegister) ∷ []
 
+-- the cases in which the memory's answer to a request is refused, in the order in which they are tested
 abbrev pub serve_memory_cases : View → ℕ → List (Bool × Refusal)
 serve_memory_cases v block =
     (no_block v block, OutOfRange)
     ∷ (elsewhere v block, WrongBank)
     ∷ (not (is_request (block_at v block).outward), NothingThere) ∷ []
 
+-- the cases in which the taking of the memory's answer is refused, in the order in which they are tested
 abbrev pub take_memory_cases : View → ℕ → List (Bool × Refusal)
 take_memory_cases v block =
     (no_block v block, OutOfRange)

@@ -3,6 +3,7 @@ use Rattle.std.specs.Prelude.{ℕ, zero, suc, ◌+◌, ◌-◌, List, [], ◌∷
 use Rattle.tl_types.specs.declared.permission.Perm.{Perm}
 use Rattle.tl_protocol.specs.Protocol.{is_none}
 
+-- a share: a client, a bank, and how many copies the client has in it
 pub record Holding : Type 0 where
   pub client : ℕ
   pub bank : ℕ

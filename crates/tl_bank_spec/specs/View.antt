@@ -23,6 +23,7 @@ use Rattle.tl_protocol.specs.declared.shape.Shape.{Shape}
 use Rattle.tl_lanes.specs.Lanes.{lane_of}
 use Rattle.tl_registers.specs.declared.register.Register.{Register}
 
+-- a bank: its geometry, number and image, the log and its room, the open registers, and where blocks lie
 pub record View : Type 0 where
   pub geometry : Numbers
   pub number : ℕ
@@ -79,6 +80,7 @@ perm_at v client block = perm_of (client_at v client block).held
 
 -- ## A client's table of copies
 
+-- whether an answer is waited for
 abbrev pub is_waiting : Wait → Bool
 is_waiting Nothing = false
 is_waiting ForGrant = true
@@ -90,6 +92,7 @@ has_entry_for Absent wait = is_waiting wait
 has_entry_for (Readable bytes) wait = true
 has_entry_for (Writable bytes dirty) wait = true
 
+-- the same of a client's part of a block
 abbrev pub has_entry : Client → Bool
 has_entry k = has_entry_for k.held k.wait
 
@@ -103,6 +106,7 @@ copies_at v client = count_below (λ block. has_copy (client_at v client block))
 
 -- ## The clock
 
+-- the clock after an event: the stamp of an access, else as before
 abbrev pub stamped : ℕ → Event → ℕ
 stamped clock (Load access) = access.stamp
 stamped clock (Store access) = access.stamp
@@ -113,6 +117,7 @@ abbrev pub clock_from : ℕ → List Event → ℕ
 clock_from clock [] = clock
 clock_from clock (e ∷ es) = clock_from (stamped clock e) es
 
+-- the clock that a log leaves: the stamp of its last access, 0 where there is none
 abbrev pub clock_of : List Event → ℕ
 clock_of log = clock_from 0 log
 
@@ -122,6 +127,7 @@ IsLater clock (Load access) = clock < access.stamp
 IsLater clock (Store access) = clock < access.stamp
 IsLater clock event = Unit {0}
 
+-- each access has a stamp past the clock that the events before it leave, from a clock on
 abbrev pub StampsRiseFrom : ℕ → List Event → Type 0
 StampsRiseFrom clock [] = Unit {0}
 StampsRiseFrom clock (e ∷ es) = IsLater clock e × StampsRiseFrom (stamped clock e) es

@@ -9,6 +9,7 @@ use Rattle.tl_bank_spec.specs.View.{View, way_at}
 
 -- ## What lies where
 
+-- there is a way, and it is this one
 abbrev pub is_way : ℕ → Option ℕ → Bool
 is_way way None = false
 is_way way (Some lies) = lies == way
@@ -22,6 +23,7 @@ lies_in v set way block =
 abbrev pub slot_at : View → ℕ → ℕ → Option ℕ
 slot_at v set way = lowest (lies_in v set way) v.geometry.memory_blocks
 
+-- what is in each of the first n ways of a set, by way
 abbrev pub slots_below : View → ℕ → ℕ → List (Option ℕ)
 slots_below v set zero = []
 slots_below v set (suc n) = slots_below v set n ++ slot_at v set n ∷ []
@@ -32,6 +34,7 @@ slots_at v set = slots_below v set v.geometry.ways
 
 -- ## Which ways are held
 
+-- a set and the number of a way in it, as a register holds them
 abbrev pub way_in_set : ℕ → ℕ → WayOfSet
 way_in_set set way = record { set = set; way = way }
 

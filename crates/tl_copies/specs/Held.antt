@@ -21,6 +21,7 @@ abbrev pub has_copy : Option Held → Bool
 has_copy None = false
 has_copy (Some held) = is_copy held
 
+-- what is waited for is a Grant
 abbrev pub waits_for_grant : Wait → Bool
 waits_for_grant Nothing = false
 waits_for_grant ForGrant = true

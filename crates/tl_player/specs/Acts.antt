@@ -34,6 +34,7 @@ pub record Scene : Type 0 where
 
 -- ## Refusals
 
+-- the cases in which a call with a ticket is refused, in the order in which they are tested
 abbrev pub ticket_cases_of : View → Holding → TicketCall → Ticket → List (Bool × Refusal)
 ticket_cases_of v share AnswerProbe ticket = answer_probe_cases v ticket share
 ticket_cases_of v share TakeGrant ticket = take_grant_cases v ticket share
@@ -42,6 +43,7 @@ ticket_cases_of v share Accept ticket = accept_cases v ticket
 ticket_cases_of v share TakeC ticket = take_c_cases v ticket
 ticket_cases_of v share TakeGrantAck ticket = take_grant_ack_cases v ticket
 
+-- the cases in which a call with a block is refused, in the order in which they are tested
 abbrev pub block_cases_of : View → BlockCall → ℕ → List (Bool × Refusal)
 block_cases_of v Advance block = advance_cases v block
 block_cases_of v Evict block = evict_cases v block

@@ -16,6 +16,7 @@ pub record LineState : Type 0 where
   pub dirty : Bool
   pub clients : List Standing
 
+-- what a line says of its block, without where the line lies in memory
 abbrev pub line_state : BlockLine → LineState
 line_state line = record { block = line.block; dirty = line.dirty; clients = line.clients.items }
 

@@ -61,6 +61,7 @@ abbrev pub ProbesFit : Shape → (ℕ → Client) → Register → Option ℕ �
 ProbesFit shape client r asking cap =
     (x : ℕ) → x < shape.clients → ProbeFits (client x) cap (has_probed r x) (is_other asking x)
 
+-- no Probe is on its way to any client, and no answer to one from any
 abbrev pub NobodyIsProbed : Shape → (ℕ → Client) → Type 0
 NobodyIsProbed shape client = (x : ℕ) → x < shape.clients → is_probed (client x) ≡ false
 
@@ -103,6 +104,7 @@ pub record Awaits (s : Block) : Type 0 where
   pub lacks : s.home ≡ None
   pub quiet : s.outward ≡ Quiet
 
+-- the own block of a task is served, and waits where a victim leaves first; the own block of an evict task leaves
 abbrev pub TaskFits : Shape → (ℕ → Block) → Register → Task → Type 0
 TaskFits shape states r (Acquire acquire) = IsServed shape (states r.own) r acquire
 TaskFits shape states r (Replace acquire victim) =

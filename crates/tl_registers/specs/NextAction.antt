@@ -55,6 +55,7 @@ give_up victim (Some line) = acts (if line.dirty then Put victim else Drop victi
 abbrev pub await_put : Case
 await_put = waits
 
+-- the cases of a victim that leaves home, in their order
 abbrev pub away : Shape → Register → ℕ → Block → List Case
 away shape r victim s =
     probe_victim shape r victim s s.home ∷ await_probes shape s ∷ give_up victim s.home ∷ await_put ∷ []
@@ -82,6 +83,7 @@ probe_others shape r acquire s =
 abbrev pub grant : Shape → Accepted → Block → Case
 grant shape acquire s = if grant_pending shape s then waits else acts (Grant acquire.client)
 
+-- the cases of an own block that is served, in their order
 abbrev pub serve : Shape → Register → Accepted → Block → List Case
 serve shape r acquire s =
     fetch s s.home ∷ probe_others shape r acquire s ∷ await_probes shape s ∷ grant shape acquire s ∷ []

@@ -21,6 +21,7 @@ acquire_task acquire (Some victim) = Replace acquire victim
 
 -- ## What it works on
 
+-- the block that leaves home by a task: the victim of a replacement, the own block of an evict task, else none
 abbrev pub victim_in : ℕ → Task → Option ℕ
 victim_in own (Acquire acquire) = None
 victim_in own (Replace acquire victim) = Some victim
@@ -30,6 +31,7 @@ victim_in own Evict = Some own
 abbrev pub victim_of : Register → Option ℕ
 victim_of r = victim_in r.own r.task
 
+-- there is a block, and it is this one
 abbrev pub is_block : ℕ → Option ℕ → Bool
 is_block block None = false
 is_block block (Some b) = b == block
@@ -38,6 +40,7 @@ is_block block (Some b) = b == block
 abbrev pub works_on : Register → ℕ → Bool
 works_on r block = (r.own == block) || is_block block (victim_of r)
 
+-- the number, where there is one, is below n
 abbrev pub IsBelow : ℕ → Option ℕ → Type 0
 IsBelow n None = Unit {0}
 IsBelow n (Some x) = x < n
@@ -48,6 +51,7 @@ IsKnown blocks r = (r.own < blocks) × IsBelow blocks (victim_of r)
 
 -- ## Whom it has still to probe
 
+-- the register has probed the client
 abbrev pub has_probed : Register → ℕ → Bool
 has_probed r c = slice_index_or r.probed c false
 
@@ -59,6 +63,7 @@ with_probed r c = record r { probed = slice_set r.probed c true }
 abbrev pub is_above : Perm → ProbeCap → Bool
 is_above perm cap = nat_lt (rank (probe_perm cap)) (rank perm)
 
+-- the client is not the one that asks; where nobody asks, each is another
 abbrev pub is_other : Option ℕ → ℕ → Bool
 is_other None c = true
 is_other (Some asking) c = not (c == asking)

@@ -39,6 +39,7 @@ due_of shape states (Some r) = next_due shape states r
 
 -- ## What sending changes
 
+-- a client joins those that the register has probed, where its own block is this one
 abbrev pub with_probe_of : ℕ → ℕ → Register → Register
 with_probe_of block c r = if r.own == block then with_probed r c else r
 
@@ -50,11 +51,13 @@ noted block c registers = map (with_probe_of block c) registers
 abbrev pub closed : ℕ → List Register → List Register
 closed block registers = filter (λ r. not (r.own == block)) registers
 
+-- the task is to send the own block away
 abbrev pub is_evict : Task → Bool
 is_evict (Acquire acquire) = false
 is_evict (Replace acquire victim) = false
 is_evict Evict = true
 
+-- the task once a victim is gone: a replacement of it becomes a plain Acquire, and any other task stays
 abbrev pub task_without : ℕ → Task → Task
 task_without victim (Acquire acquire) = Acquire acquire
 task_without victim (Replace acquire v) = if v == victim then Acquire acquire else Replace acquire v

@@ -13,6 +13,7 @@ abbrev pub grants_block : ℕ → Event → Bool
 grants_block block (SendGrant c b) = b == block
 grants_block block e = false
 
+-- where the last Grant of a block stands among these events, counted on from n; `found` where there is none
 abbrev pub last_grant_from : ℕ → ℕ → ℕ → List Event → ℕ
 last_grant_from block n found [] = found
 last_grant_from block n found (e ∷ es) = last_grant_from block (n + 1) (if grants_block block e then n + 1 else found) es
@@ -21,9 +22,11 @@ last_grant_from block n found (e ∷ es) = last_grant_from block (n + 1) (if gra
 abbrev pub last_grant : ℕ → List Event → ℕ
 last_grant block log = last_grant_from block 0 0 log
 
+-- the block in a way of the set, where there is one
 abbrev pub block_in : List (Option ℕ) → ℕ → Option ℕ
 block_in slots w = slice_index_or slots w None
 
+-- no block is in the way
 abbrev pub is_free : Option ℕ → Bool
 is_free None = true
 is_free (Some block) = false
@@ -40,6 +43,7 @@ pub record IsOldest (slots : List (Option ℕ)) (held : ℕ → Bool) (log : Lis
 abbrev pub lowest_free : List (Option ℕ) → (ℕ → Bool) → Option ℕ
 lowest_free slots held = lowest (λ w. is_free (block_in slots w) && not (held w)) (length slots)
 
+-- the way is the free one that is given, or where none is given an oldest one
 abbrev pub IsFreeOrOldest : Option ℕ → List (Option ℕ) → (ℕ → Bool) → List Event → ℕ → Type 0
 IsFreeOrOldest (Some free) slots held log w = w ≡ free
 IsFreeOrOldest None slots held log w = IsOldest slots held log w
@@ -51,6 +55,7 @@ IsChosen slots held log w = IsFreeOrOldest (lowest_free slots held) slots held l
 -- ## The order in which a set's ways were granted
 -- `filling` says which ways have a block that was not granted since it came there. Registers hold them.
 
+-- the first way of an order that no register holds, where there is one
 abbrev pub first_not_held : (ℕ → Bool) → List ℕ → Option ℕ
 first_not_held held [] = None
 first_not_held held (w ∷ rest) = if held w then first_not_held held rest else Some w

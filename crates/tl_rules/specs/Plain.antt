@@ -19,9 +19,11 @@ abbrev pub block_state : PlainBlock → Block
 block_state p =
     record { memory = p.memory; home = p.home; accepted = p.accepted; outward = p.outward; client = client_at p }
 
+-- the block with another client in one place
 abbrev pub set_client : PlainBlock → ℕ → Client → PlainBlock
 set_client p c k = record p { clients = slice_set p.clients c k }
 
+-- a block with no bytes and no clients, which home does not hold and of which nothing is under way
 abbrev pub empty_block : PlainBlock
 empty_block = record { memory = []; home = None; accepted = None; outward = Quiet; clients = [] }
 

@@ -5,6 +5,7 @@ use Rattle.tl_protocol.specs.declared.home.Accepted.{Accepted}
 use Rattle.tl_protocol.specs.declared.home.Outward.{Outward}
 use Rattle.tl_protocol.specs.declared.client.Client.{Client}
 
+-- what the memory, home and the clients hold of a block, the clients in the order of their numbers
 pub record PlainBlock : Type 0 where
   pub memory : List ℕ
   pub home : Option Line

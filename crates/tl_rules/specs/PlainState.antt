@@ -3,6 +3,7 @@ use Rattle.std.specs.Prelude.{◌≡◌, ◌<◌, ◌≤◌, List, All, length}
 use Rattle.tl_protocol.specs.declared.shape.Shape.{Shape}
 use Rattle.tl_rules.specs.PlainBlock.{PlainBlock}
 
+-- the shape of the clients and blocks, and the blocks in the order of their numbers
 pub record PlainState : Type 0 where
   pub shape : Shape
   pub blocks : List PlainBlock

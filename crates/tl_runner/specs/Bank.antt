@@ -18,6 +18,7 @@ pub record IsCoherent (plain : PlainState) (image : List ℕ) (log : List Event)
       (block : ℕ) → block < plain.shape.blocks → IsNewestAt plain.shape image log block (state_of_plain plain block)
   pub loads : LoadsLast image log
 
+-- the memory's first bytes at reset, the log, and the plain map
 pub record BankState : Type 0 where
   pub image : List ℕ
   pub log : List Event

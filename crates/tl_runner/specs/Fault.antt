@@ -24,6 +24,7 @@ abbrev pub run_status : RunError → ℕ
 run_status (Stalled turns) = 3
 run_status r_Memory = 4
 
+-- usage ends with 2, the file with 5, want of memory with 4; a script and a run end as above
 abbrev pub status_of : Fault → ℕ
 status_of Usage = 2
 status_of File = 5

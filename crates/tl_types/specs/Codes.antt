@@ -21,28 +21,34 @@ use Rattle.tl_types.specs.declared.kind.Kind.TheVariants.{PutFullData, Get, Acqu
 
 -- ## From a kind to its codes
 
+-- the parameter of an AcquireBlock
 abbrev pub grow_param : Grow → ℕ
 grow_param NtoB = 0
 grow_param NtoT = 1
 grow_param BtoT = 2
 
+-- the parameter of a ProbeBlock
 abbrev pub probe_param : ProbeCap → ℕ
 probe_param ToB = 1
 probe_param ToN = 2
 
+-- the parameter of a Grant or a GrantData
 abbrev pub grant_param : GrantCap → ℕ
 grant_param g_ToT = 0
 grant_param g_ToB = 1
 
+-- the parameter of a Release
 abbrev pub prune_param : Prune → ℕ
 prune_param TtoB = 0
 prune_param TtoN = 1
 prune_param BtoN = 2
 
+-- the parameter of a ProbeAckData or a ReleaseData
 abbrev pub dirty_param : DirtyPrune → ℕ
 dirty_param d_TtoB = 0
 dirty_param d_TtoN = 1
 
+-- the parameter of a ProbeAck
 abbrev pub report_param : ProbeReport → ℕ
 report_param a_TtoB = 0
 report_param a_TtoN = 1
@@ -90,21 +96,27 @@ code_of GrantAck = (0, 0)
 abbrev pub plain_at : ℕ → Kind → Option Kind
 plain_at param kind = if param == 0 then Some kind else None
 
+-- what the parameter of an AcquireBlock stands for, if anything
 abbrev pub grow_at : ℕ → Option Grow
 grow_at n = if n == 0 then Some NtoB else if n == 1 then Some NtoT else if n == 2 then Some BtoT else None
 
+-- what the parameter of a ProbeBlock stands for, if anything
 abbrev pub probe_at : ℕ → Option ProbeCap
 probe_at n = if n == 1 then Some ToB else if n == 2 then Some ToN else None
 
+-- what the parameter of a Grant or a GrantData stands for, if anything
 abbrev pub grant_at : ℕ → Option GrantCap
 grant_at n = if n == 0 then Some g_ToT else if n == 1 then Some g_ToB else None
 
+-- what the parameter of a Release stands for, if anything
 abbrev pub prune_at : ℕ → Option Prune
 prune_at n = if n == 0 then Some TtoB else if n == 1 then Some TtoN else if n == 2 then Some BtoN else None
 
+-- what the parameter of a ProbeAckData or a ReleaseData stands for, if anything
 abbrev pub dirty_at : ℕ → Option DirtyPrune
 dirty_at n = if n == 0 then Some d_TtoB else if n == 1 then Some d_TtoN else None
 
+-- what the parameter of a ProbeAck stands for, if anything
 abbrev pub report_at : ℕ → Option ProbeReport
 report_at n =
     if n == 0 then Some a_TtoB
@@ -114,6 +126,7 @@ report_at n =
     else if n == 5 then Some a_NtoN
     else None
 
+-- the kind on channel A that an opcode and a parameter stand for, if any
 abbrev pub kind_on_a : ℕ → ℕ → Option Kind
 kind_on_a opcode param =
     if opcode == 0 then plain_at param PutFullData
@@ -121,9 +134,11 @@ kind_on_a opcode param =
     else if opcode == 6 then option_map AcquireBlock (grow_at param)
     else None
 
+-- the kind on channel B that an opcode and a parameter stand for, if any
 abbrev pub kind_on_b : ℕ → ℕ → Option Kind
 kind_on_b opcode param = if opcode == 6 then option_map ProbeBlock (probe_at param) else None
 
+-- the kind on channel C that an opcode and a parameter stand for, if any
 abbrev pub kind_on_c : ℕ → ℕ → Option Kind
 kind_on_c opcode param =
     if opcode == 4 then option_map ProbeAck (report_at param)
@@ -132,6 +147,7 @@ kind_on_c opcode param =
     else if opcode == 7 then option_map ReleaseData (dirty_at param)
     else None
 
+-- the kind on channel D that an opcode and a parameter stand for, if any
 abbrev pub kind_on_d : ℕ → ℕ → Option Kind
 kind_on_d opcode param =
     if opcode == 0 then plain_at param AccessAck
@@ -141,6 +157,7 @@ kind_on_d opcode param =
     else if opcode == 6 then plain_at param ReleaseAck
     else None
 
+-- the kind on channel E that an opcode and a parameter stand for, if any
 abbrev pub kind_on_e : ℕ → ℕ → Option Kind
 kind_on_e opcode param = if opcode == 0 then plain_at param GrantAck else None
 

@@ -26,6 +26,7 @@ use Rattle.tl_types.specs.declared.kind.Kind.TheVariants as kind
 
 -- ## Answers to Probes
 
+-- what an answer reports: the permission that the copy had, and the one that is left
 abbrev pub answer_report : ProbeAnswer → Report
 answer_report (a_TtoB bytes) = r_TtoB
 answer_report (a_TtoN bytes) = r_TtoN
@@ -49,6 +50,7 @@ probe_answer Branch ToN bytes = a_BtoN
 probe_answer Tip ToB bytes = a_TtoB bytes
 probe_answer Tip ToN bytes = a_TtoN bytes
 
+-- the kind of an answer: ProbeAckData where bytes go along, else ProbeAck
 abbrev pub answer_kind : ProbeAnswer → Kind
 answer_kind (a_TtoB None) = kind.ProbeAck p_TtoB
 answer_kind (a_TtoB (Some bytes)) = kind.ProbeAckData d_TtoB
@@ -60,11 +62,13 @@ answer_kind a_NtoN = kind.ProbeAck p_NtoN
 
 -- ## Releases
 
+-- the permission that a Release starts from, and the one that it leaves
 abbrev pub surrender_prune : Surrender → Prune
 surrender_prune (s_TtoB bytes) = TtoB
 surrender_prune (s_TtoN bytes) = TtoN
 surrender_prune s_BtoN = BtoN
 
+-- the bytes that go along, if any: from Branch there are none
 abbrev pub surrender_bytes : Surrender → Option (List ℕ)
 surrender_bytes (s_TtoB bytes) = bytes
 surrender_bytes (s_TtoN bytes) = bytes
@@ -76,6 +80,7 @@ surrender TtoB bytes = s_TtoB bytes
 surrender TtoN bytes = s_TtoN bytes
 surrender BtoN bytes = s_BtoN
 
+-- the kind of a Release: ReleaseData where bytes go along, else Release
 abbrev pub surrender_kind : Surrender → Kind
 surrender_kind (s_TtoB None) = kind.Release TtoB
 surrender_kind (s_TtoB (Some bytes)) = kind.ReleaseData d_TtoB
@@ -90,14 +95,17 @@ abbrev pub upward_from : Upward → Perm
 upward_from (ProbeAck answer) = report_from (answer_report answer)
 upward_from (Release surrender) = prune_from (surrender_prune surrender)
 
+-- the permission that a message on C leaves
 abbrev pub upward_to : Upward → Perm
 upward_to (ProbeAck answer) = report_to (answer_report answer)
 upward_to (Release surrender) = prune_to (surrender_prune surrender)
 
+-- the bytes that a message on C carries, if any
 abbrev pub upward_bytes : Upward → Option (List ℕ)
 upward_bytes (ProbeAck answer) = answer_bytes answer
 upward_bytes (Release surrender) = surrender_bytes surrender
 
+-- the kind of a message on C
 abbrev pub upward_kind : Upward → Kind
 upward_kind (ProbeAck answer) = answer_kind answer
 upward_kind (Release surrender) = surrender_kind surrender
@@ -109,10 +117,12 @@ is_probe_ack (Release surrender) = false
 
 -- ## Channel D
 
+-- the bytes that a message on D carries, if any
 abbrev pub downward_bytes : Downward → Option (List ℕ)
 downward_bytes (Grant cap bytes) = bytes
 downward_bytes ReleaseAck = None
 
+-- the kind of a message on D: a Grant with bytes is a GrantData
 abbrev pub downward_kind : Downward → Kind
 downward_kind (Grant cap None) = kind.Grant cap
 downward_kind (Grant cap (Some bytes)) = kind.GrantData cap
@@ -125,6 +135,7 @@ is_grant ReleaseAck = false
 
 -- ## All messages
 
+-- the bytes that a message carries, if any
 abbrev pub body_bytes : Body → Option (List ℕ)
 body_bytes (AcquireBlock grow) = None
 body_bytes (ProbeBlock cap) = None
@@ -132,6 +143,7 @@ body_bytes (b_Upward message) = upward_bytes message
 body_bytes (b_Downward message) = downward_bytes message
 body_bytes GrantAck = None
 
+-- the kind of a message
 abbrev pub body_kind : Body → Kind
 body_kind (AcquireBlock grow) = kind.AcquireBlock grow
 body_kind (ProbeBlock cap) = kind.ProbeBlock cap

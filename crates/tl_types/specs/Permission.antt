@@ -27,15 +27,18 @@ rank Tip = 2
 
 -- ## Bounds
 
+-- the permission that a bound names
 abbrev pub cap_perm : Cap → Perm
 cap_perm ToT = Tip
 cap_perm ToB = Branch
 cap_perm ToN = None
 
+-- the cap of a Probe as a bound
 abbrev pub probe_cap : ProbeCap → Cap
 probe_cap p_ToB = ToB
 probe_cap p_ToN = ToN
 
+-- the cap of a Grant as a bound
 abbrev pub grant_cap : GrantCap → Cap
 grant_cap g_ToT = ToT
 grant_cap g_ToB = ToB
@@ -52,30 +55,36 @@ grant_perm g_ToB = Branch
 
 -- ## From which permission to which
 
+-- the permission that an Acquire starts from
 abbrev pub grow_from : Grow → Perm
 grow_from NtoB = None
 grow_from NtoT = None
 grow_from BtoT = Branch
 
+-- the permission that an Acquire asks for
 abbrev pub grow_to : Grow → Perm
 grow_to NtoB = Branch
 grow_to NtoT = Tip
 grow_to BtoT = Tip
 
+-- the permission that a Release starts from
 abbrev pub prune_from : Prune → Perm
 prune_from TtoB = Tip
 prune_from TtoN = Tip
 prune_from BtoN = Branch
 
+-- the permission that a Release leaves
 abbrev pub prune_to : Prune → Perm
 prune_to TtoB = Branch
 prune_to TtoN = None
 prune_to BtoN = None
 
+-- a prune value that starts from Tip, among all prune values
 abbrev pub dirty_prune : DirtyPrune → Prune
 dirty_prune d_TtoB = TtoB
 dirty_prune d_TtoN = TtoN
 
+-- the permission that a report starts from
 abbrev pub report_from : Report → Perm
 report_from TtoT = Tip
 report_from r_TtoB = Tip
@@ -84,6 +93,7 @@ report_from BtoB = Branch
 report_from r_BtoN = Branch
 report_from NtoN = None
 
+-- the permission that a report leaves
 abbrev pub report_to : Report → Perm
 report_to TtoT = Tip
 report_to r_TtoB = Branch
@@ -92,6 +102,7 @@ report_to BtoB = Branch
 report_to r_BtoN = None
 report_to NtoN = None
 
+-- the report of a ProbeAck, among all reports
 abbrev pub probe_report : ProbeReport → Report
 probe_report a_TtoB = r_TtoB
 probe_report a_TtoN = r_TtoN

@@ -15,20 +15,24 @@ use Rattle.tl_types.specs.declared.permission.ProbeReport.TheVariants.{TtoB as a
 use Rattle.tl_types.specs.declared.kind.Kind.{Kind}
 use Rattle.tl_types.specs.declared.kind.Kind.TheVariants.{PutFullData, Get, AcquireBlock, ProbeBlock, ProbeAck, ProbeAckData, Release, ReleaseData, AccessAck, AccessAckData, Grant, GrantData, ReleaseAck, GrantAck}
 
+-- how the parameter of an AcquireBlock prints
 abbrev pub grow_text : Grow → List ℕ
 grow_text NtoB = codes "NtoB"
 grow_text NtoT = codes "NtoT"
 grow_text BtoT = codes "BtoT"
 
+-- how the parameter of a Release prints
 abbrev pub prune_text : Prune → List ℕ
 prune_text TtoB = codes "TtoB"
 prune_text TtoN = codes "TtoN"
 prune_text BtoN = codes "BtoN"
 
+-- how the parameter of a ProbeAckData or a ReleaseData prints
 abbrev pub dirty_prune_text : DirtyPrune → List ℕ
 dirty_prune_text d_TtoB = codes "TtoB"
 dirty_prune_text d_TtoN = codes "TtoN"
 
+-- how the parameter of a ProbeAck prints
 abbrev pub probe_report_text : ProbeReport → List ℕ
 probe_report_text a_TtoB = codes "TtoB"
 probe_report_text a_TtoN = codes "TtoN"
@@ -36,10 +40,12 @@ probe_report_text a_BtoB = codes "BtoB"
 probe_report_text a_BtoN = codes "BtoN"
 probe_report_text a_NtoN = codes "NtoN"
 
+-- how the parameter of a ProbeBlock prints
 abbrev pub probe_cap_text : ProbeCap → List ℕ
 probe_cap_text ToB = codes "toB"
 probe_cap_text ToN = codes "toN"
 
+-- how the parameter of a Grant or a GrantData prints
 abbrev pub grant_cap_text : GrantCap → List ℕ
 grant_cap_text g_ToT = codes "toT"
 grant_cap_text g_ToB = codes "toB"
