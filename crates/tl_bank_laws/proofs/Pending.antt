@@ -44,10 +44,12 @@ put-none s c k one x h =
       | inr e ↦ rw e h
     ]
 
+-- accepting an Acquire brings no Grant
 accepted-none : (s : Block) (c : ℕ) (a : List Grow) → GrantsStayNone s (accepted_from s c a)
 accepted-none s c [] x h = h
 accepted-none s c (grow ∷ rest) x h = put-none s c (record (s.client c) { a = rest }) (λ n. n) x h
 
+-- what keeps a block brings no Grant
 kept-none : (shape : Shape) (s later : Block) → Keeps s later → GrantsStayNone s later
 kept-none shape s later k x = (k.probes x).grants_none
 
@@ -91,6 +93,7 @@ HoldsOn (Drop block) = ⊥
 HoldsOn (SendPut block) = ⊥
 HoldsOn e = Unit {0}
 
+-- where home lacks a block later just if it lacked it before, the test for that says the same later as before
 none-as : (x y : Option Line) → (x ≡ None → y ≡ None) → (y ≡ None → x ≡ None) → is_none y ≡ is_none x
 none-as None None f h = refl
 none-as None (Some line) f h = let bad = f refl in cc
@@ -120,14 +123,17 @@ take_c-holds shape s c block kept orderly =
     let k = event-keeps shape t (TakeC c block) tt (quiet-service shape s kept) orderly in
     none-as s.home (after shape s (TakeC c block)).home (λ h. k.brings_none refl h) (λ h. k.lacks h)
 
+-- accepting an Acquire leaves whether home holds the block
 accepted-holds : (s : Block) (c : ℕ) (a : List Grow) → is_none (accepted_from s c a).home ≡ is_none s.home
 accepted-holds s c [] = refl
 accepted-holds s c (grow ∷ rest) = refl
 
+-- sending a Grant leaves it
 grants-holds : (shape : Shape) (s : Block) (c : ℕ) (o : Option Accepted) → is_none (grants shape s c o).home ≡ is_none s.home
 grants-holds shape s c None = refl
 grants-holds shape s c (Some acquire) = refl
 
+-- the memory's answer leaves it
 served-holds : (s : Block) (o : Outward) → is_none (served s o).home ≡ is_none s.home
 served-holds s Quiet = refl
 served-holds s Get = refl
@@ -135,6 +141,7 @@ served-holds s (Data bytes) = refl
 served-holds s (Put bytes) = refl
 served-holds s PutAck = refl
 
+-- an event that brings home no block and takes none from it leaves whether home holds this one
 event-holds : (shape : Shape) (s : Block) (e : Event) → HoldsOn e → IsServiceAt shape s → ((x : ℕ) → IsOrderly (s.client x))
     → is_none (after shape s e).home ≡ is_none s.home
 event-holds shape s (Load access) on kept orderly = refl

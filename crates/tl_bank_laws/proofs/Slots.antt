@@ -13,6 +13,7 @@ use Rattle.tl_bank_spec.specs.Ways.{is_way, lies_in, slot_at, slots_below, slots
 
 -- ## Lists by number
 
+-- there is a place for each number below n
 pub below-length : (f : ℕ → Option ℕ) (n : ℕ) → length (ways_below f n) ≡ n
 below-length f zero = refl
 below-length f (suc n) =
@@ -56,6 +57,7 @@ pub some-is : (slot : Option ℕ) → is_none slot ≡ false → (x : ℕ) × (s
 some-is None h = cc
 some-is (Some x) h = (x, refl)
 
+-- where the test says that a block lies in this way, it does
 is_way-true : (way : ℕ) (o : Option ℕ) → is_way way o ≡ true → o ≡ Some way
 is_way-true way None h = cc
 is_way-true way (Some lies) h = ap Some (eqb-true lies way h)
@@ -68,6 +70,7 @@ lies-true v set way b h =
     let two = and_parts (set_of v.geometry b == set) (is_way way (way_at v b)) one.1 in
     (eqb-true (bank_of v.geometry b) v.number one.0, eqb-true (set_of v.geometry b) set two.0, is_way-true way (way_at v b) two.1)
 
+-- and a block of the bank and of the set that has this way lies in it
 pub true-lies : (v : View) (set way b : ℕ) → bank_of v.geometry b ≡ v.number → set_of v.geometry b ≡ set → way_at v b ≡ Some way
     → lies_in v set way b ≡ true
 true-lies v set way b own in_set lies =
@@ -110,6 +113,7 @@ pub slots-are : (v : View) (set n : ℕ) → slots_below v set n ≡ ways_below 
 slots-are v set zero = refl
 slots-are v set (suc n) = let before = slots-are v set n in rw before refl
 
+-- there are as many as the geometry says
 pub slots-length : (v : View) (set : ℕ) → length (slots_at v set) ≡ v.geometry.ways
 slots-length v set =
     ap (λ (xs : List (Option ℕ)). length xs) (slots-are v set v.geometry.ways) ∙ below-length (slot_at v set) v.geometry.ways
@@ -119,6 +123,7 @@ pub slots-in : (v : View) (set way : ℕ) → way < v.geometry.ways → block_in
 slots-in v set way l =
     ap (λ (xs : List (Option ℕ)). block_in xs way) (slots-are v set v.geometry.ways) ∙ below-at (slot_at v set) v.geometry.ways way l
 
+-- past the ways there is nothing
 pub slots-past : (v : View) (set way : ℕ) → v.geometry.ways ≤ way → block_in (slots_at v set) way ≡ None
 slots-past v set way l =
     ap (λ (xs : List (Option ℕ)). block_in xs way) (slots-are v set v.geometry.ways) ∙ below-past (slot_at v set) v.geometry.ways way l

@@ -51,6 +51,7 @@ at_most_one : (v : Bool) → (if v then 1 else 0) ≤ 1
 at_most_one true = omega arith
 at_most_one false = omega arith
 
+-- no more entries pass a test than there are
 pub count_by-le : (test : Entry → Bool) (es : List Entry) → count_by test es ≤ length es
 count_by-le test [] = omega arith
 count_by-le test (e ∷ rest) =
@@ -86,18 +87,21 @@ all_of : {X : Type 0} (P : X → Type 0) (xs : List X) → ((x : X) → P x) →
 all_of P [] h = tt
 all_of P (x ∷ rest) h = (h x, all_of P rest h)
 
+-- the map counts as many entries of the client as its table has
 pub entries-table : (v : Tables) (client : ℕ) (table : List Entry) → ((b : ℕ) → held_at v client b ≡ found b table)
     → IsTable v.limit v.blocks table
     → entries v client ≡ length table
 entries-table v client table h t =
     count_below-same (λ b. is_some (held_at v client b)) (λ b. is_some (found b table)) v.blocks (λ b l. ap is_some (h b)) ∙ entries-found v.blocks table t.apart
 
+-- and as many copies as the table has entries that are copies
 pub copies-table : (v : Tables) (client : ℕ) (table : List Entry) → ((b : ℕ) → held_at v client b ≡ found b table)
     → IsTable v.limit v.blocks table
     → copies v client ≡ count_by (λ (e : Entry). is_copy e.held) table
 copies-table v client table h t =
     count_below-same (λ b. has_copy (held_at v client b)) (λ b. has_copy (found b table)) v.blocks (λ b l. ap has_copy (h b)) ∙ copies-found v.blocks table t.apart
 
+-- and the first block of its order that has a copy is that of the table's first copy
 pub oldest-table : (v : Tables) (client : ℕ) (table : List Entry) → ((b : ℕ) → held_at v client b ≡ found b table)
     → order_in v client ≡ blocks table
     → IsTable v.limit v.blocks table → find (λ b. has_copy (held_at v client b)) (order_in v client) ≡ oldest_in table

@@ -18,24 +18,29 @@ pub not_first : (here : Bool) (held : Held) (rest : Option Held) → (if here th
 not_first true held rest h = cc
 not_first false held rest h = (refl, h)
 
+-- blocks that differ do so either way round
 pub flipped : (a b : ℕ) → (a == b) ≡ false → (b == a) ≡ false
 flipped a b h = grind (arith, nat_tests)
 
+-- a block is itself
 pub same : (a : ℕ) → (a == a) ≡ true
 same a = eq-eqb a a refl
 
 -- ## An entry put last
 
+-- an entry put last leaves what the table has of another block
 pub found-append_other : (b : ℕ) (x : Entry) (es : List Entry) → (x.block == b) ≡ false → found b (es ++ x ∷ []) ≡ found b es
 found-append_other b x [] o = rw o refl
 found-append_other b x (e ∷ rest) o = rw (found-append_other b x rest o) refl
 
+-- and is what the table then has of its own block, where it had nothing
 pub found-append_here : (x : Entry) (es : List Entry) → found x.block es ≡ None → found x.block (es ++ x ∷ []) ≡ Some x.held
 found-append_here x [] n = rw (same x.block) refl
 found-append_here x (e ∷ rest) n =
     let p = not_first (e.block == x.block) e.held (found x.block rest) n in
     rw (p.0) (found-append_here x rest p.1)
 
+-- the blocks stay apart where an entry is put last of a block of the memory that had none
 pub AreApart-append : (n : ℕ) (x : Entry) (es : List Entry) → AreApart n es → found x.block es ≡ None → x.block < n
     → AreApart n (es ++ x ∷ [])
 AreApart-append n x [] a f l = (l, refl, tt)
@@ -54,6 +59,7 @@ out_other true block b e rest h o ih =
     rw other refl
 out_other false block b e rest h o ih = rw ih refl
 
+-- what the table has of another block stays where an entry is taken out
 pub found-without_other : (block b : ℕ) (es : List Entry) → (block == b) ≡ false → found b (without block es) ≡ found b es
 found-without_other block b [] o = refl
 found-without_other block b (e ∷ rest) o = out_other (e.block == block) block b e rest refl o (found-without_other block b rest o)
@@ -64,6 +70,7 @@ out_none : (here : Bool) (block b : ℕ) (e : Entry) (rest : List Entry) → (e.
 out_none true block b e rest o n ih = n
 out_none false block b e rest o n ih = rw o ih
 
+-- a block without an entry has none either after one is taken out
 pub found-without_none : (block b : ℕ) (es : List Entry) → found b es ≡ None → found b (without block es) ≡ None
 found-without_none block b [] n = refl
 found-without_none block b (e ∷ rest) n =
@@ -87,6 +94,7 @@ out_apart : (here : Bool) (n block : ℕ) (e : Entry) (rest : List Entry) → Ar
 out_apart true n block e rest a ih = a.2
 out_apart false n block e rest a ih = (a.0, found-without_none block e.block rest a.1, ih)
 
+-- the blocks stay apart where an entry is taken out
 pub AreApart-without : (n block : ℕ) (es : List Entry) → AreApart n es → AreApart n (without block es)
 AreApart-without n block [] a = tt
 AreApart-without n block (e ∷ rest) a = out_apart (e.block == block) n block e rest a (AreApart-without n block rest a.2)
@@ -97,6 +105,7 @@ out_shorter : (here : Bool) (block : ℕ) (e : Entry) (rest : List Entry) → le
 out_shorter true block e rest ih = omega arith
 out_shorter false block e rest ih = omega arith
 
+-- a table gets no longer where an entry is taken out
 pub length-without : (block : ℕ) (es : List Entry) → length (without block es) ≤ length es
 length-without block [] = omega arith
 length-without block (e ∷ rest) = out_shorter (e.block == block) block e rest (length-without block rest)
@@ -128,6 +137,7 @@ new_other true block b held e rest h o ih =
     rw (o, other) refl
 new_other false block b held e rest h o ih = rw ih refl
 
+-- what the table has of another block stays where an entry is changed
 pub found-replaced_other : (block b : ℕ) (held : Held) (es : List Entry) → (block == b) ≡ false
     → found b (replaced block held es) ≡ found b es
 found-replaced_other block b held [] o = refl
@@ -142,6 +152,7 @@ new_here : (here : Bool) (block : ℕ) (held old : Held) (e : Entry) (rest : Lis
 new_here true block held old e rest h f ih = rw (same block) refl
 new_here false block held old e rest h f ih = rw h (ih f)
 
+-- a block that has an entry has the new copy once it is changed
 pub found-replaced_here : (block : ℕ) (held old : Held) (es : List Entry) → found block es ≡ Some old
     → found block (replaced block held es) ≡ Some held
 found-replaced_here block held old [] f = cc
@@ -158,6 +169,7 @@ new_none true block b held e rest h o n ih =
     rw other n
 new_none false block b held e rest h o n ih = rw o ih
 
+-- a block without an entry has none either after one is changed
 pub found-replaced_none : (block b : ℕ) (held : Held) (es : List Entry) → found b es ≡ None
     → found b (replaced block held es) ≡ None
 found-replaced_none block b held [] n = refl
@@ -174,6 +186,7 @@ new_apart true n block held e rest h a ih =
     (subst (λ b. b < n) is a.0, subst (λ b. found b rest ≡ None) is a.1, a.2)
 new_apart false n block held e rest h a ih = (a.0, found-replaced_none block e.block held rest a.1, ih)
 
+-- the blocks stay apart where an entry is changed
 pub AreApart-replaced : (n block : ℕ) (held : Held) (es : List Entry) → AreApart n es → AreApart n (replaced block held es)
 AreApart-replaced n block held [] a = tt
 AreApart-replaced n block held (e ∷ rest) a =
@@ -186,6 +199,7 @@ new_length : (here : Bool) (block : ℕ) (held : Held) (e : Entry) (rest : List 
 new_length true block held e rest ih = omega arith
 new_length false block held e rest ih = omega arith
 
+-- a table stays as long as it is where an entry is changed
 pub length-replaced : (block : ℕ) (held : Held) (es : List Entry) → length (replaced block held es) ≡ length es
 length-replaced block held [] = refl
 length-replaced block held (e ∷ rest) = new_length (e.block == block) block held e rest (length-replaced block held rest)
@@ -247,6 +261,7 @@ IsTable-kept limit n block held es t l r = record {
   apart = kept_apart (is_granted (found block es) held) n block held es t.apart l;
 }
 
+-- and it stays one where an entry is taken out
 pub IsTable-without : (limit n block : ℕ) (es : List Entry) → IsTable limit n es → IsTable limit n (without block es)
 IsTable-without limit n block es t = record {
   short = omega (arith, t.short, length-without block es);
@@ -275,6 +290,7 @@ out_order : (here : Bool) (block : ℕ) (e : Entry) (rest : List Entry)
 out_order true block e rest ih = refl
 out_order false block e rest ih = rw ih refl
 
+-- an entry taken out takes its block out of the order
 pub order-without : (block : ℕ) (es : List Entry) → blocks (without block es) ≡ order_without block (blocks es)
 order-without block [] = refl
 order-without block (e ∷ rest) = out_order (e.block == block) block e rest (order-without block rest)
@@ -299,6 +315,7 @@ kept_order true block held es =
     ∙ ap (λ (xs : List ℕ). xs ++ block ∷ []) (order-without block es)
 kept_order false block held es = order-replaced block held es
 
+-- a kept copy moves its block to the end of the order if its entry is new or its Grant came, and else leaves the order
 pub order-kept : (block : ℕ) (held : Held) (es : List Entry)
     → blocks (kept block held es) ≡ order_after (is_granted (found block es) held) block (blocks es)
 order-kept block held es = kept_order (is_granted (found block es) held) block held es

@@ -33,6 +33,7 @@ outward_of-append x (e ∷ rest) apart quiet b =
       | inr other ↦ rw (ne_eqb e.block b other) later
     ]
 
+-- the blocks stay apart where something comes to pass of one of which nothing passed
 pub AreApart-append : (x : Crossing) (list : List Crossing) → AreApart list → outward_of x.block list ≡ Quiet → x.outward ≢ Quiet
     → AreApart (list ++ x ∷ [])
 AreApart-append x [] apart quiet passes = (passes, refl, tt)
@@ -66,6 +67,7 @@ outward_of-without block (e ∷ rest) apart b =
           ])
     ]
 
+-- the blocks stay apart where what passes of one is taken
 pub AreApart-without : (block : ℕ) (list : List Crossing) → AreApart list → AreApart (without block list)
 AreApart-without block [] apart = tt
 AreApart-without block (e ∷ rest) apart =

@@ -23,14 +23,17 @@ pub not_flip : (b : Bool) (negated : Bool) → not b ≡ negated → b ≡ not n
 not_flip true negated is = ap (λ x. not x) is
 not_flip false negated is = ap (λ x. not x) is
 
+-- where the test says that a way has a tag, it has it
 has_tag-is : (tag : Option ℕ) (other : ℕ) → has_tag tag other ≡ true → tag ≡ Some other
 has_tag-is None other is = absurd (cc)
 has_tag-is (Some tag) other is = ap Some (eqb-true tag other is)
 
+-- and where it has it, the test says so
 has_tag-same : (tag : Option ℕ) (other : ℕ) → tag ≡ Some other → has_tag tag other ≡ true
 has_tag-same None other is = absurd (cc)
 has_tag-same (Some tag) other is = eq-eqb tag other (cc)
 
+-- and where it has not, the test fails
 has_tag-not : (tag : Option ℕ) (other : ℕ) → tag ≢ Some other → has_tag tag other ≡ false
 has_tag-not None other never = refl
 has_tag-not (Some tag) other never = ne_eqb tag other (λ same. never (ap Some same))
@@ -49,10 +52,12 @@ pub record IsThere (d : Directory) (block way : ℕ) : Type 0 where
   pub inside : way < d.table.ways
   pub tag : tag_at d.table (set_of d.geometry block) way ≡ Some (tag_of d.geometry block)
 
+-- a way that is given only for a block of the bank: the block is of the bank, and that is its way
 in_bank : (own : Bool) (way : Option ℕ) (found : ℕ) → (if own then way else None) ≡ Some found → (own ≡ true) × (way ≡ Some found)
 in_bank true way found is = (refl, is)
 in_bank false way found is = absurd (cc)
 
+-- in the way in which a block lies its tag stands
 pub IsThere-of : (d : Directory) (block way : ℕ) → way_of d block ≡ Some way → IsThere d block way
 unfolding way_of
 IsThere-of d block way is =
@@ -123,6 +128,7 @@ way_of-no_line d block none = of_line (way_of d block) none
     of_line None is = refl
     of_line (Some way) is = absurd (cc)
 
+-- home records nothing for any client of a block that lies nowhere
 pub recorded_of-none : (d : Directory) (client block : ℕ) → way_of d block ≡ None → recorded_of d client block ≡ NoAccess
 unfolding recorded_of
 recorded_of-none d client block none = rw none refl
@@ -277,6 +283,7 @@ pub record Replaces (d after : Directory) (block set way : ℕ) (old new : Entry
 pub here_true : (x y : ℕ) → (x == x && y == y) ≡ true
 here_true x y = rw (eq-eqb x x refl, eq-eqb y y refl) refl
 
+-- another way is another place
 pub at_way : (x y set way : ℕ) → y ≢ way → (x == set && y == way) ≡ false
 at_way x y set way apart = rw (ne_eqb y way apart) (and_false (x == set))
   where
@@ -495,11 +502,13 @@ held-found m g bank t s block set tag way entry view own sets tags inside tagged
       alone = rw same alone;
     })
 
+-- a block whose tag no way of its set has lies nowhere
 pub none-found : (m : Directory) (g : Numbers) (bank : ℕ) (t : Table) (s : Store) (block set tag : ℕ)
     → dir g bank t s ≡ m → set ≡ set_of g block → tag ≡ tag_of g block → ((way : ℕ) → tag_at t set way ≢ Some tag) → way_of m block ≡ None
 none-found m g bank t s block set tag view sets tags none =
     subst (λ (d : Directory). way_of d block ≡ None) view (way_of-none (dir g bank t s) block (rw (← sets, ← tags) none))
 
+-- a block of another bank lies nowhere
 pub elsewhere : (m : Directory) (g : Numbers) (bank : ℕ) (t : Table) (s : Store) (block : ℕ) → dir g bank t s ≡ m → bank_of g block ≢ bank
     → way_of m block ≡ None
 elsewhere m g bank t s block view other =
@@ -524,6 +533,7 @@ entry_inside d set way entry sound is =
       | inr (inr more) ↦ absurd (let none = sound.outside set way (omega arith) in cc)
     ]
 
+-- a way that has a tag has an entry with that tag
 line_of_tag : (line : Option Entry) (tag : ℕ) → tag_in_line line ≡ Some tag → (entry : Entry) × (line ≡ Some entry) × (entry.tag ≡ tag)
 line_of_tag None tag is = absurd (cc)
 line_of_tag (Some entry) tag is = (entry, refl, cc)
@@ -615,6 +625,7 @@ pub block_found : (g : Numbers) (bank set tag : ℕ) (found : Option ℕ) → Is
 block_found g bank set tag None placed none = absurd (none placed.block placed.inside placed.place)
 block_found g bank set tag (Some block) placed none = refl
 
+-- where the test says that a way has no entry, it has none
 none_free : (line : Option Entry) → is_none line ≡ true → line ≡ None
 none_free None is = refl
 none_free (Some entry) is = absurd (cc)
@@ -626,6 +637,7 @@ free_line m g bank t s set way view free = none_free (line_at t set way) (sym (f
 
 -- ## A directory that is made
 
+-- where no way has an entry, no block lies in any
 pub ways-fresh : (g : Numbers) (bank : ℕ) (t : Table) (s : Store) → ((set way : ℕ) → line_at t set way ≡ None) → (b : ℕ)
     → way_of (dir g bank t s) b ≡ None
 ways-fresh g bank t s free b =

@@ -19,10 +19,12 @@ use Rattle.tl_job.specs.Job.{tlcache, job_of, asked_in, asked_of, unless_refused
 
 -- ## The command line
 
+-- the command line is one of which the words give the matches
 pub tlcache_is_simple : is_simple tlcache ≡ true
 unfolding clap_on_literals
 tlcache_is_simple = refl
 
+-- and no argument of it has a rule on another
 pub tlcache_is_free : is_simple_and_free tlcache ≡ true
 unfolding clap_on_literals
 tlcache_is_free = refl

@@ -60,6 +60,7 @@ AreKeys-append old new key message keys k n u =
     let apart : NotAmong key keys = fresh old key keys k n in
     one_more_key new key keys (same_keys old new key (Some message) keys u apart k) apart (rw u.changed refl)
 
+-- and it is the last of the messages in order
 pub in_order-append : (old new : Slab Message) (key : ℕ) (message : Message) (keys : List ℕ)
     → AreKeys old keys → get old key ≡ None → Updates old new key (Some message)
     → in_order new (keys ++ key ∷ []) ≡ in_order old keys ++ message ∷ []

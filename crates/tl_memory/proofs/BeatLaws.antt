@@ -21,6 +21,7 @@ pub AreBeats-append : (beats : List (List ℕ)) (beat : List ℕ) → AreBeats b
 AreBeats-append [] beat h l = (l, tt)
 AreBeats-append (x ∷ rest) beat h l = (h.0, AreBeats-append rest beat h.1 l)
 
+-- its bytes come last
 pub concat-last : (beats : List (List ℕ)) (beat : List ℕ) → concat (beats ++ beat ∷ []) ≡ concat beats ++ beat
 concat-last beats beat = concat-append beats (beat ∷ []) ∙ ap (λ (xs : List ℕ). concat beats ++ xs) (append-nil beat)
 

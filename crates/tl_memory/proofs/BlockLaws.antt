@@ -164,5 +164,6 @@ IsAddress-of_block g block h some = record {
   aligned = mul-mod_left block g.block_bytes;
 }
 
+-- and the block at it is that block
 pub block_at-of_block : (g : Numbers) (block : ℕ) → 0 < g.block_bytes → block_at g (block * g.block_bytes) ≡ block
 block_at-of_block g block some = mul-div_cancel block some

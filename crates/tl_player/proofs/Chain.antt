@@ -6,6 +6,7 @@ use Rattle.tl_trace.specs.declared.answer.Answer.{Answer}
 use Rattle.tl_player.specs.Plays.{Performs, Plays}
 use Rattle.tl_player.specs.Stage.{Stage}
 
+-- one more step after some that were played is played with them, and its answer comes last
 pub performs-push : (index : ℕ) (steps : List Step) (old mid new : Stage) (answers : List Answer) (step : Step) (answer : Answer)
     → Performs index steps old answers mid → Plays (index + length steps) step mid new answer
     → Performs index (steps ++ step ∷ []) old (answers ++ answer ∷ []) new

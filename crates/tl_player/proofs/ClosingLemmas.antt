@@ -7,6 +7,7 @@ use Rattle.tl_trace.specs.declared.closing.BankClosing.{BankClosing}
 use Rattle.tl_player.specs.Closing.{Close, Closes}
 use Rattle.tl_player.specs.Stage.{SiteState}
 
+-- the closings of some banks, and that of one more, are the closings of all of them
 pub Close-push : (sites : List SiteState) (closings : List BankClosing) (site : SiteState) (closing : BankClosing)
     → Close sites closings → Closes site.bank closing → Close (sites ++ site ∷ []) (closings ++ closing ∷ [])
 Close-push [] [] site closing h last = (last, tt)

@@ -51,6 +51,7 @@ done-by v w own due_Get x run all =
 done-by v w own (due_Put block) x run all = written v w block x all
 done-by v w own (due_Drop block) x run all = tt
 
+-- what `advance` of a block says it sent is there
 pub advance-done : (v w : View) (own : ℕ) (action : Action) → Advances v w own action
     → IsRun (shape_of w.geometry) w.image w.log → AllOwn w → IsDone w own action
 advance-done v w own action a run all =

@@ -20,6 +20,7 @@ pub record Extends (v w : View) (e : Event) : Type 0 where
   pub image : w.image ≡ v.image
   pub log : w.log ≡ v.log ++ e ∷ []
 
+-- a call that appends an event leaves the same bank, with that event more in its log
 pub extends-appends : (v w : View) (e : Event) → Appends v w e → Extends v w e
 extends-appends v w e a = record {
   geometry = ap (λ (t : View). t.geometry) a.is;
@@ -28,6 +29,7 @@ extends-appends v w e a = record {
   log = ap (λ (t : View). t.log) a.is;
 }
 
+-- and so does one that may also change the open registers and the ways
 pub extends-serves :
     (v w : View) (e : Event) (registers : List Register) (ways : ℕ → Option ℕ) → Serves v w e registers ways → Extends v w e
 extends-serves v w e registers ways s = record {

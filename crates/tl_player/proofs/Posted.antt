@@ -94,12 +94,14 @@ away c k l lane other = rw (other, and-false (c == c)) refl
 
 -- ## Each event that sends
 
+-- an Acquire that a client sent waits where its ticket says
 pub there-acquire : (v w : View) (c b : ℕ) (grow : Grow) → Extends v w (SendAcquire c b grow)
     → IsRun (shape_of w.geometry) w.image w.log → IsThere w (next_ticket v c A)
 there-acquire v w c b grow x run =
     let e : Event = SendAcquire c b grow in
     there v w e c A (AcquireBlock grow) x (may-next v w e x run).1.0 refl (λ lane. refl)
 
+-- so does a Release that a client sent
 pub there-release : (v w : View) (c b : ℕ) (prune : Prune) → Extends v w (SendRelease c b prune)
     → IsRun (shape_of w.geometry) w.image w.log → IsThere w (next_ticket v c C)
 there-release v w c b prune x run =
@@ -112,6 +114,7 @@ answer-posts : (c : ℕ) (k : Client) (caps : List ProbeCap) → HasFirst caps
 answer-posts c k [] first = let no : [] ≡ first.0 ∷ first.1 = first.2 in cc
 answer-posts c k (cap ∷ rest) first = (_, refl)
 
+-- so does a client's answer to a Probe
 pub there-answer : (v w : View) (c b : ℕ) → Extends v w (AnswerProbe c b)
     → IsRun (shape_of w.geometry) w.image w.log → IsThere w (next_ticket v c C)
 there-answer v w c b x run =
@@ -120,12 +123,14 @@ there-answer v w c b x run =
     let post = answer-posts c ((block_at v b).client c) ((block_at v b).client c).b may.1.1.0 in
     there v w e c C post.0 x may.1.0 post.1 (λ lane. away c B C lane refl)
 
+-- so does the GrantAck that a client sends as it takes a Grant
 pub there-grant-ack : (v w : View) (c b : ℕ) → Extends v w (TakeGrant c b)
     → IsRun (shape_of w.geometry) w.image w.log → IsThere w (next_ticket v c E)
 there-grant-ack v w c b x run =
     let e : Event = TakeGrant c b in
     there v w e c E GrantAck x (may-next v w e x run).1.0 refl (λ lane. away c D E lane refl)
 
+-- so does a Probe that home sent
 pub there-probe : (v w : View) (c b : ℕ) (cap : ProbeCap) → Extends v w (SendProbe c b cap)
     → IsRun (shape_of w.geometry) w.image w.log → IsThere w (next_ticket v c B)
 there-probe v w c b cap x run =
@@ -138,6 +143,7 @@ grant-posts : (shape : Shape) (s : Block) (c : ℕ) (accepted : Option Accepted)
 grant-posts shape s c None acquire is = cc
 grant-posts shape s c (Some first) acquire is = (_, refl)
 
+-- so does a Grant that home sent
 pub there-grant : (v w : View) (c b : ℕ) → Extends v w (SendGrant c b)
     → IsRun (shape_of w.geometry) w.image w.log → IsThere w (next_ticket v c D)
 there-grant v w c b x run =
@@ -169,6 +175,7 @@ acks v c (message ∷ rest) lawful is release =
     let first = (every_first_is_first k).on_c message.body (bodies_of message.block rest) heads in
     release-posts c k.c message.body first.0 first.1 first.2 first.3 release
 
+-- the ReleaseAck that home sends as it takes a Release waits where its ticket says
 pub there-ack : (v w : View) (c : ℕ) → Lawful (shape_of v.geometry) v.image v.log
     → begins is_a_release (lane_at v c C).messages ≡ true
     → Extends v w (TakeC c (first_block (lane_at v c C).messages)) → IsRun (shape_of w.geometry) w.image w.log

@@ -4,6 +4,7 @@ use Rattle.tl_bank_spec.specs.Share.{Holding, first_shares}
 use Rattle.tl_map.specs.Numbers.{Numbers}
 use Rattle.tl_player.specs.Stage.{AreFresh, IsFresh, SiteState}
 
+-- banks at reset, and one more with the next number, are all at reset
 pub AreFresh-push : (g : Numbers) (image : List ℕ) (number : ℕ) (sites : List SiteState) (site : SiteState)
     → AreFresh g image number sites → IsFresh g image (number + length sites) site
     → AreFresh g image number (sites ++ site ∷ [])
@@ -22,6 +23,7 @@ fresh-more g image sites more site number n h count is fresh after =
     subst (λ (xs : List SiteState). AreFresh g image 0 xs) (sym after)
     (AreFresh-push g image 0 sites site h (subst (λ (k : ℕ). IsFresh g image k site) at fresh))
 
+-- with one more bank there is one more than there were
 pub count-more : (sites more : List SiteState) (site : SiteState) (n : ℕ) → length sites ≡ n → more ≡ sites ++ site ∷ []
     → length more ≡ n + 1
 count-more sites more site n count after = rw after (omega (arith, length-append sites (site ∷ [])))
@@ -33,5 +35,6 @@ length-first_shares bank (suc n) =
     let last : Holding = record { client = n; bank = bank; count = 0 } in
     omega (arith, length-append (first_shares bank n) (last ∷ []), length-first_shares bank n)
 
+-- where there are clients there are shares
 pub some-shares : (bank n : ℕ) (shares : List Holding) → shares ≡ first_shares bank n → 0 < n → 0 < length shares
 some-shares bank n shares is some = rw is (omega (arith, length-first_shares bank n))

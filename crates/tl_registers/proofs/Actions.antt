@@ -99,5 +99,6 @@ due-of r Get h = h
 due-of r (Put block) h = h
 due-of r (Drop block) h = h
 
+-- what a register does next is of the register
 pub every-action-is-of-its-register : EveryActionIsOfItsRegister
 every-action-is-of-its-register shape states r due h = due-of r due (task-is shape states r r.task due h)

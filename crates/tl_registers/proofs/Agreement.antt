@@ -31,6 +31,7 @@ probes-kept shape s later r asking cap k h = λ x l. (k.probes x).keeps cap (has
 nobody-kept : (shape : Shape) (s later : Block) → Keeps s later → NobodyIsProbed shape s.client → NobodyIsProbed shape later.client
 nobody-kept shape s later k h = λ x l. (k.probes x).brings_none (h x l)
 
+-- a block that is kept still leaves home
 pub leaves-kept : (shape : Shape) (s later : Block) (r : Register) → Keeps s later → Leaves shape s r → Leaves shape later r
 leaves-kept shape s later r k h = record {
   probes = probes-kept shape s later r None ToN k h.probes;
@@ -52,6 +53,7 @@ was-pending shape s later k pending =
           cc
     ]
 
+-- a block that is kept is still served
 pub served-kept : (shape : Shape) (s later : Block) (r : Register) (acquire : Accepted) → Keeps s later → IsServed shape s r acquire
     → IsServed shape later r acquire
 served-kept shape s later r acquire k h = record {
@@ -62,9 +64,11 @@ served-kept shape s later r acquire k h = record {
   held = λ pending. let line = h.held (was-pending shape s later k pending) in k.holds line.0 line.1;
 }
 
+-- a block that is kept still waits until the victim has left its way
 pub awaits-kept : (s later : Block) → Keeps s later → Awaits s → Awaits later
 awaits-kept s later k h = record { lacks = k.brings_none h.quiet h.lacks; quiet = k.quiet h.quiet }
 
+-- a block that is kept stays at rest
 pub rest-kept : (shape : Shape) (s later : Block) → Keeps s later → IsAtRest shape s → IsAtRest shape later
 rest-kept shape s later k h = record {
   not_accepted = k.accepted ∙ h.not_accepted;
@@ -82,9 +86,11 @@ KeepsFor states later r = (block : ℕ) → works_on r block ≡ true → Keeps 
 abbrev pub WorksOn : Register → Task → ℕ → Type 0
 WorksOn r task block = (r.own == block) || is_block block (victim_in r.own task) ≡ true
 
+-- a register works on its own block
 pub on-own : (r : Register) (task : Task) → WorksOn r task r.own
 on-own r task = rw (eq-eqb r.own r.own refl) refl
 
+-- and on its victim
 pub on-victim : (r : Register) (acquire : Accepted) (victim : ℕ) → WorksOn r (Replace acquire victim) victim
 on-victim r acquire victim = rw (eq-eqb victim victim refl) (or-true (r.own == victim))
 
@@ -115,6 +121,7 @@ each-kept shape states later [] k h = tt
 each-kept shape states later (r ∷ rest) k h =
     (fits-kept shape states later r (λ block on. k block) h.0, each-kept shape states later rest k h.1)
 
+-- after an event that leaves the registers they still agree with the state
 pub events-leave-registers : EventsLeaveRegisters
 events-leave-registers shape states registers e leaves steady agree =
     let later : ℕ → Block = after_next shape states e in
@@ -129,6 +136,7 @@ events-leave-registers shape states registers e leaves steady agree =
       apart = agree.apart;
     }
 
+-- at reset, with no register, all agree
 pub agree-at-reset : AgreeAtReset
 agree-at-reset shape image = record {
   fits = tt;
@@ -136,6 +144,7 @@ agree-at-reset shape image = record {
   apart = tt;
 }
 
+-- a run leaves each block as every run keeps it
 pub every-run-is-steady : EveryRunIsSteady
 every-run-is-steady shape image events run = record {
   orderly = every_run_keeps_messages shape image events run;

@@ -65,6 +65,7 @@ client-keeps s c k one = record {
   holds = λ line h. (line, h);
 }
 
+-- a block to which nothing happens is kept
 pub nothing-keeps : (s : Block) → Keeps s s
 nothing-keeps s = record {
   accepted = refl;
@@ -204,6 +205,7 @@ take_data-keeps s PutAck is = nothing-keeps s
 
 -- ## Each event that leaves the registers
 
+-- each event that leaves the registers keeps its block
 pub event-keeps : (shape : Shape) (s : Block) (e : Event) → LeavesRegisters e → IsServiceAt shape s
     → ((x : ℕ) → IsOrderly (s.client x)) → Keeps s (after shape s e)
 event-keeps shape s (Load access) leaves kept orderly = nothing-keeps s

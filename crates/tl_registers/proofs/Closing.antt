@@ -40,6 +40,7 @@ abbrev WorksHow : Shape → (ℕ → Block) → Register → ℕ → Type 0
 WorksHow shape states q block =
     Leaves shape (states block) q ⊎ ((acquire : Accepted) × IsServed shape (states block) q acquire × (q.own ≡ block))
 
+-- where a register serves its own block, and this is that block, it serves this one
 served-at : (shape : Shape) (states : ℕ → Block) (q : Register) (block : ℕ) (acquire : Accepted) → (q.own == block) ≡ true
     → IsServed shape (states q.own) q acquire → WorksHow shape states q block
 served-at shape states q block acquire t h =
@@ -47,11 +48,13 @@ served-at shape states q block acquire t h =
     let P = λ (b : ℕ). IsServed shape (states b) q acquire in
     inr (acquire, subst P e h, e)
 
+-- where it sends a block away, and this is that block, it sends this one away
 leaves-at : (shape : Shape) (states : ℕ → Block) (q : Register) (victim block : ℕ) → (victim == block) ≡ true
     → Leaves shape (states victim) q → WorksHow shape states q block
 leaves-at shape states q victim block t h =
     let P = λ (b : ℕ). Leaves shape (states b) q in inl (subst P (eqb-true victim block t) h)
 
+-- a register whose task fits sends away each block that it works on, or serves it as its own
 works-how : (shape : Shape) (states : ℕ → Block) (q : Register) (task : Task) (block : ℕ) → TaskFits shape states q task
     → WorksOn q task block → WorksHow shape states q block
 works-how shape states q (Acquire acquire) block h on =
@@ -107,6 +110,7 @@ granted-probe shape s q acquire c k x client-is b c-is h =
           })
     ]
 
+-- the task of a register that works on the block whose Grant is sent still fits
 granted-fits : (shape : Shape) (states later : ℕ → Block) (q : Register) (task : Task) (c own : ℕ) (grow : Grow) (line : Line)
     (k : Client) → (states own).accepted ≡ Some (record { client = c; grow = grow }) → (states own).home ≡ Some line
     → later own ≡ with_client (states own) c k → k.b ≡ ((states own).client c).b → k.c ≡ ((states own).client c).c
@@ -173,6 +177,7 @@ rest-at shape states e block same other =
       | inr q ↦ let P = λ (s : Block). IsAtRest shape s in subst P (sym (elsewhere shape states e block q)) (other q)
     ]
 
+-- a Grant that is permitted keeps the agreement
 pub granting-keeps-agreement : GrantingKeepsAgreement
 granting-keeps-agreement shape states registers c own agree may =
     let e = SendGrant c own in
@@ -243,6 +248,7 @@ same-marks shape states q marked (Replace acquire victim) h = (
 same-marks shape states q marked Evict h =
     record { probes = h.probes; not_accepted = h.not_accepted; gone = h.gone; putting = h.putting }
 
+-- what a register still sends away once a victim is gone is a block of the memory, where it was before
 below-without : (blocks own victim : ℕ) (task : Task) → IsBelow blocks (victim_in own task)
     → IsBelow blocks (victim_in own (task_without victim task))
 below-without blocks own victim (Acquire acquire) h = h
@@ -346,6 +352,7 @@ end-agrees shape states later registers victim agree served other rest =
       apart = apart-map f (filter test registers) (λ q block on. fewer-works q.own victim block q.task on) (apart-filter test registers agree.apart);
     }
 
+-- a drop that is permitted, and ends the victim, keeps the agreement
 pub dropping-keeps-agreement : DroppingKeepsAgreement
 dropping-keeps-agreement shape states registers block agree may =
     let e = Drop block in
@@ -365,6 +372,7 @@ no-copy : (shape : Shape) (s : Block) (home : Option Line) → IsServiceAt shape
 no-copy shape s None kept is out = is
 no-copy shape s (Some line) kept is out = let quiet = kept.quiet line is in let bad : PutAck ≡ Quiet = sym out ∙ quiet in cc
 
+-- a block whose Put is acknowledged is at rest once the acknowledgement is taken
 acknowledged : (shape : Shape) (states : ℕ → Block) (registers : List Register) (victim : ℕ) → IsServiceAt shape (states victim)
     → Agree shape states registers → (states victim).outward ≡ PutAck → IsAtRest shape (record (states victim) { outward = Quiet })
 acknowledged shape states registers victim kept agree out =
@@ -382,6 +390,7 @@ acknowledged shape states registers victim kept agree out =
           ]
     ]
 
+-- a victim that ends when its Put's acknowledgement is taken keeps the agreement
 pub ending-keeps-agreement : EndingKeepsAgreement
 ending-keeps-agreement shape states registers victim steady agree may =
     let e = TakePutAck victim in
@@ -393,6 +402,7 @@ ending-keeps-agreement shape states registers victim steady agree may =
 
 -- ## A Put
 
+-- an idle block that leaves home still does once its Put is sent
 put-leaves : (shape : Shape) (s later : Block) (q : Register) (bytes : List ℕ) → Idle shape s
     → later ≡ record s { home = None; outward = Put bytes } → Leaves shape s q → Leaves shape later q
 put-leaves shape s later q bytes idle now h =
@@ -408,6 +418,7 @@ put-leaves shape s later q bytes idle now h =
 idle-served : (shape : Shape) (s : Block) (q : Register) (acquire : Accepted) → Idle shape s → IsServed shape s q acquire → ⊥
 idle-served shape s q acquire idle served = let bad : None ≡ Some acquire = sym idle.not_accepted ∙ served.accepted in cc
 
+-- a block that a register sends away still leaves home when an idle block's Put is sent, that one's or another's
 put-away : (shape : Shape) (states later : ℕ → Block) (q : Register) (victim block : ℕ) (bytes : List ℕ)
     → Idle shape (states block) → later block ≡ record (states block) { home = None; outward = Put bytes }
     → ((b : ℕ) → b ≢ block → later b ≡ states b) → Leaves shape (states victim) q → Leaves shape (later victim) q
@@ -420,6 +431,7 @@ put-away shape states later q victim block bytes idle now other h =
       | inr e ↦ let P = λ (s : Block). Leaves shape s q in subst P (sym (other victim e)) h
     ]
 
+-- a task still fits when an idle block's Put is sent
 put-task : (shape : Shape) (states later : ℕ → Block) (q : Register) (task : Task) (block : ℕ) (bytes : List ℕ)
     → Idle shape (states block) → later block ≡ record (states block) { home = None; outward = Put bytes }
     → ((b : ℕ) → b ≢ block → later b ≡ states b) → TaskFits shape states q task → TaskFits shape later q task
@@ -437,6 +449,7 @@ put-task shape states later q (Replace acquire victim) block bytes idle now othe
     )
 put-task shape states later q Evict block bytes idle now other h = put-away shape states later q q.own block bytes idle now other h
 
+-- a Put of a block that a register works on keeps the agreement
 pub putting-keeps-agreement : PuttingKeepsAgreement
 putting-keeps-agreement shape states registers block agree may busy =
     let e = SendPut block in
@@ -459,6 +472,7 @@ putting-keeps-agreement shape states registers block agree may busy =
 
 -- ## The GrantAck is taken
 
+-- while its GrantAck is on its way a client's Grant is pending
 granted-by : (k : Client) → 0 < k.e → is_granted k ≡ true
 granted-by k l =
     elim (cases_Bool (is_granted k)) [
@@ -519,6 +533,7 @@ home-holds shape states registers own acquire agree accepted pending =
           ]
     ]
 
+-- a block that is not busy once a register is closed was not before, if that register did not work on it
 free-closed : (own block : ℕ) (registers : List Register) → Each (λ q. (q.own == own) ≡ true → works_on q block ≡ false) registers
     → is_busy block (closed own registers) ≡ false → is_busy block registers ≡ false
 free-closed own block [] each h = refl
@@ -537,12 +552,14 @@ free-closed own block (q ∷ rest) each h =
           rw (here, more) refl
     ]
 
+-- a client at which no Grant is pending has none pending once a GrantAck is taken
 pub fewer-acks : (k : Client) → is_granted k ≡ false → is_granted (took_grant_ack k) ≡ false
 fewer-acks k h =
     let free = grant-free k h in
     let none : k.e - 1 ≡ 0 = omega (arith, free.1) in
     free-grant (took_grant_ack k) (free.0, none)
 
+-- a register that closes when its GrantAck is taken keeps the agreement
 pub closing-keeps-agreement : ClosingKeepsAgreement
 closing-keeps-agreement shape states registers c own steady agree may =
     let e = TakeGrantAck c own in

@@ -95,6 +95,7 @@ evict-works own block way on =
       | inr e ↦ let bad : (own == block) || (own == block) ≡ false = rw e refl in cc
     ]
 
+-- an evict register that opens for a block that no register works on keeps the agreement
 pub evicting-keeps-agreement : EvictingKeepsAgreement
 evicting-keeps-agreement shape states registers own way steady agree few known free =
     let r = opened own way Evict in
@@ -117,6 +118,7 @@ pub elsewhere : (shape : Shape) (states : ℕ → Block) (e : Event) (block : �
     → after_next shape states e block ≡ states block
 elsewhere shape states e block ne = rw (ne_eqb block (block_of shape e) ne) refl
 
+-- and its own is as the event leaves it
 pub here : (shape : Shape) (states : ℕ → Block) (e : Event) (block : ℕ) → block ≡ block_of shape e
     → after_next shape states e block ≡ after shape (states block) e
 here shape states e block is = rw (eq-eqb block (block_of shape e) is) refl
@@ -230,6 +232,7 @@ acquire-fits shape states later registers c own grow rest way (Some victim) stea
       );
     }
 
+-- a register that opens for an accepted Acquire, of blocks that no register works on, keeps the agreement
 pub accepting-keeps-agreement : AcceptingKeepsAgreement
 accepting-keeps-agreement shape states registers c own grow rest way victim steady agree few may is free out =
     let e = AcceptAcquire c own in

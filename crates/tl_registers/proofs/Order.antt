@@ -119,6 +119,7 @@ first-of R held (x ∷ rest) w r h =
           )
     ]
 
+-- the first way of the order that no register holds is the one granted longest ago
 pub first-in-order-is-oldest : FirstInOrderIsOldest
 first-in-order-is-oldest slots held filling log order w ordered holds h =
     let k = first-of (IsNoLater slots filling log) held order w ordered.rises h in
@@ -147,10 +148,12 @@ free-rises slots filling log [] free = tt
 free-rises slots filling log (w ∷ rest) free =
     (λ v m block other f g here there. let none = free w in cc, free-rises slots filling log rest free)
 
+-- a set whose ways are all free is in any order that has just its ways
 pub free-set-is-in-order : FreeSetIsInOrder
 free-set-is-in-order slots filling log order free all only =
     record { rises = free-rises slots filling log order free; all = all; only = only }
 
+-- an event that grants no block of the set keeps the order
 pub other-events-keep-order : OtherEventsKeepOrder
 other-events-keep-order slots filling log order e ordered other = record {
   rises = before-follows (IsNoLater slots filling log) (IsNoLater slots filling (log ++ e ∷ [])) order
@@ -163,6 +166,7 @@ other-events-keep-order slots filling log order e ordered other = record {
   only = ordered.only;
 }
 
+-- a Grant whose way is touched keeps the order
 pub grant-keeps-order : GrantKeepsOrder
 grant-keeps-order slots filling log order w block c ordered l is once =
     let e = SendGrant c block in
@@ -216,6 +220,7 @@ block_in-cleared [] w = refl
 block_in-cleared (x ∷ slots) zero = refl
 block_in-cleared (x ∷ slots) (suc w) = block_in-cleared slots w
 
+-- a block that comes into a way keeps the order
 pub placing-keeps-order : PlacingKeepsOrder
 placing-keeps-order slots filling log order w block ordered =
     let later : ℕ → Bool = λ v. filling v || (v == w) in
@@ -236,6 +241,7 @@ placing-keeps-order slots filling log order w block ordered =
       only = λ v m. omega (arith, long, ordered.only v m);
     }
 
+-- a way that is emptied keeps the order
 pub clearing-keeps-order : ClearingKeepsOrder
 clearing-keeps-order slots filling log order w ordered =
     let long : length (set slots w None) ≡ length slots = simp length-set in

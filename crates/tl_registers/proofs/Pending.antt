@@ -40,19 +40,23 @@ no-first : {X : Type 0} (xs : List X) → has_first xs ≡ false → xs ≡ []
 no-first [] h = refl
 no-first (x ∷ xs) h = cc
 
+-- where the test finds no Probe pending at a client, none is
 pub probe-free : (k : Client) → is_probed k ≡ false → NoProbePending k
 probe-free k h =
     let both = or_parts (has_first k.b) (list_any is_probe_ack k.c) h in
     (no-first k.b both.0, both.1)
 
+-- and where none is, it finds none
 pub free-probe : (k : Client) → NoProbePending k → is_probed k ≡ false
 free-probe k h = rw (h.0, h.1) refl
 
+-- where the test finds no Grant pending at a client, none is
 pub grant-free : (k : Client) → is_granted k ≡ false → NoGrantPending k
 grant-free k h =
     let both = or_parts (list_any is_grant k.d) (not (k.e == 0)) h in
     (both.0, eqb-true k.e 0 (not-false (k.e == 0) both.1))
 
+-- and where none is, it finds none
 pub free-grant : (k : Client) → NoGrantPending k → is_granted k ≡ false
 free-grant k h =
     let e : (k.e == 0) ≡ true = eq-eqb k.e 0 h.1 in
@@ -60,15 +64,19 @@ free-grant k h =
 
 -- ## All clients
 
+-- where the test finds no Probe of the block pending, none is
 pub no-probe : (shape : Shape) (s : Block) → probe_pending shape s ≡ false → NoProbe shape s
 no-probe shape s h = λ x l. probe-free (s.client x) (any_below-false (λ c. is_probed (s.client c)) shape.clients x h l)
 
+-- and where none is, it finds none
 pub probe-none : (shape : Shape) (s : Block) → NoProbe shape s → probe_pending shape s ≡ false
 probe-none shape s h = any_below-none (λ c. is_probed (s.client c)) shape.clients (λ x l. free-probe (s.client x) (h x l))
 
+-- where the test finds no Grant of the block pending, none is
 pub no-grant : (shape : Shape) (s : Block) → grant_pending shape s ≡ false → NoGrant shape s
 no-grant shape s h = λ x l. grant-free (s.client x) (any_below-false (λ c. is_granted (s.client c)) shape.clients x h l)
 
+-- and where none is, it finds none
 pub grant-none : (shape : Shape) (s : Block) → NoGrant shape s → grant_pending shape s ≡ false
 grant-none shape s h = any_below-none (λ c. is_granted (s.client c)) shape.clients (λ x l. free-grant (s.client x) (h x l))
 
@@ -99,6 +107,7 @@ pub some-granted : (shape : Shape) (s : Block) → grant_pending shape s ≡ tru
 some-granted shape s h =
     let y = any_below-some (λ c. is_granted (s.client c)) shape.clients h in (y.0, some-pending (s.client y.0) y.1)
 
+-- where the test finds nothing between home and the memory, nothing passes
 pub quiet-is : (o : Outward) → is_quiet o ≡ true → o ≡ Quiet
 quiet-is Quiet h = refl
 quiet-is Get h = cc
@@ -106,6 +115,7 @@ quiet-is (Data bytes) h = cc
 quiet-is (Put bytes) h = cc
 quiet-is PutAck h = cc
 
+-- these answers are the protocol's own
 pub pending-is-the-protocols : PendingIsTheProtocols
 pending-is-the-protocols shape s = (
   (no-probe shape s, probe-none shape s),

@@ -48,6 +48,7 @@ fetched-task shape states later q (Acquire a) acquire is now lacks h =
 fetched-task shape states later q (Replace a victim) acquire is now lacks h = cc
 fetched-task shape states later q Evict acquire is now lacks h = cc
 
+-- a Get of a register that serves its own block keeps the agreement
 pub fetching-keeps-agreement : FetchingKeepsAgreement
 fetching-keeps-agreement shape states registers r acquire agree found task may =
     let e = SendGet r.own in
@@ -276,6 +277,7 @@ free-noted own c block (q ∷ rest) h =
     let more = free-noted own c block rest both.1 in
     rw (here, more) refl
 
+-- a Probe of a register's, which it notes, keeps the agreement
 pub probing-keeps-agreement : ProbingKeepsAgreement
 probing-keeps-agreement shape states registers r c block cap steady agree found which may =
     let e = SendProbe c block cap in

@@ -9,15 +9,18 @@ use Rattle.tl_registers.specs.Registers.{is_busy, register_of}
 
 -- ## What holds of each register
 
+-- what follows from what holds of each holds of each
 pub each-follows : (P Q : Register → Type 0) (xs : List Register) → ((r : Register) → P r → Q r) → Each P xs → Each Q xs
 each-follows P Q [] f h = tt
 each-follows P Q (r ∷ rest) f h = (f r h.0, each-follows P Q rest f h.1)
 
+-- and what follows from two things that hold of each
 pub each-both : (P Q R : Register → Type 0) (xs : List Register) → ((r : Register) → P r → Q r → R r) → Each P xs → Each Q xs
     → Each R xs
 each-both P Q R [] f h g = tt
 each-both P Q R (r ∷ rest) f h g = (f r h.0 g.0, each-both P Q R rest f h.1 g.1)
 
+-- what holds of each once it is changed holds of those that are changed
 pub each-map : (P : Register → Type 0) (f : Register → Register) (xs : List Register) → Each (λ r. P (f r)) xs → Each P (map f xs)
 each-map P f [] h = tt
 each-map P f (r ∷ rest) h = (h.0, each-map P f rest h.1)
@@ -32,12 +35,14 @@ each-filter P test (r ∷ rest) h =
       | inr e ↦ rw e (each-filter P test rest h.1)
     ]
 
+-- what holds of each, and of one put last, holds of all of them
 pub each-end : (P : Register → Type 0) (xs : List Register) (r : Register) → Each P xs → P r → Each P (xs ++ r ∷ [])
 each-end P [] r h one = (one, tt)
 each-end P (x ∷ rest) r h one = (h.0, each-end P rest r h.1 one)
 
 -- ## Busy blocks
 
+-- with one register put last, a block that is not busy was not before, and the last one does not work on it
 pub busy-end : (block : ℕ) (xs : List Register) (r : Register) → is_busy block (xs ++ r ∷ []) ≡ false
     → (is_busy block xs ≡ false) × (works_on r block ≡ false)
 busy-end block [] r h = (refl, (or_parts (works_on r block) false h).0)
@@ -82,6 +87,7 @@ busy-filter test block (r ∷ rest) h =
 
 -- ## No two work on one block
 
+-- no two work on one block either where each comes to work on no further blocks
 pub apart-map : (f : Register → Register) (xs : List Register)
     → ((r : Register) (block : ℕ) → works_on (f r) block ≡ true → works_on r block ≡ true) → AreApart xs → AreApart (map f xs)
 apart-map f [] fewer h = tt
@@ -90,6 +96,7 @@ apart-map f (r ∷ rest) fewer h = (
   apart-map f rest fewer h.1,
 )
 
+-- and where some are left out
 pub apart-filter : (test : Register → Bool) (xs : List Register) → AreApart xs → AreApart (filter test xs)
 apart-filter test [] h = tt
 apart-filter test (r ∷ rest) h =
@@ -98,6 +105,7 @@ apart-filter test (r ∷ rest) h =
       | inr e ↦ rw e (apart-filter test rest h.1)
     ]
 
+-- and where one is put last that works on no busy block
 pub apart-end : (xs : List Register) (r : Register) → ((block : ℕ) → works_on r block ≡ true → is_busy block xs ≡ false)
     → AreApart xs → AreApart (xs ++ r ∷ [])
 apart-end [] r free h = (λ block on. refl, tt)
@@ -144,6 +152,7 @@ found-busy own (q ∷ rest) r block h on free =
       | inr e ↦ let h2 : register_of own rest ≡ Some r = (rw e at h) in found-busy own rest r block h2 on k.1
     ]
 
+-- each register is the one that is found, or works on none of its blocks
 pub one-among : (own : ℕ) (xs : List Register) (r : Register) → AreApart xs → register_of own xs ≡ Some r → Each (IsOneOf r) xs
 one-among own [] r apart h = cc
 one-among own (q ∷ rest) r apart h =

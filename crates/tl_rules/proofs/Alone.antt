@@ -7,6 +7,7 @@ use Rattle.tl_types.specs.declared.permission.Perm.TheVariants.{None as p_None}
 use Rattle.tl_protocol.specs.declared.client.Client.{Client}
 use Rattle.tl_protocol.specs.Protocol.{is_alone, is_none}
 
+-- where the test says that a client is alone, no other one is recorded above None
 pub room_from_alone : (n c : ℕ) (client : ℕ → Client) → is_alone n c client ≡ true
     → (x : ℕ) → x < n → x ≢ c → (client x).recorded ≡ p_None
 room_from_alone zero c client h x l d = absurd (omega arith)
@@ -17,6 +18,7 @@ room_from_alone (suc n) c client h x l d =
       | inr o ↦ room_from_alone n c client both.1 x (omega arith) d
     ]
 
+-- and where no other one is, the test says so
 pub alone_from_room : (n c : ℕ) (client : ℕ → Client)
     → ((x : ℕ) → x < n → x ≢ c → (client x).recorded ≡ p_None) → is_alone n c client ≡ true
 alone_from_room zero c client h = refl

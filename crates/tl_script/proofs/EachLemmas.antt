@@ -60,6 +60,7 @@ pub list_of-items_of : (ds : List Data) → list_of (items_of ds) ≡ ds
 list_of-items_of [] = refl
 list_of-items_of (d ∷ ds) = ap (λ (es : List Data). d ∷ es) (list_of-items_of ds)
 
+-- some list of words is too long just where that of its texts is
 pub list_any-long : (vs : List (Vec (Bor (List ℕ)) Global)) → list_any (λ v. nat_lt 4096 (length v.items)) vs ≡ list_any is_long (lists vs)
 list_any-long [] = refl
 list_any-long (v ∷ vs) = rw (length-map, list_any-long vs)

@@ -44,15 +44,19 @@ module _ {X : Type 0} where
   sum_at f (z ∷ zs) zero x e = let a = sum_by-cons f z zs in let b = ap f (some-injective z x e) in omega arith
   sum_at f (z ∷ zs) (suc i) x e = let a = sum_by-cons f z zs in let b = sum_at f zs i x e in omega arith
 
+-- how often some seats rang
 abbrev rung : Tally → ℕ
 rung v = v.rung
 
+-- how many seats stand together
 abbrev parts : Tally → ℕ
 parts v = v.parts
 
+-- they rang no more often than so many seats may
 abbrev Bound : Tally → Type 0
 Bound v = v.rung ≤ most_rings * v.parts
 
+-- the most that they have seen is within a number
 abbrev Below : ℕ → Tally → Type 0
 Below n v = v.seen ≤ n
 

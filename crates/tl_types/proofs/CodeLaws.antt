@@ -160,6 +160,7 @@ on_d o p k e =
 on_e : (opcode param : ℕ) (kind : Kind) → kind_on_e opcode param ≡ Some kind → IsCodeOf kind E opcode param
 on_e o p k e = either (o == 0) _ _ k e (λ t h. plain GrantAck k E 0 o p refl refl t h) (λ never. cc)
 
+-- codes that stand for a kind are its own
 pub every_code : EveryCodeIsOfItsKind
 unfolding kind_at
 every_code A = on_a

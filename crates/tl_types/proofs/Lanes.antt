@@ -39,6 +39,7 @@ same_channel-true E C h = cc
 same_channel-true E D h = cc
 same_channel-true E E h = refl
 
+-- a channel is the same as itself
 pub same_channel-self : (k : Channel) → same_channel k k ≡ true
 same_channel-self k = eq-eqb (place_of k) (place_of k) refl
 
@@ -49,6 +50,7 @@ is_here-true client channel x l h =
     let both = and_parts (x == client) (same_channel l channel) h in
     (eqb-true x client both.0, same_channel-true l channel both.1)
 
+-- and this client and this channel are here
 pub is_here-self : (client : ℕ) (channel : Channel) → is_here client channel client channel ≡ true
 is_here-self client channel =
     let one : (client == client) ≡ true = eq-eqb client client refl in
@@ -56,9 +58,11 @@ is_here-self client channel =
 
 -- ## How many were sent
 
+-- one more message is one more that was sent
 pub sent-with_message : (lane : Lane) (message : Message) → sent (with_message lane message) ≡ sent lane + 1
 sent-with_message lane message = omega (arith, length-append lane.messages (message ∷ []))
 
+-- once the first is taken, as many were sent as were taken and waited before it was
 sent-first_taken : (taken : ℕ) (messages : List Message) → sent (first_taken taken messages) ≡ taken + length messages
 sent-first_taken taken [] = refl
 sent-first_taken taken (first ∷ rest) = omega arith
@@ -69,6 +73,7 @@ sent-without_first lane = sent-first_taken lane.taken lane.messages
 
 -- ## A block's list
 
+-- what is put behind a list stands behind it with a message in front, or with none
 if_append : (here : Bool) (x : Body) (front back : List Body)
     → (if here then x ∷ (front ++ back) else front ++ back) ≡ (if here then x ∷ front else front) ++ back
 if_append true x front back = refl
@@ -82,6 +87,7 @@ bodies_of-append block (x ∷ rest) message =
     rw (bodies_of-append block rest message)
     (if_append (x.block == block) x.body (bodies_of block rest) (if message.block == block then message.body ∷ [] else []))
 
+-- a message of the block goes last, and one of another adds none
 if_joined : (here : Bool) (bodies : List Body) (body : Body)
     → bodies ++ (if here then body ∷ [] else []) ≡ (if here then bodies ++ body ∷ [] else bodies)
 if_joined true bodies body = refl
@@ -94,11 +100,13 @@ pub bodies_of-with_message : (block : ℕ) (lane : Lane) (message : Message)
 bodies_of-with_message block lane message =
     bodies_of-append block lane.messages message ∙ if_joined (message.block == block) (bodies_of block lane.messages) message.body
 
+-- the rest's list is the block's without its first where the first message is of the block, and else the whole
 if_dropped : (here : Bool) (x : Body) (rest : List Body)
     → rest ≡ (if here then drop 1 (if here then x ∷ rest else rest) else (if here then x ∷ rest else rest))
 if_dropped true x rest = refl
 if_dropped false x rest = refl
 
+-- where the first message is taken its block's list loses its first, and no other list changes
 bodies_of-first_taken : (block of taken : ℕ) (messages : List Message) → IsFirst of messages
     → bodies_of block (first_taken taken messages).messages ≡ (if of == block then drop 1 (bodies_of block messages) else bodies_of block messages)
 bodies_of-first_taken block of taken [] first = absurd first

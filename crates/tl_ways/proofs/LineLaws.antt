@@ -69,6 +69,7 @@ zero_bit bit small other = grind (arith, other)
 pub bit_set : (branches client : ℕ) → bit_and (branches / 2 ^ client) 1 ≡ 1 → bit_at branches client ≡ 1
 bit_set branches client test = sym (shr_and_one branches client) ∙ test
 
+-- and where the test fails the bit is 0
 pub bit_clear : (branches client : ℕ) → (bit_and (branches / 2 ^ client) 1 ≡ 1 → ⊥) → bit_at branches client ≡ 0
 bit_clear branches client test =
     let not_one : bit_at branches client ≡ 1 → ⊥ = λ one. test (shr_and_one branches client ∙ one) in

@@ -8,15 +8,18 @@ use Rattle.tl_ways.specs.Orders.{IsAmong, rising, without, touched}
 
 -- ## Membership
 
+-- a way put last is among them
 pub among-end : (way : ℕ) (xs : List ℕ) → IsAmong way (xs ++ way ∷ [])
 among-end way [] = inl refl
 among-end way (x ∷ xs) = inr (among-end way xs)
 
+-- and those that were there still are
 pub among-front : (way last : ℕ) (xs : List ℕ) → IsAmong way xs → IsAmong way (xs ++ last ∷ [])
 among-front way last [] none = absurd none
 among-front way last (x ∷ xs) (inl same) = inl same
 among-front way last (x ∷ xs) (inr among) = inr (among-front way last xs among)
 
+-- and no other is
 pub among-either : (way last : ℕ) (xs : List ℕ) → IsAmong way (xs ++ last ∷ []) → (way ≡ last) ⊎ IsAmong way xs
 among-either way last [] (inl same) = inl same
 among-either way last [] (inr none) = absurd none
@@ -33,6 +36,7 @@ among-rising (suc n) way below =
       | inr other ↦ among-front way n (rising n) (among-rising n way (grind (arith, other)))
     ]
 
+-- and no other number is
 pub rising-only : (n way : ℕ) → IsAmong way (rising n) → way < n
 rising-only zero way none = absurd none
 rising-only (suc n) way among =
@@ -41,6 +45,7 @@ rising-only (suc n) way among =
       | inr rest ↦ let below = rising-only n way rest in omega arith
     ]
 
+-- there are n of them
 pub length-rising : (n : ℕ) → length (rising n) ≡ n
 length-rising zero = refl
 length-rising (suc n) = let rest = length-rising n in grind (arith, common_steps, rest)
@@ -53,6 +58,7 @@ without-same way first rest same =
     let test : (first == way) ≡ true = grind (arith, nat_tests) in
     rw test refl
 
+-- the head is kept where it is another way
 pub without-other : (way first : ℕ) (rest : List ℕ) → (first ≡ way → ⊥) → without way (first ∷ rest) ≡ first ∷ without way rest
 without-other way first rest other =
     let test : (first == way) ≡ false = grind (arith, nat_tests, other) in
@@ -105,6 +111,7 @@ among-without way other (x ∷ xs) apart (inr among) =
       | inr differ ↦ rw (without-other way x xs differ) (inr (among-without way other xs apart among))
     ]
 
+-- behind a head that stays, what is there after a way leaves was there before
 kept : (way other x : ℕ) (xs : List ℕ) → ((among : IsAmong other (without way xs)) → IsAmong other xs)
     → IsAmong other (x ∷ without way xs) → IsAmong other (x ∷ xs)
 kept way other x xs rest (inl same) = inl same

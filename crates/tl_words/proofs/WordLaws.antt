@@ -19,6 +19,7 @@ single text h some e = elim (cases_lt 1 (length text)) [
   | inr le ↦ omega arith
 ]
 
+-- a text that gives a number is written as the number prints
 pub is_printed : (text : List ℕ) (n : ℕ) → number_of text ≡ Some n → text ≡ decimal n
 is_printed text n e =
     let c = chosen (is_plain text && nat_lt (digits_value 10 text) (2 ^ 32)) (digits_value 10 text) n e in

@@ -12,7 +12,7 @@ rest c =
     ∙ ap (λ (list : List Crossing). remove list c.in-Some.place) c.self.view_is
     ∙ remove-place c.args.block c.args.self.now c.in-Some.place c.in-Some.ensures
 
--- it has at most eight
+-- it has one entry fewer than before
 one_less : (c : goal.After-remove-outward) → length c.remove-outward.new.self.items + 1 ≡ length c.args.self.now
 one_less c =
     ap (λ (list : List Crossing). length list + 1) (rest c)
