@@ -1,6 +1,5 @@
 -- An event of home and the memory alone: no message is sent or taken, and each client is as it was.
-use Rattle.std.proofs.Common.{◌≡◌, ◌≢◌, ℕ, List, refl, sym, ◌∙◌, ap, subst, inl, inr}
-use Rattle.std.proofs.lemmas.Bool.{cases_eq}
+use Rattle.std.proofs.Common.{◌≡◌, ◌≢◌, ℕ, List, refl, sym, ◌∙◌, ap}
 use Rattle.tl_types.specs.Lane.{Lane}
 use Rattle.tl_types.specs.declared.channel.Channel.{Channel}
 use Rattle.tl_map.specs.Places.{bank_of}

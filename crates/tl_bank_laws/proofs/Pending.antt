@@ -1,5 +1,5 @@
 -- What an event leaves of the Grants that are pending, and of which blocks home holds.
-use Rattle.std.proofs.Common.{◌≡◌, ℕ, ◌-◌, ◌==◌, false, List, [], ◌∷◌, Option, Some, None, is_none, refl, ap, subst, inl, inr, eqb-true}
+use Rattle.std.proofs.Common.{◌≡◌, ℕ, ◌==◌, false, List, [], ◌∷◌, Option, Some, None, is_none, refl, subst, inl, inr, eqb-true}
 use Rattle.std.proofs.lemmas.Bool.{cases_Bool}
 use Rattle.tl_registers.proofs.Closing.{fewer-acks}
 use Rattle.tl_types.specs.declared.permission.Grow.{Grow}
@@ -18,7 +18,7 @@ use Rattle.tl_protocol.specs.Runs.{after_next}
 use Rattle.tl_registers.specs.Agree.{IsSteady}
 use Rattle.tl_registers.specs.Pending.{is_granted, grant_pending}
 use Rattle.tl_registers.proofs.Blocks.{Keeps, event-keeps}
-use Rattle.tl_registers.proofs.Pending.{any_below-false, any_below-none, grant-free, free-grant}
+use Rattle.tl_registers.proofs.Pending.{any_below-false, any_below-none}
 use Rattle.tl_bank_laws.proofs.Orders.{GrantsNothing}
 
 -- ## Grants

@@ -23,11 +23,10 @@ use Rattle.tl_bank_spec.specs.Refusal.{first_of}
 use Rattle.tl_bank_spec.specs.View.{View, IsOwn, has_entry_for, client_at}
 use Rattle.tl_bank_laws.specs.Entry.{HasPlace, entry_with}
 use Rattle.tl_bank_laws.specs.Layers.{Layers}
-use Rattle.tl_bank_laws.specs.Link.{IsHead}
 use Rattle.tl_bank_laws.specs.Means.{Means}
 use Rattle.tl_bank_laws.proofs.Allowed.{AllFalse, all-false, client-is}
 use Rattle.tl_bank_laws.proofs.Entries.{put-is}
-use Rattle.tl_bank_laws.proofs.Heads.{HeadAllowed, head-allowed, head-first, head-list, head-own, is-head}
+use Rattle.tl_bank_laws.proofs.Heads.{HeadAllowed, head-allowed, head-first, head-list, head-own}
 use Rattle.tl_bank_laws.proofs.Keep.{means-step}
 use Rattle.tl_bank_laws.proofs.Places.{place-there}
 

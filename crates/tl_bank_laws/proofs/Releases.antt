@@ -26,14 +26,13 @@ use Rattle.tl_bank_spec.specs.Calls.{release_cases}
 use Rattle.tl_bank_spec.specs.Refusal.{first_of}
 use Rattle.tl_bank_spec.specs.Share.{Holding, recount}
 use Rattle.tl_bank_spec.specs.View.{View, client_at, copies_at, perm_at}
-use Rattle.tl_bank_laws.specs.Entry.{HasPlace, entry_with}
+use Rattle.tl_bank_laws.specs.Entry.{entry_with}
 use Rattle.tl_bank_laws.specs.Layers.{Layers}
 use Rattle.tl_bank_laws.specs.Means.{Means}
 use Rattle.tl_bank_laws.proofs.Allowed.{ReleaseAllowed, release-allowed}
 use Rattle.tl_bank_laws.proofs.Counts.{step-count, step-perm, counts-one, copies-few}
 use Rattle.tl_bank_laws.proofs.Entries.{put-is}
 use Rattle.tl_bank_laws.proofs.Keep.{ClientStep, means-step}
-use Rattle.tl_bank_laws.proofs.Places.{entry-there, place-there}
 
 -- each Release starts from a permission above None
 some-from : (prune : Prune) → prune_from prune ≢ p_None

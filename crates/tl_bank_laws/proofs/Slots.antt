@@ -1,10 +1,10 @@
 -- In which way each block lies, and which block is in each way.
-use Rattle.std.proofs.Common.{◌≡◌, ℕ, zero, suc, ◌<◌, ◌≤◌, ◌==◌, Bool, true, false, List, [], ◌∷◌, ◌++◌, length, Option, Some, None, is_none, refl, sym, ◌∙◌, ap, arith, inl, inr, eqb-true, eq-eqb, length-append}
-use Rattle.std.specs.Prelude.{◌⊎◌, slice_index_or}
+use Rattle.std.proofs.Common.{◌≡◌, ℕ, zero, suc, ◌<◌, ◌≤◌, ◌==◌, true, false, List, [], ◌∷◌, ◌++◌, length, Option, Some, None, is_none, refl, sym, ◌∙◌, ap, arith, inl, inr, eqb-true, eq-eqb, length-append}
+use Rattle.std.specs.Prelude.{slice_index_or}
 use Rattle.std.proofs.lemmas.Bool.{cases_eq, cases_lt, and_parts}
 use Rattle.std.proofs.lemmas.List.{get_or_append_left, get_or_past}
 use Rattle.std.proofs.Math.Seq.{get_or-append_seam}
-use Rattle.tl_types.proofs.Lowest.{lowest-none, lowest-one, lowest-some, none-lowest, lowest-same}
+use Rattle.tl_types.proofs.Lowest.{lowest-none, lowest-one, lowest-some, lowest-same}
 use Rattle.tl_types.specs.Lowest.{lowest}
 use Rattle.tl_map.specs.Places.{bank_of, set_of}
 use Rattle.tl_registers.specs.VictimWay.{block_in}

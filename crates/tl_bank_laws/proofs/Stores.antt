@@ -13,13 +13,12 @@ use Rattle.tl_copies.specs.Copies.{Tables, held_at, is_cell, SameSize}
 use Rattle.tl_bank_spec.specs.Calls.{store_cases}
 use Rattle.tl_bank_spec.specs.Refusal.{first_of}
 use Rattle.tl_bank_spec.specs.View.{View, client_at, clock_of, latest}
-use Rattle.tl_bank_laws.specs.Entry.{HasPlace, entry_with}
+use Rattle.tl_bank_laws.specs.Entry.{entry_with}
 use Rattle.tl_bank_laws.specs.Layers.{Layers}
 use Rattle.tl_bank_laws.specs.Means.{Means}
 use Rattle.tl_bank_laws.proofs.Allowed.{store-allowed}
 use Rattle.tl_bank_laws.proofs.Entries.{put-is}
 use Rattle.tl_bank_laws.proofs.Keep.{means-step}
-use Rattle.tl_bank_laws.proofs.Places.{entry-there, place-there}
 use Rattle.tl_bank_laws.proofs.Loads.{later-is}
 
 -- a copy that may be written is above None

@@ -1,9 +1,8 @@
 -- Home takes a client's first message on channel C, and what that leaves.
-use Rattle.std.proofs.Common.{◌≡◌, ◌≢◌, ℕ, ◌^◌, ◌<◌, ◌≤◌, ◌==◌, ◌&&◌, Bool, true, false, cond, length, slice_index_or, List, [], ◌∷◌, IsSome, Option, Some, None, refl, sym, ◌∙◌, ap, subst, arith, eqb-true, eq-eqb}
+use Rattle.std.proofs.Common.{◌≡◌, ◌≢◌, ℕ, ◌<◌, ◌≤◌, ◌==◌, ◌&&◌, Bool, true, false, cond, slice_index_or, List, [], ◌∷◌, IsSome, Option, Some, None, refl, sym, ◌∙◌, ap, subst, arith, eqb-true, eq-eqb}
 use Rattle.std.proofs.Math.Bool.{or-true}
 use Rattle.std.specs.List.{list_any}
-use Rattle.std.proofs.lemmas.Bool.Decides.{nat_tests}
-use Rattle.tl_types.specs.Lane.{Lane, IsFirst, is_here, sent, with_message, without_first, bodies_of}
+use Rattle.tl_types.specs.Lane.{Lane, IsFirst, is_here, with_message, without_first, bodies_of}
 use Rattle.tl_types.specs.Message.{upward_from, upward_to, is_probe_ack}
 use Rattle.tl_types.specs.Permission.{rank}
 use Rattle.tl_types.specs.declared.channel.Channel.{Channel}
@@ -35,18 +34,16 @@ use Rattle.tl_links.specs.Table.{Table, lane_in, SameSize as SameLinks}
 use Rattle.tl_home.specs.Homes.{HomeState, SameBank, SameMemory, SameOutward, SameWays, line_in, recorded_in, way_in}
 use Rattle.tl_registers.specs.Pending.{has_first, is_probed}
 use Rattle.tl_registers.proofs.Blocks.{first-from}
-use Rattle.tl_bank_spec.specs.Cases.{any_body, begins, block_named, first_block, is_a_release, link_full}
-use Rattle.tl_bank_spec.specs.Effects.{answer_to}
+use Rattle.tl_bank_spec.specs.Cases.{any_body, begins, block_named, first_block, is_a_release}
 use Rattle.tl_bank_spec.specs.HomeCalls.{take_c_cases}
 use Rattle.tl_bank_spec.specs.Refusal.{first_of}
 use Rattle.tl_bank_spec.specs.View.{View, IsOwn, shape_of, block_at, client_at, lane_at}
 use Rattle.tl_bank_laws.specs.Entry.{entry_of}
 use Rattle.tl_bank_laws.specs.Given.{left_by, brought_by}
 use Rattle.tl_bank_laws.specs.Layers.{Layers}
-use Rattle.tl_bank_laws.specs.Link.{HasRoom, IsHead}
 use Rattle.tl_bank_laws.specs.Means.{Means, IsHome}
 use Rattle.tl_bank_laws.proofs.Allowed.{AllFalse, all-false, client-is}
-use Rattle.tl_bank_laws.proofs.Heads.{HeadAllowed, head-allowed, head-first, head-list, head-own, is-head}
+use Rattle.tl_bank_laws.proofs.Heads.{HeadAllowed, head-allowed, head-first, head-list, head-own}
 use Rattle.tl_bank_laws.proofs.Next.{NextEvent, NextLayers, block_next, means-next, next_view}
 use Rattle.tl_bank_laws.proofs.Probed.{gone-is-unprobed}
 use Rattle.tl_bank_laws.proofs.Ways.{bank-steady, fit-stays, same-work, ways-stay}

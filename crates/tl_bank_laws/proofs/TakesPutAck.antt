@@ -1,8 +1,8 @@
 -- Home takes the acknowledgement of a Put: the victim is gone.
-use Rattle.std.proofs.Common.{◌≡◌, ◌≢◌, ℕ, ◌≤◌, ◌==◌, ◌&&◌, ◌||◌, not, Bool, true, false, List, ◌∷◌, [], length, map, filter, Option, Some, None, is_none, if◌then◌else◌, refl, sym, ◌∙◌, ap, arith, inl, inr, eqb-true}
+use Rattle.std.proofs.Common.{◌≡◌, ◌≢◌, ℕ, ◌≤◌, ◌==◌, ◌&&◌, ◌||◌, not, Bool, true, false, List, ◌∷◌, [], length, filter, Option, Some, None, is_none, if◌then◌else◌, refl, sym, ◌∙◌, ap, arith, inl, inr, eqb-true}
 use Rattle.tl_types.proofs.Booleans.{or-else}
 use Rattle.std.proofs.Math.Bool.{or-true}
-use Rattle.std.proofs.lemmas.Bool.{cases_Bool, or_parts, not-false, and_parts}
+use Rattle.std.proofs.lemmas.Bool.{cases_Bool, or_parts, and_parts}
 use Rattle.std.specs.List.{list_any}
 use Rattle.std.proofs.lemmas.List.{length-map}
 use Rattle.tl_protocol.specs.Home.{IsData}

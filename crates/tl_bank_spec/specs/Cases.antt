@@ -106,14 +106,6 @@ first_block (first ∷ rest) = first.block
 abbrev pub any_body : Body → Bool
 any_body body = true
 
--- the message is a Grant
-abbrev pub is_a_grant : Body → Bool
-is_a_grant (AcquireBlock grow) = false
-is_a_grant (ProbeBlock cap) = false
-is_a_grant (b_Upward message) = false
-is_a_grant (b_Downward message) = is_grant message
-is_a_grant GrantAck = false
-
 -- the message is a ReleaseAck
 abbrev pub is_a_release_ack : Body → Bool
 is_a_release_ack (AcquireBlock grow) = false

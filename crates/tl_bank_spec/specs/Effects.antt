@@ -118,7 +118,7 @@ answer_to v ticket = if begins is_a_release (waiting_at v ticket C) then Some (n
 
 -- ## The memory
 
--- what the memory answers to a request
+-- what the memory answers to a request, a Get or a Put; anything else is read as a Put
 abbrev pub reply_to : List ℕ → Outward → Reply
 reply_to memory Quiet = AccessAck
 reply_to memory Get = AccessAckData memory
@@ -126,7 +126,7 @@ reply_to memory (Data bytes) = AccessAck
 reply_to memory (Put bytes) = AccessAck
 reply_to memory PutAck = AccessAck
 
--- home takes a block's bytes, or the acknowledgement of a Put
+-- home takes a block's bytes, or the acknowledgement of a Put; anything else is read as bytes
 abbrev pub taking : ℕ → Outward → Event
 taking block Quiet = TakeData block
 taking block Get = TakeData block

@@ -26,7 +26,7 @@ abbrev pub Case : Type 0
 Case = Bool × Refusal
 
 -- the first refusal whose case holds
-abbrev pub first_of : List (Bool × Refusal) → Option Refusal
+abbrev pub first_of : List Case → Option Refusal
 first_of [] = None
 first_of (x ∷ rest) = if x.0 then Some x.1 else first_of rest
 

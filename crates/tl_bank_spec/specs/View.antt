@@ -112,7 +112,7 @@ stamped clock (Load access) = access.stamp
 stamped clock (Store access) = access.stamp
 stamped clock event = clock
 
--- the stamp of the last access, 0 before the first
+-- the stamp of the last access, and the clock given before the first
 abbrev pub clock_from : ℕ → List Event → ℕ
 clock_from clock [] = clock
 clock_from clock (e ∷ es) = clock_from (stamped clock e) es

@@ -1,6 +1,6 @@
 -- Which messages are looked for (the four messages of TileLink 1.8, section 9, that home or a client has pending).
 use Rattle.std.specs.Prelude.{Bool, true, false}
-use Rattle.tl_types.specs.Message.{is_probe_ack, is_grant}
+use Rattle.tl_types.specs.Message.{is_probe_ack, is_a_grant}
 use Rattle.tl_types.specs.declared.message.Body.{Body}
 use Rattle.tl_types.specs.declared.message.Body.TheVariants.{AcquireBlock, ProbeBlock, Upward, Downward, GrantAck}
 use Rattle.tl_links.specs.declared.wanted.Wanted.{Wanted}
@@ -22,17 +22,9 @@ answers_probe (Upward message) = is_probe_ack message
 answers_probe (Downward message) = false
 answers_probe GrantAck = false
 
--- whether it says a Grant
-abbrev pub says_grant : Body → Bool
-says_grant (AcquireBlock grow) = false
-says_grant (ProbeBlock cap) = false
-says_grant (Upward message) = false
-says_grant (Downward message) = is_grant message
-says_grant GrantAck = false
-
 -- whether a message is looked for
 abbrev pub is_wanted : Wanted → Body → Bool
 is_wanted Any body = true
 is_wanted Probe body = is_probe body
 is_wanted ProbeAck body = answers_probe body
-is_wanted Grant body = says_grant body
+is_wanted Grant body = is_a_grant body

@@ -1,4 +1,4 @@
--- One more line, and one more bank, at the end.
+-- One more bank at the end.
 use Rattle.std.proofs.Common.{◌≡◌, ℕ, ◌≤◌, ◌==◌, Bool, true, false, cond, List, [], ◌∷◌, ◌++◌, length, take, get_or, ◌+◌, ◌<◌, sym, ap, ◌∙◌, subst, arith}
 use Rattle.std.proofs.lemmas.List.{take_more}
 use Rattle.tl_map.specs.Limits.{most_clients}

@@ -46,7 +46,7 @@ NoProbe shape s = (x : ℕ) → x < shape.clients → NoProbePending (s.client x
 abbrev pub NobodyRecorded : Shape → Block → Type 0
 NobodyRecorded shape s = (x : ℕ) → x < shape.clients → (s.client x).recorded ≡ p_None
 
--- Nothing is under way on a block that home holds, and no client has it.
+-- Nothing is under way on a block, and no client has it.
 pub record Idle (shape : Shape) (s : Block) : Type 0 where
   pub nobody : NobodyRecorded shape s
   pub no_probe : NoProbe shape s

@@ -1,9 +1,8 @@
 -- What a register does next is permitted.
-use Rattle.std.proofs.Common.{◌≡◌, ◌≤◌, eq-eqb, ◌≢◌, ℕ, zero, suc, ◌<◌, ◌==◌, ◌&&◌, ◌||◌, not, Bool, true, false, List, [], ◌∷◌, Option, Some, None, if◌then◌else◌, refl, sym, ◌∙◌, ap, subst, arith, inl, inr, eqb-true}
-use Rattle.tl_types.proofs.Booleans.{or-else}
+use Rattle.std.proofs.Common.{◌≡◌, ◌≤◌, eq-eqb, ◌≢◌, ℕ, ◌<◌, ◌==◌, ◌&&◌, not, Bool, true, false, List, [], ◌∷◌, Option, Some, None, if◌then◌else◌, refl, sym, ◌∙◌, ap, subst, arith, inl, inr, eqb-true}
 use Rattle.std.specs.Prelude.{◌⊎◌}
 use Rattle.std.proofs.lemmas.Bool.{cases_eq, cases_Bool, and_parts, not-true}
-use Rattle.tl_protocol.proofs.Blocks.{none_is}
+use Rattle.tl_protocol.proofs.Alone.{room_from_alone}
 use Rattle.tl_types.proofs.Lowest.{lowest-none, lowest-some}
 use Rattle.tl_types.specs.Lowest.{lowest}
 use Rattle.tl_types.specs.Permission.{rank, probe_perm}
@@ -14,13 +13,12 @@ use Rattle.tl_types.specs.declared.permission.Grow.TheVariants.{NtoB, NtoT, BtoT
 use Rattle.tl_types.specs.declared.permission.ProbeCap.{ProbeCap}
 use Rattle.tl_types.specs.declared.permission.ProbeCap.TheVariants.{ToB, ToN}
 use Rattle.tl_types.specs.declared.permission.GrantCap.TheVariants.{ToT as g_ToT}
-use Rattle.tl_protocol.specs.declared.client.Client.{Client}
 use Rattle.tl_protocol.specs.declared.home.Accepted.{Accepted}
 use Rattle.tl_protocol.specs.declared.home.Line.{Line}
 use Rattle.tl_protocol.specs.declared.shape.Shape.{Shape}
 use Rattle.tl_protocol.specs.Client.{NoProbePending}
 use Rattle.tl_protocol.specs.Pending.{IsGrantPending, beside, IsServiceAt}
-use Rattle.tl_protocol.specs.Protocol.{Block, NoGrant, Idle, RoomFor, is_none, is_alone, granted, granted_cap, MayOn, block_of}
+use Rattle.tl_protocol.specs.Protocol.{Block, NoGrant, Idle, RoomFor, is_alone, granted, granted_cap, MayOn, block_of}
 use Rattle.tl_registers.specs.declared.due.Due.{Due}
 use Rattle.tl_registers.specs.declared.due.Due.TheVariants.{Probe, Grant, Get, Put, Drop}
 use Rattle.tl_registers.specs.declared.register.Register.{Register}
@@ -31,8 +29,6 @@ use Rattle.tl_registers.specs.NextAction.{Case, passes, waits, acts, first, prob
 use Rattle.tl_registers.specs.Pending.{is_probed, probe_pending, grant_pending, is_quiet}
 use Rattle.tl_registers.specs.Register.{has_probed, is_above, is_other, must_probe, victim_in, IsBelow}
 use Rattle.tl_registers.proofs.Pending.{any_below-false, probe-free, no-probe, no-grant, grant-none, some-granted, quiet-is}
-
--- ## The lowest client to probe
 
 -- ## Permissions
 
@@ -162,19 +158,6 @@ away-may shape s r own block (Some line) due is kept fits h =
 is-other : (c x : ℕ) → x ≢ c → is_other (Some c) x ≡ true
 is-other c x ne = elim (cases_Bool (x == c)) [ inl e ↦ absurd (ne (eqb-true x c e)) | inr e ↦ rw e refl ]
 
--- where a client is alone, every other one is recorded None
-alone-is : (n c : ℕ) (client : ℕ → Client) (x : ℕ) → is_alone n c client ≡ true → x < n → x ≢ c → (client x).recorded ≡ p_None
-alone-is zero c client x h l ne = absurd (omega arith)
-alone-is (suc n) c client x h l ne =
-    let k = and_parts ((n == c) || is_none (client n).recorded) (is_alone n c client) h in
-    elim (cases_eq x n) [
-      | inl e ↦
-          let ne2 : n ≢ c = λ m. ne (e ∙ m) in
-          let f : (n == c) ≡ false = elim (cases_Bool (n == c)) [ inl m ↦ absurd (ne2 (eqb-true n c m)) | inr m ↦ m ] in
-          ap (λ (y : ℕ). (client y).recorded) e ∙ none_is (client n).recorded (or-else (n == c) (is_none (client n).recorded) k.0 f)
-      | inr e ↦ alone-is n c client x k.1 (omega arith) ne
-    ]
-
 -- no other client has more than a cap
 abbrev OthersBelow : Shape → Block → ℕ → ProbeCap → Type 0
 OthersBelow shape s c cap =
@@ -187,7 +170,7 @@ room-toT shape s c h = λ x l ne. none-below (s.client x).recorded (h x l (is-ot
 -- where none has more than toB leaves, and the client itself is not recorded Tip, there is room for what NtoB is granted
 room-toB : (shape : Shape) (s : Block) (c : ℕ) → OthersBelow shape s c ToB → (s.client c).recorded ≢ Tip
     → (alone : Bool) → is_alone shape.clients c s.client ≡ alone → RoomFor shape s c (granted_cap NtoB alone)
-room-toB shape s c h own true is = λ x l ne. alone-is shape.clients c s.client x is l ne
+room-toB shape s c h own true is = λ x l ne. room_from_alone shape.clients c s.client is x l ne
 room-toB shape s c h own false is = λ x l.
     elim (cases_eq x c) [
       | inl e ↦ λ tip. own (ap (λ (y : ℕ). (s.client y).recorded) (sym e) ∙ tip)

@@ -1,5 +1,5 @@
 -- What the plain map says of the protocol.
-use Rattle.std.specs.Prelude.{◌≡◌, ◌≢◌, ◌<◌, ℕ, List, [], None, slice_index_or, slice_set}
+use Rattle.std.specs.Prelude.{◌≡◌, ◌≢◌, ◌<◌, ℕ, List, [], None, slice_index_or}
 use Rattle.tl_protocol.specs.declared.client.Client.{Client}
 use Rattle.tl_protocol.specs.declared.shape.Shape.{Shape}
 use Rattle.tl_protocol.specs.Client.{fresh_client}
@@ -18,10 +18,6 @@ client_at p c = slice_index_or p.clients c fresh_client
 abbrev pub block_state : PlainBlock → Block
 block_state p =
     record { memory = p.memory; home = p.home; accepted = p.accepted; outward = p.outward; client = client_at p }
-
--- the block with another client in one place
-abbrev pub set_client : PlainBlock → ℕ → Client → PlainBlock
-set_client p c k = record p { clients = slice_set p.clients c k }
 
 -- a block with no bytes and no clients, which home does not hold and of which nothing is under way
 abbrev pub empty_block : PlainBlock

@@ -4,7 +4,7 @@ ghost use Rattle.tl_protocol.specs.Ledger.{count_clients, has_copy, is_recorded}
 ghost use Rattle.tl_protocol.specs.Copy.{perm_of, bytes_of, CanRead};
 ghost use Rattle.tl_protocol.specs.Client.{MayTakeA, MayTakeC, took_grant_ack};
 ghost use Rattle.tl_protocol.specs.declared.home.Outward.TheVariants.{Put};
-ghost use Rattle.tl_rules.specs.Plain.{block_state, client_at, set_client};
+ghost use Rattle.tl_rules.specs.Plain.{block_state, client_at};
 ghost use Rattle.tl_protocol.specs.Protocol.{reset, after, MayOn, MayTakeData, accepted_from, took_c, with_client, served, took_data, home_bytes, is_alone, granted_cap, MaySendProbe, MaySendGrant, MaySendGet, MayGiveUp, grants, RoomFor, Idle, NoGrant, NoProbe, NobodyRecorded};
 
 use std::alloc::{AllocError, Global};

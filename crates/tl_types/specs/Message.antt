@@ -90,7 +90,7 @@ surrender_kind s_BtoN = kind.Release BtoN
 
 -- ## Channel C
 
--- the permission that a message on C starts from, and the one that it leaves
+-- the permission that a message on C starts from
 abbrev pub upward_from : Upward → Perm
 upward_from (ProbeAck answer) = report_from (answer_report answer)
 upward_from (Release surrender) = prune_from (surrender_prune surrender)
@@ -132,6 +132,14 @@ downward_kind ReleaseAck = kind.ReleaseAck
 abbrev pub is_grant : Downward → Bool
 is_grant (Grant cap bytes) = true
 is_grant ReleaseAck = false
+
+-- the message is a Grant
+abbrev pub is_a_grant : Body → Bool
+is_a_grant (AcquireBlock grow) = false
+is_a_grant (ProbeBlock cap) = false
+is_a_grant (b_Upward message) = false
+is_a_grant (b_Downward message) = is_grant message
+is_a_grant GrantAck = false
 
 -- ## All messages
 

@@ -8,6 +8,7 @@ use tl_bank_spec::Refusal;
 use tl_types::{Channel, Ticket};
 
 impl Bank {
+    /// Why home does not take a message on C, but for want of memory.
     pub(super) fn take_c_refusal(&self, ticket: &Ticket) -> Option<Refusal>
         ensures { result ≡ first_of (take_c_cases self.now ticket.now) }
     {
@@ -20,6 +21,7 @@ impl Bank {
         None
     }
 
+    /// Why home does not take a GrantAck, but for want of memory.
     pub(super) fn take_grant_ack_refusal(&self, ticket: &Ticket) -> Option<Refusal>
         ensures { result ≡ first_of (take_grant_ack_cases self.now ticket.now) }
     {

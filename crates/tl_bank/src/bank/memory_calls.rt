@@ -105,6 +105,7 @@ impl Bank {
         Way::new(register.way.way)
     }
 
+    /// Why the memory does not answer, but for want of memory for the log.
     fn serve_memory_refusal(&self, block: BlockNo) -> Option<Refusal>
         ensures { result ≡ first_of (serve_memory_cases self.now block) }
     {
@@ -120,6 +121,7 @@ impl Bank {
         None
     }
 
+    /// Why home does not take what the memory answered, but for want of memory for the log.
     fn take_memory_refusal(&self, block: BlockNo) -> Option<Refusal>
         ensures { result ≡ first_of (take_memory_cases self.now block) }
     {

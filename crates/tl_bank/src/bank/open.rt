@@ -66,6 +66,7 @@ impl Bank {
         Ok(())
     }
 
+    /// Why an Acquire is not accepted, but for want of memory.
     fn accept_refusal(&self, ticket: &Ticket) -> Option<Refusal>
         ensures is { result ≡ first_of (accept_cases self.now ticket.now) }
         ensures own { IfNone result (IsOwn self.now.geometry self.now.number (block_named self.now ticket.now Channel.A)) }
@@ -94,6 +95,7 @@ impl Bank {
         None
     }
 
+    /// Why an eviction is refused.
     fn evict_refusal(&self, block: BlockNo) -> Option<Refusal>
         ensures { result ≡ first_of (evict_cases self.now block) }
     {

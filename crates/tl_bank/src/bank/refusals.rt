@@ -89,6 +89,7 @@ impl Bank {
         self.clock.max(clock) == u64::MAX
     }
 
+    /// Why a load is refused, but for want of memory.
     pub(super) fn load_refusal(
         &self,
         client: ClientId,
@@ -114,6 +115,7 @@ impl Bank {
         None
     }
 
+    /// Why a store is refused, but for want of memory.
     pub(super) fn store_refusal(
         &self,
         client: ClientId,
@@ -190,6 +192,7 @@ impl Bank {
             || share.bank().number() == self.number.number() && share.count() != self.count(client)
     }
 
+    /// Why an Acquire is refused, but for want of memory.
     pub(super) fn acquire_refusal(
         &self,
         client: ClientId,
@@ -219,6 +222,7 @@ impl Bank {
         None
     }
 
+    /// Why a Release is refused, but for want of memory.
     pub(super) fn release_refusal(
         &self,
         client: ClientId,
@@ -280,6 +284,7 @@ impl Bank {
         }
     }
 
+    /// Why a Probe's answer is refused, but for want of memory.
     pub(super) fn answer_probe_refusal(&self, ticket: &Ticket, share: &Share) -> Option<Refusal>
         ensures { result ≡ first_of (answer_probe_cases self.now ticket.now share.now) }
     {
@@ -303,6 +308,7 @@ impl Bank {
         self.wait(client, self.first_block(client, Channel::B)) == Wait::ForReleaseAck
     }
 
+    /// Why a Grant is not taken, but for want of memory.
     pub(super) fn take_grant_refusal(&self, ticket: &Ticket, share: &Share) -> Option<Refusal>
         ensures { result ≡ first_of (take_grant_cases self.now ticket.now share.now) }
     {
@@ -318,6 +324,7 @@ impl Bank {
         None
     }
 
+    /// Why a ReleaseAck is not taken, but for want of memory.
     pub(super) fn take_release_ack_refusal(&self, ticket: &Ticket) -> Option<Refusal>
         ensures { result ≡ first_of (take_release_ack_cases self.now ticket.now) }
     {
