@@ -2,6 +2,7 @@ pub mod Accepted
 pub mod Accepts
 pub mod Acquires
 pub mod Allowed
+pub mod AtHome
 pub mod Chosen
 pub mod Counts
 pub mod Crossed
@@ -13,6 +14,7 @@ pub mod Fresh
 pub mod GrantAcks
 pub mod Grants
 pub mod Heads
+pub mod Holders
 pub mod HomeSteps
 pub mod Keep
 pub mod Leaving
@@ -30,6 +32,7 @@ pub mod Probes
 pub mod Quiet
 pub mod ReleaseAcks
 pub mod Releases
+pub mod Rising
 pub mod Rooms
 pub mod SendGet
 pub mod SendGrant

@@ -272,7 +272,7 @@ unfolding way_in geometry_in bank_in
 lies-here home block way e = (IsThere-of home.directory block way e).own
 
 -- what home finds in a way of a set is the block that is in it, or none
-slot-found : (v : View) (h : Layers) (set way : ℕ) (found : Option ℕ) → Means v h → set < v.geometry.sets → way < v.geometry.ways
+pub slot-found : (v : View) (h : Layers) (set way : ℕ) (found : Option ℕ) → Means v h → set < v.geometry.sets → way < v.geometry.ways
     → IfSome found (λ b. b < (geometry_in h.home).memory_blocks) → IfSome found (λ b. set_of (geometry_in h.home) b ≡ set)
     → IfSome found (λ b. way_in h.home b ≡ Some way) → is_none found ≡ free_at h.home set way → found ≡ slot_at v set way
 slot-found v h set way None m l k inside in_set lies free =

@@ -1,4 +1,5 @@
 pub mod Entry
+pub mod Found
 pub mod Given
 pub mod Head
 pub mod Layers

@@ -1,5 +1,5 @@
 -- What the views of a bank show (this project's own).
-use Rattle.std.specs.Prelude.{◌≡◌, ◌≢◌, ℕ, zero, suc, ◌<◌, ◌==◌, ◌||◌, not, Bool, List, [], ◌∷◌, ◌++◌, length, map, slice_get, Option, Some, None, if◌then◌else◌}
+use Rattle.std.specs.Prelude.{◌≡◌, ◌≢◌, ℕ, zero, suc, ◌<◌, ◌==◌, ◌||◌, not, Bool, List, [], ◌∷◌, ◌++◌, length, map, slice_get, Option, Some, None, is_some, ◌+◌, if◌then◌else◌}
 use Rattle.std.specs.Option.{option_map}
 use Rattle.tl_types.specs.Lane.{message_at}
 use Rattle.tl_types.specs.declared.channel.Channel.{Channel}
@@ -18,7 +18,7 @@ use Rattle.tl_protocol.specs.declared.home.Outward.TheVariants.{Quiet, Get, Data
 use Rattle.tl_lanes.specs.Delivery.{all_sent, all_taken}
 use Rattle.tl_registers.specs.declared.register.Register.{Register}
 use Rattle.tl_bank_spec.specs.Cases.{no_client, no_block, elsewhere}
-use Rattle.tl_bank_spec.specs.View.{View, IsOwn, block_at, client_at, lane_at, perm_at, shape_of}
+use Rattle.tl_bank_spec.specs.View.{View, IsOwn, block_at, client_at, copies_at, lane_at, perm_at, shape_of}
 
 -- ## What the bank does not have
 
@@ -52,6 +52,10 @@ MayRead v client address =
     × IsOwn v.geometry v.number (block_of_address v.geometry address)
     × (perm_at v client (block_of_address v.geometry address) ≢ p_None)
 
+-- a client of the bank has a copy of one of its blocks
+abbrev pub HasCopy : View → ℕ → ℕ → Type 0
+HasCopy v client block = (client < v.geometry.clients) × IsOwn v.geometry v.number block × (perm_at v client block ≢ p_None)
+
 -- a client of the bank has a copy of one of its blocks that may be written
 abbrev pub MayWrite : View → ℕ → ℕ → Type 0
 MayWrite v client block = (client < v.geometry.clients) × IsOwn v.geometry v.number block × (perm_at v client block ≡ Tip)
@@ -75,6 +79,19 @@ IsDelivered v client channel =
 -- the dirty flag of home's copy, where home has one
 abbrev pub dirty_at : View → ℕ → Option Bool
 dirty_at v block = if not_own v block then None else option_map (λ (line : Line). line.dirty) (block_at v block).home
+
+-- whether home has a copy of a block of the bank
+abbrev pub is_at_home : View → ℕ → Bool
+is_at_home v block = is_some (dirty_at v block)
+
+-- the numbers below n that pass a test, by rising number
+abbrev pub passing_below : (ℕ → Bool) → ℕ → List ℕ
+passing_below test zero = []
+passing_below test (suc n) = if test n then passing_below test n ++ n ∷ [] else passing_below test n
+
+-- the blocks of the bank of which home has a copy, by rising number
+abbrev pub blocks_at_home : View → List ℕ
+blocks_at_home v = passing_below (is_at_home v) v.geometry.memory_blocks
 
 -- what passes, where anything does
 abbrev pub passing : Outward → Option Outward
@@ -123,3 +140,8 @@ pairs_below test v n = count_pairs test (shape_of v.geometry) (block_at v) (bloc
 -- how many pairs of a client and a block of the bank pass a test
 abbrev pub pairs_at : (Client → Bool) → View → ℕ
 pairs_at test v = pairs_below test v v.geometry.memory_blocks
+
+-- how many copies the first n clients have
+abbrev pub copies_below : View → ℕ → ℕ
+copies_below v zero = 0
+copies_below v (suc n) = copies_below v n + copies_at v n

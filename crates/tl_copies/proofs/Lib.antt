@@ -2,3 +2,4 @@ pub mod EntryLaws
 pub mod PlaceLaws
 pub mod CountLaws
 pub mod TableLaws
+pub mod FirstLaws

@@ -35,3 +35,14 @@ is_renewed old new = waits_for_grant old.wait && not (waits_for_grant new.wait)
 abbrev pub is_granted : Option Held → Held → Bool
 is_granted None new = true
 is_granted (Some old) new = is_renewed old new
+
+-- an answer is waited for
+abbrev pub waits : Wait → Bool
+waits Nothing = false
+waits ForGrant = true
+waits ForReleaseAck = true
+
+-- whether the client waits for an answer by its entry; where there is no entry it does not
+abbrev pub is_awaited : Option Held → Bool
+is_awaited None = false
+is_awaited (Some held) = waits held.wait

@@ -1,9 +1,9 @@
 //! The tables of all clients.
-ghost use Rattle.std.specs.Prelude.{◌≡◌, ◌↔◌, ◌≤◌, ◌<◌, ℕ, ◌==◌, [], None, Some, IfErr, IfOk, IsErr, IsTrue, OnErr, OnOk, map, option_copied, if◌then◌else◌};
+ghost use Rattle.std.specs.Prelude.{◌≡◌, ◌↔◌, ◌≤◌, ◌<◌, ℕ, ◌==◌, [], None, Some, IfErr, IfOk, IfSome, IsErr, IsTrue, OnErr, OnOk, true, false, map, option_copied, if◌then◌else◌};
 ghost use Rattle.std.specs.List.{find};
 ghost use Rattle.tl_copies.specs.Entries.{found, IsTable};
 ghost use Rattle.tl_copies.specs.declared.table.Entry.{Entry};
-ghost use Rattle.tl_copies.specs.Held.{has_copy, is_granted};
+ghost use Rattle.tl_copies.specs.Held.{has_copy, is_granted, is_awaited};
 ghost use Rattle.tl_copies.specs.Copies.{clients_of, held_at, order_in, is_cell, entries, copies, order_without, order_after, SameSize};
 
 use crate::held::Held;
@@ -113,12 +113,22 @@ impl Copies {
         self.table(client).count() as u32
     }
 
-    /// The block of the client's copy above None that was granted longest ago.
+    /// The block of the client's copy above None that was granted longest ago; None just where it has no copy.
     pub fn oldest(&self, client: ClientId) -> Option<BlockNo>
         requires { client < clients_of self.now }
-        ensures { result ≡ find (λ block. has_copy (held_at self.now client block)) (order_in self.now client) }
+        ensures value { result ≡ find (λ block. has_copy (held_at self.now client block)) (order_in self.now client) }
+        ensures copy { IfSome result (λ block. (block < self.now.blocks) × (has_copy (held_at self.now client block) ≡ true)) }
+        ensures none { result ≡ None → (block : ℕ) → has_copy (held_at self.now client block) ≡ false }
     {
         self.table(client).oldest()
+    }
+
+    /// Whether a client waits for no answer about a block of the memory.
+    pub fn awaits_nothing(&self, client: ClientId) -> bool
+        requires { client < clients_of self.now }
+        ensures { IsTrue result ↔ ((block : ℕ) → block < self.now.blocks → is_awaited (held_at self.now client block) ≡ false) }
+    {
+        self.table(client).awaits_nothing()
     }
 
     /// Keeps what a client holds of a block. A new entry goes last in the order of age, and so does one that waited for a

@@ -1,5 +1,6 @@
 //! One client's table.
-ghost use Rattle.std.specs.Prelude.{◌≡◌, ◌↔◌, ◌≤◌, ◌<◌, List, [], length, count_by, None, IfErr, IsErr, OnErr, OnOk, MatchOption, option_copied};
+ghost use Rattle.std.specs.Prelude.{◌≡◌, ◌↔◌, ◌≤◌, ◌<◌, List, [], length, count_by, not, None, IfErr, IsErr, OnErr, OnOk, MatchOption, option_copied};
+ghost use Rattle.std.specs.List.{list_all};
 ghost use Rattle.tl_copies.specs.declared.held.Held.{Held};
 
 use crate::held::Held;
@@ -54,7 +55,7 @@ impl Model for Table {
 }
 
 impl Table {
-    ghost use Rattle.tl_copies.specs.Held.{is_copy};
+    ghost use Rattle.tl_copies.specs.Held.{is_copy, waits};
     ghost use Rattle.tl_copies.specs.Entries.{found, without, kept, oldest_in, IsPlace};
     ghost use Rattle.tl_copies.specs.declared.table.Entry.{Entry};
 
@@ -95,6 +96,16 @@ impl Table {
             }
         }
         None
+    }
+
+    /// Whether no entry waits for an answer.
+    pub(crate) fn awaits_nothing(&self) -> bool
+        ensures { result ≡ list_all (λ (e : Entry). not (waits e.held.wait)) self.now }
+    {
+        self.entries
+            .as_slice()
+            .iter()
+            .all(|entry| entry.held.wait == Wait::Nothing)
     }
 
     /// The entry of a block.

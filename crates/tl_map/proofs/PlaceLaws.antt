@@ -33,12 +33,21 @@ xor_of_groups-lt k (suc count) number =
     (xor_of_groups-lt k count (number / 2 ^ k))
 
 -- with one bank it is 0
-xor_of_groups-one : (count number : ℕ) → xor_of_groups 1 count number ≡ 0
+pub xor_of_groups-one : (count number : ℕ) → xor_of_groups 1 count number ≡ 0
 unfolding xor_of_groups
 xor_of_groups-one zero number = refl
 xor_of_groups-one (suc count) number =
     let rest : number % 1 ≡ 0 = omega (arith, mod_below number 1 (omega arith)) in
     rw rest (xor_zero_l _ ∙ xor_of_groups-one count (number / 1))
+
+-- of 0 it is 0
+pub xor_of_groups-rest : (banks count rest : ℕ) → 0 < banks → rest ≡ 0 → xor_of_groups banks count rest ≡ 0
+unfolding xor_of_groups
+xor_of_groups-rest banks zero rest some none = refl
+xor_of_groups-rest banks (suc count) rest some none =
+    let lowest : rest % banks ≡ 0 = omega (arith, none, mod_below rest banks some) in
+    let others : rest / banks ≡ 0 = omega (arith, none, div-le_self rest banks) in
+    rw lowest (xor_zero_l _ ∙ xor_of_groups-rest banks count (rest / banks) some others)
 
 -- groups past the top of a number are 0
 xor_of_groups-more : (banks count number : ℕ) → 2 ≤ banks → number < 2 ^ count
@@ -214,5 +223,12 @@ place_of-block_in g place lawful bank set small =
     let tags : tag_of g (block_in g place) ≡ place.tag =
     ap (λ slot. slot / g.sets) slot ∙ div-mul-add place.tag g.sets place.set set in
     same_place (place_of g (block_in g place)) place banks sets tags
+
+-- a place by its three parts
+pub place_by_parts : (g : Numbers) (block bank set tag : ℕ) → bank ≡ xor_of_groups g.banks 16 block
+    → set ≡ block / g.banks % g.sets → tag ≡ block / g.banks / g.sets
+    → ◌≡◌ {A = Place} (record { bank = bank; set = set; tag = tag }) (place_of g block)
+unfolding bank_of slot_of set_of tag_of
+place_by_parts g block bank set tag banks sets tags = rw (banks, sets, tags) refl
 
 pub ruleset places = (place_of-alone)

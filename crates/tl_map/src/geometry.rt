@@ -179,7 +179,7 @@ impl Geometry {
     pub fn block_size(self) -> u32
         ensures { 2 ^ result ≡ self.block_bytes }
     {
-        self.block_bytes.ilog2()
+        self.block_bits()
     }
 
     /// Whether the memory has this block.
@@ -198,11 +198,11 @@ impl Geometry {
         ensures set { result.set < self.sets }
         ensures alone { (other : ℕ) → place_of self other ≡ place_of self block → other ≡ block }
     {
-        let slot = block.number() / self.banks;
+        let slot = block.number() >> self.bank_bits();
         Place {
             bank: BankNo::new(self.xor_of_groups(block.number())),
-            set: Set::new(slot % self.sets),
-            tag: Tag::new(slot / self.sets),
+            set: Set::new(slot & (self.sets - 1)),
+            tag: Tag::new(slot >> self.set_bits()),
         }
     }
 
@@ -230,7 +230,7 @@ impl Geometry {
     pub fn block_at(self, address: u32) -> BlockNo
         ensures { result ≡ block_at self address }
     {
-        BlockNo::new(address / self.block_bytes)
+        BlockNo::new(address >> self.block_bits())
     }
 
     /// The place of an address in its block, in bytes.
@@ -238,7 +238,7 @@ impl Geometry {
         ensures is { result ≡ offset_of self address }
         ensures inside { result < self.block_bytes }
     {
-        address % self.block_bytes
+        address & (self.block_bytes - 1)
     }
 
     /// Whether the `len` bytes from an address on lie in one block of the memory.
@@ -254,13 +254,44 @@ impl Geometry {
         ensures is { result ≡ xor_of_groups self.banks 16 number }
         ensures group { result < self.banks }
     {
+        let bits = self.bank_bits();
+        if bits == 0 {
+            return 0;
+        }
         let mut groups = 0;
         let mut rest = number;
         for _ in 0..GROUPS {
-            groups ^= rest % self.banks;
-            rest /= self.banks;
+            if rest == 0 {
+                return groups;
+            }
+            groups ^= rest & (self.banks - 1);
+            rest >>= bits;
         }
         groups
+    }
+
+    /// The base-2 logarithm of the number of banks.
+    fn bank_bits(self) -> u32
+        ensures power { 2 ^ result ≡ self.banks }
+        ensures few { result < 32 }
+    {
+        self.banks.ilog2()
+    }
+
+    /// The base-2 logarithm of the bytes of a block.
+    fn block_bits(self) -> u32
+        ensures power { 2 ^ result ≡ self.block_bytes }
+        ensures few { result < 32 }
+    {
+        self.block_bytes.ilog2()
+    }
+
+    /// The base-2 logarithm of the number of sets.
+    fn set_bits(self) -> u32
+        ensures power { 2 ^ result ≡ self.sets }
+        ensures few { result < 32 }
+    {
+        self.sets.ilog2()
     }
 }
 

@@ -25,13 +25,12 @@ fn lines(alloc: Global, bank: &Bank) -> Result<Vec<BlockLine>, AllocError>
     ensures { IfOk result (λ lines. map line_state lines.items ≡ lines_below bank.now bank.now.geometry.memory_blocks) }
 {
     let mut lines = Vec::new(alloc);
-    for number in 0..bank.geometry().memory_blocks() {
-        let block = BlockNo::new(number);
-        if let Some(dirty) = bank.home(block) {
+    for block in bank.blocks_at_home().as_slice() {
+        if let Some(dirty) = bank.home(*block) {
             lines.push(BlockLine {
-                block,
+                block: *block,
                 dirty,
-                clients: standings(bank, block),
+                clients: standings(bank, *block),
             })?;
         }
     }

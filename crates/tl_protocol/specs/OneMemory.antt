@@ -1,10 +1,17 @@
 -- Loads and stores as those of one memory (this project's own theorems).
-use Rattle.std.specs.Prelude.{◌≡◌, ℕ, List, [], ◌∷◌, Bool, true, false, if◌then◌else◌}
+use Rattle.std.specs.Prelude.{◌≡◌, ℕ, List, [], ◌∷◌, Bool, true, false, Option, Some, None, if◌then◌else◌}
+use Rattle.tl_protocol.specs.declared.event.Access.{Access}
 use Rattle.tl_protocol.specs.declared.event.Event.{Event}
 use Rattle.tl_protocol.specs.declared.event.Event.TheVariants.{Load, Store}
 use Rattle.tl_protocol.specs.declared.shape.Shape.{Shape}
 use Rattle.tl_protocol.specs.Coherent.{LoadsLast}
 use Rattle.tl_protocol.specs.Runs.{IsRun, on_bank}
+
+-- the access that an event is, if it is a load or a store
+abbrev pub access_of : Event → Option Access
+access_of (Load access) = Some access
+access_of (Store access) = Some access
+access_of e = None
 
 -- whether an event is a load or a store
 abbrev pub is_access : Event → Bool

@@ -1,6 +1,8 @@
 //! The steps of clients, home and the memory.
 ghost use Rattle.std.specs.Prelude.{◌≡◌, ◌↔◌, ◌<◌, ◌≤◌, IsTrue};
+ghost use Rattle.std.specs.Option.{option_copied};
 ghost use Rattle.tl_protocol.specs.Access.{FitsBlock};
+ghost use Rattle.tl_protocol.specs.OneMemory.{access_of};
 ghost use Rattle.tl_protocol.specs.Protocol.{block_of};
 
 use crate::shape::Shape;
@@ -75,6 +77,16 @@ pub enum Event {
 }
 
 impl Event {
+    /// The access that it is, if it is a load or a store.
+    pub fn access(&self) -> Option<&Access>
+        ensures { option_copied result ≡ access_of self.now }
+    {
+        match self {
+            Event::Load(access) | Event::Store(access) => Some(access),
+            _ => None,
+        }
+    }
+
     /// The number of the block that it is of.
     pub fn block(&self, shape: Shape) -> u32
         requires { 0 < shape.block_bytes }

@@ -1,1 +1,9 @@
 pub mod Blocks
+pub mod Cursors
+pub mod Joined
+pub mod Loop
+pub mod Merging
+pub mod Ordered
+pub mod Pairs
+pub mod Rising
+pub mod Sorting

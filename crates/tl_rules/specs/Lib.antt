@@ -1,4 +1,7 @@
+pub mod Certified
 pub mod Journal
+pub mod Left
+pub mod Ordered
 pub mod Plain
 pub mod PlainBlock
 pub mod PlainState

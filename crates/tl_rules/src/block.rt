@@ -1,5 +1,5 @@
 //! One block of the plain map: what home, its clients and the memory hold of it.
-ghost use Rattle.std.specs.Prelude.{◌≡◌, ◌↔◌, ◌<◌, ◌≤◌, ◌+◌, ◌*◌, IsTrue, OnOk, OnErr, IfOk, IfSome, IsSome, is_some, slice_range, length};
+ghost use Rattle.std.specs.Prelude.{◌≡◌, ◌↔◌, ◌<◌, ◌≤◌, ◌+◌, ◌*◌, IsTrue, OnOk, OnErr, IfOk, IfSome, IsSome, is_some, slice_range, slice_get, option_copied, length};
 ghost use Rattle.tl_protocol.specs.Ledger.{count_clients, has_copy, is_recorded};
 ghost use Rattle.tl_protocol.specs.Copy.{perm_of, bytes_of, CanRead};
 ghost use Rattle.tl_protocol.specs.Client.{MayTakeA, MayTakeC, took_grant_ack};
@@ -48,6 +48,42 @@ impl BlockState {
             outward: Outward::Quiet,
             clients: fresh,
         })
+    }
+
+    /// A client that is there.
+    pub fn client(&self, c: ClientId) -> Option<&Client>
+        ensures { option_copied result ≡ slice_get self.now.clients c }
+    {
+        self.clients.get(c.index())
+    }
+
+    /// A client by its number, which is there.
+    pub fn the_client(&self, c: ClientId) -> &Client
+        requires { c < length self.now.clients }
+        ensures { result.now ≡ client_at self.now c }
+    {
+        &self.clients[c.index()]
+    }
+
+    /// Home's copy.
+    pub fn home(&self) -> Option<&Line>
+        ensures { option_copied result ≡ self.now.home }
+    {
+        self.home.as_ref()
+    }
+
+    /// The Acquire that home serves.
+    pub fn accepted(&self) -> Option<Accepted>
+        ensures { result ≡ self.now.accepted }
+    {
+        self.accepted
+    }
+
+    /// What passes between home and the memory.
+    pub fn outward(&self) -> &Outward
+        ensures { result.now ≡ self.now.outward }
+    {
+        &self.outward
     }
 
     /// What the client may do.
@@ -191,7 +227,7 @@ impl BlockState {
     }
 
     /// The permission that a Grant for `acquire` gives now.
-    fn granted(&self, acquire: Accepted) -> GrantCap
+    pub fn granted(&self, acquire: Accepted) -> GrantCap
         ensures { result ≡ granted_cap acquire.grow (is_alone (length self.now.clients) acquire.client (client_at self.now)) }
     {
         match acquire.grow {
@@ -219,24 +255,27 @@ impl BlockState {
         self.clients[c.index()].send_grant(cap, &line.bytes)
     }
 
+    /// Whether no Grant of the block is pending.
     #[tactic(auto, using(crate::proofs::Blocks::each_client))]
-    fn has_no_grant(&self, shape: Shape) -> bool
+    pub fn has_no_grant(&self, shape: Shape) -> bool
         requires { length self.now.clients ≡ shape.clients }
         ensures { IsTrue result ↔ NoGrant shape (block_state self.now) }
     {
         self.clients.iter().all(|client| client.has_no_grant())
     }
 
+    /// Whether no Probe of the block is pending.
     #[tactic(auto, using(crate::proofs::Blocks::each_client))]
-    fn has_no_probe(&self, shape: Shape) -> bool
+    pub fn has_no_probe(&self, shape: Shape) -> bool
         requires { length self.now.clients ≡ shape.clients }
         ensures { IsTrue result ↔ NoProbe shape (block_state self.now) }
     {
         self.clients.iter().all(|client| client.has_no_probe())
     }
 
+    /// Whether home records nobody.
     #[tactic(auto, using(crate::proofs::Blocks::each_client))]
-    fn has_nobody_recorded(&self, shape: Shape) -> bool
+    pub fn has_nobody_recorded(&self, shape: Shape) -> bool
         requires { length self.now.clients ≡ shape.clients }
         ensures { IsTrue result ↔ NobodyRecorded shape (block_state self.now) }
     {
@@ -256,7 +295,7 @@ impl BlockState {
     }
 
     /// Whether home may grant `cap` to the client beside the other records.
-    fn has_room_for(&self, shape: Shape, c: ClientId, cap: GrantCap) -> bool
+    pub fn has_room_for(&self, shape: Shape, c: ClientId, cap: GrantCap) -> bool
         requires { length self.now.clients ≡ shape.clients }
         ensures { IsTrue result ↔ RoomFor shape (block_state self.now) c cap }
     {

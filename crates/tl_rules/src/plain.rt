@@ -1,9 +1,9 @@
 //! The plain map of the protocol's state: all blocks and all clients.
-ghost use Rattle.std.specs.Prelude.{◌≡◌, ◌↔◌, ◌<◌, ◌≤◌, ◌*◌, ◌/◌, ◌%◌, ℕ, IsTrue, OnOk, OnErr, IfOk, IfSome, IsSome, is_some, length};
+ghost use Rattle.std.specs.Prelude.{◌≡◌, ◌↔◌, ◌<◌, ◌≤◌, ◌*◌, ◌/◌, ◌%◌, ℕ, IsTrue, OnOk, OnErr, IfOk, IfSome, IsSome, is_some, MatchOption, length};
 ghost use Rattle.tl_protocol.specs.Access.{ReadsAs};
 ghost use Rattle.tl_protocol.specs.Ledger.{count_clients, has_copy, is_recorded};
 ghost use Rattle.tl_protocol.specs.Copy.{perm_of, bytes_of, CanRead};
-ghost use Rattle.tl_rules.specs.Plain.{state_of_plain, IsReset, IsStep};
+ghost use Rattle.tl_rules.specs.Plain.{block_state, state_of_plain, IsReset, IsStep};
 ghost use Rattle.tl_protocol.specs.Protocol.{May, block_of};
 
 use crate::block::BlockState;
@@ -59,8 +59,18 @@ impl Plain {
     pub fn shape(&self) -> Shape
         ensures value { result ≡ self.now.shape }
         ensures nonempty { 0 < result.block_bytes }
+        ensures at_most { result.block_bytes ≤ 64 }
     {
         self.shape
+    }
+
+    /// A block of the memory, with each client.
+    pub fn block(&self, block: u32) -> Option<&BlockState>
+        ensures state { MatchOption result (self.now.shape.blocks ≤ block)
+            (λ b. (block < self.now.shape.blocks) × (block_state b.now ≡ state_of_plain self.now block)) }
+        ensures clients { IfSome result (λ b. length b.now.clients ≡ self.now.shape.clients) }
+    {
+        self.blocks.get(block as usize)
     }
 
     /// What a client may do with a block.

@@ -1,15 +1,15 @@
--- What the program answers (this project's own).
+-- What a job is answered with (this project's own).
 use Rattle.std.specs.Prelude.{◌≡◌, ℕ, Bool, true, false, List, Option, Ok, IfSome}
+use Rattle.tl_conclude.specs.Conclusion.{IsRunReport}
 use Rattle.tl_report.specs.Report.{report_text}
 use Rattle.tl_report.specs.declared.report.Report.{Report}
-use Rattle.tl_runner.specs.Run.{Reports}
 use Rattle.tl_runner.specs.Trace.{IsTraceOf}
 use Rattle.tl_script.specs.Script.{read_of, value_of}
 use Rattle.tl_script.specs.declared.script.Script.{Script}
 
--- The text of a report of the script.
+-- The text of a report of a run of the script.
 abbrev pub IsReportText : Script → List ℕ → Type 0
-IsReportText script text = (report : Report) × Reports script report × (text ≡ report_text report)
+IsReportText script text = (report : Report) × IsRunReport script report × (text ≡ report_text report)
 
 -- what a script is answered with: by `trace` with a trace, by `run` with a report
 abbrev pub IsTextOf : Bool → Script → List ℕ → Type 0

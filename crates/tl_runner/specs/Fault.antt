@@ -4,8 +4,8 @@ use Rattle.tl_job.specs.declared.asked.JobError.{JobError}
 use Rattle.tl_job.specs.declared.asked.JobError.TheVariants.{Usage as j_Usage, Memory as j_Memory}
 use Rattle.tl_script.specs.declared.error.ScriptError.{ScriptError}
 use Rattle.tl_script.specs.declared.error.ScriptError.TheVariants as script
-use Rattle.tl_runner.specs.declared.fault.RunError.{RunError}
-use Rattle.tl_runner.specs.declared.fault.RunError.TheVariants.{Stalled, Memory as r_Memory}
+use Rattle.tl_conclude.specs.declared.error.RunError.{RunError}
+use Rattle.tl_conclude.specs.declared.error.RunError.TheVariants.{Memory as r_Memory}
 use Rattle.tl_runner.specs.declared.fault.Fault.{Fault}
 use Rattle.tl_runner.specs.declared.fault.Fault.TheVariants.{Usage, File, Memory, Script, Run}
 
@@ -19,10 +19,10 @@ abbrev pub script_status : ScriptError → ℕ
 script_status script.Memory = 4
 script_status _ = 1
 
--- a run that stalled ends with 3, want of memory with 4
+-- a run that stalled, or whose shares or accesses are not right, ends with 3, want of memory with 4
 abbrev pub run_status : RunError → ℕ
-run_status (Stalled turns) = 3
 run_status r_Memory = 4
+run_status _ = 3
 
 -- usage ends with 2, the file with 5, want of memory with 4; a script and a run end as above
 abbrev pub status_of : Fault → ℕ

@@ -1,40 +1,13 @@
 //! What stops a job, and the status that the program ends with.
 ghost use Rattle.std.specs.Prelude.{◌≡◌};
 ghost use Rattle.tl_runner.specs.declared.fault.Fault.TheVariants as a;
-ghost use Rattle.tl_runner.specs.declared.fault.RunError.TheVariants.{Memory as OutOfMemory};
 ghost use Rattle.tl_runner.specs.Fault.{fault_of_job};
 
-use std::alloc::{AllocError, AllocFailed};
+use std::alloc::AllocError;
 use thiserror::Error;
+use tl_conclude::RunError;
 use tl_job::JobError;
 use tl_script::ScriptError;
-
-/// Why a run gave no report.
-#[derive(Debug, Drop, Error)]
-pub enum RunError {
-    /// A client's command was not answered within the script's turns.
-    #[error("error 40 stalled {0}")]
-    Stalled(u32),
-    /// A request for memory was refused.
-    #[error("error 41 memory")]
-    Memory,
-}
-
-impl From<AllocError> for RunError {
-    ghost from_gives = { λ _ e. e ≡ OutOfMemory };
-
-    fn from(_error: AllocError) -> RunError {
-        RunError::Memory
-    }
-}
-
-impl<T: Drop> From<AllocFailed<T>> for RunError {
-    ghost from_gives = { λ _ e. e ≡ OutOfMemory };
-
-    fn from(_error: AllocFailed<T>) -> RunError {
-        RunError::Memory
-    }
-}
 
 /// What stops a job. It prints as the one fault line.
 #[derive(Debug, Drop, Error)]

@@ -1,17 +1,22 @@
 //! The answer to a job.
-ghost use Rattle.std.specs.Prelude.{◌≡◌, ◌≢◌, ◌≤◌, ℕ, List, Err, IfOk, IfErr, IfSome, OnOk, string_bytes};
+ghost use Rattle.std.specs.Prelude.{◌≡◌, ◌≢◌, ◌<◌, ◌≤◌, ℕ, List, Err, IfOk, IfErr, IfNone, IfSome, OnOk, string_bytes};
 ghost use Rattle.std.specs.Option.{option_and_then};
 ghost use Rattle.std.specs.Io.KnownBytes.{Appends, Keeps};
 ghost use Rattle.tl_runner.specs.Answer.{IsAnswerTo};
 ghost use Rattle.tl_runner.specs.Fault.{fault_of_job, status_of};
+ghost use Rattle.tl_runner.specs.declared.fault.Fault.{Fault};
 
 use crate::fault::Fault;
-use crate::plain_run::{run, supported};
 use crate::step_trace::trace;
 use std::alloc::Global;
 use std::io;
 use std::io::{ErrorKind, Read, Write};
+use std::sync::Wait;
+use std::thread::Threads;
+use std::time::Clock;
+use tl_client::Gate;
 use tl_job::{Job, JobError};
+use tl_machine::run;
 use tl_script::read_script;
 
 fn read_all<R: Read>(alloc: Global, reader: &mut R) -> Result<Vec<u8>, Fault>
@@ -28,14 +33,17 @@ fn read_all<R: Read>(alloc: Global, reader: &mut R) -> Result<Vec<u8>, Fault>
 }
 
 /// The text of the answer: the words, the file, the script, the run or the trace, in this order.
-fn text<R: Read + Drop>(
+fn text<T: Threads + Wait + Clock + Sync, G: Gate + Sync, R: Read + Drop>(
+    rt: &T,
     alloc: Global,
+    gate: &G,
     job: Result<Job, JobError>,
     file: Option<R>,
 ) -> Result<String, Fault>
     ensures answer { IfOk result
         (λ text. IfOk job (λ asked. IsAnswerTo asked.traces (option_and_then R.remaining file) (string_bytes text))) }
     ensures usage { IfErr job (λ e. result ≡ Err (fault_of_job e)) }
+    ensures no_file { IfOk job (λ _. IfNone file (result ≡ Err Fault.File)) }
 {
     let job = job?;
     let mut reader = file.ok_or(Fault::File)?;
@@ -44,8 +52,7 @@ fn text<R: Read + Drop>(
     if job.traces {
         return Ok(trace(alloc, &script)?);
     }
-    supported(&script)?;
-    let report = run(alloc, &script)?;
+    let report = run(rt, alloc, &script, gate)?;
     Ok(report.text(alloc)?)
 }
 
@@ -58,16 +65,20 @@ fn write_all<W: Write>(output: &mut W, text: &str) -> io::Result<()>
 
 /// Writes the line of a fault, where that can be written, and answers its status.
 fn show<E: Write>(faults: &mut E, fault: &Fault) -> u8
-    ensures { result ≡ status_of fault.now }
+    ensures is { result ≡ status_of fault.now }
+    ensures some { 0 < result }
 {
     let _ = writeln!(faults, "{fault}");
     fault.status()
 }
 
 /// Writes the whole answer to `output`, or one line to `faults` that says what stopped the job, and answers the status: 0 where
-/// all was written, else that of the fault. A failing `faults` does not change it.
-pub fn answer<R: Read + Drop, W: Write, E: Write>(
+/// all was written, else that of the fault. A failing `faults` does not change it. A run has a thread for each client and one for each
+/// bank's home, which meet at `gate`.
+pub fn answer<T: Threads + Wait + Clock + Sync, G: Gate + Sync, R: Read + Drop, W: Write, E: Write>(
+    rt: &T,
     alloc: Global,
+    gate: &G,
     job: Result<Job, JobError>,
     file: Option<R>,
     output: &mut W,
@@ -80,8 +91,10 @@ pub fn answer<R: Read + Drop, W: Write, E: Write>(
         × Appends (W.contents output.old) (W.contents output.new) text }
     ensures nothing { result ≢ 0 → result ≢ 5 → W.contents output.new ≡ W.contents output.old }
     ensures usage { IfErr job (λ e. result ≡ status_of (fault_of_job e)) }
+    ensures no_file { IfOk job (λ _. IfNone file (result ≡ status_of Fault.File)) }
+    ensures quiet { result ≡ 0 → E.contents faults.new ≡ E.contents faults.old }
 {
-    match text(alloc, job, file) {
+    match text(rt, alloc, gate, job, file) {
         Ok(text) => match write_all(output, &text) {
             Ok(()) => 0,
             Err(_) => show(faults, &Fault::File),

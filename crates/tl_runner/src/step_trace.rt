@@ -2,8 +2,8 @@
 ghost use Rattle.std.specs.Prelude.{◌≡◌, IfOk, IfErr, string_bytes};
 ghost use Rattle.tl_runner.specs.Trace.{IsTraceOf};
 
-use crate::fault::RunError;
 use std::alloc::Global;
+use tl_conclude::RunError;
 use tl_player::play;
 use tl_script::Script;
 

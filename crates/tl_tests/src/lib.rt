@@ -7,6 +7,8 @@ mod bank;
 #[cfg(test)]
 mod calls;
 #[cfg(test)]
+mod oldest;
+#[cfg(test)]
 mod program;
 #[cfg(test)]
 mod session;

@@ -9,8 +9,11 @@ use crate::worked::{
 use std::alloc::{AllocError, Global};
 use std::io;
 use std::io::{ErrorKind, Read, Write};
+use std::sync::Wait;
 use std::test::Fail;
-use tl_runner::{Job, JobError, answer};
+use std::thread::Threads;
+use std::time::Clock;
+use tl_runner::{Free, Job, JobError, answer};
 
 /// The script of the first run, up to the line named `without`, and then `tail`.
 fn script(alloc: Global, without: &str, tail: &str) -> Result<String, AllocError> {
@@ -48,16 +51,27 @@ fn run_job(alloc: Global) -> Result<Result<Job, JobError>, AllocError> {
 }
 
 /// The status, the output and the fault line of a script, by `run`.
-fn answered(alloc: Global, script: &[u8]) -> Result<(u8, String, String), Fail> {
-    answered_by(alloc, false, script)
+fn answered<T: Threads + Wait + Clock + Sync>(
+    rt: &T,
+    alloc: Global,
+    script: &[u8],
+) -> Result<(u8, String, String), Fail> {
+    answered_by(rt, alloc, false, script)
 }
 
 /// The status, the output and the fault line of a script, by `trace` or by `run`.
-fn answered_by(alloc: Global, traces: bool, script: &[u8]) -> Result<(u8, String, String), Fail> {
+fn answered_by<T: Threads + Wait + Clock + Sync>(
+    rt: &T,
+    alloc: Global,
+    traces: bool,
+    script: &[u8],
+) -> Result<(u8, String, String), Fail> {
     let mut output = Vec::new(alloc);
     let mut faults = Vec::new(alloc);
     let status = answer(
+        rt,
         alloc,
+        &Free,
         job_of(alloc, traces)?,
         Some(script),
         &mut output,
@@ -73,36 +87,6 @@ fn answered_by(alloc: Global, traces: bool, script: &[u8]) -> Result<(u8, String
 }
 
 #[test]
-fn scripts_that_run(rt: HostRuntime) -> Result<(), Fail> {
-    let alloc = rt.alloc();
-    for (tail, want) in [
-        (
-            "commands = [[\"store 0x0 1122\", \"load 0x0 2\"]]\n",
-            "client 0\n0 store 0x00000000 1122\n1 load 0x00000000 1122\nbank 0 held 1 recorded 1\nok\n",
-        ),
-        (
-            "commands = [[]]\n",
-            "client 0\nbank 0 held 0 recorded 0\nok\n",
-        ),
-        (
-            "image = \"0a0b\"\ncommands = [[\"load 0x0 3\", \"store 0x6 ff\", \"load 0x4 4\"]]\n",
-            "client 0\n0 load 0x00000000 0a0b00\n1 store 0x00000006 ff\n2 load 0x00000004 0000ff00\nbank 0 held 1 recorded 1\nok\n",
-        ),
-        (
-            "commands = [[\"store 0x0 ab\", \"drop 0x0\", \"load 0x0 1\"]]\n",
-            "client 0\n0 store 0x00000000 ab\n1 drop 0x00000000\n2 load 0x00000000 ab\nbank 0 held 1 recorded 1\nok\n",
-        ),
-    ] {
-        let text = script(alloc, "none", tail)?;
-        let (status, output, faults) = answered(alloc, text.as_bytes())?;
-        assert_eq!(rt; output.as_str(), want);
-        assert_eq!(rt; faults.as_str(), "");
-        assert_eq!(rt; status, 0);
-    }
-    Ok(())
-}
-
-#[test]
 fn scripts_that_are_refused(rt: HostRuntime) -> Result<(), Fail> {
     let alloc = rt.alloc();
     for (without, tail, want) in [
@@ -110,13 +94,6 @@ fn scripts_that_are_refused(rt: HostRuntime) -> Result<(), Fail> {
         (
             "memory_blocks",
             "memory_blocks = 65537\n",
-            "error 32 geometry 27\n",
-        ),
-        ("clients", "clients = 2\n", "error 32 geometry 20\n"),
-        ("banks", "banks = 2\n", "error 32 geometry 21\n"),
-        (
-            "memory_blocks",
-            "memory_blocks = 2\n",
             "error 32 geometry 27\n",
         ),
         ("none", "version = \n", "error 30 not toml\n"),
@@ -130,12 +107,12 @@ fn scripts_that_are_refused(rt: HostRuntime) -> Result<(), Fail> {
         ("none", "steps = [\"advance 01\"]\n", "error 35 step 0\n"),
     ] {
         let text = script(alloc, without, tail)?;
-        let (status, output, faults) = answered(alloc, text.as_bytes())?;
+        let (status, output, faults) = answered(&rt, alloc, text.as_bytes())?;
         assert_eq!(rt; faults.as_str(), want);
         assert_eq!(rt; output.as_str(), "");
         assert_eq!(rt; status, 1);
     }
-    let (status, _, faults) = answered(alloc, b"\xffversion = 1\n")?;
+    let (status, _, faults) = answered(&rt, alloc, b"\xffversion = 1\n")?;
     assert_eq!(rt; faults.as_str(), "error 30 not toml\n");
     assert_eq!(rt; status, 1);
     Ok(())
@@ -168,57 +145,105 @@ fn files_and_words_that_fail(rt: HostRuntime) -> Result<(), Fail> {
     let mut output = Vec::new(alloc);
     let mut faults = Vec::new(alloc);
     let no_file: Option<&[u8]> = None;
-    let status = answer(alloc, run_job(alloc)?, no_file, &mut output, &mut faults);
+    let status = answer(
+        &rt,
+        alloc,
+        &Free,
+        run_job(alloc)?,
+        no_file,
+        &mut output,
+        &mut faults,
+    );
     assert_eq!(rt; status, 5);
     let broken = Some(Broken);
-    let status = answer(alloc, run_job(alloc)?, broken, &mut output, &mut faults);
+    let status = answer(
+        &rt,
+        alloc,
+        &Free,
+        run_job(alloc)?,
+        broken,
+        &mut output,
+        &mut faults,
+    );
     assert_eq!(rt; status, 5);
     let file = Some(text.as_bytes());
-    let status = answer(alloc, run_job(alloc)?, file, &mut Broken, &mut faults);
+    let status = answer(
+        &rt,
+        alloc,
+        &Free,
+        run_job(alloc)?,
+        file,
+        &mut Broken,
+        &mut faults,
+    );
     assert_eq!(rt; status, 5);
     assert_eq!(rt;
         faults.as_slice(),
         b"error file\nerror file\nerror file\n".as_slice()
     );
     let file = Some(text.as_bytes());
-    let status = answer(alloc, run_job(alloc)?, file, &mut output, &mut Broken);
+    let status = answer(
+        &rt,
+        alloc,
+        &Free,
+        run_job(alloc)?,
+        file,
+        &mut output,
+        &mut Broken,
+    );
     assert_eq!(rt; status, 0);
     let mut faults = Vec::new(alloc);
     let file = Some(text.as_bytes());
     let usage = Err(JobError::Usage);
-    let status = answer(alloc, usage, file, &mut output, &mut faults);
+    let status = answer(&rt, alloc, &Free, usage, file, &mut output, &mut faults);
     assert_eq!(rt; status, 2);
     assert_eq!(rt; faults.as_slice(), b"error usage\n".as_slice());
     Ok(())
 }
 
 /// Whether a script prints what it should, and nothing else.
-fn is_answered(alloc: Global, worked: &Worked) -> Result<bool, Fail> {
-    let (status, output, faults) = answered_by(alloc, true, worked.script.as_bytes())?;
+fn is_answered<T: Threads + Wait + Clock + Sync>(
+    rt: &T,
+    alloc: Global,
+    worked: &Worked,
+) -> Result<bool, Fail> {
+    let (status, output, faults) = answered_by(rt, alloc, true, worked.script.as_bytes())?;
     Ok(status == 0 && output.as_str() == worked.output.as_str() && faults.as_str() == "")
 }
 
 #[test]
 fn worked_traces(rt: HostRuntime) -> Result<(), Fail> {
     let alloc = rt.alloc();
-    assert!(rt; is_answered(alloc, &both_upgrade::trace(alloc)?)?);
-    assert!(rt; is_answered(alloc, &doubled_early_and_foreign_tickets::trace(alloc)?)?);
-    assert!(rt; is_answered(alloc, &every_way_is_held::trace(alloc)?)?);
-    assert!(rt; is_answered(alloc, &eviction_and_return::trace(alloc)?)?);
-    assert!(rt; is_answered(alloc, &eviction_of_a_reader::trace(alloc)?)?);
-    assert!(rt; is_answered(alloc, &eviction_writes_back::trace(alloc)?)?);
-    assert!(rt; is_answered(alloc, &grant_is_decided_when_sent::trace(alloc)?)?);
-    assert!(rt; is_answered(alloc, &reader_beside_a_sole_reader::trace(alloc)?)?);
-    assert!(rt; is_answered(alloc, &record_falls_while_a_probe_is_out::trace(alloc)?)?);
-    assert!(rt; is_answered(alloc, &release_before_the_grant_ack::trace(alloc)?)?);
-    assert!(rt; is_answered(alloc, &release_crosses_probe::trace(alloc)?)?);
-    assert!(rt; is_answered(alloc, &sixteen_clients::trace(alloc)?)?);
-    assert!(rt; is_answered(alloc, &sole_reader_is_granted_tip::trace(alloc)?)?);
-    assert!(rt; is_answered(alloc, &store_and_reader::trace(alloc)?)?);
-    assert!(rt; is_answered(alloc, &strange_steps::trace(alloc)?)?);
-    assert!(rt; is_answered(alloc, &three_readers::trace(alloc)?)?);
-    assert!(rt; is_answered(alloc, &upgrade::trace(alloc)?)?);
-    assert!(rt; is_answered(alloc, &wide_blocks::trace(alloc)?)?);
+    assert!(rt; is_answered(&rt, alloc, &both_upgrade::trace(alloc)?)?);
+    assert!(rt;
+        is_answered(
+            &rt,
+            alloc,
+            &doubled_early_and_foreign_tickets::trace(alloc)?
+        )?
+    );
+    assert!(rt; is_answered(&rt, alloc, &every_way_is_held::trace(alloc)?)?);
+    assert!(rt; is_answered(&rt, alloc, &eviction_and_return::trace(alloc)?)?);
+    assert!(rt; is_answered(&rt, alloc, &eviction_of_a_reader::trace(alloc)?)?);
+    assert!(rt; is_answered(&rt, alloc, &eviction_writes_back::trace(alloc)?)?);
+    assert!(rt; is_answered(&rt, alloc, &grant_is_decided_when_sent::trace(alloc)?)?);
+    assert!(rt; is_answered(&rt, alloc, &reader_beside_a_sole_reader::trace(alloc)?)?);
+    assert!(rt;
+        is_answered(
+            &rt,
+            alloc,
+            &record_falls_while_a_probe_is_out::trace(alloc)?
+        )?
+    );
+    assert!(rt; is_answered(&rt, alloc, &release_before_the_grant_ack::trace(alloc)?)?);
+    assert!(rt; is_answered(&rt, alloc, &release_crosses_probe::trace(alloc)?)?);
+    assert!(rt; is_answered(&rt, alloc, &sixteen_clients::trace(alloc)?)?);
+    assert!(rt; is_answered(&rt, alloc, &sole_reader_is_granted_tip::trace(alloc)?)?);
+    assert!(rt; is_answered(&rt, alloc, &store_and_reader::trace(alloc)?)?);
+    assert!(rt; is_answered(&rt, alloc, &strange_steps::trace(alloc)?)?);
+    assert!(rt; is_answered(&rt, alloc, &three_readers::trace(alloc)?)?);
+    assert!(rt; is_answered(&rt, alloc, &upgrade::trace(alloc)?)?);
+    assert!(rt; is_answered(&rt, alloc, &wide_blocks::trace(alloc)?)?);
     Ok(())
 }
 
@@ -259,7 +284,7 @@ fn full_channel(alloc: Global) -> Result<String, AllocError> {
 fn a_full_channel_is_refused(rt: HostRuntime) -> Result<(), Fail> {
     let alloc = rt.alloc();
     let script = full_channel(alloc)?;
-    let (status, output, _) = answered_by(alloc, true, script.as_bytes())?;
+    let (status, output, _) = answered_by(&rt, alloc, true, script.as_bytes())?;
     assert_eq!(rt; status, 0);
     let last =
         "590 refused 13\n591 sent 0.0.D.66 6.0 ReleaseAck\n592 sent 0.0.C.65 4.5 ProbeAck NtoN\n";

@@ -10,7 +10,7 @@ use Rattle.tl_tickets.specs.declared.sent.Known.{Known}
 use Rattle.tl_tickets.specs.Lists.{Each}
 use Rattle.tl_tickets.specs.Inbox.{InboxView, PassView, tickets_of, AreFrom, Accounts, IsPassOf, IsEachOnce, Settles}
 use Rattle.tl_tickets.specs.Delivery.{put_by, receiver, sender, known, gathered, Agrees, Shows, put_count, taken_count, IsTotal}
-use Rattle.tl_tickets.proofs.Each.{Each-weaker, Each-left, Each-right, All-from_each, Each-from_all}
+use Rattle.tl_tickets.proofs.Each.{Each-weaker, Each-both, Each-left, Each-right, All-from_each, Each-from_all}
 use Rattle.tl_tickets.proofs.Filters.{tickets_of-append}
 
 -- how often a number is there
@@ -28,16 +28,16 @@ numbered_else k p ps n =
     let s : numbered k (p ∷ ps) ≡ 0 + numbered k ps = step in omega arith
 
 -- what the receiver's pass knows
-is_receiver : (p : PassView) → p.number ≡ 0 → known p ≡ receiver p.senders p.taken
-is_receiver p e = ap (λ b. cond b (receiver p.senders p.taken) (sender p.number p.put)) (eq-eqb p.number 0 e)
+is_receiver : (p : PassView) → p.number ≡ 0 → known p ≡ receiver p.senders p.senders p.behind p.taken
+is_receiver p e = ap (λ b. cond b (receiver p.senders p.senders p.behind p.taken) (sender p.senders p.number p.put)) (eq-eqb p.number 0 e)
 
 -- what a sender's pass knows
-is_sender : (p : PassView) → p.number ≢ 0 → known p ≡ sender p.number p.put
-is_sender p n = ap (λ b. cond b (receiver p.senders p.taken) (sender p.number p.put)) (ne_eqb p.number 0 n)
+is_sender : (p : PassView) → p.number ≢ 0 → known p ≡ sender p.senders p.number p.put
+is_sender p n = ap (λ b. cond b (receiver p.senders p.senders p.behind p.taken) (sender p.senders p.number p.put)) (ne_eqb p.number 0 n)
 
 -- `together`, where it is known whether the first takes
 abbrev joined : Bool → Known → Known → Known
-joined b v w = record { takes = b || w.takes; made = cond b v.made w.made; taken = cond b v.taken w.taken; puts = w.puts ++ v.puts }
+joined b v w = record { takes = b || w.takes; made = cond b v.made w.made; given = cond b v.given w.given; behind = cond b v.behind w.behind; taken = cond b v.taken w.taken; puts = w.puts ++ v.puts }
 
 -- passes without the receiver's: what they know together
 record NoTaker (ps : List PassView) : Type 0 where
@@ -64,9 +64,10 @@ no_taker (p ∷ ps) none = dite (ℕ_discrete p.number 0)
 -- passes with the receiver's among them: what they know together
 record OneTaker (senders : ℕ) (ps : List PassView) : Type 0 where
   takes : (gathered ps).takes ≡ true
-  made : (gathered ps).made ≡ senders
+  given : (gathered ps).given ≡ senders
   count : sum_by taken_count ps ≡ length (gathered ps).taken
   same : Each (λ (p : PassView). p.number ≡ 0 → p.taken ≡ (gathered ps).taken) ps
+  behind : Each (λ (p : PassView). p.number ≡ 0 → p.behind ≡ (gathered ps).behind) ps
 
 -- so it is where one pass has the receiver's number
 one_taker : (senders : ℕ) (ps : List PassView) → Each (λ (p : PassView). p.senders ≡ senders) ps → numbered 0 ps ≡ 1 → OneTaker senders ps
@@ -75,33 +76,35 @@ one_taker senders (p ∷ ps) all one = dite (ℕ_discrete p.number 0)
     (λ here.
     let h = numbered_here 0 p ps here in
     let rest = no_taker ps (omega arith) in
-    let is : gathered (p ∷ ps) ≡ joined false (gathered ps) (receiver p.senders p.taken) = λ i. joined (rest.idle i) (gathered ps) (is_receiver p here i) in
+    let is : gathered (p ∷ ps) ≡ joined false (gathered ps) (receiver p.senders p.senders p.behind p.taken) = λ i. joined (rest.idle i) (gathered ps) (is_receiver p here i) in
     let c = sum_by-cons taken_count p ps ∙ ap (λ b. cond b (length p.taken) 0 + sum_by taken_count ps) (eq-eqb p.number 0 here) in
     let total : sum_by taken_count (p ∷ ps) ≡ length p.taken + sum_by taken_count ps = c in
     let r = rest.count in
     let mine = ap (λ (v : Known). length v.taken) is in
     record {
       takes = ap (λ (v : Known). v.takes) is;
-      made = ap (λ (v : Known). v.made) is ∙ all.0;
+      given = ap (λ (v : Known). v.given) is ∙ all.0;
       count = omega arith;
       same = ((λ _. sym (ap (λ (v : Known). v.taken) is)), Each-weaker (λ (q : PassView). q.number ≢ 0) (λ (q : PassView). q.number ≡ 0 → q.taken ≡ (gathered (p ∷ ps)).taken) (λ q n e. absurd (n e)) ps rest.others);
+      behind = ((λ _. sym (ap (λ (v : Known). v.behind) is)), Each-weaker (λ (q : PassView). q.number ≢ 0) (λ (q : PassView). q.number ≡ 0 → q.behind ≡ (gathered (p ∷ ps)).behind) (λ q n e. absurd (n e)) ps rest.others);
     })
     (λ else.
     let rest = one_taker senders ps all.1 (sym (numbered_else 0 p ps else) ∙ one) in
-    let is : gathered (p ∷ ps) ≡ joined true (gathered ps) (sender p.number p.put) = λ i. joined (rest.takes i) (gathered ps) (is_sender p else i) in
+    let is : gathered (p ∷ ps) ≡ joined true (gathered ps) (sender p.senders p.number p.put) = λ i. joined (rest.takes i) (gathered ps) (is_sender p else i) in
     let c = sum_by-cons taken_count p ps ∙ ap (λ b. cond b (length p.taken) 0 + sum_by taken_count ps) (ne_eqb p.number 0 else) in
     let total : sum_by taken_count (p ∷ ps) ≡ 0 + sum_by taken_count ps = c in
     let r = rest.count in
     let mine = ap (λ (v : Known). length v.taken) is in
     record {
       takes = ap (λ (v : Known). v.takes) is;
-      made = ap (λ (v : Known). v.made) is ∙ rest.made;
+      given = ap (λ (v : Known). v.given) is ∙ rest.given;
       count = omega arith;
       same = ((λ e. absurd (else e)), Each-weaker (λ (q : PassView). q.number ≡ 0 → q.taken ≡ (gathered ps).taken) (λ (q : PassView). q.number ≡ 0 → q.taken ≡ (gathered (p ∷ ps)).taken) (λ q f e. f e ∙ sym (ap (λ (v : Known). v.taken) is)) ps rest.same);
+      behind = ((λ e. absurd (else e)), Each-weaker (λ (q : PassView). q.number ≡ 0 → q.behind ≡ (gathered ps).behind) (λ (q : PassView). q.number ≡ 0 → q.behind ≡ (gathered (p ∷ ps)).behind) (λ q f e. f e ∙ sym (ap (λ (v : Known). v.behind) is)) ps rest.behind);
     })
 
 -- what holds of each put that is known together holds of each sender's
-each_sender : (Q : Put → Type 0) (ps : List PassView) → Each Q (gathered ps).puts → Each (λ (p : PassView). 0 < p.number → Q (put_by p.number p.put)) ps
+each_sender : (Q : Put → Type 0) (ps : List PassView) → Each Q (gathered ps).puts → Each (λ (p : PassView). 0 < p.number → Q (put_by p.senders p.number p.put)) ps
 each_sender Q [] h = tt
 each_sender Q (p ∷ ps) h = (
   (λ some_number. (subst (λ (v : Known). Each Q v.puts) (is_sender p (λ e. absurd (omega arith))) (Each-left Q (known p).puts (gathered ps).puts h)).0),
@@ -174,8 +177,8 @@ settles inbox ps v total is all once balance small moment =
     let taken = shown.0 in
     let mine = one_taker n ps (Each-weaker (IsPassOf inbox) (λ (p : PassView). p.senders ≡ n) (λ p h. h.1) ps (Each-from_all (IsPassOf inbox) ps all)) (once.1 0 (omega arith)) in
     let end = shown.2 mine.takes in
-    let from : AreFrom n (taken ++ waiting) = subst (λ k. AreFrom k (taken ++ waiting)) mine.made end.2 in
-    let right : Each (λ (p : PassView). 0 < p.number → Accounts taken waiting p) ps = each_sender (Agrees taken waiting) ps shown.1 in
+    let from : AreFrom n (taken ++ waiting) = subst (λ k. AreFrom k (taken ++ waiting)) mine.given end.2 in
+    let right : Each (λ (p : PassView). 0 < p.number → Accounts taken waiting p) ps = each_sender (Agrees taken waiting) ps (Each-weaker (λ (q : Put). Agrees taken waiting q × AreFrom q.among (taken ++ waiting)) (Agrees taken waiting) (λ q h. h.0) (gathered ps).puts shown.1) in
     let whole = puts_are_shares (taken ++ waiting) ps (Each-weaker (λ (p : PassView). 0 < p.number → Accounts taken waiting p) (λ (p : PassView). 0 < p.number → p.put ≡ tickets_of p.number (taken ++ waiting)) (λ p f h. f h ∙ sym (tickets_of-append p.number taken waiting)) ps right) in
     let spread = all_shares n ps (taken ++ waiting) once.1 from in
     let lengths = length-append taken waiting in
@@ -186,7 +189,11 @@ settles inbox ps v total is all once balance small moment =
       waiting,
       counted,
       Each-right (λ (x : Sent). (0 < x.sender) × (x.sender ≤ n)) taken waiting from,
-      All-from_each (λ (r : PassView). r.number ≡ 0 → All (λ (p : PassView). 0 < p.number → Accounts r.taken waiting p) ps) ps
-          (Each-weaker (λ (r : PassView). r.number ≡ 0 → r.taken ≡ (gathered ps).taken) (λ (r : PassView). r.number ≡ 0 → All (λ (p : PassView). 0 < p.number → Accounts r.taken waiting p) ps)
-          (λ r f h. subst (λ ts. All (λ (p : PassView). 0 < p.number → Accounts ts waiting p) ps) (sym (f h ∙ end.0)) (All-from_each (λ (p : PassView). 0 < p.number → Accounts taken waiting p) ps right)) ps mine.same),
+      All-from_each (λ (r : PassView). r.number ≡ 0 → (r.behind ≤ total) × All (λ (p : PassView). 0 < p.number → Accounts r.taken waiting p) ps) ps
+          (Each-both (λ (r : PassView). r.number ≡ 0 → r.taken ≡ (gathered ps).taken) (λ (r : PassView). r.number ≡ 0 → r.behind ≡ (gathered ps).behind)
+          (λ (r : PassView). r.number ≡ 0 → (r.behind ≤ total) × All (λ (p : PassView). 0 < p.number → Accounts r.taken waiting p) ps)
+          (λ r f k h. (
+            (let known = k h in let few = end.3 in omega arith),
+            subst (λ ts. All (λ (p : PassView). 0 < p.number → Accounts ts waiting p) ps) (sym (f h ∙ end.0)) (All-from_each (λ (p : PassView). 0 < p.number → Accounts taken waiting p) ps right),
+          )) ps mine.same mine.behind),
     )

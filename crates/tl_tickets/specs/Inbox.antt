@@ -12,13 +12,15 @@ pub record InboxView : Type 0 where
   pub capacity : ℕ
   pub senders : ℕ
 
--- a pass: the inbox that gave it out, its own number, what was put with it and what was taken with it. The receiver's number is 0, and the senders' are 1 and on
+-- a pass: the inbox that gave it out, its own number, what was put with it and what was taken with it, and how many tickets at least wait behind
+-- the one taken last. The receiver's number is 0, and the senders' are 1 and on
 pub record PassView : Type 0 where
   pub table : TableId
   pub senders : ℕ
   pub number : ℕ
   pub put : List Ticket
   pub taken : List Sent
+  pub behind : ℕ
 
 -- the inbox gave out this pass
 abbrev pub IsPassOf : InboxView → PassView → Type 0
@@ -44,9 +46,9 @@ sent s t = record { sender = s; ticket = t }
 abbrev pub after_put : PassView → Ticket → PassView
 after_put pass t = record pass { put = pass.put ++ t ∷ [] }
 
--- the pass, after a ticket of the sender s was taken with it
-abbrev pub after_take : PassView → ℕ → Ticket → PassView
-after_take pass s t = record pass { taken = pass.taken ++ sent s t ∷ [] }
+-- the pass, after a ticket of the sender s was taken with it, behind which so many wait
+abbrev pub after_take : PassView → ℕ → Ticket → ℕ → PassView
+after_take pass s t rest = record pass { taken = pass.taken ++ sent s t ∷ []; behind = rest }
 
 -- the tickets of the sender s, in order
 abbrev pub tickets_of : ℕ → List Sent → List Ticket
@@ -61,26 +63,23 @@ AreFrom n xs = Each (λ (x : Sent). (0 < x.sender) × (x.sender ≤ n)) xs
 abbrev pub Accounts : List Sent → List Sent → PassView → Type 0
 Accounts taken waiting sender = sender.put ≡ tickets_of sender.number taken ++ tickets_of sender.number waiting
 
--- at one moment of the call the inbox was full, and the sender's account was right
+-- the inbox can have been full: as many tickets of its senders waited as it has room for, and the sender's account was right. With one sender
+-- these are the sender's own, so it had put at least so many
 abbrev pub WasFull : InboxView → PassView → Type 0
-WasFull inbox sender = (taken waiting : List Sent) × (length waiting ≡ inbox.capacity) × Accounts taken waiting sender
-
--- at one moment of the call nothing waited of all that was put
-abbrev pub WasEmpty : InboxView → PassView → Type 0
-WasEmpty inbox receiver = (waiting : List Sent) × (length waiting ≡ 0) × AreFrom inbox.senders (receiver.taken ++ waiting)
+WasFull inbox sender = (taken waiting : List Sent) × (length waiting ≡ inbox.capacity) × AreFrom inbox.senders (taken ++ waiting) × Accounts taken waiting sender
 
 -- each pass of an inbox with this many senders is there once
 abbrev pub IsEachOnce : ℕ → List PassView → Type 0
 IsEachOnce senders passes = (length passes ≡ senders + 1) × ((k : ℕ) → k ≤ senders → count_by (λ (p : PassView). p.number == k) passes ≡ 1)
 
--- with n tickets that wait, the account of each sender with the receiver is right
+-- with n tickets that wait, the account of each sender with the receiver is right, and the receiver knew of no more
 abbrev pub Settles : ℕ → List PassView → ℕ → Type 0
 Settles senders passes n = (waiting : List Sent) × (length waiting ≡ n) × AreFrom senders waiting
-    × All (λ (receiver : PassView). receiver.number ≡ 0 → All (λ (sender : PassView). 0 < sender.number → Accounts receiver.taken waiting sender) passes) passes
+    × All (λ (receiver : PassView). receiver.number ≡ 0 → (receiver.behind ≤ n) × All (λ (sender : PassView). 0 < sender.number → Accounts receiver.taken waiting sender) passes) passes
 
 -- a pass as it is given out
 abbrev pub fresh_pass : InboxView → ℕ → PassView
-fresh_pass inbox number = record { table = inbox.table; senders = inbox.senders; number = number; put = []; taken = [] }
+fresh_pass inbox number = record { table = inbox.table; senders = inbox.senders; number = number; put = []; taken = []; behind = 0 }
 
 -- the first n senders' passes as they are given out
 abbrev pub fresh_senders : InboxView → ℕ → List PassView

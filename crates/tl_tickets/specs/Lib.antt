@@ -4,3 +4,4 @@ pub mod Delivery
 pub mod Bell
 pub mod Ringing
 pub mod Ends
+pub mod Shares

@@ -1,6 +1,6 @@
 //! The rule of an inbox's queue, and what each step on the queue tells.
 ghost use Rattle.std.specs.Prelude.{[]};
-ghost use Rattle.tl_tickets.specs.Delivery.{receiver, nothing, with_sender, new_sender, together, Delivers, Puts, Takes, Shows};
+ghost use Rattle.tl_tickets.specs.Delivery.{receiver, nothing, with_counted, only_counted, with_sender, new_sender, together, Delivers, Puts, Takes, Shows};
 
 use crate::sent::{Known, Sent};
 use crossbeam_queue::protocol::{Join, Lesson, Outcome, Protocol, Split};
@@ -11,10 +11,19 @@ pub struct Delivery;
 impl Protocol<Sent, Known> for Delivery {
     ghost holds = { Delivers };
 
-    ghost first = { receiver 0 [] };
+    ghost first = { receiver 0 0 0 [] };
 }
 
-/// A sender's pass has its puts, and the pass makes one more sender.
+/// One more sender is counted. The pass that comes of it knows nothing.
+pub struct Counted;
+
+impl Split<Known> for Counted {
+    ghost left = { with_counted };
+
+    ghost right = { only_counted };
+}
+
+/// One more sender has its pass.
 pub struct OneMore;
 
 impl Split<Known> for OneMore {

@@ -1,7 +1,7 @@
 //! What threads carry: a reference to an inbox or a bell, with a pass or a seat of its own. That the one belongs to the other is
 //! kept by the type, so the ends need no `requires` where they are used, in whatever thread.
-ghost use Rattle.std.specs.Prelude.{◌≡◌, ◌<◌, ◌≤◌, ℕ, MatchBool, MatchOption, MatchResult};
-ghost use Rattle.tl_tickets.specs.Inbox.{IsSenderOf, IsReceiverOf, after_put, after_take, WasFull, WasEmpty};
+ghost use Rattle.std.specs.Prelude.{◌≡◌, ◌+◌, ◌<◌, ◌≤◌, ℕ, MatchBool, MatchOption, MatchResult};
+ghost use Rattle.tl_tickets.specs.Inbox.{IsSenderOf, IsReceiverOf, after_put, after_take, WasFull};
 ghost use Rattle.tl_tickets.specs.Bell.{IsSeatOf, most_rings, after_ring, after_hearing};
 
 use crate::bell::{Bell, Seat};
@@ -83,7 +83,7 @@ impl<'a> Receiver<'a> {
 
     /// Takes the ticket that waited longest. `None` only where nothing waited at one moment of the call.
     pub fn take<R: Wait>(&mut self, rt: &R) -> Option<Ticket>
-        ensures { MatchOption result ((self.new ≡ self.old) × WasEmpty self.old.inbox self.old.pass) (λ ticket. (sender : ℕ) × (0 < sender) × (sender ≤ self.old.inbox.senders) × (self.new ≡ record self.old { pass = after_take self.old.pass sender ticket })) }
+        ensures { MatchOption result ((self.new ≡ self.old) × (self.old.pass.behind ≡ 0)) (λ ticket. (sender rest : ℕ) × (0 < sender) × (sender ≤ self.old.inbox.senders) × (self.old.pass.behind ≤ rest + 1) × (self.new ≡ record self.old { pass = after_take self.old.pass sender ticket rest })) }
     {
         self.inbox.take(rt, &mut self.pass)
     }

@@ -1,11 +1,11 @@
 //! A bounded inbox: each sender puts tickets with a pass of its own, and one receiver takes them.
-ghost use Rattle.std.specs.Prelude.{◌≡◌, ◌==◌, ◌<◌, ◌≤◌, ◌↔◌, ℕ, [], length, count_by, IfOk, IsTrue, MatchResult, MatchOption};
+ghost use Rattle.std.specs.Prelude.{◌≡◌, ◌+◌, ◌==◌, ◌<◌, ◌≤◌, ◌↔◌, ℕ, [], length, count_by, IfOk, IsTrue, MatchResult, MatchOption};
 ghost use Rattle.std.specs.List.{All};
 ghost use Rattle.crossbeam_queue.specs.Passes.{view as learned, IsPassOf as IsQueuePassOf};
-ghost use Rattle.tl_tickets.specs.Inbox.{IsPassOf, IsSenderOf, IsReceiverOf, IsSamePass, after_put, after_take, WasFull, WasEmpty, IsEachOnce, Settles, fresh_passes};
-ghost use Rattle.tl_tickets.specs.Delivery.{gathered, known, pass_with, first_tickets, IsTotal};
+ghost use Rattle.tl_tickets.specs.Inbox.{IsPassOf, IsSenderOf, IsReceiverOf, IsSamePass, after_put, after_take, WasFull, IsEachOnce, Settles, fresh_passes};
+ghost use Rattle.tl_tickets.specs.Delivery.{gathered, known, pass_with, first_tickets, IsTotal, receiver as receiver_of};
 
-use crate::delivery::{Delivery, OneMore, PutOne, TakeOne, Together};
+use crate::delivery::{Counted, Delivery, OneMore, PutOne, TakeOne, Together};
 use crate::error::{Full, Missing};
 use crate::sent::{Known, Sent};
 use crossbeam_queue::RuledArrayQueue;
@@ -63,8 +63,8 @@ impl Model for Pass {
 impl Pass {
     fn new(seat: QueuePass, senders: usize, number: usize) -> Pass
         requires seat { (seat.me.1 ≡ []) × (learned seat ≡ known (pass_with seat.table_id senders number (learned seat))) }
-        requires fresh { (first_tickets (learned seat).puts ≡ []) × ((learned seat).taken ≡ []) }
-        ensures { result ≡ record { table = seat.table_id; senders = senders; number = number; put = []; taken = [] } }
+        requires fresh { (first_tickets (learned seat).puts ≡ []) × ((learned seat).taken ≡ []) × ((learned seat).behind ≡ 0) }
+        ensures { result ≡ record { table = seat.table_id; senders = senders; number = number; put = []; taken = []; behind = 0 } }
     {
         Pass {
             seat,
@@ -123,6 +123,19 @@ fn gather(queue: &Queue, mut passes: Vec<Pass>) -> (QueuePass, u64)
     (all, total)
 }
 
+// Counts all senders before the first has its pass, so that each pass knows how many there are. It is for the proof alone: the passes that
+// come of it know nothing.
+fn count_senders(queue: &Queue, receiver: &mut QueuePass, senders: usize)
+    requires queue { IsQueuePassOf queue.now receiver.old }
+    requires none { learned receiver.old ≡ receiver_of 0 0 0 [] }
+    ensures queue { IsQueuePassOf queue.now receiver.new × (receiver.new.me.1 ≡ receiver.old.me.1) }
+    ensures all { learned receiver.new ≡ receiver_of senders 0 0 [] }
+{
+    for _counted in 0..senders {
+        let _nothing = queue.another::<Counted>(receiver);
+    }
+}
+
 impl Inbox {
     /// An inbox with room for this many tickets, 1 to 4,096, and the passes: first the receiver's, then each sender's. The error is
     /// want of memory.
@@ -136,6 +149,7 @@ impl Inbox {
         ensures { IfOk result (λ made. (made.0.capacity ≡ capacity) × (made.0.senders ≡ senders) × (made.1.items ≡ fresh_passes made.0)) }
     {
         let (queue, mut receiver) = Queue::ruled(alloc, capacity)?;
+        count_senders(&queue, &mut receiver, senders);
         let mut passes = Vec::with_capacity(alloc, senders + 1)?;
         for earlier in 0..senders {
             let seat = queue.another::<OneMore>(&mut receiver);
@@ -170,7 +184,7 @@ impl Inbox {
     pub fn take<R: Wait>(&self, rt: &R, pass: &mut Pass) -> Option<Ticket>
         requires { IsReceiverOf self.now pass.old }
         ensures pass { IsSamePass pass.old pass.new }
-        ensures taken { MatchOption result ((pass.new ≡ pass.old) × WasEmpty self.now pass.old) (λ ticket. (sender : ℕ) × (0 < sender) × (sender ≤ self.now.senders) × (pass.new ≡ after_take pass.old sender ticket)) }
+        ensures taken { MatchOption result ((pass.new ≡ pass.old) × (pass.old.behind ≡ 0)) (λ ticket. (sender rest : ℕ) × (0 < sender) × (sender ≤ self.now.senders) × (pass.old.behind ≤ rest + 1) × (pass.new ≡ after_take pass.old sender ticket rest)) }
     {
         let sent = self.queue.pop_as::<TakeOne, R>(rt, &mut pass.seat)?;
         pass.balance = pass.balance.wrapping_sub(1);

@@ -1,4 +1,4 @@
-//! Inboxes, by which many threads hand tickets to one receiver, and bells, which threads ring and hear without waiting.
+//! Inboxes, by which many threads hand tickets to one receiver, and bells, which threads ring and hear without waiting; and the shares of a bank, gathered.
 #![tactic(auto)]
 
 mod bell;
@@ -8,6 +8,7 @@ mod error;
 mod inbox;
 mod ringing;
 mod sent;
+mod shares;
 mod tally;
 
 pub use bell::{Bell, Seat};
@@ -15,6 +16,7 @@ pub use ends::{Receiver, Ringer, Sender};
 pub use error::{Full, Missing};
 pub use inbox::{Inbox, Pass};
 pub use sent::Sent;
+pub use shares::gather;
 
 #[cfg(test)]
 mod tests;

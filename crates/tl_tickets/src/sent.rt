@@ -9,16 +9,20 @@ pub struct Sent {
     pub ticket: Ticket,
 }
 
-// What one sender put, in order. No value of it is made.
+// What one sender put, in order, and how many senders the inbox has. No value of it is made.
 pub struct Put {
     pub sender: usize,
+    pub among: usize,
     pub tickets: LinkedList<Ticket>,
 }
 
-// What a pass knows: what some senders put, and, of the pass that takes, what it took and how many senders have their passes. No value of it is made.
+// What a pass knows: what some senders put, and, of the pass that takes, what it took, how many senders there are, how many of them
+// have their passes, and how many tickets at least wait behind the one that it took last. No value of it is made.
 pub struct Known {
     pub takes: bool,
     pub made: usize,
+    pub given: usize,
+    pub behind: usize,
     pub taken: LinkedList<Sent>,
     pub puts: LinkedList<Put>,
 }

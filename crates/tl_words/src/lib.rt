@@ -16,4 +16,5 @@ pub use laws::{
     addresses_are_read_back, bytes_are_read_back, numbers_are_printed, tickets_are_read_back,
 };
 pub use step::{BlockCall, Step, TicketCall};
-pub use words::parse_bytes;
+pub use ticket::{parse_grow, parse_prune};
+pub use words::{parse_access, parse_address, parse_bytes, parse_number, split_words};

@@ -4,7 +4,7 @@
 use std::fs::File;
 use std::io;
 use std::process::ExitCode;
-use tl_runner::{JobError, answer, job};
+use tl_runner::{Free, JobError, answer, job};
 
 /// The words after the program's name.
 fn words(rt: &HostRuntime) -> io::Result<Vec<String>> {
@@ -26,5 +26,6 @@ fn main(rt: HostRuntime) -> ExitCode {
     };
     let mut output = rt.stdout();
     let mut faults = rt.stderr();
-    ExitCode::from(answer(rt.alloc(), job, file, &mut output, &mut faults))
+    let status = answer(&rt, rt.alloc(), &Free, job, file, &mut output, &mut faults);
+    ExitCode::from(status)
 }

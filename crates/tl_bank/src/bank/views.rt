@@ -1,5 +1,6 @@
 //! What a bank shows of its end, besides what its clients may do. No view takes memory.
-ghost use Rattle.std.specs.Prelude.{◌≡◌, ◌≢◌, ◌↔◌, ◌+◌, ◌<◌, ◌≤◌, ℕ, IfSome, IsSome, IsTrue, Some, length};
+ghost use Rattle.std.specs.Prelude.{◌≡◌, ◌≢◌, ◌↔◌, ◌+◌, ◌<◌, ◌≤◌, ℕ, IfSome, IsSome, IsTrue, None, Some, length};
+ghost use Rattle.std.specs.List.{All};
 ghost use Rattle.std.specs.List.Sorted.{IsNonDecreasing, IsPermutation};
 ghost use Rattle.tl_types.specs.Permission.{rank};
 ghost use Rattle.tl_types.specs.declared.permission.Perm.{Perm};
@@ -7,12 +8,16 @@ ghost use Rattle.tl_map.specs.Places.{block_at as block_of_address};
 ghost use Rattle.tl_protocol.specs.Coherent.{last};
 ghost use Rattle.tl_protocol.specs.Ledger.{count_clients, has_copy, is_recorded, is_under_way};
 ghost use Rattle.tl_bank_spec.specs.View.{IsOwn, block_at, perm_at};
-ghost use Rattle.tl_bank_spec.specs.Views.{not_own, no_part, recorded_at, byte_at, peeked, MayRead, MayWrite, in_flight_at, dirty_at, outward_at, own_blocks, HasNoMessage, AwaitsNothing, IsQuiet, pairs_at};
+ghost use Rattle.tl_bank_spec.specs.Views.{not_own, no_part, recorded_at, byte_at, peeked, HasCopy, MayRead, MayWrite, in_flight_at, dirty_at, outward_at, own_blocks, is_at_home, blocks_at_home, HasNoMessage, AwaitsNothing, IsQuiet, pairs_at, copies_below};
+ghost use Rattle.tl_bank_spec.specs.Ways.{slot_at};
+ghost use Rattle.tl_bank_laws.specs.Found.{times, one_of};
 
 use crate::bank::Bank;
 use arrayvec::ArrayVec;
+use tl_map::Set;
 use tl_protocol::Outward;
-use tl_types::{BlockNo, Channel, ClientId, Message, Perm, Ticket, Wait};
+use tl_types::{BlockNo, Channel, ClientId, Message, Perm, Ticket};
+use tl_ways::Way;
 
 impl Bank {
     /// The permission that home records for a client of a block: None also where there is no such client, and where the block is
@@ -57,6 +62,18 @@ impl Bank {
             }
         }
         None
+    }
+
+    /// The block of this bank of a client's copy that was granted longest ago: a copy that is new, or that was granted anew, is
+    /// the latest. None just where the client has no copy in this bank, or is not there.
+    pub fn oldest_copy(&self, client: ClientId) -> Option<BlockNo>
+        ensures copy { IfSome result (λ block. HasCopy self.now client block) }
+        ensures none { (result ≡ None) ↔ ((block : ℕ) → HasCopy self.now client block → ⊥) }
+    {
+        if client.number() >= self.geometry.clients() {
+            return None;
+        }
+        self.copies.oldest(client)
     }
 
     /// The message that a ticket names, where it still waits, wherever in its channel's line. None also where the ticket is of a
@@ -121,16 +138,15 @@ impl Bank {
         true
     }
 
-    /// How many pairs there are of a client and a block of this bank of which the client has a copy.
+    /// How many pairs there are of a client and a block of this bank of which the client has a copy: the sum of what `copies_of`
+    /// says of each client.
     pub fn held(&self) -> u64
-        ensures { result ≡ pairs_at has_copy self.now }
+        ensures value { result ≡ pairs_at has_copy self.now }
+        ensures shares { result ≡ copies_below self.now self.now.geometry.clients }
     {
         let mut count = 0;
-        for number in 0..self.geometry.memory_blocks() {
-            let block = BlockNo::new(number);
-            if !self.is_not_own(block) {
-                count += u64::from(self.holders(block));
-            }
+        for number in 0..self.geometry.clients() {
+            count += u64::from(self.count(ClientId::new(number)));
         }
         count
     }
@@ -142,14 +158,48 @@ impl Bank {
         ensures ledger { result ≡ pairs_at has_copy self.now + pairs_at is_under_way self.now }
         ensures quiet { IsQuiet self.now → result ≡ pairs_at has_copy self.now }
     {
+        // For the prover: what the bank holds is what its log leaves.
+        let _ = &self.geometry;
         let mut count = 0;
-        for number in 0..self.geometry.memory_blocks() {
-            let block = BlockNo::new(number);
-            if !self.is_not_own(block) {
-                count += u64::from(self.sharers(block));
-            }
+        for block in self.blocks_at_home().as_slice() {
+            count += u64::from(self.sharers(*block));
         }
         count
+    }
+
+    /// The blocks of this bank of which home has a copy, by rising number.
+    pub fn blocks_at_home(&self) -> ArrayVec<BlockNo, 512>
+        ensures is { result.items ≡ blocks_at_home self.now }
+        ensures own { All (λ block. IsOwn self.now.geometry self.now.number block) result.items }
+    {
+        let mut blocks = self.blocks_by_way();
+        blocks
+            .as_mut_slice()
+            .sort_unstable_by_key(|block| block.number());
+        blocks
+    }
+
+    /// The same, each once, way by way of each set.
+    fn blocks_by_way(&self) -> ArrayVec<BlockNo, 512>
+        ensures { (block : ℕ) → times block result.items ≡ one_of (is_at_home self.now block) }
+    {
+        let ways = self.geometry.ways();
+        let mut blocks = ArrayVec::new();
+        for place in 0..self.geometry.sets() * ways {
+            if let Some(block) = self.block_in(Set::new(place / ways), Way::new(place % ways)) {
+                blocks.push(block);
+            }
+        }
+        blocks
+    }
+
+    /// The block in a way of a set.
+    fn block_in(&self, set: Set, way: Way) -> Option<BlockNo>
+        requires set { set < self.now.geometry.sets }
+        requires way { way < self.now.geometry.ways }
+        ensures { result ≡ slot_at self.now set way }
+    {
+        self.home.block_at(set, way)
     }
 
     /// Whether a block is not of the memory, or of another bank.
@@ -205,28 +255,7 @@ impl Bank {
         requires { client < self.now.geometry.clients }
         ensures { IsTrue result ↔ AwaitsNothing self.now client }
     {
-        for number in 0..self.geometry.memory_blocks() {
-            let block = BlockNo::new(number);
-            if !self.is_not_own(block) && self.wait(client, block) != Wait::Nothing {
-                return false;
-            }
-        }
-        true
-    }
-
-    /// How many clients have a copy of a block.
-    fn holders(&self, block: BlockNo) -> u32
-        requires { block < self.now.geometry.memory_blocks }
-        ensures value { result ≡ count_clients has_copy self.now.geometry.clients (block_at self.now block).client }
-        ensures few { result ≤ 16 }
-    {
-        let mut count = 0;
-        for number in 0..self.geometry.clients() {
-            if self.perm_of(ClientId::new(number), block) != Perm::None {
-                count += 1;
-            }
-        }
-        count
+        self.copies.awaits_nothing(client)
     }
 
     /// For how many clients home has recorded a permission of a block of this bank above None.

@@ -1,6 +1,7 @@
-use Rattle.std.proofs.Common.{◌≡◌, map}
-use Rattle.tl_player.specs.Closing.{line_state, lines_below}
+use Rattle.std.proofs.Common.{◌≡◌, map, take}
+use Rattle.tl_player.specs.Closing.{line_state}
+use Rattle.tl_player.proofs.ClosingLemmas.{lines_of}
 use Rattle.tl_player.proofs.closing.lines.Given as goal
 
-abbrev pub invariant-loop-number : goal.invariant-loop-number
-invariant-loop-number l = map line_state l.lines.items ≡ lines_below l.bank l.number
+abbrev pub invariant-loop-block : goal.invariant-loop-block
+invariant-loop-block l = map line_state l.lines.items ≡ lines_of l.bank (take l.block-index l.block-items)

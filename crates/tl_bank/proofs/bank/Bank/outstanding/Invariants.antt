@@ -1,10 +1,10 @@
-use Rattle.std.proofs.Common.{◌≡◌, ◌*◌, ◌≤◌}
-use Rattle.tl_protocol.specs.Ledger.{is_recorded}
-use Rattle.tl_bank_spec.specs.Views.{pairs_below}
+use Rattle.std.proofs.Common.{◌≡◌, ◌*◌, ◌≤◌, take}
+use Rattle.std.specs.Prelude.{sum_by}
+use Rattle.tl_bank_laws.proofs.AtHome.{recorders}
 use Rattle.tl_bank.proofs.bank.Bank.outstanding.Given as goal
 
-abbrev pub invariant-loop-number : goal.invariant-loop-number
-invariant-loop-number l = record {
-  value : l.count ≡ pairs_below is_recorded l.self l.number;
-  few : l.count ≤ l.number * 16;
+abbrev pub invariant-loop-block : goal.invariant-loop-block
+invariant-loop-block l = record {
+  value : l.count ≡ sum_by (recorders l.self) (take l.block-index l.block-items);
+  few : l.count ≤ l.block-index * 16;
 }

@@ -17,5 +17,5 @@ returns-in-Err-clause-put g c =
       ap (λ x. x.ticket) h.rule.0,
       (λ i. pass_with (h.queue.0 i) pass.senders pass.number (h.rule.1 i)) ∙ c.pass.view_is,
       subst (λ (y : InboxView × PassView). WasFull y.0 y.1) (λ i. (c.self.view_is i, c.pass.view_is i))
-          (was_full _ (inbox_view c.self.inside) (pass_view c.pass.inside) _ c.pass.invariant.1 (subst (λ (p : PassView). 0 < p.number) (sym c.pass.view_is) c.requires.1) refl h.rule.2),
+          (was_full _ (inbox_view c.self.inside) (pass_view c.pass.inside) _ c.pass.invariant.1 (subst (λ (p : PassView). 0 < p.number) (sym c.pass.view_is) c.requires.1) (ap (λ (p : PassView). p.senders) c.pass.view_is ∙ c.requires.0.1 ∙ sym (ap (λ (i : InboxView). i.senders) c.self.view_is)) refl h.rule.2),
     )

@@ -1,0 +1,66 @@
+"""Runs programs on generated scripts, in turn, and prints accesses a second. Called by run.sh."""
+import math
+import os
+import statistics
+import subprocess
+import sys
+import tempfile
+import time
+
+import generate
+
+# How many commands all clients of a kind have together.
+COMMANDS = {'hits': 32768, 'readers': 32768, 'contention': 4096, 'one-block': 4096, 'mixed': 8192, 'streams': 8192}
+
+
+def seconds(program, path):
+    """How long one run takes, and its fault line."""
+    start = time.perf_counter()
+    ran = subprocess.run([program, 'run', path], stdin=subprocess.DEVNULL, stdout=subprocess.DEVNULL, stderr=subprocess.PIPE)
+    return time.perf_counter() - start, ran.stderr.decode().strip()
+
+
+def measured(programs, text, repeats):
+    """The median time of each program on a script, run in turn, and the fault lines."""
+    with tempfile.NamedTemporaryFile('w', suffix='.toml') as file:
+        file.write(text)
+        file.flush()
+        times, faults = [[] for _ in programs], set()
+        for repeat in range(repeats):
+            order = range(len(programs)) if repeat % 2 == 0 else reversed(range(len(programs)))
+            for number in order:
+                took, fault = seconds(programs[number], file.name)
+                times[number].append(took)
+                if fault:
+                    faults.add(f'{"AB"[number]}: {fault}')
+    return [statistics.median(each) for each in times], faults
+
+
+def main():
+    repeats = int(os.environ.get('REPEATS', '5'))
+    programs = sys.argv[1:]
+    kinds = os.environ.get('KINDS', ' '.join(COMMANDS)).split()
+    shapes = [(1, 1), (2, 1), (4, 1), (4, 4), (8, 4), (16, 8)]
+    if 'SHAPES' in os.environ:
+        shapes = [tuple(int(part) for part in shape.split('x')) for shape in os.environ['SHAPES'].split()]
+    for letter, program in zip('AB', programs):
+        print(f'{letter}: {program}')
+    print(f'medians of {repeats} runs, reading and printing included; load average {os.getloadavg()[0]:.1f}')
+    heads = ''.join(f'{letter + " accesses/s":>16}' for letter, _ in zip('AB', programs))
+    print(f'{"kind":12}{"clients":>8}{"banks":>6}{"accesses":>10}{heads}' + (f'{"A/B":>8}' if len(programs) == 2 else ''))
+    ratios = []
+    for kind in kinds:
+        for clients, banks in shapes:
+            commands = min(4096, max(64, COMMANDS[kind] // clients))
+            times, faults = measured(programs, generate.script(kind, clients, banks, commands), repeats)
+            accesses = clients * commands
+            line = f'{kind:12}{clients:>8}{banks:>6}{accesses:>10}' + ''.join(f'{accesses / took:>16.0f}' for took in times)
+            if len(times) == 2:
+                ratios.append(times[1] / times[0])
+                line += f'{ratios[-1]:>8.2f}'
+            print(line + ''.join(f'  {fault}' for fault in sorted(faults)), flush=True)
+    if ratios:
+        print(f'geometric mean of A/B: {math.exp(sum(map(math.log, ratios)) / len(ratios)):.3f} (above 1: A is faster)')
+
+
+main()

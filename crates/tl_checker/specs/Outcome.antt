@@ -1,0 +1,136 @@
+-- What a check of a record's text answers.
+use Rattle.std.specs.Prelude.{◌≡◌, ℕ, ◌+◌, ◌<◌, ◌≤◌, List, [], ◌∷◌, ◌++◌, length, Option, Some, None, Result, Ok, Err}
+use Rattle.tl_protocol.specs.declared.shape.Shape.{Shape}
+use Rattle.tl_judge.specs.Judged.{Breaks, Follows, IsLawful, events_of}
+use Rattle.tl_judge.specs.declared.entry.Entry.{Entry}
+use Rattle.tl_judge.specs.declared.judge.Breach.{Breach}
+use Rattle.tl_checker.specs.declared.outcome.LineFault.{LineFault}
+use Rattle.tl_checker.specs.declared.outcome.LineFault.TheVariants.{Unreadable as bad_line, Broken as bad_entry, Memory}
+use Rattle.tl_checker.specs.declared.outcome.Outcome.{Outcome}
+use Rattle.tl_checker.specs.declared.outcome.Outcome.TheVariants.{Lawful, Broken, Unreadable, Empty}
+use Rattle.tl_checker.specs.declared.outcome.Stage.{Stage}
+use Rattle.tl_checker.specs.declared.outcome.Stage.TheVariants.{Fresh, Shaped, Judging}
+use Rattle.tl_words.specs.declared.error.ParseError.{ParseError}
+use Rattle.tl_words.specs.declared.error.ParseError.TheVariants.{Malformed, Memory as p_Memory}
+use Rattle.tl_checker.specs.Lines.{lines_of}
+use Rattle.tl_checker.specs.Reading.{Reading, fresh, shaped, going, after_line, reading_of}
+
+-- ## One line
+
+-- where a check is agrees with what was read: the entries are lawful, the judge follows their events, and their number is the count
+abbrev pub Agrees : Reading → Stage → Type 0
+Agrees fresh Fresh = Unit {0}
+Agrees (shaped shape) (Shaped held) = held ≡ shape
+Agrees (going shape image entries) (Judging judge count) =
+    Follows shape image (events_of entries) judge × IsLawful shape image entries × (length entries ≡ count)
+Agrees reading stage = ⊥
+
+-- this is an entry that breaks something after those that are lawful
+pub record BreaksHere (then_ : Option Reading) (count : ℕ) (breach : Breach) : Type 0 where
+  pub shape : Shape
+  pub image : List ℕ
+  pub entries : List Entry
+  pub entry : Entry
+  pub reads : then_ ≡ Some (going shape image (entries ++ entry ∷ []))
+  pub lawful : IsLawful shape image entries
+  pub breaks : Breaks shape image (events_of entries) entry breach
+  pub counted : length entries + 1 ≡ count
+
+-- the geometry that was read is in the range of a judge
+abbrev pub IsFit : Stage → Type 0
+IsFit Fresh = Unit {0}
+IsFit (Shaped shape) = (0 < shape.block_bytes) × (shape.block_bytes ≤ 64) × (shape.blocks ≤ 65536)
+IsFit (Judging judge count) = Unit {0}
+
+-- what a line is that could not be read
+abbrev pub fault_of : ParseError → LineFault
+fault_of Malformed = bad_line
+fault_of p_Memory = Memory
+
+-- ## An entry after those that are lawful
+
+-- the judge goes on, or says what the entry breaks
+abbrev pub IsJudged : Shape → List ℕ → List Entry → Entry → Result Stage LineFault → Type 0
+IsJudged shape image entries entry (Ok stage) = Agrees (going shape image (entries ++ entry ∷ [])) stage
+IsJudged shape image entries entry (Err bad_line) = ⊥
+IsJudged shape image entries entry (Err (bad_entry count breach)) =
+    Breaks shape image (events_of entries) entry breach × (length entries + 1 ≡ count)
+IsJudged shape image entries entry (Err Memory) = Unit {0}
+
+-- what a text that is not blank leads to, and whether the check is there
+abbrev pub Takes : Option Reading → Result Stage LineFault → Type 0
+Takes then_ (Ok stage) = (after : Reading) × (then_ ≡ Some after) × Agrees after stage
+Takes then_ (Err bad_line) = then_ ≡ None
+Takes then_ (Err (bad_entry count breach)) = BreaksHere then_ count breach
+Takes then_ (Err Memory) = Unit {0}
+
+-- ## The whole text
+
+-- The record is read to its end, and each entry is permitted.
+pub record IsLawfulText (text : List ℕ) (count : ℕ) : Type 0 where
+  pub shape : Shape
+  pub image : List ℕ
+  pub entries : List Entry
+  pub reads : reading_of fresh (lines_of text) ≡ Some (going shape image entries)
+  pub lawful : IsLawful shape image entries
+  pub counted : length entries ≡ count
+
+-- So many lines write entries of which the last breaks something, and those before it are lawful.
+pub record IsBrokenText (text : List ℕ) (line count : ℕ) (breach : Breach) : Type 0 where
+  pub shape : Shape
+  pub image : List ℕ
+  pub entries : List Entry
+  pub entry : Entry
+  pub read : List (List ℕ)
+  pub rest : List (List ℕ)
+  pub lines : lines_of text ≡ read ++ rest
+  pub reads : reading_of fresh read ≡ Some (going shape image (entries ++ entry ∷ []))
+  pub lawful : IsLawful shape image entries
+  pub breaks : Breaks shape image (events_of entries) entry breach
+  pub number : length read ≡ line
+  pub counted : length entries + 1 ≡ count
+
+-- A line is outside the grammar, and those before it are in it.
+pub record IsUnreadable (text : List ℕ) (line : ℕ) : Type 0 where
+  pub reading : Reading
+  pub bad : List ℕ
+  pub read : List (List ℕ)
+  pub rest : List (List ℕ)
+  pub lines : lines_of text ≡ read ++ bad ∷ rest
+  pub reads : reading_of fresh read ≡ Some reading
+  pub outside : after_line reading bad ≡ None
+  pub number : length read + 1 ≡ line
+
+-- neither image nor entry was read
+abbrev pub IsShort : Reading → Type 0
+IsShort fresh = Unit {0}
+IsShort (shaped shape) = Unit {0}
+IsShort (going shape image entries) = ⊥
+
+-- what an outcome says of a text
+abbrev pub IsOutcome : List ℕ → Outcome → Type 0
+IsOutcome text (Lawful count) = IsLawfulText text count
+IsOutcome text (Broken line count breach) = IsBrokenText text line count breach
+IsOutcome text (Unreadable line) = IsUnreadable text line
+IsOutcome text Empty = (reading : Reading) × (reading_of fresh (lines_of text) ≡ Some reading) × IsShort reading
+
+-- what is said at the end of a text
+abbrev pub ending_of : Stage → Outcome
+ending_of Fresh = Empty
+ending_of (Shaped shape) = Empty
+ending_of (Judging judge count) = Lawful count
+
+-- what is said where a line is not taken
+abbrev pub stop_of : ℕ → LineFault → Option Outcome
+stop_of line bad_line = Some (Unreadable line)
+stop_of line (bad_entry count breach) = Some (Broken line count breach)
+stop_of line Memory = None
+
+-- So many lines were read, the check is where they lead, and what is left of a text is its other lines.
+pub record IsAt (text left : List ℕ) (count : ℕ) (stage : Stage) : Type 0 where
+  pub read : List (List ℕ)
+  pub reading : Reading
+  pub lines : lines_of text ≡ read ++ lines_of left
+  pub reads : reading_of fresh read ≡ Some reading
+  pub agrees : Agrees reading stage
+  pub number : length read ≡ count

@@ -1,0 +1,13 @@
+use Rattle.std.proofs.Common.{◌≡◌, ◌++◌, ◌+◌, ◌≤◌, filter, take}
+use Rattle.std.specs.VecDeque.{deque_len, deque_capacity}
+use Rattle.tl_types.specs.Channel.{place_of}
+use Rattle.tl_client.specs.Rounds.{is_on}
+use Rattle.tl_client.proofs.waiting.Waiting.push_all.Given as goal
+
+-- of the tickets so far those of the channel have joined
+abbrev pub invariant-loop-ticket : goal.invariant-loop-ticket
+invariant-loop-ticket l =
+    (l.self-inside.kept.items ≡ l.initial.self-inside.kept.items ++ filter (λ t. is_on (place_of l.channel) t) (take l.ticket-index l.tickets))
+    × (deque_len l.self-inside.kept ≤ deque_len l.initial.self-inside.kept + l.ticket-index)
+    × (deque_capacity l.self-inside.kept ≡ deque_capacity l.initial.self-inside.kept)
+    × (l.self-inside.rest ≡ l.initial.self-inside.rest)

@@ -1,0 +1,4 @@
+pub mod Answers
+pub mod Ways
+pub mod Rounds
+pub mod Lanes

@@ -1,0 +1,199 @@
+//! A client's agent.
+ghost use Rattle.std.specs.Prelude.{◌≡◌, ◌≤◌, [], IfOk};
+ghost use Rattle.tl_client.specs.Answers.{Gains, IsBeginning};
+ghost use Rattle.tl_client.specs.declared.turn.Turn.{Turn};
+
+use crate::carry_out::{carry_out, copied};
+use crate::gate::Gate;
+use crate::mail::Mail;
+use crate::port::Port;
+use crate::requester::Requester;
+use crate::rest::Rest;
+use crate::turn::Turn;
+use std::alloc::{AllocError, Global};
+use std::marker::Model;
+use std::sync::Wait;
+use std::time::Clock;
+use tl_bank::{Refusal, Share, When};
+use tl_map::Geometry;
+use tl_report::Answered;
+use tl_types::ClientId;
+use tl_words::Command;
+
+/// A client's agent. Contracts see its client, its script, what it answered, and its clock: the last stamp that it got.
+#[derive(Drop)]
+pub struct Agent<'s> {
+    client: ClientId,
+    script: &'s [Command],
+    answered: Vec<Answered>,
+    clock: u64,
+    requester: Requester,
+    rest: Rest,
+    /// Whether it has rung the done bell.
+    has_rung: bool,
+}
+
+impl<'s> Model for Agent<'s> {
+    ghost use Rattle.std.specs.Prelude.{◌≤◌, ◌<◌, ◌^◌, length, vec_capacity};
+    ghost use Rattle.tl_client.specs.Answers.{Told, IsBeginning};
+
+    ghost Value = { Told };
+
+    ghost view = { λ a. record { client = a.client; script = a.script.now; answered = a.answered.items; clock = a.clock } };
+
+    ghost invariant = { λ a. IsBeginning (record { client = a.client; script = a.script.now; answered = a.answered.items; clock = a.clock }) × (length a.script.now ≤ vec_capacity a.answered) × (length a.script.now < 2 ^ 32) };
+}
+
+impl<'s> Agent<'s> {
+    /// An agent that has answered nothing, with room for all its answers. It is handed its shares of the banks, by number. The
+    /// error is want of memory; for 2^32 commands and more there is none.
+    pub fn new(
+        alloc: Global,
+        client: ClientId,
+        geometry: Geometry,
+        commands: &'s [Command],
+        shares: Vec<Share>,
+    ) -> Result<Agent<'s>, AllocError>
+        ensures { IfOk result (λ a. a ≡ record { client = client; script = commands.entry.now; answered = []; clock = 0 }) }
+    {
+        if commands.len() > u32::MAX as usize {
+            return Err(AllocError);
+        }
+        let answered = Vec::with_capacity(alloc, commands.len())?;
+        Ok(Agent {
+            client,
+            script: commands,
+            answered,
+            clock: 0,
+            requester: Requester::new(alloc, client, geometry, shares)?,
+            rest: Rest::new(),
+            has_rung: false,
+        })
+    }
+
+    /// What was answered, and the shares. The answers are a beginning of the script's, each with its bytes.
+    pub fn into_parts(self) -> (Vec<Answered>, Vec<Share>)
+        ensures answered { result.0.items ≡ self.entry.answered }
+        ensures beginning { IsBeginning self.entry }
+    {
+        let Agent {
+            client: _,
+            script: _,
+            answered,
+            clock: _,
+            requester,
+            rest: _,
+            has_rung: _,
+        } = self;
+        (answered, requester.into_shares())
+    }
+
+    /// One turn, over any port and gate. The answers are a beginning of the script's; those that were there stay, and the loads and
+    /// stores that the turn adds are, in order and with their bytes, what the port's successes gained. An idle turn, and one that
+    /// finds all clients done, asks the port nothing; an idle one takes no ticket.
+    pub fn turn<P: Port, G: Gate, R: Wait + Clock>(
+        &mut self,
+        rt: &R,
+        port: &mut P,
+        gate: &G,
+        clients: u32,
+        mail: &mut Mail<'_>,
+    ) -> Turn
+        ensures gains { Gains self.old (P.successes port.old) self.new (P.successes port.new) }
+        ensures beginning { IsBeginning self.new }
+        ensures idle { result ≡ Turn.Idle → (self.new ≡ self.old) × (P.successes port.new ≡ P.successes port.old) × (mail.new.inbox ≡ mail.old.inbox) }
+        ensures finished { result ≡ Turn.Finished
+            → (self.new ≡ self.old) × (P.successes port.new ≡ P.successes port.old) × (clients ≤ mail.new.done.seat.seen) }
+    {
+        let is_due = self.requester.is_due() || mail.has_back();
+        if mail.done() >= u64::from(clients) {
+            return Turn::Finished;
+        }
+        mail.send_again(rt);
+        if !mail.is_rung() && !is_due {
+            self.rest.after_turn(rt, false);
+            return Turn::Idle;
+        }
+        match self.work(rt, port, gate, mail) {
+            Ok(()) => Turn::Worked,
+            Err(_) => {
+                self.requester.progress.go_on();
+                Turn::Memory
+            }
+        }
+    }
+
+    /// A turn in which something is to be done.
+    fn work<P: Port, G: Gate, R: Wait + Clock>(
+        &mut self,
+        rt: &R,
+        port: &mut P,
+        gate: &G,
+        mail: &mut Mail<'_>,
+    ) -> Result<(), AllocError>
+        ensures gains { Gains self.old (P.successes port.old) self.new (P.successes port.new) }
+        ensures beginning { IsBeginning self.new }
+    {
+        self.requester.take_tickets(rt, mail)?;
+        self.requester.serve_downward(rt, port, mail)?;
+        self.try_command(rt, port, gate, mail)?;
+        self.requester.serve_probes(rt, port, mail)?;
+        self.finish(mail);
+        self.rest
+            .after_turn(rt, self.requester.progress.has_worked());
+        Ok(())
+    }
+
+    /// Tries the present command once, unless it waits for an answer of home.
+    #[tactic(auto, using(crate::proofs::AnswerLaws::answers))]
+    fn try_command<P: Port, G: Gate, R: Wait>(
+        &mut self,
+        rt: &R,
+        port: &mut P,
+        gate: &G,
+        mail: &mut Mail<'_>,
+    ) -> Result<(), AllocError>
+        ensures gains { Gains self.old (P.successes port.old) self.new (P.successes port.new) }
+        ensures beginning { IsBeginning self.new }
+    {
+        let index = self.answered.len();
+        if index >= self.script.len() || self.requester.is_waiting() {
+            return Ok(());
+        }
+        let script = self.script;
+        let command = &script[index];
+        let when = When {
+            clock: self.clock,
+            index: index as u32,
+        };
+        let block = self.requester.block_of(command);
+        gate.before(self.client, index);
+        match carry_out(port, self.client, block, command, when) {
+            Ok(done) => {
+                self.clock = done.clock;
+                self.answered.push_reserved(Answered {
+                    command: copied(command),
+                    bytes: done.bytes,
+                });
+                self.requester.progress.succeed();
+                gate.answered(self.client, index);
+                Ok(())
+            }
+            Err(Refusal::NoPermission) => self.requester.change_copy(rt, port, mail, command),
+            Err(refusal) => self.requester.progress.refuse(refusal),
+        }
+    }
+
+    /// Rings the done bell once, when all is answered, nothing is left to send and no answer of home is awaited.
+    fn finish(&mut self, mail: &mut Mail<'_>)
+        ensures { self.new ≡ self.old }
+    {
+        if self.has_rung || self.answered.len() < self.script.len() {
+            return;
+        }
+        if !mail.has_back() && !self.requester.is_waiting() {
+            mail.ring_done();
+            self.has_rung = true;
+        }
+    }
+}

@@ -1,0 +1,178 @@
+//! A client's port to the locked banks.
+ghost use Rattle.std.specs.Prelude.{◌≡◌, [], IfOk};
+
+use crate::gate::{Gate, Who};
+use crate::locked::Locked;
+use crate::port::{Port, Success};
+use std::alloc::{AllocError, Global};
+use std::sync::{MutexGuard, Wait};
+use tl_bank::{Bank, Loaded, Refusal, Share, When};
+use tl_types::{AccessBytes, BankNo, BlockNo, ClientId, Grow, Perm, Prune, Ticket};
+
+/// A client's port: each call locks the bank that it asks, and no other. The loads and stores that succeeded are kept.
+#[derive(Drop)]
+pub struct ClientPort<'a, R: Wait, G: Gate> {
+    rt: &'a R,
+    locked: &'a Locked,
+    gate: &'a G,
+    client: ClientId,
+    successes: Vec<Success>,
+}
+
+impl<'a, R: Wait, G: Gate> ClientPort<'a, R, G> {
+    /// A port at which nothing has succeeded yet, with room for so many successes.
+    pub(crate) fn new(
+        rt: &'a R,
+        alloc: Global,
+        locked: &'a Locked,
+        gate: &'a G,
+        client: ClientId,
+        commands: usize,
+    ) -> Result<ClientPort<'a, R, G>, AllocError>
+        ensures { IfOk result (λ p. p.successes.items ≡ []) }
+    {
+        let successes = Vec::with_capacity(alloc, commands)?;
+        Ok(ClientPort {
+            rt,
+            locked,
+            gate,
+            client,
+            successes,
+        })
+    }
+
+    /// Takes the lock of a bank, if there is one with this number.
+    fn enter(&self, number: BankNo) -> Result<MutexGuard<'a, Bank>, Refusal> {
+        let locked = self.locked.bank(number).ok_or(Refusal::OutOfRange)?;
+        let bank = locked.bank.lock(self.rt);
+        self.gate.locked(number, Who::Client(self.client));
+        Ok(bank)
+    }
+
+    /// Gives the lock of a bank back.
+    fn leave(&self, number: BankNo, bank: MutexGuard<'_, Bank>) {
+        drop(bank);
+        self.gate.left(number, Who::Client(self.client));
+    }
+}
+
+impl<'a, R: Wait, G: Gate> Port for ClientPort<'a, R, G> {
+    ghost successes = { λ p. p.successes.items };
+
+    fn load(
+        &mut self,
+        client: ClientId,
+        address: u32,
+        len: usize,
+        when: When,
+    ) -> Result<Loaded, Refusal> {
+        if self.successes.reserve(1).is_err() {
+            return Err(Refusal::Memory);
+        }
+        let number = self.locked.bank_at(address);
+        let mut bank = self.enter(number)?;
+        let answer = bank.load(client, address, len, when);
+        self.leave(number, bank);
+        let loaded = answer?;
+        self.successes.push_reserved(Success::Loaded {
+            client,
+            address,
+            len,
+            bytes: loaded.bytes.copied(),
+            when,
+            stamp: loaded.stamp,
+        });
+        Ok(loaded)
+    }
+
+    fn store(
+        &mut self,
+        client: ClientId,
+        address: u32,
+        bytes: &[u8],
+        when: When,
+    ) -> Result<u64, Refusal> {
+        if self.successes.reserve(1).is_err() {
+            return Err(Refusal::Memory);
+        }
+        let Some(stored) = AccessBytes::from_slice(bytes) else {
+            return Err(Refusal::OutOfRange);
+        };
+        let number = self.locked.bank_at(address);
+        let mut bank = self.enter(number)?;
+        let answer = bank.store(client, address, bytes, when);
+        self.leave(number, bank);
+        let stamp = answer?;
+        self.successes.push_reserved(Success::Stored {
+            client,
+            address,
+            bytes: stored,
+            when,
+            stamp,
+        });
+        Ok(stamp)
+    }
+
+    fn acquire(&mut self, client: ClientId, block: BlockNo, grow: Grow) -> Result<Ticket, Refusal> {
+        let number = self.locked.bank_of(block);
+        let mut bank = self.enter(number)?;
+        let answer = bank.acquire(client, block, grow);
+        self.leave(number, bank);
+        answer
+    }
+
+    fn release(
+        &mut self,
+        client: ClientId,
+        block: BlockNo,
+        prune: Prune,
+        share: &mut Share,
+    ) -> Result<Ticket, Refusal> {
+        let number = self.locked.bank_of(block);
+        let mut bank = self.enter(number)?;
+        let answer = bank.release(client, block, prune, share);
+        self.leave(number, bank);
+        answer
+    }
+
+    fn answer_probe(&mut self, ticket: Ticket, share: &mut Share) -> Result<Ticket, Refusal> {
+        let number = ticket.bank;
+        let mut bank = self.enter(number)?;
+        let answer = bank.answer_probe(ticket, share);
+        self.leave(number, bank);
+        answer
+    }
+
+    fn take_grant(&mut self, ticket: Ticket, share: &mut Share) -> Result<Ticket, Refusal> {
+        let number = ticket.bank;
+        let mut bank = self.enter(number)?;
+        let answer = bank.take_grant(ticket, share);
+        self.leave(number, bank);
+        answer
+    }
+
+    fn take_release_ack(&mut self, ticket: Ticket) -> Result<(), Refusal> {
+        let number = ticket.bank;
+        let mut bank = self.enter(number)?;
+        let answer = bank.take_release_ack(ticket);
+        self.leave(number, bank);
+        answer
+    }
+
+    fn perm(&self, client: ClientId, block: BlockNo) -> Perm {
+        let number = self.locked.bank_of(block);
+        let Ok(bank) = self.enter(number) else {
+            return Perm::None;
+        };
+        let perm = bank.perm(client, block);
+        self.leave(number, bank);
+        perm
+    }
+
+    fn oldest_copy(&self, client: ClientId, number: BankNo) -> Option<BlockNo> {
+        let bank = self.enter(number).ok()?;
+        let oldest = bank.oldest_copy(client);
+        self.leave(number, bank);
+        oldest
+    }
+}

@@ -1,0 +1,224 @@
+//! A bank's home.
+ghost use Rattle.std.specs.Prelude.{◌≡◌, ◌≤◌};
+ghost use Rattle.tl_client.specs.declared.turn.Turn.{Turn};
+
+use crate::gate::Gate;
+use crate::links::Links;
+use crate::mail::{BATCH, Mail};
+use crate::port::HomePort;
+use crate::progress::Progress;
+use crate::rest::Rest;
+use crate::turn::Turn;
+use crate::waiting::Waiting;
+use std::alloc::{AllocError, Global};
+use std::sync::Wait;
+use std::time::Clock;
+use tl_bank::{Action, Refusal};
+use tl_types::{BankNo, BlockNo, Channel, Ticket};
+
+/// A bank's home.
+#[derive(Drop)]
+pub struct Home {
+    bank: BankNo,
+    /// The tickets that this turn took.
+    taken: Vec<Ticket>,
+    waiting: Waiting,
+    progress: Progress,
+    rest: Rest,
+    /// Whether a register may be open.
+    may_be_open: bool,
+    /// Whether the bank may have changed since it was last asked whether it is quiet.
+    has_changed: bool,
+}
+
+impl Home {
+    /// The home of a bank, which has no tickets.
+    pub fn new(alloc: Global, bank: BankNo) -> Result<Home, AllocError> {
+        Ok(Home {
+            bank,
+            taken: Vec::with_capacity(alloc, BATCH)?,
+            waiting: Waiting::new(alloc, BATCH)?,
+            progress: Progress::new(),
+            rest: Rest::new(),
+            may_be_open: true,
+            has_changed: true,
+        })
+    }
+
+    /// One turn, over any port and gate. An idle turn asks the port nothing, and takes no ticket.
+    pub fn turn<P: HomePort, G: Gate, R: Wait + Clock>(
+        &mut self,
+        rt: &R,
+        port: &mut P,
+        _gate: &G,
+        clients: u32,
+        mail: &mut Mail<'_>,
+    ) -> Turn
+        ensures idle { result ≡ Turn.Idle → mail.new.inbox ≡ mail.old.inbox }
+        ensures finished { result ≡ Turn.Finished → clients ≤ mail.new.done.seat.seen }
+    {
+        let is_due = self.progress.is_due() || !self.waiting.is_empty() || mail.has_back();
+        mail.send_again(rt);
+        let is_rung = mail.is_rung();
+        let all_are_done = mail.done() >= u64::from(clients);
+        if all_are_done && self.has_changed {
+            if port.is_quiet() {
+                return Turn::Finished;
+            }
+            self.has_changed = false;
+        }
+        if !is_rung && !is_due {
+            self.rest.after_turn(rt, false);
+            return Turn::Idle;
+        }
+        self.has_changed = true;
+        match self.work(rt, port, clients, mail) {
+            Ok(()) => Turn::Worked,
+            Err(_) => {
+                self.progress.go_on();
+                Turn::Memory
+            }
+        }
+    }
+
+    /// A turn in which something is to be done.
+    fn work<P: HomePort, R: Wait + Clock>(
+        &mut self,
+        rt: &R,
+        port: &mut P,
+        clients: u32,
+        mail: &mut Mail<'_>,
+    ) -> Result<(), AllocError> {
+        self.take_tickets(rt, clients, mail)?;
+        self.serve_tickets(rt, port, mail)?;
+        self.advance_registers(rt, port, mail)?;
+        self.rest.after_turn(rt, self.progress.has_worked());
+        Ok(())
+    }
+
+    /// Takes the tickets of the inbox, at most 64, and lays them behind those that wait: those on E, then C, then A.
+    fn take_tickets<R: Wait>(
+        &mut self,
+        rt: &R,
+        clients: u32,
+        mail: &mut Mail<'_>,
+    ) -> Result<(), AllocError> {
+        self.progress.begin();
+        self.taken.clear();
+        self.taken.reserve(BATCH)?;
+        self.waiting.make_room(3 * BATCH)?;
+        let links = Links::OfBank(self.bank, clients as usize);
+        if mail.take_tickets(rt, &links, &mut self.taken) {
+            self.progress.go_on();
+        }
+        self.waiting.push_all(&self.taken, Channel::E);
+        self.waiting.push_all(&self.taken, Channel::C);
+        self.waiting.push_all(&self.taken, Channel::A);
+        Ok(())
+    }
+
+    /// Serves the tickets in order. A refused one is kept, and no later one of its client and channel is asked before it.
+    fn serve_tickets<P: HomePort, R: Wait>(
+        &mut self,
+        rt: &R,
+        port: &mut P,
+        mail: &mut Mail<'_>,
+    ) -> Result<(), AllocError> {
+        self.waiting.begin();
+        for _ in 0..self.waiting.len() {
+            let Some(ticket) = self.waiting.next() else {
+                return Ok(());
+            };
+            if self.serve(rt, port, mail, ticket)? {
+                self.waiting.served();
+            } else {
+                self.waiting.refused();
+            }
+        }
+        Ok(())
+    }
+
+    /// Serves a ticket. `false` where it was refused.
+    fn serve<P: HomePort, R: Wait>(
+        &mut self,
+        rt: &R,
+        port: &mut P,
+        mail: &mut Mail<'_>,
+        ticket: Ticket,
+    ) -> Result<bool, AllocError> {
+        mail.make_room()?;
+        let answer = match ticket.channel {
+            Channel::E => port.take_grant_ack(ticket).map(|()| None),
+            Channel::C => port.take_c(ticket),
+            _ => port.accept(ticket).map(|()| None),
+        };
+        match answer {
+            Ok(sent) => {
+                self.progress.succeed();
+                self.may_be_open = self.may_be_open || ticket.channel == Channel::A;
+                if let Some(ack) = sent {
+                    mail.send(rt, ack.client.index(), ack);
+                }
+                Ok(true)
+            }
+            Err(refusal) => {
+                self.progress.refuse(refusal)?;
+                Ok(false)
+            }
+        }
+    }
+
+    /// One step of each open register.
+    fn advance_registers<P: HomePort, R: Wait>(
+        &mut self,
+        rt: &R,
+        port: &mut P,
+        mail: &mut Mail<'_>,
+    ) -> Result<(), AllocError> {
+        if !self.may_be_open {
+            return Ok(());
+        }
+        let open = port.open_blocks();
+        self.may_be_open = !open.is_empty();
+        for block in open.as_slice() {
+            self.advance(rt, port, mail, *block)?;
+        }
+        Ok(())
+    }
+
+    /// One step of the register of a block.
+    fn advance<P: HomePort, R: Wait>(
+        &mut self,
+        rt: &R,
+        port: &mut P,
+        mail: &mut Mail<'_>,
+        block: BlockNo,
+    ) -> Result<(), AllocError> {
+        mail.make_room()?;
+        let action = match port.advance(block) {
+            Ok(action) => action,
+            Err(refusal) => return self.progress.refuse(refusal),
+        };
+        self.progress.succeed();
+        match action {
+            Action::Probe(ticket) | Action::Grant(ticket) => {
+                mail.send(rt, ticket.client.index(), ticket);
+                Ok(())
+            }
+            Action::Get => self.ask_memory(port, block),
+            Action::Put(victim) => self.ask_memory(port, victim),
+            Action::Drop => Ok(()),
+        }
+    }
+
+    /// The memory serves what was asked of a block, and home takes its answer.
+    fn ask_memory<P: HomePort>(&mut self, port: &mut P, block: BlockNo) -> Result<(), AllocError> {
+        if let Err(refusal) = port.serve_memory(block) {
+            return self.progress.refuse(refusal);
+        }
+        match port.take_memory(block) {
+            Ok(()) => Ok(()),
+            Err(refusal) => self.progress.refuse(refusal),
+        }
+    }
+}

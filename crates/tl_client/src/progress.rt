@@ -1,0 +1,57 @@
+//! What a turn has come to so far.
+use std::alloc::AllocError;
+use tl_bank::Refusal;
+
+/// Whether a turn worked, and whether the next one has something to do whatever the bell says.
+#[derive(Drop)]
+pub(crate) struct Progress {
+    worked: bool,
+    again: bool,
+}
+
+impl Progress {
+    /// Before the first turn, which has something to do.
+    pub(crate) fn new() -> Progress {
+        Progress {
+            worked: false,
+            again: true,
+        }
+    }
+
+    /// A turn begins.
+    pub(crate) fn begin(&mut self) {
+        self.worked = false;
+        self.again = false;
+    }
+
+    /// Whether a call succeeded in this turn.
+    pub(crate) fn has_worked(&self) -> bool {
+        self.worked
+    }
+
+    /// Whether the next turn has something to do.
+    pub(crate) fn is_due(&self) -> bool {
+        self.again
+    }
+
+    /// The next turn has something to do.
+    pub(crate) fn go_on(&mut self) {
+        self.again = true;
+    }
+
+    /// A call succeeded.
+    pub(crate) fn succeed(&mut self) {
+        self.worked = true;
+        self.again = true;
+    }
+
+    /// A call was refused. Want of memory is an error, and where a channel was full the next turn asks again.
+    pub(crate) fn refuse(&mut self, refusal: Refusal) -> Result<(), AllocError> {
+        match refusal {
+            Refusal::Memory => return Err(AllocError),
+            Refusal::LinkFull => self.again = true,
+            _ => {}
+        }
+        Ok(())
+    }
+}

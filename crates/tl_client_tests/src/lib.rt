@@ -1,0 +1,15 @@
+//! Tests of agents and homes: what their turns ask, in which order, and what a gate sees.
+#![tactic(auto)]
+
+#[cfg(test)]
+mod counts;
+#[cfg(test)]
+mod idle;
+#[cfg(test)]
+mod mails;
+#[cfg(test)]
+mod order;
+#[cfg(test)]
+mod play;
+#[cfg(test)]
+mod silent;

@@ -1,0 +1,70 @@
+//! The inboxes and bells of one client and one bank.
+ghost use Rattle.std.specs.Prelude.{◌≡◌, ◌<◌, ◌≤◌, IfSome};
+ghost use Rattle.std.specs.List.{All};
+ghost use Rattle.tl_tickets.specs.Inbox.{IsReceiverOf, IsSenderOf};
+ghost use Rattle.tl_tickets.specs.Bell.{IsSeatOf};
+
+use std::alloc::Global;
+use tl_client::{Mail, Sending};
+use tl_tickets::{Bell, Inbox, Pass, Receiver, Ringer, Seat, Sender};
+
+/// An inbox with its receiver's pass and one sender's, and a bell with two seats.
+pub type Opened = (Inbox, Bell, Pass, Pass, Seat, Seat);
+
+/// One of a bell's seats.
+fn next_seat(bell: &Bell, seats: &mut Vec<Seat>) -> Option<Seat>
+    requires { All (IsSeatOf bell.now) seats.old.items }
+    ensures seat { IfSome result (IsSeatOf bell.now) }
+    ensures others { All (IsSeatOf bell.now) seats.new.items }
+{
+    let _ = bell;
+    seats.pop()
+}
+
+/// A bell and its two seats.
+pub fn open_bell(alloc: Global) -> Option<(Bell, Seat, Seat)>
+    ensures { IfSome result (λ made. IsSeatOf made.0 made.1 × IsSeatOf made.0 made.2) }
+{
+    let (bell, mut seats) = Bell::new(alloc, 2).ok()?;
+    let one = next_seat(&bell, &mut seats)?;
+    let other = next_seat(&bell, &mut seats)?;
+    Some((bell, one, other))
+}
+
+/// An inbox and its two passes.
+fn open_inbox(alloc: Global, capacity: usize) -> Option<(Inbox, Pass, Pass)>
+    requires { (0 < capacity) × (capacity ≤ 4096) }
+    ensures { IfSome result (λ made. IsReceiverOf made.0 made.1 × IsSenderOf made.0 made.2) }
+{
+    let (inbox, mut passes) = Inbox::new(alloc, capacity, 1).ok()?;
+    let receiver = passes.remove(0);
+    let sender = passes.remove(0);
+    Some((inbox, receiver, sender))
+}
+
+/// A receiver's inbox and bell, for one sender.
+pub fn open(alloc: Global, capacity: usize) -> Option<Opened>
+    requires { (0 < capacity) × (capacity ≤ 4096) }
+    ensures { IfSome result
+        (λ made. IsReceiverOf made.0 made.2 × IsSenderOf made.0 made.3 × IsSeatOf made.1 made.4 × IsSeatOf made.1 made.5) }
+{
+    let (inbox, receiver, sender) = open_inbox(alloc, capacity)?;
+    let (bell, own, other) = open_bell(alloc)?;
+    Some((inbox, bell, receiver, sender, own, other))
+}
+
+/// The mail of a worker that sends to one other.
+pub fn mail<'a>(
+    alloc: Global,
+    inbox: Receiver<'a>,
+    bell: Ringer<'a>,
+    to: Sender<'a>,
+    rings: Ringer<'a>,
+    done: Ringer<'a>,
+) -> Option<Mail<'a>>
+    ensures { IfSome result (λ mail. mail.inbox ≡ inbox.entry) }
+{
+    let mut ways = Vec::new(alloc);
+    ways.push(Sending::new(alloc, to, rings).ok()?).ok()?;
+    Some(Mail::new(inbox, bell, ways, done))
+}

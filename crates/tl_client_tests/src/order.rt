@@ -1,0 +1,195 @@
+//! What a home's turns ask, and in which order.
+use crate::mails::{mail, open, open_bell};
+use arrayvec::ArrayVec;
+use std::alloc::Global;
+use std::cell::Cell;
+use std::process::Abort;
+use std::sync::Wait;
+use std::test::Fail;
+use std::time::Clock;
+use tl_bank::{Action, Refusal, Reply};
+use tl_client::{Free, Home, HomePort, Mail, Turn};
+use tl_tickets::{Receiver, Ringer, Sender};
+use tl_types::{BankNo, BlockNo, Channel, ClientId, Ticket};
+
+/// A port to no bank: it counts its calls, keeps the serials that were asked, and refuses on channel A as long as it is told to.
+#[derive(Drop)]
+struct Recorder {
+    calls: Cell<u32>,
+    asked: Vec<u64>,
+    refuses: bool,
+}
+
+impl Recorder {
+    fn note(&mut self, ticket: Ticket) {
+        self.count();
+        let _ = self.asked.push(ticket.serial);
+    }
+
+    fn count(&self) {
+        self.calls.set(self.calls.get().saturating_add(1));
+    }
+}
+
+impl HomePort for Recorder {
+    fn accept(&mut self, ticket: Ticket) -> Result<(), Refusal> {
+        self.note(ticket);
+        if self.refuses {
+            Err(Refusal::BlockBusy)
+        } else {
+            Ok(())
+        }
+    }
+
+    fn take_c(&mut self, ticket: Ticket) -> Result<Option<Ticket>, Refusal> {
+        self.note(ticket);
+        Ok(None)
+    }
+
+    fn take_grant_ack(&mut self, ticket: Ticket) -> Result<(), Refusal> {
+        self.note(ticket);
+        Ok(())
+    }
+
+    fn advance(&mut self, _block: BlockNo) -> Result<Action, Refusal> {
+        self.count();
+        Err(Refusal::NotYet)
+    }
+
+    fn evict(&mut self, _block: BlockNo) -> Result<(), Refusal> {
+        self.count();
+        Err(Refusal::NotYet)
+    }
+
+    fn serve_memory(&mut self, _block: BlockNo) -> Result<Reply, Refusal> {
+        self.count();
+        Err(Refusal::NothingThere)
+    }
+
+    fn take_memory(&mut self, _block: BlockNo) -> Result<(), Refusal> {
+        self.count();
+        Err(Refusal::NothingThere)
+    }
+
+    fn open_blocks(&self) -> ArrayVec<BlockNo, 8> {
+        self.count();
+        ArrayVec::new()
+    }
+
+    fn is_quiet(&self) -> bool {
+        self.count();
+        false
+    }
+}
+
+fn ticket(channel: Channel, serial: u64) -> Ticket {
+    Ticket {
+        bank: BankNo::new(0),
+        client: ClientId::new(0),
+        channel,
+        serial,
+    }
+}
+
+/// The first turn asks for open registers alone, and the second nothing.
+fn starts<R: Wait + Clock + Abort>(
+    rt: &R,
+    home: &mut Home,
+    port: &mut Recorder,
+    mail: &mut Mail<'_>,
+) {
+    assert_eq!(rt; home.turn(rt, port, &Free, 1, mail), Turn::Worked);
+    assert_eq!(rt; port.calls.get(), 1);
+    assert_eq!(rt; home.turn(rt, port, &Free, 1, mail), Turn::Idle);
+    assert_eq!(rt; port.calls.get(), 1);
+}
+
+/// Puts tickets of four channels, and does not ring. Whether there was room.
+fn put_all<R: Wait>(rt: &R, put: &mut Sender<'_>) -> bool {
+    for sent in [
+        ticket(Channel::A, 0),
+        ticket(Channel::A, 1),
+        ticket(Channel::C, 7),
+        ticket(Channel::D, 8),
+        ticket(Channel::E, 9),
+    ] {
+        if put.put(rt, sent).is_err() {
+            return false;
+        }
+    }
+    true
+}
+
+/// E, then C, then the first of A, which is refused; the second is not asked before it, and the one on D is dropped.
+fn serves_in_order<R: Wait + Clock + Abort>(
+    rt: &R,
+    home: &mut Home,
+    port: &mut Recorder,
+    mail: &mut Mail<'_>,
+) {
+    assert_eq!(rt; home.turn(rt, port, &Free, 1, mail), Turn::Worked);
+    assert_eq!(rt; port.asked.as_slice(), [9, 7, 0].as_slice());
+    assert_eq!(rt; home.turn(rt, port, &Free, 1, mail), Turn::Worked);
+    assert_eq!(rt; port.asked.as_slice(), [9, 7, 0, 0].as_slice());
+    port.refuses = false;
+    assert_eq!(rt; home.turn(rt, port, &Free, 1, mail), Turn::Worked);
+    assert_eq!(rt; port.asked.as_slice(), [9, 7, 0, 0, 0, 1].as_slice());
+    assert_eq!(rt; home.turn(rt, port, &Free, 1, mail), Turn::Worked);
+}
+
+/// Once all clients are done a home asks once whether its bank is quiet, and then no more.
+fn asks_once_at_the_end<R: Wait + Clock + Abort>(
+    rt: &R,
+    home: &mut Home,
+    port: &mut Recorder,
+    mail: &mut Mail<'_>,
+) {
+    let calls = port.calls.get();
+    assert_eq!(rt; home.turn(rt, port, &Free, 1, mail), Turn::Idle);
+    assert_eq!(rt; home.turn(rt, port, &Free, 1, mail), Turn::Idle);
+    assert_eq!(rt; port.calls.get(), calls.saturating_add(1));
+}
+
+/// All turns of a home over inboxes and bells of its own, in order. `None` where a request for memory was refused.
+fn take_turns<R: Wait + Clock + Abort>(
+    rt: &R,
+    alloc: Global,
+    home: &mut Home,
+    port: &mut Recorder,
+) -> Option<()> {
+    let (inbox, bell, receiver, sender, own, other) = open(alloc, 8)?;
+    let (away, away_bell, _receiver, to_away, _own, rings_away) = open(alloc, 8)?;
+    let (done, hears, rings) = open_bell(alloc)?;
+    let mut mail = mail(
+        alloc,
+        Receiver::new(&inbox, receiver),
+        Ringer::new(&bell, own),
+        Sender::new(&away, to_away),
+        Ringer::new(&away_bell, rings_away),
+        Ringer::new(&done, hears),
+    )?;
+    starts(rt, home, port, &mut mail);
+    let all_were_put = put_all(rt, &mut Sender::new(&inbox, sender));
+    assert!(rt; all_were_put);
+    // Tickets that nobody rang for stay in the inbox.
+    assert_eq!(rt; home.turn(rt, port, &Free, 1, &mut mail), Turn::Idle);
+    assert_eq!(rt; port.calls.get(), 1);
+    Ringer::new(&bell, other).ring();
+    serves_in_order(rt, home, port, &mut mail);
+    Ringer::new(&done, rings).ring();
+    asks_once_at_the_end(rt, home, port, &mut mail);
+    Some(())
+}
+
+#[test]
+fn a_home_asks_in_order_and_idles_quietly(rt: HostRuntime) -> Result<(), Fail> {
+    let mut port = Recorder {
+        calls: Cell::new(0),
+        asked: Vec::new(rt.alloc()),
+        refuses: true,
+    };
+    let mut home = Home::new(rt.alloc(), BankNo::new(0))?;
+    let all = take_turns(&rt, rt.alloc(), &mut home, &mut port);
+    assert!(rt; all.is_some());
+    Ok(())
+}

@@ -1,0 +1,46 @@
+-- The cases of a conclusion.
+use Rattle.std.proofs.Common.{◌≡◌, ℕ, zero, suc, ◌+◌, ◌<◌, ◌≤◌, List, [], ◌∷◌, ◌++◌, length, get_or, slice_get, map, take, Vec, Option, Some, None, Result, Ok, Err, refl, sym, ap, ◌∙◌, subst, arith}
+use Rattle.std.specs.Borrow.{Bor}
+use Rattle.std.specs.declared.alloc.Global.{Global}
+use Rattle.tl_protocol.specs.declared.event.Event.{Event}
+use Rattle.tl_words.specs.declared.command.Command.{Command}
+use Rattle.tl_report.specs.declared.report.Report.{Report}
+use Rattle.tl_script.specs.Commands.{commands as commands_in}
+use Rattle.tl_script.specs.declared.script.Script.{Script}
+use Rattle.tl_bank_spec.specs.Share.{Holding}
+use Rattle.tl_bank_spec.specs.View.{View}
+use Rattle.tl_rules.specs.Certified.{events_of, IsCertified}
+use Rattle.tl_tickets.specs.Shares.{AreShares}
+use Rattle.tl_conclude.specs.Banks.{AreBanksOf, logs_in}
+use Rattle.tl_conclude.specs.Carried.{EachHasCommand, AreAsMany}
+use Rattle.tl_conclude.specs.Conclusion.{AreAllShares, AreMatched}
+use Rattle.tl_conclude.specs.declared.error.RunError.{RunError}
+use Rattle.tl_conclude.specs.declared.error.RunError.TheVariants.{Memory, NotOrdered, Shares}
+use Rattle.tl_conclude.proofs.Reported.{each_moved, many_moved}
+
+pub matched : (script : Script) (banks : List View) (cs : List (Vec Command Global)) (logs : List (Bor (List Event)))
+    → cs ≡ script.commands.items → events_of logs ≡ logs_in banks → IsCertified (events_of logs) → AreBanksOf script banks
+    → EachHasCommand (commands_in cs) (events_of logs) → AreAsMany (commands_in cs) (events_of logs) → AreMatched script banks
+matched script banks cs logs p q certified banks_of each as_many = record {
+  certified = subst IsCertified q certified;
+  banks_of = banks_of;
+  each = each_moved (commands_in cs) (commands_in script.commands.items) (events_of logs) (logs_in banks) (ap commands_in p) q each;
+  as_many = many_moved (commands_in cs) (commands_in script.commands.items) (events_of logs) (logs_in banks) (ap commands_in p) q as_many;
+}
+
+-- when 42 is answered
+abbrev pub IsNotOrdered : Script → List View → List (Vec Holding Global) → Result Report RunError → Type 0
+IsNotOrdered script banks shares r =
+    (r ≡ Err NotOrdered → AreAllShares banks shares × (AreMatched script banks → ⊥))
+    × (AreAllShares banks shares × (AreMatched script banks → ⊥) → r ≡ Err NotOrdered)
+
+pub is_ordered : (script : Script) (banks : List View) (shares : List (Vec Holding Global)) (r : Result Report RunError)
+    → AreMatched script banks → (r ≡ Err NotOrdered → ⊥) → IsNotOrdered script banks shares r
+is_ordered script banks shares r m never = (λ p. absurd (never p), λ n. absurd (n.1 m))
+
+pub memory_is_other : (r : Result Report RunError) → r ≡ Err Memory → r ≡ Err NotOrdered → ⊥
+memory_is_other r p q =
+    let e : ◌≡◌ {A = Result Report RunError} (Err Memory) (Err NotOrdered) = sym p ∙ q in cc
+
+pub ok_is_other : (report : Report) → ◌≡◌ {A = Result Report RunError} (Ok report) (Err NotOrdered) → ⊥
+ok_is_other report q = cc

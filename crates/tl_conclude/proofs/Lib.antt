@@ -1,0 +1,9 @@
+pub mod Carried
+pub mod Compared
+pub mod Filling
+pub mod Memory
+pub mod Numbers
+pub mod Reported
+pub mod ScriptBanks
+pub mod Zipped
+pub mod Concluded

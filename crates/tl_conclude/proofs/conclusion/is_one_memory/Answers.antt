@@ -1,0 +1,12 @@
+use Rattle.std.proofs.Common.{arith}
+use Rattle.tl_conclude.proofs.Memory.{one_memory}
+use Rattle.tl_conclude.proofs.ScriptBanks.{length_banks}
+use Rattle.tl_conclude.proofs.conclusion.is_one_memory.Goals as goal
+
+pub returns : goal.returns
+returns c =
+    one_memory c.every_order.ensures.memory c.args.script.now c.args.banks.now c.args.clients.now c.requires.matched c.requires.shown
+    c.logs_of-logs.ensures.runs
+
+pub logs_of-logs-requires : goal.logs_of-logs-requires
+logs_of-logs-requires c = let few = c.requires.matched.certified.few in omega (arith, length_banks c.args.banks.now)

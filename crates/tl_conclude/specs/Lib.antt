@@ -1,0 +1,4 @@
+pub mod Banks
+pub mod Carried
+pub mod Conclusion
+pub mod Loops

@@ -1,0 +1,148 @@
+//! What a run answers.
+ghost use Rattle.std.specs.Prelude.{◌≡◌, ◌≢◌, ◌↔◌, All, Err, IfErr, IfOk, IfSome, IsSome, ℕ, length, map, take};
+ghost use Rattle.tl_protocol.specs.Ledger.{has_copy};
+ghost use Rattle.tl_bank_spec.specs.Views.{pairs_at};
+ghost use Rattle.tl_protocol.specs.declared.event.Access.{Access};
+ghost use Rattle.tl_script.specs.Commands.{commands as commands_in};
+ghost use Rattle.tl_rules.specs.Certified.{events_of, all_accesses};
+ghost use Rattle.tl_rules.specs.Left.{Pairwise};
+ghost use Rattle.tl_conclude.specs.Carried.{commands_of};
+ghost use Rattle.tl_conclude.specs.Loops.{AreDistinct, IsAtAccess};
+ghost use Rattle.tl_conclude.specs.Banks.{logs_in};
+ghost use Rattle.tl_conclude.specs.Conclusion.{AreAllShares, AreMatched, IsOneMemory, IsConclusion, ShowsClient, ShowsAll, bank_line};
+ghost use Rattle.tl_conclude.specs.declared.error.RunError.TheVariants.{Memory, NotOrdered, Shares};
+
+use crate::banks::{are_banks_of, logs_of};
+use crate::compare::{are_as_many, each_has_command};
+use crate::error::RunError;
+use crate::lines::{bytes_of_client, lines_of};
+use arrayvec::ArrayVec;
+use std::alloc::{AllocError, Global};
+use tl_bank::{Bank, Share};
+use tl_protocol::Event;
+use tl_report::{Answered, BankLine, Report};
+use tl_rules::{certify_events, every_order};
+use tl_script::Script;
+use tl_tickets::gather;
+use tl_words::Command;
+
+/// What is held of each of the first 8 banks, by its shares. None where not each bank's shares were given back.
+fn gathered(banks: &[Bank], shares: &[Vec<Share>]) -> Option<ArrayVec<u64, 8>>
+    ensures some { IsSome result ↔ AreAllShares banks.now shares.now }
+    ensures held { IfSome result (λ held. held.items ≡ map (pairs_at has_copy) (take 8 banks.now)) }
+{
+    if banks.len() != shares.len() {
+        return None;
+    }
+    let mut held = ArrayVec::new();
+    for (place, bank) in banks.iter().enumerate() {
+        let Ok(sum) = gather(bank, shares[place].as_slice()) else {
+            return None;
+        };
+        if place < 8 {
+            held.push(sum);
+        }
+    }
+    Some(held)
+}
+
+/// Banks that match the script are one memory, whose accesses the clients' lines show.
+fn is_one_memory(script: &Script, banks: &[Bank], clients: &[Vec<Answered>])
+    requires matched { AreMatched script.now banks.now }
+    requires shown { ShowsAll (commands_in script.now.commands.items) (logs_in banks.now) clients.now (length script.now.commands.items) }
+    ensures { IsOneMemory script.now banks.now clients.now }
+{
+    // For the proof alone: certified runs have one order, which is one memory's, and each bank's log is a run.
+    every_order();
+    let _logs = logs_of(banks);
+}
+
+/// The lines of a client.
+fn client_lines(
+    alloc: Global,
+    commands: &[Command],
+    client: usize,
+    logs: &[&[Event]],
+) -> Result<Vec<Answered>, AllocError>
+    requires distinct { Pairwise AreDistinct (all_accesses (events_of logs.now)) }
+    requires at { All (IsAtAccess commands.now client) (all_accesses (events_of logs.now)) }
+    ensures { IfOk result (λ lines. ShowsClient commands.now client (events_of logs.now) lines.items) }
+{
+    let got = bytes_of_client(alloc, logs, client, commands.len())?;
+    let lines = lines_of(alloc, commands, got.as_slice())?;
+    Ok(lines)
+}
+
+/// The lines of all clients.
+fn all_lines(
+    alloc: Global,
+    commands: &[Vec<Command>],
+    logs: &[&[Event]],
+) -> Result<Vec<Vec<Answered>>, AllocError>
+    requires distinct { Pairwise AreDistinct (all_accesses (events_of logs.now)) }
+    requires at { (client : ℕ) → All (IsAtAccess (commands_of (commands_in commands.now) client) client) (all_accesses (events_of logs.now)) }
+    ensures { IfOk result (λ all. ShowsAll (commands_in commands.now) (events_of logs.now) all.items (length commands.now)) }
+{
+    let mut all = Vec::new(alloc);
+    for (client, list) in commands.iter().enumerate() {
+        let lines = client_lines(alloc, list, client, logs)?;
+        all.push(lines)?;
+    }
+    Ok(all)
+}
+
+/// The lines of at most 8 banks, from what is held of each.
+fn bank_lines(alloc: Global, banks: &[Bank], held: &[u64]) -> Result<Vec<BankLine>, AllocError>
+    requires { held.now ≡ map (pairs_at has_copy) banks.now }
+    ensures { IfOk result (λ lines. lines.items ≡ map bank_line banks.now) }
+{
+    let mut lines = Vec::new(alloc);
+    for (place, bank) in banks.iter().enumerate() {
+        lines.push(BankLine {
+            held: held[place],
+            recorded: bank.outstanding(),
+        })?;
+    }
+    Ok(lines)
+}
+
+/// What a run answers, from its script, its banks and the shares that its clients give back: a list for each bank, in the banks'
+/// order. No memory is asked for before all was compared, so want of memory hides no other refusal.
+pub fn conclude(
+    alloc: Global,
+    script: &Script,
+    banks: &[Bank],
+    shares: &[Vec<Share>],
+) -> Result<Report, RunError>
+    ensures missing { result ≡ Err Shares ↔ (AreAllShares banks.now shares.now → ⊥) }
+    ensures not_ordered { result ≡ Err NotOrdered ↔ (AreAllShares banks.now shares.now × (AreMatched script.now banks.now → ⊥)) }
+    ensures memory { IfErr result (λ e. e ≢ Shares → e ≢ NotOrdered → (e ≡ Memory) × AreAllShares banks.now shares.now × AreMatched script.now banks.now) }
+    ensures ok { IfOk result (IsConclusion script.now banks.now shares.now) }
+{
+    let Some(held) = gathered(banks, shares) else {
+        return Err(RunError::Shares);
+    };
+    if banks.len() > 8 {
+        return Err(RunError::NotOrdered);
+    }
+    let lists = logs_of(banks);
+    let logs = lists.as_slice();
+    if !certify_events(logs) || !are_banks_of(script, banks) {
+        return Err(RunError::NotOrdered);
+    }
+    let commands = script.commands.as_slice();
+    if !each_has_command(commands, logs) {
+        return Err(RunError::NotOrdered);
+    }
+    if !are_as_many(commands, logs) {
+        return Err(RunError::NotOrdered);
+    }
+    let clients = all_lines(alloc, commands, logs)?;
+    let lines = bank_lines(alloc, banks, held.as_slice())?;
+    // For the proof alone: what was compared makes the banks' accesses those of one memory.
+    is_one_memory(script, banks, clients.as_slice());
+    Ok(Report {
+        clients,
+        banks: lines,
+    })
+}

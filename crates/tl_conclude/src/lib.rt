@@ -1,0 +1,13 @@
+//! What a run answers, from its script, its banks and the shares that its clients give back.
+#![tactic(auto)]
+
+mod banks;
+mod compare;
+mod conclusion;
+mod error;
+mod lines;
+
+pub use banks::is_bank_of;
+pub use compare::carries_out;
+pub use conclusion::conclude;
+pub use error::RunError;

@@ -1,0 +1,14 @@
+//! Judges a record of events: is each permitted after the ones before it, and if not, which rule does the first one break.
+#![tactic(auto)]
+
+mod entry;
+mod judge;
+mod keeps;
+mod order;
+mod rule;
+mod sent;
+
+pub use entry::{Entry, Shown};
+pub use judge::{Breach, Judge, Refusal, every_record};
+pub use keeps::broken_rule;
+pub use rule::{Rule, rules_of};

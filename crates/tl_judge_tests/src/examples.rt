@@ -1,0 +1,162 @@
+//! Records with the verdicts that their stories give.
+use std::alloc::{AllocError, Global};
+use std::test::Fail;
+use tl_checker::{Outcome, check};
+use tl_judge::{Breach, Rule};
+
+/// Two clients take a block to write, one after the other; home has answered the Release that crossed the Probe of it.
+const CROSSED: &str = "# A Release crosses a Probe.
+clients 2 block_bytes 8 memory_blocks 4
+image 0011223344556677
+acquire 0 0 NtoT
+accept 0 0
+get 0
+serve 0
+take_data 0
+grant 0 0 GrantData toT 0011223344556677
+take_grant 0 0
+take_grant_ack 0 0
+store 0 0x00000000 aa
+acquire 1 0 NtoT
+accept 1 0
+release 0 0 TtoN ReleaseData TtoN aa11223344556677
+probe 0 0 toN
+take_c 0 0 ReleaseAck
+";
+
+/// What follows, up to the second Grant.
+const ANSWERED: &str = "take_release_ack 0 0
+answer_probe 0 0 ProbeAck NtoN
+";
+
+fn joined(alloc: Global, parts: &[&str]) -> Result<String, AllocError> {
+    let mut text = String::new(alloc);
+    for part in parts {
+        text.push_str(part)?;
+    }
+    Ok(text)
+}
+
+/// The verdict on what follows the crossing.
+fn judged(alloc: Global, parts: &[&str]) -> Result<Outcome, Fail> {
+    let tail = joined(alloc, parts)?;
+    let text = joined(alloc, &[CROSSED, tail.as_str()])?;
+    Ok(check(alloc, &mut text.as_bytes())?)
+}
+
+#[test]
+fn a_crossing_is_lawful(rt: HostRuntime) -> Result<(), Fail> {
+    let tail = "take_c 0 0
+grant 1 0 GrantData toT aa11223344556677
+take_grant 1 0
+take_grant_ack 1 0
+load 1 0x00000000 aa";
+    assert_eq!(rt; judged(rt.alloc(), &[ANSWERED, tail])?, Outcome::Lawful(21));
+    Ok(())
+}
+
+#[test]
+fn broken_records(rt: HostRuntime) -> Result<(), Fail> {
+    let alloc = rt.alloc();
+    for (tail, line, entry, breach) in [
+        (
+            "grant 1 0 GrantData toT aa11223344556677\n",
+            20,
+            17,
+            Breach::NotPermitted(Rule::NoProbeIsPending),
+        ),
+        (
+            "take_c 0 0\ngrant 1 0 GrantData toT 0011223344556677\ntake_grant 1 0\n",
+            21,
+            18,
+            Breach::NotAsShown,
+        ),
+        (
+            "take_c 0 0\n\ngrant 1 0 GrantData toB aa11223344556677\n",
+            22,
+            18,
+            Breach::NotAsShown,
+        ),
+        (
+            "take_c 0 0\n# shows less\ngrant 1 0 Grant toT\n",
+            22,
+            18,
+            Breach::NotAsShown,
+        ),
+        (
+            "take_c 0 0\ngrant 1 0\ntake_grant 1 0\ntake_grant_ack 1 0\nload 1 0x00000000 00\n",
+            24,
+            21,
+            Breach::NotPermitted(Rule::LoadHasItsBytes),
+        ),
+        (
+            "store 0 0x00000000 00\n",
+            20,
+            17,
+            Breach::NotPermitted(Rule::CopyIsWritable),
+        ),
+        (
+            "acquire 2 0 NtoT\n",
+            20,
+            17,
+            Breach::NotPermitted(Rule::ClientIsThere),
+        ),
+        ("drop 4\n", 20, 17, Breach::NotPermitted(Rule::BlockIsThere)),
+    ] {
+        let verdict = judged(alloc, &[ANSWERED, tail])?;
+        assert_eq!(rt; verdict, Outcome::Broken(line, entry, breach), "at {tail}");
+    }
+    let early = judged(alloc, &["answer_probe 0 0 ProbeAck NtoN\n"])?;
+    let unanswered = Breach::NotPermitted(Rule::NoReleaseUnanswered);
+    assert_eq!(rt; early, Outcome::Broken(18, 15, unanswered));
+    Ok(())
+}
+
+#[test]
+fn texts_from_their_first_line(rt: HostRuntime) -> Result<(), Fail> {
+    let alloc = rt.alloc();
+    for (text, want) in [
+        (b"".as_slice(), Outcome::Empty),
+        (b"# only this\n\n", Outcome::Empty),
+        (b"clients 1 block_bytes 8 memory_blocks 4", Outcome::Empty),
+        (
+            b"clients 1 block_bytes 8 memory_blocks 4\nimage 00\n",
+            Outcome::Lawful(0),
+        ),
+        (
+            b"clients 0 block_bytes 8 memory_blocks 4\n",
+            Outcome::Unreadable(1),
+        ),
+        (
+            b"\nclients 1 block_bytes 9 memory_blocks 4\n",
+            Outcome::Unreadable(2),
+        ),
+        (
+            b"clients 1 block_bytes 8 memory_blocks 4 banks 1\n",
+            Outcome::Unreadable(1),
+        ),
+        (
+            b"clients 1 block_bytes 8 memory_blocks 4\r\n",
+            Outcome::Unreadable(1),
+        ),
+        (
+            b"clients 1 block_bytes 8 memory_blocks 4\nget  0\n",
+            Outcome::Unreadable(2),
+        ),
+        (
+            b"clients 1 block_bytes 8 memory_blocks 4\nget 0 0\n",
+            Outcome::Unreadable(2),
+        ),
+        (
+            b"clients 1 block_bytes 8 memory_blocks 4\n\xff\n",
+            Outcome::Unreadable(2),
+        ),
+        (
+            b"clients 1 block_bytes 8 memory_blocks 4\nacquire 0 2 NtoB\nacquire 0 3 NtoB\naccept 0 3\n",
+            Outcome::Broken(4, 3, Breach::OutOfOrder),
+        ),
+    ] {
+        assert_eq!(rt; check(alloc, &mut &*text), Ok(want));
+    }
+    Ok(())
+}

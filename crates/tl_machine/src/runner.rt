@@ -1,0 +1,196 @@
+//! A run of a script over banks and threads.
+ghost use Rattle.std.specs.Prelude.{◌≡◌, ◌<◌, ◌≤◌, IfOk, length, vec_len};
+ghost use Rattle.tl_conclude.specs.Conclusion.{IsRunReport};
+
+use crate::banks::{Opened, no_shares, open_banks};
+use crate::deal::Post;
+use crate::mailroom::{AllKeys, Mailroom, Posts, deal_out, open_mailroom};
+use crate::threads::{Joined, run_threads};
+use crate::workers::{ClientWorker, End, HomeWorker, Shared};
+use std::alloc::{AllocError, Global};
+use std::sync::Wait;
+use std::thread::Threads;
+use std::time::Clock;
+use tl_bank::Share;
+use tl_client::{Agent, Command, Gate, Home, Locked};
+use tl_conclude::{RunError, conclude};
+use tl_map::Geometry;
+use tl_report::Report;
+use tl_script::Script;
+use tl_types::{BankNo, ClientId};
+
+/// How many tickets an inbox of `run` holds.
+pub const CAPACITY: usize = 512;
+
+/// Runs a script's commands, with a thread for each client and one for each bank's home, and answers the report of their banks: all
+/// shares were given back, the banks' accesses carry out the script, and they are one memory's.
+pub fn run<R: Threads + Wait + Clock + Sync, G: Gate + Sync>(
+    rt: &R,
+    alloc: Global,
+    script: &Script,
+    gate: &G,
+) -> Result<Report, RunError>
+    ensures { IfOk result (IsRunReport script.now) }
+{
+    run_sized(rt, alloc, script, gate, CAPACITY)
+}
+
+/// The same with inboxes that hold so many tickets.
+///
+/// Memory where a request for memory was refused or a thread could not be started; else Stalled, with the script's turns, where a
+/// thread made them all and was not finished; else what `conclude` answers.
+pub fn run_sized<R: Threads + Wait + Clock + Sync, G: Gate + Sync>(
+    rt: &R,
+    alloc: Global,
+    script: &Script,
+    gate: &G,
+    capacity: usize,
+) -> Result<Report, RunError>
+    requires { (0 < capacity) × (capacity ≤ 4096) }
+    ensures { IfOk result (IsRunReport script.now) }
+{
+    let geometry = script.geometry();
+    let Opened { banks, shares } = open_banks(alloc, geometry, &script.image)?;
+    let locked = Locked::new(alloc, geometry, banks)?;
+    let shares = run_locked(rt, alloc, script, gate, capacity, &locked, shares)?;
+    let banks = locked.into_banks(alloc)?;
+    conclude(alloc, script, &banks, &shares)
+}
+
+/// Runs the threads over locked banks. The shares of each bank come back.
+fn run_locked<R: Threads + Wait + Clock + Sync, G: Gate + Sync>(
+    rt: &R,
+    alloc: Global,
+    script: &Script,
+    gate: &G,
+    capacity: usize,
+    locked: &Locked,
+    shares: Vec<Vec<Share>>,
+) -> Result<Vec<Vec<Share>>, RunError>
+    requires capacity { (0 < capacity) × (capacity ≤ 4096) }
+    requires shares { vec_len shares ≡ length script.now.commands.items }
+{
+    let geometry = script.geometry();
+    let shared = Shared {
+        alloc,
+        locked,
+        gate,
+        clients: geometry.clients(),
+        turns: script.turns,
+    };
+    let (mailroom, keys) = open_mailroom(alloc, geometry, capacity)?;
+    let Posts {
+        clients,
+        homes,
+        stop,
+    } = deal_out(alloc, geometry, &mailroom, keys)?;
+    let clients = client_workers(&shared, geometry, &script.commands, clients, shares)?;
+    let homes = home_workers(&shared, homes)?;
+    let joined = run_threads(rt, alloc, stop, clients, homes)?;
+    end_of(&joined, script.turns)?;
+    Ok(given_back(alloc, geometry.banks(), joined.clients)?)
+}
+
+/// The workers of the clients, with their commands and shares.
+fn client_workers<'s, 'x, 'y, G: Gate>(
+    shared: &'y Shared<'y, G>,
+    geometry: Geometry,
+    commands: &'s [Vec<Command>],
+    mut posts: Vec<Post<'x>>,
+    shares: Vec<Vec<Share>>,
+) -> Result<Vec<ClientWorker<'s, 'x, 'y, G>>, AllocError>
+    requires shares { vec_len shares ≡ length commands.now }
+    requires posts { vec_len posts ≡ length commands.now }
+    requires few { length commands.now ≤ 16 }
+{
+    let alloc = shared.alloc;
+    let mut workers = Vec::with_capacity(alloc, shares.len())?;
+    let mut number: u32 = 0;
+    for own in shares {
+        let Post { mail, stop } = posts.remove(0);
+        let commands = commands[number as usize].as_slice();
+        let client = ClientId::new(number);
+        workers.push(ClientWorker {
+            shared,
+            client,
+            commands: commands.len(),
+            agent: Agent::new(alloc, client, geometry, commands, own)?,
+            mail,
+            stop,
+            end: End::Stopped,
+        })?;
+        number += 1;
+    }
+    Ok(workers)
+}
+
+/// The workers of the homes.
+fn home_workers<'x, 'y, G: Gate>(
+    shared: &'y Shared<'y, G>,
+    posts: Vec<Post<'x>>,
+) -> Result<Vec<HomeWorker<'x, 'y, G>>, AllocError>
+    requires { vec_len posts ≤ 8 }
+{
+    let alloc = shared.alloc;
+    let mut workers = Vec::with_capacity(alloc, posts.len())?;
+    let mut number: u32 = 0;
+    for post in posts {
+        let Post { mail, stop } = post;
+        let bank = BankNo::new(number);
+        workers.push(HomeWorker {
+            shared,
+            number: bank,
+            home: Home::new(alloc, bank)?,
+            mail,
+            stop,
+            end: End::Stopped,
+        })?;
+        number += 1;
+    }
+    Ok(workers)
+}
+
+/// Whether all threads finished. Want of memory goes before a stall; a thread that was stopped says nothing of why.
+fn end_of<G>(
+    joined: &Joined<ClientWorker<'_, '_, '_, G>, HomeWorker<'_, '_, G>>,
+    turns: u32,
+) -> Result<(), RunError> {
+    let mut are_finished = true;
+    for worker in &joined.clients {
+        match worker.end {
+            End::Memory => return Err(RunError::Memory),
+            End::Stalled | End::Stopped => are_finished = false,
+            End::Finished => {}
+        }
+    }
+    for worker in &joined.homes {
+        match worker.end {
+            End::Memory => return Err(RunError::Memory),
+            End::Stalled | End::Stopped => are_finished = false,
+            End::Finished => {}
+        }
+    }
+    if are_finished {
+        Ok(())
+    } else {
+        Err(RunError::Stalled(turns))
+    }
+}
+
+/// The shares of each bank, as the agents give them back.
+fn given_back<G>(
+    alloc: Global,
+    banks: u32,
+    workers: Vec<ClientWorker<'_, '_, '_, G>>,
+) -> Result<Vec<Vec<Share>>, AllocError> {
+    let mut shares = no_shares(alloc, banks)?;
+    for worker in workers {
+        let (_, own) = worker.agent.into_parts();
+        for share in own {
+            if let Some(list) = shares.get_mut(share.bank().index()) {
+                list.push(share)?;
+            }
+        }
+    }
+    Ok(shares)
+}

@@ -1,0 +1,94 @@
+//! A thread for each worker.
+ghost use Rattle.std.specs.Prelude.{◌≤◌, ◌+◌, vec_len, vec_capacity};
+ghost use Rattle.std.specs.Thread.{IsSend, IsSync};
+
+use std::alloc::{AllocError, Global};
+use std::sync::Wait;
+use std::thread;
+use std::thread::{JoinHandle, Scope, Threads};
+use std::time::Clock;
+use tl_tickets::Ringer;
+
+/// What a thread owns and does.
+pub(crate) trait Work: Drop {
+    /// Works until it ends, and comes back.
+    fn work<R: Wait + Clock>(self, rt: &R) -> Self;
+}
+
+/// All workers again, once their threads have ended.
+#[derive(Drop)]
+pub(crate) struct Joined<C: Drop, H: Drop> {
+    pub(crate) clients: Vec<C>,
+    pub(crate) homes: Vec<H>,
+}
+
+/// Starts a thread for each worker, up to the first that could not be started. `false` where one could not.
+fn start<'s, E, R: Threads + Wait + Clock + Sync, W: Work + Send + 's>(
+    scope: &Scope<'s, E>,
+    rt: &'s R,
+    workers: Vec<W>,
+    threads: &mut Vec<JoinHandle<W>>,
+) -> bool
+    requires { vec_len threads.old + vec_len workers ≤ vec_capacity threads.old }
+    ensures { vec_len threads.new ≤ vec_len threads.old + vec_len workers }
+{
+    for worker in workers {
+        match scope.spawn(move || worker.work(rt)) {
+            Ok(thread) => {
+                let Ok(()) = threads.push(thread) else {
+                    unreachable!()
+                };
+            }
+            Err(_) => return false,
+        }
+    }
+    true
+}
+
+/// Joins each thread.
+fn join_each<R: Threads, W: Work + Send>(rt: &R, threads: Vec<JoinHandle<W>>, ended: &mut Vec<W>)
+    requires { vec_len ended.old + vec_len threads ≤ vec_capacity ended.old }
+{
+    for thread in threads {
+        let Ok(()) = ended.push(thread.join(rt)) else {
+            unreachable!()
+        };
+    }
+}
+
+/// Runs each worker in a thread of its own, joins all threads and gives the workers back. Where a thread could not be started, no other
+/// is, and those that run are stopped and joined.
+pub(crate) fn run_threads<R: Threads + Wait + Clock + Sync, C: Work + Send, H: Work + Send>(
+    rt: &R,
+    alloc: Global,
+    mut stop: Ringer<'_>,
+    clients: Vec<C>,
+    homes: Vec<H>,
+) -> Result<Joined<C, H>, AllocError> {
+    thread::scope(
+        thread::scope_env(),
+        rt,
+        move |scope| -> Result<Joined<C, H>, AllocError>
+            requires { IsSync R.row × IsSend C.row × IsSend H.row }
+        {
+            let mut client_threads = Vec::with_capacity(alloc, clients.len())?;
+            let mut home_threads = Vec::with_capacity(alloc, homes.len())?;
+            let mut ended_clients = Vec::with_capacity(alloc, clients.len())?;
+            let mut ended_homes = Vec::with_capacity(alloc, homes.len())?;
+            let are_started = start(scope, rt, clients, &mut client_threads)
+                && start(scope, rt, homes, &mut home_threads);
+            if !are_started {
+                stop.ring();
+            }
+            join_each(rt, client_threads, &mut ended_clients);
+            join_each(rt, home_threads, &mut ended_homes);
+            if !are_started {
+                return Err(AllocError);
+            }
+            Ok(Joined {
+                clients: ended_clients,
+                homes: ended_homes,
+            })
+        },
+    )
+}

@@ -1,0 +1,9 @@
+//! The text of a record: a line for the geometry, one for the image, and one for each event.
+#![tactic(auto)]
+
+mod entries;
+mod header;
+mod shown;
+
+pub use entries::read_entry;
+pub use header::{is_blank, read_image, read_shape};

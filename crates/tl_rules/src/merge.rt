@@ -1,0 +1,167 @@
+//! Whether the accesses of several logs have one order.
+ghost use Rattle.std.specs.Prelude.{◌≡◌, ◌↔◌, ◌+◌, ◌^◌, ◌<◌, ◌≤◌, [], All, IfNone, IfSome, IsTrue, length, slice_index_or};
+ghost use Rattle.tl_protocol.specs.OneMemory.{access_of};
+ghost use Rattle.tl_rules.specs.Certified.{accesses_of, all_accesses, events_of, logs_of, IsEarlier, IsCertified};
+ghost use Rattle.tl_rules.specs.Left.{Pairwise};
+ghost use Rattle.tl_rules.specs.Left.{left, stamp_in, AreOrdered, FollowsMark, IsNext, earlier};
+ghost use Rattle.std.specs.Option.{option_copied};
+
+use crate::log::Log;
+use arrayvec::ArrayVec;
+use tl_protocol::{Access, Event};
+
+/// Whether the clients of a log are known, and its stamps rise.
+fn is_lawful(log: &[Event]) -> bool
+    ensures { IsTrue result ↔ ((All (λ a. a.client < 16) (accesses_of log.now)) × Pairwise IsEarlier (accesses_of log.now)) }
+{
+    let mut last = None;
+    for event in log {
+        if let Some(access) = event.access() {
+            if access.client.number() >= 16 {
+                return false;
+            }
+            if let Some(stamp) = last {
+                if access.stamp <= stamp {
+                    return false;
+                }
+            }
+            last = Some(access.stamp);
+        }
+    }
+    true
+}
+
+/// The stamp and the index of an access.
+#[derive(Clone, Copy, Debug)]
+pub(crate) struct Mark {
+    stamp: u64,
+    index: u32,
+}
+
+/// Whether an access has a greater stamp and a greater index than the last one of its client, where there is one.
+fn follows(last: Option<Mark>, access: &Access) -> bool
+    ensures { IsTrue result ↔ FollowsMark last access.now }
+{
+    match last {
+        None => true,
+        Some(mark) => mark.stamp < access.stamp && mark.index < access.index,
+    }
+}
+
+/// The stamp of an event that is an access, else 0.
+fn stamp_in(event: &Event) -> u64
+    ensures { result ≡ stamp_in (access_of event.now) }
+{
+    match event.access() {
+        Some(access) => access.stamp,
+        None => 0,
+    }
+}
+
+/// A log, and the stamp at its cursor.
+#[derive(Clone, Copy, Debug)]
+pub(crate) struct Next {
+    place: usize,
+    stamp: u64,
+}
+
+/// The log whose next event has the least stamp; an event that is no access counts as one of stamp 0. None where no event is left.
+fn next_log(logs: &[&[Event]], cursors: &[usize; 8]) -> Option<usize>
+    requires few { length logs.now ≤ 8 }
+    requires rising { All (λ log. Pairwise IsEarlier (accesses_of log)) (events_of logs.now) }
+    ensures none { IfNone result (all_accesses (left (events_of logs.now) cursors.now) ≡ []) }
+    ensures some { IfSome result (IsNext (events_of logs.now) cursors.now) }
+{
+    let mut next: Option<Next> = None;
+    for (place, log) in logs.iter().enumerate() {
+        let cursor = cursors[place];
+        if cursor < log.len() {
+            let stamp = stamp_in(&log[cursor]);
+            next = earlier(next, Next { place, stamp });
+        }
+    }
+    match next {
+        Some(next) => Some(next.place),
+        None => None,
+    }
+}
+
+/// The one of two with the lower stamp.
+fn earlier(next: Option<Next>, other: Next) -> Option<Next>
+    ensures { result ≡ earlier next other }
+{
+    match next {
+        Some(next) if next.stamp <= other.stamp => Some(next),
+        _ => Some(other),
+    }
+}
+
+/// The event of a log at a cursor.
+fn event_at(log: &[Event], cursor: usize) -> &Event
+    requires { cursor < length log.now }
+    ensures is { result.now ≡ slice_index_or log.now cursor result.now }
+    ensures small { cursor + 1 < 2 ^ 64 }
+{
+    &log[cursor]
+}
+
+/// Whether the clients of all logs are known, and the stamps of each log rise.
+fn are_lawful(logs: &[&[Event]]) -> bool
+    ensures { IsTrue result
+        ↔ ((All (λ a. a.client < 16) (all_accesses (events_of logs.now)))
+        × (All (λ log. Pairwise IsEarlier (accesses_of log)) (events_of logs.now))) }
+{
+    for log in logs {
+        if !is_lawful(log) {
+            return false;
+        }
+    }
+    true
+}
+
+/// Whether the accesses of some logs have one order by stamp and then by client, in which the indexes of each client rise. It
+/// takes the logs' events in the order of their stamps, and keeps the last access of each client.
+pub fn certify_events(logs: &[&[Event]]) -> bool
+    ensures { IsTrue result ↔ IsCertified (events_of logs.now) }
+{
+    if logs.len() > 8 {
+        return false;
+    }
+    if !are_lawful(logs) {
+        return false;
+    }
+    let mut cursors = [0; 8];
+    let mut last = [None; 16];
+    while let Some(place) = next_log(logs, &cursors) {
+        let cursor = cursors[place];
+        let log = logs[place];
+        let event = event_at(log, cursor);
+        if let Some(access) = event.access() {
+            let client = access.client.number() as usize;
+            if !follows(last[client], access) {
+                return false;
+            }
+            last[client] = Some(Mark {
+                stamp: access.stamp,
+                index: access.index,
+            });
+        }
+        cursors[place] = cursor + 1;
+    }
+    true
+}
+
+/// Whether the accesses of some logs have one order by stamp and then by client, in which the indexes of each client rise: at most 8
+/// logs, clients below 16, stamps that rise strictly in each log, and no two accesses of one stamp and client.
+pub fn certify(logs: &[&Log]) -> bool
+    ensures { IsTrue result ↔ IsCertified (logs_of logs.now) }
+{
+    if logs.len() > 8 {
+        return false;
+    }
+    let mut events: ArrayVec<&[Event], 8> = ArrayVec::new();
+    for log in logs {
+        events.push(log.events());
+    }
+    certify_events(events.as_slice())
+}

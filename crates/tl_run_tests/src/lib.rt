@@ -1,0 +1,11 @@
+//! Runs of scripts over threads, by the program's answer and by calls of the runner.
+#![tactic(auto)]
+
+#[cfg(test)]
+mod asked;
+#[cfg(test)]
+mod gates;
+#[cfg(test)]
+mod outcomes;
+#[cfg(test)]
+mod stalls;
