@@ -1,10 +1,10 @@
-//! Asking the program, and the runner below it.
+//! Asking the program.
 use std::alloc::{AllocError, Global};
 use std::sync::Wait;
 use std::test::Fail;
 use std::thread::Threads;
 use std::time::Clock;
-use tl_runner::{Free, Job, JobError, RunError, answer, read_script, run_sized};
+use tl_runner::{Free, Job, JobError, answer};
 
 /// What the program wrote, and its status.
 #[derive(Debug, Drop, PartialEq, Eq)]
@@ -42,18 +42,4 @@ pub fn asked<R: Threads + Wait + Clock + Sync>(
         output: text_of(alloc, &output)?,
         fault: text_of(alloc, &faults)?,
     })
-}
-
-/// The report of a script, with inboxes that hold one ticket.
-pub fn with_one_place<R: Threads + Wait + Clock + Sync>(
-    rt: &R,
-    alloc: Global,
-    script: &str,
-) -> Result<String, Fail> {
-    let script = read_script(alloc, script.as_bytes()).ok().ok_or("refused")?;
-    match run_sized(rt, alloc, &script, &Free, 1) {
-        Ok(report) => Ok(report.text(alloc)?),
-        Err(RunError::Stalled(_)) => Err("stalled".into()),
-        Err(_) => Err("no report".into()),
-    }
 }

@@ -6,6 +6,4 @@ mod asked;
 #[cfg(test)]
 mod gates;
 #[cfg(test)]
-mod outcomes;
-#[cfg(test)]
 mod stalls;
