@@ -43,7 +43,7 @@ outward_in h block = outward_of block h.crossings
 unfoldable pub crossing_count : HomeState → ℕ
 crossing_count h = length h.crossings
 
--- the bytes of a block in memory
+-- the bytes of a block of the bank in memory
 unfoldable pub memory_in : HomeState → ℕ → List ℕ
 memory_in h block = block_in h.memory block
 
@@ -64,9 +64,10 @@ pub record EachHasHolder (h : HomeState) (n : ℕ) (holder : ℕ → ℕ) : Type
   pub inside : (block : ℕ) → outward_in h block ≢ Quiet → holder block < n
   pub own : (a b : ℕ) → outward_in h a ≢ Quiet → outward_in h b ≢ Quiet → holder a ≡ holder b → a ≡ b
 
--- home and the memory have one geometry
+-- home and the memory have one geometry, and the memory keeps the blocks of home's bank
 pub record IsHome (h : HomeState) : Type 0 where
   pub geometry : h.memory.geometry ≡ h.directory.geometry
+  pub bank : h.memory.bank ≡ Some h.directory.bank
 
 -- ## What stays
 

@@ -24,7 +24,7 @@ use tl_protocol::Outward;
 use tl_types::{BankNo, BlockBytes, BlockNo, ClientId, Perm};
 use tl_ways::Way;
 
-/// Home's part of the blocks of one bank, and the memory.
+/// Home's part of the blocks of one bank, and the memory's.
 #[derive(Drop)]
 pub struct Home {
     directory: Directory,
@@ -48,7 +48,7 @@ impl Home {
     pub const MOST_CROSSINGS: usize = 8;
 
     /// Home of one bank over a memory that holds an image no longer than it, and 0 past the image: it holds no block. All
-    /// memory that it ever uses is taken here, and only the memory's part grows with the blocks.
+    /// memory that it ever uses is taken here, and only the bytes of the bank's own blocks grow with the blocks.
     pub fn new(
         alloc: Global,
         geometry: Geometry,
@@ -63,14 +63,14 @@ impl Home {
         ensures outward { IfOk result (λ h. (b : ℕ) → outward_in h b ≡ Quiet) }
         ensures count { IfOk result (λ h. crossing_count h ≡ 0) }
         ensures memory { IfOk result
-            (λ h. (b : ℕ)
-            → b < geometry.memory_blocks → memory_in h b ≡ image_bytes image.now (b * geometry.block_bytes) geometry.block_bytes) }
+            (λ h. (b : ℕ) → b < geometry.memory_blocks → bank_of geometry b ≡ bank
+            → memory_in h b ≡ image_bytes image.now (b * geometry.block_bytes) geometry.block_bytes) }
         ensures ways { IfOk result (λ h. (b : ℕ) → way_in h b ≡ None) }
         ensures free { IfOk result (λ h. (set way : ℕ) → free_at h set way ≡ true) }
         ensures orders { IfOk result (λ h. (set : ℕ) → set < geometry.sets → order_at h set ≡ rising geometry.ways) }
     {
         let directory = Directory::new(alloc, geometry, bank)?;
-        let memory = Memory::new(alloc, geometry, image)?;
+        let memory = Memory::of_bank(alloc, geometry, bank, image)?;
         Ok(Home {
             directory,
             crossings: Crossings::new(),
@@ -310,6 +310,7 @@ impl Home {
     /// written.
     pub fn serve(&mut self, block: BlockNo)
         requires block { block < (geometry_in self.old).memory_blocks }
+        requires own { bank_of (geometry_in self.old) block ≡ bank_in self.old }
         requires request { IsRequest (outward_in self.old block) }
         requires whole { IsWhole (geometry_in self.old).block_bytes (outward_bytes (outward_in self.old block)) }
         ensures bank { SameBank self.old self.new }

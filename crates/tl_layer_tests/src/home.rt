@@ -35,6 +35,7 @@ fn serve(rt: &impl Abort, home: &mut Home, block: BlockNo)
     ensures { (c b : ℕ) → recorded_in home.new c b ≡ recorded_in home.old c b }
 {
     assert!(rt; home.geometry().has(block));
+    assert!(rt; home.geometry().bank(block) == home.bank());
     assert!(rt; home.may_serve(block));
     let whole = match home.outward(block) {
         Some(Outward::Put(bytes)) => {

@@ -5,7 +5,7 @@ use Rattle.std.specs.Int.Bits.{xor_assoc, xor_self, xor_zero_l, xor_zero_r}
 use Rattle.std.proofs.lemmas.Nat.{xor_lt, mod_below, pow_pos, div_below, div-add-mod', div-mul-add, mod-mul-add, mul-le}
 use Rattle.std.proofs.Math.Nat.{pow-suc, div-le_self}
 use Rattle.tl_map.specs.Numbers.{Numbers, IsLawful}
-use Rattle.tl_map.specs.Places.{xor_of_groups, bank_of, slot_of, set_of, tag_of, place_of}
+use Rattle.tl_map.specs.Places.{xor_of_groups, bank_of, slot_of, slot_count, set_of, tag_of, place_of}
 use Rattle.tl_map.specs.declared.place.Place.{Place}
 
 -- ## The exclusive or of groups
@@ -130,15 +130,36 @@ pub block_in-parts : (g : Numbers) (place : Place) (slot banks bank groups block
 block_in-parts g place slot banks bank groups block slots same_banks same_bank same_groups made =
     made ∙ rw (same_groups, slots, same_banks, same_bank) refl
 
+-- no two blocks of a bank have one slot
+pub slot_of-alone : (g : Numbers) (a b : ℕ) → bank_of g a ≡ bank_of g b → slot_of g a ≡ slot_of g b → a ≡ b
+slot_of-alone g a b banks slots =
+    let first = block_by_slot g a in
+    let second = block_by_slot g b in
+    rw first (rw (banks, slots) (sym second))
+
+-- there is a bank
+pub some_banks : (g : Numbers) → IsLawful g → 0 < g.banks
+some_banks g lawful =
+    let power = lawful.banks in
+    rw power.power (pow_pos power.exponent)
+
+-- the slot of a block of the memory is one of the slots
+pub slot_of-lt : (g : Numbers) (block : ℕ) → IsLawful g → block < g.memory_blocks → slot_of g block < slot_count g
+unfolding slot_of
+slot_of-lt g block lawful inside =
+    let some = some_banks g lawful in
+    let last = g.memory_blocks + g.banks - 1 in
+    let whole = div-add-mod' last g.banks in
+    let rest = mod_below last g.banks some in
+    div_below block g.banks (slot_count g) some (omega (arith, whole, rest))
+
 -- no two blocks have one place
 pub place_of-alone : (g : Numbers) (a b : ℕ) → place_of g a ≡ place_of g b → a ≡ b
 place_of-alone g a b same =
     let banks : bank_of g a ≡ bank_of g b = ap (λ (p : Place). p.bank) same in
     let slots : slot_of g a ≡ slot_of g b =
     slot_by_set g a ∙ ap (λ (p : Place). p.tag * g.sets + p.set) same ∙ sym (slot_by_set g b) in
-    let first = block_by_slot g a in
-    let second = block_by_slot g b in
-    rw first (rw (banks, slots) (sym second))
+    slot_of-alone g a b banks slots
 
 -- the groups of any number are a bank's
 pub xor_of_groups-bank : (g : Numbers) (count number : ℕ) → IsLawful g → xor_of_groups g.banks count number < g.banks
@@ -166,8 +187,7 @@ set_of-lt g block some = mod_below (slot_of g block) g.sets some
 pub slot_at-le : (g : Numbers) (place : Place) (block : ℕ) → IsLawful g → place_of g block ≡ place → slot_at g place ≤ block
 unfolding slot_of
 slot_at-le g place block lawful same =
-    let power = lawful.banks in
-    let some : 0 < g.banks = rw power.power (pow_pos power.exponent) in
+    let some = some_banks g lawful in
     let slot : slot_of g block ≡ slot_at g place = slot_by_set g block ∙ ap (λ (p : Place). p.tag * g.sets + p.set) same in
     rw (← slot) (div-le_self block g.banks)
 
@@ -232,3 +252,6 @@ unfolding bank_of slot_of set_of tag_of
 place_by_parts g block bank set tag banks sets tags = rw (banks, sets, tags) refl
 
 pub ruleset places = (place_of-alone)
+
+-- what is known of slots
+pub ruleset slots = (slot_of-alone, slot_of-lt)

@@ -2,7 +2,7 @@
 ghost use Rattle.std.specs.Prelude.{◌≡◌, ◌≢◌, ℕ, ◌*◌, ◌^◌, ◌<◌, ◌≤◌, IfErr, IfNone, IfOk, IfSome, None, Some};
 ghost use Rattle.tl_map.specs.Limits.{most_clients, most_copies};
 ghost use Rattle.tl_map.specs.Numbers.{IsLawful};
-ghost use Rattle.tl_map.specs.Places.{xor_of_groups, place_of, has_block, block_at, offset_of, has_bytes};
+ghost use Rattle.tl_map.specs.Places.{xor_of_groups, bank_of, slot_of, slot_count, place_of, has_block, block_at, offset_of, has_bytes};
 ghost use Rattle.tl_map.specs.Refusals.{refusal_of, numbers_of};
 
 use crate::numbers::{GeometryError, GeometryNumbers, one_of, within};
@@ -187,6 +187,32 @@ impl Geometry {
         ensures { result ≡ has_block self block }
     {
         block.number() < self.memory_blocks
+    }
+
+    /// The bank of a block.
+    #[tactic(auto, unfolding(crate::specs::Places::bank_of))]
+    pub fn bank(self, block: BlockNo) -> BankNo
+        ensures is { result ≡ bank_of self block }
+        ensures inside { result < self.banks }
+    {
+        BankNo::new(self.xor_of_groups(block.number()))
+    }
+
+    /// The number of a block among those of its bank, of which no other block has it.
+    #[tactic(auto, using(crate::proofs::PlaceLaws::slots), unfolding(crate::specs::Places::slot_of))]
+    pub fn slot(self, block: BlockNo) -> u32
+        ensures is { result ≡ slot_of self block }
+        ensures alone { (other : ℕ) → bank_of self other ≡ bank_of self block → slot_of self other ≡ result → other ≡ block }
+        ensures inside { block < self.memory_blocks → result < slot_count self }
+    {
+        block.number() >> self.bank_bits()
+    }
+
+    /// How many slots the blocks of a bank have.
+    pub fn slots(self) -> u32
+        ensures { result ≡ slot_count self }
+    {
+        (self.memory_blocks + self.banks - 1) >> self.bank_bits()
     }
 
     /// The bank, the set and the tag of a block of the memory. No other block has them.

@@ -1,32 +1,33 @@
 //! The bytes of all blocks.
-ghost use Rattle.std.specs.Prelude.{◌≡◌, ℕ, ◌*◌, ◌%◌, ◌^◌, ◌<◌, ◌≤◌, ◌==◌, ◌↔◌, length, IsTrue, IfOk, if◌then◌else◌};
-ghost use Rattle.tl_map.specs.Places.{block_at};
+ghost use Rattle.std.specs.Prelude.{◌≡◌, ℕ, ◌+◌, ◌*◌, ◌%◌, ◌^◌, ◌<◌, ◌≤◌, ◌==◌, ◌↔◌, length, replicate, IsTrue, IfOk, None, Some, if◌then◌else◌};
+ghost use Rattle.tl_map.specs.Places.{block_at, bank_of, slot_count};
 ghost use Rattle.tl_types.specs.Bytes.{image_bytes};
-ghost use Rattle.tl_memory.specs.Blocks.{block_in, block_after, reply_to, IsAddress, IsServable};
+ghost use Rattle.tl_memory.specs.Blocks.{block_in, block_after, is_kept, place_in, reply_to, IsAddress, IsOfBlock, IsServable};
 
 use crate::burst::Burst;
 use crate::request::{Reply, Request};
 use std::alloc::{AllocError, Global};
 use std::marker::Model;
 use tl_map::Geometry;
-use tl_types::BlockBytes;
+use tl_types::{BankNo, BlockBytes, BlockNo};
 
-/// A memory of the blocks of a geometry.
+/// A memory of the blocks of a geometry, or of those of one bank alone.
 #[derive(Drop)]
 pub struct Memory {
     geometry: Geometry,
+    bank: Option<BankNo>,
     bytes: Vec<u8>,
 }
 
 impl Model for Memory {
     ghost use Rattle.std.specs.Prelude.{◌≡◌, ◌*◌, length};
-    ghost use Rattle.tl_memory.specs.Blocks.{Contents};
+    ghost use Rattle.tl_memory.specs.Blocks.{Contents, place_count};
 
     ghost Value = { Contents };
 
-    ghost view = { λ m. record { geometry = m.geometry; bytes = m.bytes.items } };
+    ghost view = { λ m. record { geometry = m.geometry; bank = m.bank; bytes = m.bytes.items } };
 
-    ghost invariant = { λ m. length m.bytes.items ≡ m.geometry.memory_blocks * m.geometry.block_bytes };
+    ghost invariant = { λ m. length m.bytes.items ≡ place_count m.geometry m.bank * m.geometry.block_bytes };
 }
 
 impl Memory {
@@ -35,6 +36,7 @@ impl Memory {
     pub fn new(alloc: Global, geometry: Geometry, image: &[u8]) -> Result<Memory, AllocError>
         requires { length image.now ≤ geometry.memory_blocks * geometry.block_bytes }
         ensures geometry { IfOk result (λ m. m.geometry ≡ geometry) }
+        ensures bank { IfOk result (λ m. m.bank ≡ None) }
         ensures blocks { IfOk result
             (λ m. (b : ℕ)
             → b < geometry.memory_blocks → block_in m b ≡ image_bytes image.now (b * geometry.block_bytes) geometry.block_bytes) }
@@ -43,21 +45,78 @@ impl Memory {
         let mut bytes = Vec::with_capacity(alloc, len)?;
         bytes.extend_from_slice(image)?;
         bytes.resize(len, 0)?;
-        Ok(Memory { geometry, bytes })
+        Ok(Memory {
+            geometry,
+            bank: None,
+            bytes,
+        })
     }
 
-    /// The geometry. Each block of the memory has its bytes.
+    /// The blocks of one bank of a memory that holds an image no longer than the whole memory, and 0 past the image. All
+    /// memory that it ever uses is taken here: a bank's part of the whole.
+    pub fn of_bank(
+        alloc: Global,
+        geometry: Geometry,
+        bank: BankNo,
+        image: &[u8],
+    ) -> Result<Memory, AllocError>
+        requires { length image.now ≤ geometry.memory_blocks * geometry.block_bytes }
+        ensures geometry { IfOk result (λ m. m.geometry ≡ geometry) }
+        ensures bank { IfOk result (λ m. m.bank ≡ Some bank) }
+        ensures part { IfOk result (λ m. length m.bytes ≡ slot_count geometry * geometry.block_bytes) }
+        ensures blocks { IfOk result
+            (λ m. (b : ℕ) → b < geometry.memory_blocks → bank_of geometry b ≡ bank
+            → block_in m b ≡ image_bytes image.now (b * geometry.block_bytes) geometry.block_bytes) }
+    {
+        let mut memory = Memory::zeroed(alloc, geometry, bank)?;
+        let block_bytes = geometry.block_bytes();
+        for number in 0..(image.len() as u32).div_ceil(block_bytes) {
+            let block = BlockNo::new(number);
+            if memory.keeps(block) {
+                let address = number * block_bytes;
+                let bytes = BlockBytes::from_image(image, address as usize, block_bytes as usize);
+                memory.write(address, &bytes);
+            }
+        }
+        Ok(memory)
+    }
+
+    /// The blocks of one bank, all 0.
+    #[tactic(auto, unfolding(crate::specs::Blocks::block_in))]
+    fn zeroed(alloc: Global, geometry: Geometry, bank: BankNo) -> Result<Memory, AllocError>
+        ensures geometry { IfOk result (λ m. m.geometry ≡ geometry) }
+        ensures bank { IfOk result (λ m. m.bank ≡ Some bank) }
+        ensures part { IfOk result (λ m. length m.bytes ≡ slot_count geometry * geometry.block_bytes) }
+        ensures blocks { IfOk result
+            (λ m. (b : ℕ) → b < geometry.memory_blocks → bank_of geometry b ≡ bank
+            → block_in m b ≡ replicate geometry.block_bytes 0) }
+    {
+        let len = geometry.slots() as usize * geometry.block_bytes() as usize;
+        let mut bytes = Vec::with_capacity(alloc, len)?;
+        bytes.resize(len, 0)?;
+        Ok(Memory {
+            geometry,
+            bank: Some(bank),
+            bytes,
+        })
+    }
+
+    /// The geometry. Each block of the memory that is kept has its bytes.
     #[tactic(auto, using(crate::proofs::BlockLaws::blocks), unfolding(crate::specs::Blocks::block_in))]
     pub fn geometry(&self) -> Geometry
         ensures value { result ≡ self.now.geometry }
-        ensures sized { (b : ℕ) → b < self.now.geometry.memory_blocks → length (block_in self.now b) ≡ self.now.geometry.block_bytes }
+        ensures sized { (b : ℕ)
+            → b < self.now.geometry.memory_blocks → IsTrue (is_kept self.now.geometry self.now.bank b)
+            → length (block_in self.now b) ≡ self.now.geometry.block_bytes }
     {
+        // For the prover: the numbers are lawful.
+        let _ = self.geometry.banks();
         self.geometry
     }
 
-    /// Whether a request is for a whole block of the memory.
+    /// Whether a request is for a whole block that is kept.
     pub fn has(&self, request: &Request) -> bool
-        ensures { IsTrue result ↔ IsServable self.now.geometry request.now }
+        ensures { IsTrue result ↔ IsServable self.now request.now }
     {
         match request {
             Request::Get { size, address } => self.has_block(*size, *address),
@@ -73,8 +132,9 @@ impl Memory {
     /// Reads or writes the block of a request, and answers it.
     #[tactic(auto, unfolding(crate::specs::Blocks::block_in))]
     pub fn serve(&mut self, request: Request) -> Reply
-        requires { IsServable self.old.geometry request }
+        requires { IsServable self.old request }
         ensures geometry { self.new.geometry ≡ self.old.geometry }
+        ensures bank { self.new.bank ≡ self.old.bank }
         ensures reply { result ≡ reply_to self.old request }
         ensures blocks { (b : ℕ) → block_in self.new b ≡ block_after self.old request b }
     {
@@ -94,26 +154,53 @@ impl Memory {
         }
     }
 
-    /// Whether a block of this size is at this address.
+    /// Whether a block of this size is at this address, and kept.
     #[tactic(auto, using(crate::proofs::BlockLaws::sizes))]
     fn has_block(&self, size: u32, address: u32) -> bool
-        ensures { IsTrue result ↔ ((2 ^ size ≡ self.now.geometry.block_bytes) × IsAddress self.now.geometry address) }
+        ensures { IsTrue result ↔ IsOfBlock self.now size address }
     {
         if size != self.geometry.block_size() {
             return false;
         }
-        self.geometry.offset(address) == 0 && address < self.geometry.memory_bytes()
+        self.geometry.offset(address) == 0
+            && address < self.geometry.memory_bytes()
+            && self.keeps(self.geometry.block_at(address))
+    }
+
+    /// Whether a block is kept, where it is of the memory.
+    fn keeps(&self, block: BlockNo) -> bool
+        ensures { result ≡ is_kept self.now.geometry self.now.bank block }
+    {
+        match self.bank {
+            Some(bank) => self.geometry.bank(block).number() == bank.number(),
+            None => true,
+        }
+    }
+
+    /// Where the bytes of the block at an address begin.
+    fn start(&self, address: u32) -> usize
+        requires address { IsAddress self.now.geometry address }
+        ensures is { result ≡ place_in self.now.geometry self.now.bank (block_at self.now.geometry address) * self.now.geometry.block_bytes }
+        ensures inside { result + self.now.geometry.block_bytes ≤ length self.now.bytes }
+    {
+        let block = self.geometry.block_at(address);
+        let place = match self.bank {
+            Some(_) => self.geometry.slot(block),
+            None => block.number(),
+        };
+        place as usize * self.geometry.block_bytes() as usize
     }
 
     /// The bytes of the block at an address.
     #[tactic(auto, unfolding(crate::specs::Blocks::block_in))]
     fn read(&self, address: u32) -> BlockBytes
-        requires { IsAddress self.now.geometry address }
+        requires address { IsAddress self.now.geometry address }
+        requires kept { IsTrue (is_kept self.now.geometry self.now.bank (block_at self.now.geometry address)) }
         ensures block { result ≡ block_in self.now (block_at self.now.geometry address) }
         ensures len { length result ≡ self.now.geometry.block_bytes }
         ensures beats { length result % 8 ≡ 0 }
     {
-        let from = address as usize;
+        let from = self.start(address);
         let to = from + self.geometry.block_bytes() as usize;
         BlockBytes::from_slice(&self.bytes[from..to]).unwrap()
     }
@@ -122,11 +209,14 @@ impl Memory {
     #[tactic(auto, unfolding(crate::specs::Blocks::block_in))]
     fn write(&mut self, address: u32, block: &BlockBytes)
         requires address { IsAddress self.old.geometry address }
+        requires kept { IsTrue (is_kept self.old.geometry self.old.bank (block_at self.old.geometry address)) }
         requires len { length block.now ≡ self.old.geometry.block_bytes }
         ensures geometry { self.new.geometry ≡ self.old.geometry }
+        ensures bank { self.new.bank ≡ self.old.bank }
+        ensures len { length self.new.bytes ≡ length self.old.bytes }
         ensures blocks { (b : ℕ) → block_in self.new b ≡ (if b == block_at self.old.geometry address then block.now else block_in self.old b) }
     {
-        let from = address as usize;
+        let from = self.start(address);
         let to = from + self.geometry.block_bytes() as usize;
         let bytes = self.bytes.as_mut_slice();
         bytes[from..to].copy_from_slice(block.as_slice());

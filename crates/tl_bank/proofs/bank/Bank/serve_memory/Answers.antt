@@ -9,7 +9,7 @@ use Rattle.tl_bank_spec.specs.Refusal.{first_of}
 use Rattle.tl_bank_spec.specs.View.{View, block_at, way_at, ways_below}
 use Rattle.tl_bank.specs.Shown.{shown, layers}
 use Rattle.tl_bank_laws.proofs.Serves.{serves-next}
-use Rattle.tl_bank_laws.proofs.ServesMemory.{serve-keeps, serve-reply, serve-whole}
+use Rattle.tl_bank_laws.proofs.ServesMemory.{serve-allowed, serve-keeps, serve-reply, serve-whole}
 use Rattle.tl_bank_laws.proofs.Slots.{below-same}
 use Rattle.tl_bank.proofs.bank.Bank.serve_memory.Goals as goal
 
@@ -21,6 +21,14 @@ serve-requires-clause-whole c =
     (sym c.serve_memory_refusal.ensures ∙ c.in_default.is) in
     subst (λ (g : Numbers). IsWhole g.block_bytes (outward_bytes (outward_in c.self.inside.home c.args.block)))
     (sym c.self.invariant.home_geometry) (serve-whole v (layers c.self.inside) c.args.block c.self.invariant none)
+
+pub serve-requires-clause-own : goal.serve-requires-clause-own
+serve-requires-clause-own c =
+    let v : View = shown c.self.inside in
+    let none : first_of (serve_memory_cases v c.args.block) ≡ None =
+    subst (λ (w : View). first_of (serve_memory_cases w c.args.block) ≡ None) (sym (c.self.view_is ∙ c.make_room.ensures.same))
+    (sym c.serve_memory_refusal.ensures ∙ c.in_default.is) in
+    rw (c.self.invariant.home_geometry, c.self.invariant.home_bank) (serve-allowed v c.args.block none).own.1
 
 pub invariant_of-self : goal.invariant_of-self
 invariant_of-self c =
