@@ -1,5 +1,5 @@
 //! What a run answers.
-ghost use Rattle.std.specs.Prelude.{◌≡◌, ◌≢◌, ◌↔◌, All, Err, IfErr, IfOk, IfSome, IsSome, ℕ, length, map, take};
+ghost use Rattle.std.specs.Prelude.{◌≡◌, ◌≢◌, ◌↔◌, ◌≤◌, All, Err, IfErr, IfNone, IfOk, IfSome, IsSome, length, map, take};
 ghost use Rattle.tl_protocol.specs.Ledger.{has_copy};
 ghost use Rattle.tl_bank_spec.specs.Views.{pairs_at};
 ghost use Rattle.tl_protocol.specs.declared.event.Access.{Access};
