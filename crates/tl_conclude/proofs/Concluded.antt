@@ -1,5 +1,5 @@
 -- The cases of a conclusion.
-use Rattle.std.proofs.Common.{◌≡◌, ℕ, zero, suc, ◌+◌, ◌<◌, ◌≤◌, List, [], ◌∷◌, ◌++◌, length, get_or, slice_get, map, take, Vec, Option, Some, None, Result, Ok, Err, refl, sym, ap, ◌∙◌, subst, arith}
+use Rattle.std.proofs.Common.{◌≡◌, List, length, Vec, Result, Ok, Err, sym, ap, ◌∙◌, subst}
 use Rattle.std.specs.Borrow.{Bor}
 use Rattle.std.specs.declared.alloc.Global.{Global}
 use Rattle.tl_protocol.specs.declared.event.Event.{Event}
@@ -11,13 +11,12 @@ use Rattle.tl_script.specs.declared.script.Script.{Script}
 use Rattle.tl_bank_spec.specs.Share.{Holding}
 use Rattle.tl_bank_spec.specs.View.{View}
 use Rattle.tl_rules.specs.Certified.{events_of, IsCertified}
-use Rattle.tl_tickets.specs.Shares.{AreShares}
 use Rattle.tl_conclude.specs.Banks.{AreBanksOf, logs_in}
 use Rattle.tl_conclude.specs.Carried.{EachHasCommand, AreAsMany}
 use Rattle.tl_conclude.specs.Loops.{AreCarriedOut}
 use Rattle.tl_conclude.specs.Conclusion.{AreAllShares, AreMatched, ShowsAll}
 use Rattle.tl_conclude.specs.declared.error.RunError.{RunError}
-use Rattle.tl_conclude.specs.declared.error.RunError.TheVariants.{Memory, NotOrdered, Shares}
+use Rattle.tl_conclude.specs.declared.error.RunError.TheVariants.{Memory, NotOrdered}
 use Rattle.tl_conclude.proofs.Reported.{each_moved, many_moved}
 
 pub matched : (script : Script) (banks : List View) (cs : List (Vec Command Global)) (logs : List (Bor (List Event)))

@@ -1,5 +1,5 @@
 -- What the loops over logs and commands keep. No public clause cites these.
-use Rattle.std.specs.Prelude.{◌≡◌, ◌≢◌, ◌<◌, ◌≤◌, ◌+◌, ◌==◌, ◌∷◌, slice_index, slice_index_or, slice_set, slice_get, ℕ, true, List, [], Option, Some, None, Vec, count_by, length, map}
+use Rattle.std.specs.Prelude.{◌≡◌, ◌≢◌, ◌<◌, ◌≤◌, ◌+◌, ◌==◌, ◌∷◌, slice_index, slice_index_or, slice_set, slice_get, ℕ, true, List, [], Option, Some, None, Vec, count_by, map}
 use Rattle.std.specs.declared.alloc.Global.{Global}
 use Rattle.tl_protocol.specs.declared.event.Access.{Access}
 use Rattle.tl_protocol.specs.declared.event.Event.{Event}

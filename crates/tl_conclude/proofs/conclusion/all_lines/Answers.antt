@@ -1,10 +1,10 @@
-use Rattle.std.proofs.Common.{ℕ, ap, sym, ◌∙◌, subst}
+use Rattle.std.proofs.Common.{ap, ◌∙◌, subst}
 use Rattle.tl_script.specs.Commands.{commands as commands_in}
 use Rattle.tl_rules.specs.Certified.{all_accesses, events_of}
 use Rattle.tl_conclude.specs.Loops.{with_accesses}
 use Rattle.tl_conclude.specs.Conclusion.{ShowsAll}
 use Rattle.tl_conclude.proofs.Compared.{length_lists}
-use Rattle.tl_conclude.proofs.Reported.{no_bytes, shows_all}
+use Rattle.tl_conclude.proofs.Reported.{shows_all}
 use Rattle.tl_conclude.proofs.conclusion.all_lines.Goals as goal
 
 pub returns-else-not-read_logs-clause-some : goal.returns-else-not-read_logs-clause-some

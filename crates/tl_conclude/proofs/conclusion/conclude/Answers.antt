@@ -1,5 +1,4 @@
-use Rattle.std.proofs.Common.{Err, rules, sym, ap, ◌≡◌, ◌∙◌, refl}
-use Rattle.tl_script.specs.Commands.{commands as commands_in}
+use Rattle.std.proofs.Common.{Err, rules, ap, ◌≡◌, ◌∙◌, refl}
 use Rattle.tl_rules.specs.Certified.{events_of, IsCertified}
 use Rattle.tl_conclude.specs.Banks.{logs_in}
 use Rattle.tl_conclude.specs.Conclusion.{AreMatched, AreAllShares}
@@ -35,9 +34,9 @@ returns-in_default-2-clause-not_ordered c =
     let logs = ap events_of c.as_slice-logs.ensures.value ∙ c.logs_of-lists.ensures.logs in
     let never = rw c.in_default-2.is at c.in_ok-clients.ensures.none in (
       λ _. (
-            all,
-            λ m. never (carried c.args.script.now c.args.banks.now c.commands_of.result.now c.as_slice-logs.result.now c.commands_of.ensures.is logs m),
-          ),
+        all,
+        λ m. never (carried c.args.script.now c.args.banks.now c.commands_of.result.now c.as_slice-logs.result.now c.commands_of.ensures.is logs m),
+      ),
       λ _. refl,
     )
 

@@ -1,4 +1,4 @@
-use Rattle.std.proofs.Common.{◌≡◌, ℕ, List, get_or, length, refl, ◌∙◌, ap, sym, subst, arith}
+use Rattle.std.proofs.Common.{ℕ, get_or, refl, ◌∙◌, sym, subst, arith}
 use Rattle.std.proofs.lemmas.Bool.{false≢true, iff_false}
 use Rattle.std.proofs.lemmas.List.Elements.{AllWithin-more, at_read}
 use Rattle.tl_protocol.specs.declared.event.Event.{Event}
@@ -20,10 +20,11 @@ returns-then-not-read_event-clause-exact c =
       λ both.
           let has : HasCommand commands c.event-item.result (access_of c.event-item.result) =
           subst (λ (e : Event). HasCommand commands e (access_of e)) (sym c.event-item.is) (both.0 i c.event-item.result (omega (arith, lt))) in
-          absurd (iff_false c.read_event.ensures.exact c.if-not-read_event.true
-          (has,
-          still_owed commands c.args.owed.now c.loop-event.owed c.args.log.now i c.event-item.result (omega (arith, lt)) c.event-item.is has c.loop-event.invariant.counted
-          (subst (λ (n : ℕ). AreOwed n c.args.owed.now (accesses_of c.args.log.now)) (sym (length_lists c.args.commands.now)) both.1))),
+          absurd (iff_false c.read_event.ensures.exact c.if-not-read_event.true (
+            has,
+            still_owed commands c.args.owed.now c.loop-event.owed c.args.log.now i c.event-item.result (omega (arith, lt)) c.event-item.is has c.loop-event.invariant.counted
+                (subst (λ (n : ℕ). AreOwed n c.args.owed.now (accesses_of c.args.log.now)) (sym (length_lists c.args.commands.now)) both.1),
+          )),
     )
 
 pub loop-event-preserved : goal.loop-event-preserved
@@ -49,9 +50,9 @@ returns c =
     let past = c.loop-event-test.false in record {
       exact = (
         λ _. (
-              all_within P log i past c.loop-event.invariant.each,
-              λ client _. let sum = c.loop-event.invariant.counted client in let none = count_end client log i past in omega (arith, sum, none),
-            ),
+          all_within P log i past c.loop-event.invariant.each,
+          λ client _. let sum = c.loop-event.invariant.counted client in let none = count_end client log i past in omega (arith, sum, none),
+        ),
         λ _. refl,
       );
       counted = λ _ client. let sum = c.loop-event.invariant.counted client in let none = count_end client log i past in omega (arith, sum, none);

@@ -1,4 +1,4 @@
-use Rattle.std.proofs.Common.{◌≡◌, ◌<◌, ◌≤◌, ⊎_elim, ℕ, List, [], All, count_by, get_or, length, refl, ◌∙◌, ap, sym, subst, arith}
+use Rattle.std.proofs.Common.{◌<◌, ◌≤◌, ⊎_elim, List, [], All, length, ◌∙◌, subst, arith}
 use Rattle.std.proofs.lemmas.Bool.{false≢true, cases_lt, iff_false}
 use Rattle.std.proofs.lemmas.List.Elements.{AllWithin-more}
 use Rattle.tl_protocol.specs.declared.event.Event.{Event}
@@ -7,7 +7,7 @@ use Rattle.tl_protocol.specs.OneMemory.{access_of}
 use Rattle.tl_rules.specs.Certified.{accesses_of, all_accesses, events_of}
 use Rattle.tl_rules.proofs.Cursors.{read_log as log_read, length_logs}
 use Rattle.tl_conclude.specs.Carried.{HasCommand}
-use Rattle.tl_conclude.specs.Loops.{AreOwed, bytes_on, count_of, with_accesses}
+use Rattle.tl_conclude.specs.Loops.{AreOwed, bytes_on, with_accesses}
 use Rattle.tl_conclude.proofs.Compared.{all_within, all_zero, length_lists, log_at_index, logs_end, logs_step, none_owed, zero_at}
 use Rattle.tl_conclude.proofs.Filling.{with_log, with_logs_end}
 use Rattle.tl_conclude.proofs.reading.read_logs.Goals as goal
@@ -59,13 +59,13 @@ returns-clause-exact c =
     let P = λ (log : List Event). All (λ e. HasCommand (commands_in c.args.commands.now) e (access_of e)) log in
     let long = length_logs logs in (
       λ yes. (
-            all_within P (events_of logs) i (omega (arith, long, past)) c.loop-log.invariant.each,
-            λ client there.
-                let sum = c.loop-log.invariant.counted client in
-                let none = logs_end client logs i past in
-                let zero = zero_at c.loop-log.owed (c.is_nothing.ensures.0 yes) client in
-                omega (arith, sum, none, zero),
-          ),
+        all_within P (events_of logs) i (omega (arith, long, past)) c.loop-log.invariant.each,
+        λ client there.
+            let sum = c.loop-log.invariant.counted client in
+            let none = logs_end client logs i past in
+            let zero = zero_at c.loop-log.owed (c.is_nothing.ensures.0 yes) client in
+            omega (arith, sum, none, zero),
+      ),
       λ both.
           c.is_nothing.ensures.1
           (all_zero c.loop-log.owed
