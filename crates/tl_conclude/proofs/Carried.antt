@@ -18,7 +18,7 @@ use Rattle.tl_rules.specs.Ordered.{joined, IndexRises}
 use Rattle.tl_rules.proofs.Joined.{made_joined, accesses_all, down_all, down_pairs}
 use Rattle.tl_rules.proofs.Pairs.{one_by_one}
 use Rattle.tl_rules.proofs.Sorting.{len_cond, pairs_filter, pairs_with}
-use Rattle.tl_conclude.specs.Carried.{makes_access, CarriesOut, Answers, bytes_in, is_line, is_of_client, is_by, commands_of, HasCommand, EachHasCommand, AreAsMany}
+use Rattle.tl_conclude.specs.Carried.{makes_access, CarriesOut, Answers, bytes_in, is_line, is_of_client, is_by, commands_of, HasCommand, EachHasCommand}
 
 -- the index of an access, 0 where there is none
 abbrev pub index_in : Option Access → ℕ

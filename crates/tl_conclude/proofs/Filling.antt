@@ -1,10 +1,10 @@
--- The bytes of a client's accesses, by their indexes.
-use Rattle.std.proofs.Common.{◌≡◌, ℕ, zero, suc, ◌+◌, ◌<◌, ◌≤◌, cond, ◌==◌, List, [], ◌∷◌, ◌++◌, length, get_or, set, slice_get, drop, All, Option, Some, None, refl, sym, ap, ◌∙◌, subst, arith}
+-- The bytes of accesses, by client and index.
+use Rattle.std.proofs.Common.{◌≡◌, ℕ, zero, suc, ◌+◌, ◌<◌, ◌≤◌, ⊎_elim, true, false, cond, ◌==◌, List, [], ◌∷◌, ◌++◌, length, get_or, set, slice_get, drop, All, Option, Some, None, refl, sym, ap, ◌∙◌, subst, arith}
 use Rattle.std.specs.Borrow.{Bor}
 use Rattle.std.specs.List.{cons_option}
 use Rattle.std.proofs.Math.ListN.{length-set}
-use Rattle.std.proofs.lemmas.Bool.{cond_both, cond-true, eqb-true, eq-eqb}
-use Rattle.std.proofs.lemmas.List.{drop_more, drop_all}
+use Rattle.std.proofs.lemmas.Bool.{false≢true, cases_Bool, cond_both, cond-true, cond-false, eqb-true, eq-eqb}
+use Rattle.std.proofs.lemmas.List.{drop_more, drop_all, get_or-set_other}
 use Rattle.std.proofs.lemmas.List.Elements.{All-nil, All-cons, All-head, All-tail}
 use Rattle.tl_protocol.specs.declared.event.Access.{Access}
 use Rattle.tl_protocol.specs.declared.event.Event.{Event}
@@ -12,9 +12,11 @@ use Rattle.tl_protocol.specs.OneMemory.{access_of}
 use Rattle.tl_rules.specs.Certified.{accesses_of, all_accesses, events_of}
 use Rattle.tl_rules.specs.Left.{Pairwise}
 use Rattle.tl_rules.proofs.Cursors.{read_log, length_logs}
-use Rattle.tl_conclude.specs.Loops.{filled, written_by, AreDistinct}
+use Rattle.tl_conclude.specs.Loops.{AreDistinct, with_access, with_accesses, with_event}
 
--- the table after one access
+-- ## The bytes of one client
+
+-- a client's bytes by index, once those of an access stand at its index, if it is the client's
 abbrev pub written : ℕ → List (List ℕ) → Access → List (List ℕ)
 written client table a = cond (a.client == client) (set table a.index a.bytes) table
 
@@ -22,6 +24,11 @@ length_written : (client : ℕ) (table : List (List ℕ)) (a : Access) → lengt
 length_written client table a =
     cond_both (a.client == client) (set table a.index a.bytes) table (λ (t : List (List ℕ)). length t ≡ length table)
     (λ _. length-set table a.index a.bytes) (λ _. refl)
+
+-- the same of several accesses, one after the other
+abbrev pub filled : ℕ → List (List ℕ) → List Access → List (List ℕ)
+filled client table [] = table
+filled client table (a ∷ xs) = filled client (written client table a) xs
 
 pub length_filled : (client : ℕ) (table : List (List ℕ)) (xs : List Access) → length (filled client table xs) ≡ length table
 length_filled client table [] = refl
@@ -67,62 +74,81 @@ filled_at client table (x ∷ xs) p h =
     (λ k d l own. subst (λ (n : ℕ). (get_or xs k d).index < n) (sym (length_written client table x))
     (All-tail (λ (a : Access). a.client ≡ client → a.index < length table) x xs h k d l own)))
 
+-- ## The bytes of all clients
+
+row_same : (bytes : List (List (List ℕ))) (k i : ℕ) (new : List ℕ)
+    → get_or (set bytes k (set (get_or bytes k []) i new)) k [] ≡ set (get_or bytes k []) i new
+row_same [] k i new = refl
+row_same (x ∷ xs) zero i new = refl
+row_same (x ∷ xs) (suc k) i new = row_same xs k i new
+
+row_set : (bytes : List (List (List ℕ))) (k client i : ℕ) (new : List ℕ)
+    → get_or (set bytes k (set (get_or bytes k []) i new)) client [] ≡ cond (k == client) (set (get_or bytes client []) i new) (get_or bytes client [])
+row_set bytes k client i new =
+    ⊎_elim
+    (λ (is : (k == client) ≡ true).
+    subst
+    (λ (n : ℕ). get_or (set bytes k (set (get_or bytes k []) i new)) n [] ≡ cond (k == client) (set (get_or bytes n []) i new) (get_or bytes n []))
+    (eqb-true k client is)
+    (row_same bytes k i new ∙ sym (cond-true (k == client) (set (get_or bytes k []) i new) (get_or bytes k []) is)))
+    (λ (is : (k == client) ≡ false).
+    get_or-set_other bytes k client (set (get_or bytes k []) i new) [] (λ e. false≢true (sym is ∙ eq-eqb k client (sym e)))
+    ∙ sym (cond-false (k == client) (set (get_or bytes client []) i new) (get_or bytes client []) is))
+    (cases_Bool (k == client))
+
+-- of the accesses among all, a client's bytes are those of its own
+pub rows : (bytes : List (List (List ℕ))) (xs : List Access) (client : ℕ)
+    → get_or (with_accesses bytes xs) client [] ≡ filled client (get_or bytes client []) xs
+rows bytes [] client = refl
+rows bytes (a ∷ xs) client =
+    rows (with_access bytes a) xs client
+    ∙ ap (λ (t : List (List ℕ)). filled client t xs) (row_set bytes a.client client a.index a.bytes)
+
 -- ## As the loops go
 
-filled_more : (client : ℕ) (table : List (List ℕ)) (xs ys : List Access) → filled client table (xs ++ ys) ≡ filled client (filled client table xs) ys
-filled_more client table [] ys = refl
-filled_more client table (a ∷ xs) ys = filled_more client (written client table a) xs ys
+with_more : (bytes : List (List (List ℕ))) (xs ys : List Access) → with_accesses bytes (xs ++ ys) ≡ with_accesses (with_accesses bytes xs) ys
+with_more bytes [] ys = refl
+with_more bytes (a ∷ xs) ys = with_more (with_access bytes a) xs ys
+
+by_option : (bytes : List (List (List ℕ))) (xs : List Access) (o : Option Access)
+    → with_accesses bytes (cons_option o xs) ≡ with_accesses (with_event bytes o) xs
+by_option bytes xs None = refl
+by_option bytes xs (Some a) = refl
 
 made_drop : (log : List Event) (i : ℕ) (e : Event) → i < length log → e ≡ get_or log i e
     → accesses_of (drop i log) ≡ cons_option (access_of e) (accesses_of (drop (i + 1) log))
 made_drop log i e lt is =
     ap accesses_of (drop_more log i e lt) ∙ ap (λ (x : Event). cons_option (access_of x) (accesses_of (drop (i + 1) log))) (sym is)
 
-pub fill_end : (client : ℕ) (table whole : List (List ℕ)) (log : List Event) (i : ℕ) → length log ≤ i
-    → filled client table (accesses_of (drop i log)) ≡ whole → table ≡ whole
-fill_end client table whole log i le so_far = sym (ap (λ (es : List Event). filled client table (accesses_of es)) (drop_all i log le)) ∙ so_far
+-- an event was read
+pub with_step : (bytes next whole : List (List (List ℕ))) (log : List Event) (i : ℕ) (e : Event) → i < length log → e ≡ get_or log i e
+    → next ≡ with_event bytes (access_of e) → with_accesses bytes (accesses_of (drop i log)) ≡ whole
+    → with_accesses next (accesses_of (drop (i + 1) log)) ≡ whole
+with_step bytes next whole log i e lt is step so_far =
+    ap (λ (t : List (List (List ℕ))). with_accesses t (accesses_of (drop (i + 1) log))) step
+    ∙ (sym (by_option bytes (accesses_of (drop (i + 1) log)) (access_of e))
+    ∙ (sym (ap (with_accesses bytes) (made_drop log i e lt is)) ∙ so_far))
 
--- of several logs
-pub fill_log : (client : ℕ) (table next whole : List (List ℕ)) (logs : List (Bor (List Event))) (i : ℕ) (log : Bor (List Event)) → i < length logs
-    → log ≡ get_or logs i log → next ≡ filled client table (accesses_of log.now) → filled client table (all_accesses (drop i (events_of logs))) ≡ whole
-    → filled client next (all_accesses (drop (i + 1) (events_of logs))) ≡ whole
-fill_log client table next whole logs i log lt is step so_far =
+pub with_end : (bytes whole : List (List (List ℕ))) (log : List Event) (i : ℕ) → length log ≤ i
+    → with_accesses bytes (accesses_of (drop i log)) ≡ whole → bytes ≡ whole
+with_end bytes whole log i le so_far =
+    sym (ap (λ (es : List Event). with_accesses bytes (accesses_of es)) (drop_all i log le)) ∙ so_far
+
+-- a log was read
+pub with_log : (bytes next whole : List (List (List ℕ))) (logs : List (Bor (List Event))) (i : ℕ) (log : Bor (List Event)) → i < length logs
+    → log ≡ get_or logs i log → next ≡ with_accesses bytes (accesses_of log.now)
+    → with_accesses bytes (all_accesses (drop i (events_of logs))) ≡ whole
+    → with_accesses next (all_accesses (drop (i + 1) (events_of logs))) ≡ whole
+with_log bytes next whole logs i log lt is step so_far =
     let known : i < length (events_of logs) = (let long = length_logs logs in omega arith) in
     let rest = all_accesses (drop (i + 1) (events_of logs)) in
-    ap (λ (t : List (List ℕ)). filled client t rest) step
-    ∙ (sym (filled_more client table (accesses_of log.now) rest)
-    ∙ (sym (ap (λ (ls : List (List Event)). filled client table (all_accesses ls)) (drop_more (events_of logs) i [] known)
-    ∙ ap (λ (es : List Event). filled client table (accesses_of es ++ rest)) (read_log logs i log lt is)) ∙ so_far))
+    ap (λ (t : List (List (List ℕ))). with_accesses t rest) step
+    ∙ (sym (with_more bytes (accesses_of log.now) rest)
+    ∙ (sym (ap (λ (ls : List (List Event)). with_accesses bytes (all_accesses ls)) (drop_more (events_of logs) i [] known)
+    ∙ ap (λ (es : List Event). with_accesses bytes (accesses_of es ++ rest)) (read_log logs i log lt is)) ∙ so_far))
 
-pub fill_logs_end : (client : ℕ) (table whole : List (List ℕ)) (logs : List (Bor (List Event))) (i : ℕ) → length logs ≤ i
-    → filled client table (all_accesses (drop i (events_of logs))) ≡ whole → table ≡ whole
-fill_logs_end client table whole logs i le so_far =
-    sym (ap (λ (ls : List (List Event)). filled client table (all_accesses ls)) (drop_all i (events_of logs) (let long = length_logs logs in omega arith))) ∙ so_far
-
--- ## One event
-
-by_option : (client : ℕ) (table : List (List ℕ)) (xs : List Access) (o : Option Access)
-    → filled client table (cons_option o xs) ≡ filled client (written_by client table o) xs
-by_option client table xs None = refl
-by_option client table xs (Some a) = refl
-
-pub fill_step : (client : ℕ) (table : List (List ℕ)) (log : List Event) (i : ℕ) (e : Event) → i < length log → e ≡ get_or log i e
-    → filled client table (accesses_of (drop i log)) ≡ filled client (written_by client table (access_of e)) (accesses_of (drop (i + 1) log))
-fill_step client table log i e lt is =
-    ap (filled client table) (made_drop log i e lt is) ∙ by_option client table (accesses_of (drop (i + 1) log)) (access_of e)
-
-pub length_written_by : (client : ℕ) (table : List (List ℕ)) (o : Option Access) → length (written_by client table o) ≡ length table
-length_written_by client table None = refl
-length_written_by client table (Some a) = length_written client table a
-
--- what holds of each access holds of an event that is one
-all_rest : (P : Access → Type 0) (o : Option Access) (xs : List Access) → All P (cons_option o xs) → All P xs
-all_rest P None xs h = h
-all_rest P (Some a) xs h = All-tail P a xs h
-
-pub at_event : (P : Access → Type 0) (log : List Event) (i : ℕ) (e : Event) → i < length log → e ≡ get_or log i e → All P (accesses_of log)
-    → (a : Access) → access_of e ≡ Some a → P a
-at_event P [] i e lt is h a some = absurd (omega arith)
-at_event P (x ∷ xs) zero e lt is h a some =
-    All-head P a (accesses_of xs) (subst (λ (o : Option Access). All P (cons_option o (accesses_of xs))) (ap access_of (sym is) ∙ some) h)
-at_event P (x ∷ xs) (suc i) e lt is h a some = at_event P xs i e (omega arith) is (all_rest P (access_of x) (accesses_of xs) h) a some
+pub with_logs_end : (bytes whole : List (List (List ℕ))) (logs : List (Bor (List Event))) (i : ℕ) → length logs ≤ i
+    → with_accesses bytes (all_accesses (drop i (events_of logs))) ≡ whole → bytes ≡ whole
+with_logs_end bytes whole logs i le so_far =
+    sym (ap (λ (ls : List (List Event)). with_accesses bytes (all_accesses ls)) (drop_all i (events_of logs) (let long = length_logs logs in omega arith)))
+    ∙ so_far

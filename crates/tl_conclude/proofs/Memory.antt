@@ -1,5 +1,5 @@
 -- Banks that match a script are one memory, whose accesses the lines show.
-use Rattle.std.proofs.Common.{◌≡◌, ℕ, zero, suc, ◌<◌, ◌≤◌, ⊎_elim, List, [], ◌∷◌, length, get_or, slice_get, map, filter, All, Vec, Some, refl, sym, ap, ◌∙◌, subst, arith}
+use Rattle.std.proofs.Common.{◌≡◌, ℕ, zero, suc, ◌<◌, ◌≤◌, ⊎_elim, List, [], ◌∷◌, length, slice_get, filter, All, Vec, Some, refl, sym, subst, arith}
 use Rattle.std.specs.List.{AllZip}
 use Rattle.std.specs.declared.alloc.Global.{Global}
 use Rattle.std.proofs.lemmas.Bool.{cases_lt}
@@ -7,8 +7,6 @@ use Rattle.std.proofs.lemmas.List.{get_or_past}
 use Rattle.tl_map.specs.Numbers.{Numbers}
 use Rattle.tl_map.specs.Places.{bank_of}
 use Rattle.tl_protocol.specs.declared.event.Event.{Event}
-use Rattle.tl_protocol.specs.declared.shape.Shape.{Shape}
-use Rattle.tl_words.specs.declared.command.Command.{Command}
 use Rattle.tl_report.specs.declared.report.Answered.{Answered}
 use Rattle.tl_script.specs.Commands.{commands as commands_in}
 use Rattle.tl_script.specs.Numbers.{unsigned_of}

@@ -1,5 +1,5 @@
 -- The lines of a report.
-use Rattle.std.proofs.Common.{◌≡◌, ℕ, zero, suc, ◌+◌, ◌<◌, ◌⊎◌, inl, inr, ⊎_elim, true, List, [], ◌∷◌, ◌++◌, length, get_or, slice_get, map, replicate, All, Vec, Option, Some, None, refl, sym, ap, ◌∙◌, subst, arith, length-append}
+use Rattle.std.proofs.Common.{◌≡◌, ℕ, zero, suc, ◌<◌, ⊎_elim, true, List, [], ◌∷◌, length, get_or, slice_get, map, replicate, All, Vec, Option, Some, None, refl, sym, ap, ◌∙◌, subst, arith}
 use Rattle.std.specs.declared.alloc.Global.{Global}
 use Rattle.std.proofs.lemmas.Bool.{false≢true, cases_order}
 use Rattle.std.proofs.lemmas.Option.{slice_get_within, get_or_from_slice_get, slice_get-get_or}
@@ -17,9 +17,9 @@ use Rattle.tl_rules.proofs.Loop.{all_of}
 use Rattle.tl_rules.proofs.Pairs.{one_by_one}
 use Rattle.tl_rules.proofs.Sorting.{both_pairs}
 use Rattle.tl_conclude.specs.Carried.{makes_access, CarriesOut, HasCommand, EachHasCommand, AreAsMany, commands_of}
-use Rattle.tl_conclude.specs.Loops.{filled, AreDistinct, IsAtAccess}
+use Rattle.tl_conclude.specs.Loops.{AreDistinct, IsAtAccess, bytes_on, commands_on, with_accesses}
 use Rattle.tl_conclude.specs.Conclusion.{ShowsClient, ShowsAll}
-use Rattle.tl_conclude.proofs.Filling.{filled_at, filled_other}
+use Rattle.tl_conclude.proofs.Filling.{filled, filled_at, filled_other, rows}
 
 -- ## What is known of matched banks
 
@@ -98,15 +98,43 @@ shows_client commands client logs lines apart at same bytes =
           ∙ (slice_get-get_or table i [] (omega arith) ∙ ap Some (get_or-replicate (length commands) i [] [] lt)));
     }
 
--- ## Lists that grow
+-- ## The lines of all clients
 
-pub pushed_at : {X : Type 0} (xs : List X) (x y : X) (i : ℕ) → slice_get (xs ++ x ∷ []) i ≡ Some y
-    → (slice_get xs i ≡ Some y) ⊎ ((i ≡ length xs) × (x ≡ y))
-pushed_at [] x y zero is = inr (refl, (let e : Some x ≡ Some y = is in cc))
-pushed_at [] x y (suc i) is = let e : None ≡ Some y = is in absurd (cc)
-pushed_at (z ∷ zs) x y zero is = inl is
-pushed_at (z ∷ zs) x y (suc i) is =
-    ⊎_elim (λ (p : slice_get zs i ≡ Some y). inl p) (λ (p : (i ≡ length zs) × (x ≡ y)). inr (ap suc p.0, p.1)) (pushed_at zs x y i is)
+length_map : {X Y : Type 0} (f : X → Y) (xs : List X) → length (map f xs) ≡ length xs
+length_map f [] = refl
+length_map f (x ∷ xs) = let rest = length_map f xs in omega arith
+
+mapped_at : {X Y : Type 0} (f : X → Y) (xs : List X) (i : ℕ) (x : X) (d : Y) → slice_get xs i ≡ Some x → get_or (map f xs) i d ≡ f x
+mapped_at f [] i x d is = let e : None ≡ Some x = is in absurd (cc)
+mapped_at {X} f (y ∷ ys) zero x d is = ap f (let e : y ≡ x = cc in e)
+mapped_at f (y ∷ ys) (suc i) x d is = mapped_at f ys i x d is
+
+-- the bytes of lines that were not answered
+abbrev pub no_bytes : List (List Command) → List (List (List ℕ))
+no_bytes commands = map (λ (list : List Command). replicate (length list) []) commands
+
+no_bytes_at : (commands : List (List Command)) (client : ℕ) → get_or (no_bytes commands) client [] ≡ replicate (length (commands_of commands client)) []
+no_bytes_at [] client = refl
+no_bytes_at (list ∷ lists) zero = refl
+no_bytes_at (list ∷ lists) (suc client) = no_bytes_at lists client
+
+pub shows_all : (commands : List (List Command)) (logs : List (List Event)) (all : List (Vec Answered Global))
+    → Pairwise AreDistinct (all_accesses logs) → EachHasCommand commands logs → commands_on all ≡ commands
+    → bytes_on all ≡ with_accesses (no_bytes commands) (all_accesses logs) → ShowsAll commands logs all (length commands)
+shows_all commands logs all apart each same bytes = record {
+  as_many = sym (length_map (λ (lines : Vec Answered Global). map (λ (line : Answered). line.command) lines.items) all)
+      ∙ ap (λ (cs : List (List Command)). length cs) same;
+  each = λ client lines there.
+      shows_client (commands_of commands client) client logs lines.items apart (all_at_access commands logs each client)
+      (sym (mapped_at (λ (ls : Vec Answered Global). map (λ (line : Answered). line.command) ls.items) all client lines [] there)
+      ∙ ap (λ (cs : List (List Command)). get_or cs client []) same)
+      (sym (mapped_at (λ (ls : Vec Answered Global). map (λ (line : Answered). line.bytes) ls.items) all client lines [] there)
+      ∙ (ap (λ (bs : List (List (List ℕ))). get_or bs client []) bytes
+      ∙ (rows (no_bytes commands) (all_accesses logs) client
+      ∙ ap (λ (t : List (List ℕ)). filled client t (all_accesses logs)) (no_bytes_at commands client))));
+}
+
+-- ## Elements that were read
 
 pub read_at : {X : Type 0} (xs : List X) (i : ℕ) (x y : X) → x ≡ get_or xs i x → slice_get xs i ≡ Some y → x ≡ y
 read_at xs i x y is there = is ∙ get_or_from_slice_get xs i y x there
@@ -120,27 +148,3 @@ each_moved cs ds ls ms p q h =
 pub many_moved : (cs ds : List (List Command)) (ls ms : List (List Event)) → cs ≡ ds → ls ≡ ms → AreAsMany cs ls → AreAsMany ds ms
 many_moved cs ds ls ms p q h =
     subst (λ (c : List (List Command)). AreAsMany c ms) p (subst (λ (l : List (List Event)). AreAsMany cs l) q h)
-
--- ## One client more
-
-pub shows_more : (commands : List (List Command)) (logs : List (List Event)) (all : List (Vec Answered Global)) (count : ℕ)
-    (x : Vec Answered Global) (items : List (Vec Answered Global)) → ShowsAll commands logs all count → items ≡ all ++ x ∷ []
-    → ShowsClient (commands_of commands count) count logs x.items → ShowsAll commands logs items (count + 1)
-shows_more commands logs all count x items shows is own =
-    let many : length all ≡ count = shows.as_many in
-    record {
-      as_many = (let long = ap (λ (xs : List (Vec Answered Global)). length xs) is in let sum = length-append all (x ∷ []) in omega arith);
-      each = λ client lines there.
-          ⊎_elim
-          (λ (p : slice_get all client ≡ Some lines). shows.each client lines p)
-          (λ (p : (client ≡ length all) × (x ≡ lines)).
-          subst (λ (l : Vec Answered Global). ShowsClient (commands_of commands client) client logs l.items) p.1
-          (subst (λ (k : ℕ). ShowsClient (commands_of commands k) k logs x.items) (sym (p.0 ∙ many)) own))
-          (pushed_at all x lines client (ap (λ (xs : List (Vec Answered Global)). slice_get xs client) (sym is) ∙ there));
-    }
-
-pub at_moved : (cs ds : List (List Command)) (ls ms : List (List Event)) (client : ℕ) → cs ≡ ds → ls ≡ ms
-    → All (IsAtAccess (commands_of ds client) client) (all_accesses ms) → All (IsAtAccess (commands_of cs client) client) (all_accesses ls)
-at_moved cs ds ls ms client p q h =
-    subst (λ (c : List (List Command)). All (IsAtAccess (commands_of c client) client) (all_accesses ls)) (sym p)
-    (subst (λ (l : List (List Event)). All (IsAtAccess (commands_of ds client) client) (all_accesses l)) (sym q) h)

@@ -1,5 +1,5 @@
 -- What a run concludes from its script, its banks and the shares that were given back (this project's own theorem).
-use Rattle.std.specs.Prelude.{◌≡◌, ◌<◌, ℕ, List, [], length, map, filter, slice_get, All, Some, Vec, Result, Ok, Err}
+use Rattle.std.specs.Prelude.{◌≡◌, ℕ, List, [], length, map, filter, slice_get, All, Some, Vec}
 use Rattle.std.specs.List.{AllZip}
 use Rattle.std.specs.declared.alloc.Global.{Global}
 use Rattle.tl_map.specs.Places.{bank_of}

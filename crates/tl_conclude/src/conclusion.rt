@@ -1,21 +1,20 @@
 //! What a run answers.
-ghost use Rattle.std.specs.Prelude.{◌≡◌, ◌≢◌, ◌↔◌, All, Err, IfErr, IfOk, IfSome, IsSome, ℕ, length, map, take};
+ghost use Rattle.std.specs.Prelude.{◌≡◌, ◌≢◌, ◌↔◌, ◌≤◌, All, Err, IfErr, IfNone, IfOk, IfSome, IsSome, length, map, take};
 ghost use Rattle.tl_protocol.specs.Ledger.{has_copy};
 ghost use Rattle.tl_bank_spec.specs.Views.{pairs_at};
 ghost use Rattle.tl_protocol.specs.declared.event.Access.{Access};
 ghost use Rattle.tl_script.specs.Commands.{commands as commands_in};
 ghost use Rattle.tl_rules.specs.Certified.{events_of, all_accesses};
 ghost use Rattle.tl_rules.specs.Left.{Pairwise};
-ghost use Rattle.tl_conclude.specs.Carried.{commands_of};
-ghost use Rattle.tl_conclude.specs.Loops.{AreDistinct, IsAtAccess};
+ghost use Rattle.tl_conclude.specs.Loops.{AreCarriedOut, AreDistinct};
 ghost use Rattle.tl_conclude.specs.Banks.{logs_in};
 ghost use Rattle.tl_conclude.specs.Conclusion.{AreAllShares, AreMatched, IsOneMemory, IsConclusion, ShowsClient, ShowsAll, bank_line};
 ghost use Rattle.tl_conclude.specs.declared.error.RunError.TheVariants.{Memory, NotOrdered, Shares};
 
 use crate::banks::{are_banks_of, logs_of};
-use crate::compare::{are_as_many, each_has_command};
 use crate::error::RunError;
-use crate::lines::{bytes_of_client, lines_of};
+use crate::lines::all_empty_lines;
+use crate::reading::read_logs;
 use arrayvec::ArrayVec;
 use std::alloc::{AllocError, Global};
 use tl_bank::{Bank, Share};
@@ -57,38 +56,35 @@ fn is_one_memory(script: &Script, banks: &[Bank], clients: &[Vec<Answered>])
     let _logs = logs_of(banks);
 }
 
-/// The lines of a client.
-fn client_lines(
-    alloc: Global,
-    commands: &[Command],
-    client: usize,
-    logs: &[&[Event]],
-) -> Result<Vec<Answered>, AllocError>
-    requires distinct { Pairwise AreDistinct (all_accesses (events_of logs.now)) }
-    requires at { All (IsAtAccess commands.now client) (all_accesses (events_of logs.now)) }
-    ensures { IfOk result (λ lines. ShowsClient commands.now client (events_of logs.now) lines.items) }
-{
-    let got = bytes_of_client(alloc, logs, client, commands.len())?;
-    let lines = lines_of(alloc, commands, got.as_slice())?;
-    Ok(lines)
-}
-
-/// The lines of all clients.
+/// The lines of all clients, each load and store with the bytes of its access. None where an access does not carry out its command,
+/// or a client has not as many as loads and stores. Where memory for the lines is refused, the accesses are compared even so.
 fn all_lines(
     alloc: Global,
     commands: &[Vec<Command>],
     logs: &[&[Event]],
-) -> Result<Vec<Vec<Answered>>, AllocError>
+) -> Result<Option<Vec<Vec<Answered>>>, AllocError>
+    requires few { length commands.now ≤ 16 }
     requires distinct { Pairwise AreDistinct (all_accesses (events_of logs.now)) }
-    requires at { (client : ℕ) → All (IsAtAccess (commands_of (commands_in commands.now) client) client) (all_accesses (events_of logs.now)) }
-    ensures { IfOk result (λ all. ShowsAll (commands_in commands.now) (events_of logs.now) all.items (length commands.now)) }
+    ensures none { IfOk result (λ found. IfNone found (AreCarriedOut (commands_in commands.now) (events_of logs.now) → ⊥)) }
+    ensures some { IfOk result (λ found. IfSome found (λ all. AreCarriedOut (commands_in commands.now) (events_of logs.now)
+        × ShowsAll (commands_in commands.now) (events_of logs.now) all.items (length commands.now))) }
+    ensures refused { IfErr result (λ _. AreCarriedOut (commands_in commands.now) (events_of logs.now)) }
 {
-    let mut all = Vec::new(alloc);
-    for (client, list) in commands.iter().enumerate() {
-        let lines = client_lines(alloc, list, client, logs)?;
-        all.push(lines)?;
+    match all_empty_lines(alloc, commands) {
+        Ok(mut all) => {
+            if !read_logs(commands, logs, &mut all) {
+                return Ok(None);
+            }
+            Ok(Some(all))
+        }
+        Err(refused) => {
+            let mut none = Vec::new(alloc);
+            if !read_logs(commands, logs, &mut none) {
+                return Ok(None);
+            }
+            Err(refused)
+        }
     }
-    Ok(all)
 }
 
 /// The lines of at most 8 banks, from what is held of each.
@@ -106,8 +102,18 @@ fn bank_lines(alloc: Global, banks: &[Bank], held: &[u64]) -> Result<Vec<BankLin
     Ok(lines)
 }
 
+/// The commands of a script, of at most 16 clients.
+fn commands_of(script: &Script) -> &[Vec<Command>]
+    ensures is { result.now ≡ script.now.commands.items }
+    ensures few { length result.now ≤ 16 }
+{
+    // For the proof alone: there is a list for each client, and a geometry has at most 16.
+    let _clients = script.geometry().clients();
+    script.commands.as_slice()
+}
+
 /// What a run answers, from its script, its banks and the shares that its clients give back: a list for each bank, in the banks'
-/// order. No memory is asked for before all was compared, so want of memory hides no other refusal.
+/// order. Where memory is refused all is compared even so: want of memory hides no other refusal.
 pub fn conclude(
     alloc: Global,
     script: &Script,
@@ -130,14 +136,9 @@ pub fn conclude(
     if !certify_events(logs) || !are_banks_of(script, banks) {
         return Err(RunError::NotOrdered);
     }
-    let commands = script.commands.as_slice();
-    if !each_has_command(commands, logs) {
+    let Some(clients) = all_lines(alloc, commands_of(script), logs)? else {
         return Err(RunError::NotOrdered);
-    }
-    if !are_as_many(commands, logs) {
-        return Err(RunError::NotOrdered);
-    }
-    let clients = all_lines(alloc, commands, logs)?;
+    };
     let lines = bank_lines(alloc, banks, held.as_slice())?;
     // For the proof alone: what was compared makes the banks' accesses those of one memory.
     is_one_memory(script, banks, clients.as_slice());

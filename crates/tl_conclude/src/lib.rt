@@ -6,6 +6,8 @@ mod compare;
 mod conclusion;
 mod error;
 mod lines;
+mod owed;
+mod reading;
 
 pub use banks::is_bank_of;
 pub use compare::carries_out;

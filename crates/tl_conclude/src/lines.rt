@@ -1,13 +1,12 @@
-//! The lines of a report for one client.
-ghost use Rattle.std.specs.Prelude.{◌≡◌, ◌<◌, All, IfOk, List, ℕ, [], Some, length, map, replicate};
-ghost use Rattle.tl_protocol.specs.declared.event.Access.{Access};
+//! The lines of a report, which the accesses' bytes are written onto.
+ghost use Rattle.std.specs.Prelude.{◌≡◌, IfOk, List, [], length, map, replicate, slice_set};
+ghost use Rattle.tl_words.specs.declared.command.Command.{Command};
 ghost use Rattle.tl_report.specs.declared.report.Answered.{Answered};
-ghost use Rattle.tl_protocol.specs.OneMemory.{access_of};
-ghost use Rattle.tl_rules.specs.Certified.{accesses_of, all_accesses, events_of};
-ghost use Rattle.tl_conclude.specs.Loops.{filled, written_by};
+ghost use Rattle.tl_script.specs.Commands.{commands as commands_in};
+ghost use Rattle.tl_conclude.specs.Loops.{bytes_on, commands_on, with_access};
 
 use std::alloc::{AllocError, Global};
-use tl_protocol::Event;
+use tl_protocol::Access;
 use tl_report::Answered;
 use tl_types::AccessBytes;
 use tl_words::Command;
@@ -29,73 +28,53 @@ fn copied(command: &Command) -> Command
     }
 }
 
-/// A table with no bytes at each index.
-fn empty_table(alloc: Global, count: usize) -> Result<Vec<AccessBytes>, AllocError>
-    ensures { IfOk result (λ table. table.items ≡ replicate count []) }
-{
-    let mut table = Vec::new(alloc);
-    for index in 0..count {
-        let _place = index;
-        table.push(AccessBytes::new())?;
-    }
-    Ok(table)
-}
-
-/// Writes the bytes of an access of a client at its index.
-fn write(table: &mut Vec<AccessBytes>, event: &Event, client: usize)
-    requires { (a : Access) → access_of event.now ≡ Some a → a.client ≡ client → a.index < length table.old.items }
-    ensures { table.new.items ≡ written_by client table.old.items (access_of event.now) }
-{
-    if let Some(access) = event.access() {
-        if access.client.number() as usize == client {
-            table[access.index as usize] = access.bytes.copied();
-        }
-    }
-}
-
-/// Writes the bytes of all accesses of a client in a log, each at its index.
-fn fill(table: &mut Vec<AccessBytes>, log: &[Event], client: usize)
-    requires { All (λ (a : Access). a.client ≡ client → a.index < length table.old.items) (accesses_of log.now) }
-    ensures { table.new.items ≡ filled client table.old.items (accesses_of log.now) }
-{
-    for event in log {
-        write(table, event, client);
-    }
-}
-
-/// The bytes of all accesses of a client, each at its index.
-pub(crate) fn bytes_of_client(
-    alloc: Global,
-    logs: &[&[Event]],
-    client: usize,
-    count: usize,
-) -> Result<Vec<AccessBytes>, AllocError>
-    requires { All (λ (a : Access). a.client ≡ client → a.index < count) (all_accesses (events_of logs.now)) }
-    ensures { IfOk result (λ table. table.items ≡ filled client (replicate count []) (all_accesses (events_of logs.now))) }
-{
-    let mut table = empty_table(alloc, count)?;
-    for log in logs {
-        fill(&mut table, log, client);
-    }
-    Ok(table)
-}
-
-/// The lines of some commands with their bytes.
-pub(crate) fn lines_of(
-    alloc: Global,
-    commands: &[Command],
-    got: &[AccessBytes],
-) -> Result<Vec<Answered>, AllocError>
-    requires { length got.now ≡ length commands.now }
+/// The lines of a client's commands, with no bytes.
+fn empty_lines(alloc: Global, commands: &[Command]) -> Result<Vec<Answered>, AllocError>
     ensures commands { IfOk result (λ lines. map (λ (line : Answered). line.command) lines.items ≡ commands.now) }
-    ensures bytes { IfOk result (λ lines. map (λ (line : Answered). line.bytes) lines.items ≡ got.now) }
+    ensures bytes { IfOk result (λ lines. map (λ (line : Answered). line.bytes) lines.items ≡ replicate (length commands.now) []) }
 {
     let mut lines = Vec::new(alloc);
-    for (index, command) in commands.iter().enumerate() {
+    for command in commands {
         lines.push(Answered {
             command: copied(command),
-            bytes: got[index].copied(),
+            bytes: AccessBytes::new(),
         })?;
     }
     Ok(lines)
+}
+
+/// The lines of all clients' commands, with no bytes.
+pub(crate) fn all_empty_lines(
+    alloc: Global,
+    commands: &[Vec<Command>],
+) -> Result<Vec<Vec<Answered>>, AllocError>
+    ensures commands { IfOk result (λ all. commands_on all.items ≡ commands_in commands.now) }
+    ensures bytes { IfOk result (λ all. bytes_on all.items ≡ map (λ (list : List Command). replicate (length list) []) (commands_in commands.now)) }
+{
+    let mut all = Vec::new(alloc);
+    for list in commands {
+        let lines = empty_lines(alloc, list)?;
+        all.push(lines)?;
+    }
+    Ok(all)
+}
+
+/// Writes bytes onto the line at an index, where there is one.
+fn write(lines: &mut Vec<Answered>, index: usize, bytes: AccessBytes)
+    ensures commands { map (λ (line : Answered). line.command) lines.new.items ≡ map (λ (line : Answered). line.command) lines.old.items }
+    ensures bytes { map (λ (line : Answered). line.bytes) lines.new.items ≡ slice_set (map (λ (line : Answered). line.bytes) lines.old.items) index bytes }
+{
+    if let Some(line) = lines.get_mut(index) {
+        line.bytes = bytes;
+    }
+}
+
+/// Writes the bytes of an access onto the line of its client at its index, where there is one.
+pub(crate) fn answer(all: &mut Vec<Vec<Answered>>, access: &Access)
+    ensures commands { commands_on all.new.items ≡ commands_on all.old.items }
+    ensures bytes { bytes_on all.new.items ≡ with_access (bytes_on all.old.items) access.now }
+{
+    if let Some(lines) = all.get_mut(access.client.number() as usize) {
+        write(lines, access.index as usize, access.bytes.copied());
+    }
 }

@@ -1,39 +1,16 @@
-use Rattle.std.proofs.Common.{Err, rules, sym, ap, ◌≡◌, ◌∙◌, refl}
-use Rattle.std.proofs.lemmas.Bool.{iff_false}
-use Rattle.tl_script.specs.Commands.{commands as commands_in}
+use Rattle.std.proofs.Common.{Err, rules, ap, ◌≡◌, ◌∙◌, refl}
 use Rattle.tl_rules.specs.Certified.{events_of, IsCertified}
 use Rattle.tl_conclude.specs.Banks.{logs_in}
 use Rattle.tl_conclude.specs.Conclusion.{AreMatched, AreAllShares}
 use Rattle.tl_conclude.specs.declared.error.RunError.TheVariants.{Memory}
-use Rattle.tl_conclude.proofs.Reported.{all_distinct, all_at_access, each_moved}
-use Rattle.tl_conclude.proofs.Concluded.{is_ordered, memory_is_other}
+use Rattle.tl_conclude.proofs.Reported.{all_distinct}
+use Rattle.tl_conclude.proofs.Concluded.{carried, is_ordered, memory_is_other, shown_moved}
 use Rattle.tl_conclude.proofs.conclusion.conclude.Goals as goal
-
-pub returns-then-not-each_has_command-clause-not_ordered :
-    goal.returns-then-not-each_has_command-clause-not_ordered
-returns-then-not-each_has_command-clause-not_ordered c =
-    let here = commands_in c.as_slice-commands.result.now in
-    let there = commands_in c.args.script.now.commands.items in
-    let logs = ap events_of c.as_slice-logs.ensures.value ∙ c.logs_of-lists.ensures.logs in
-    let all : AreAllShares c.args.banks.now c.args.shares.now = search rules in (
-      λ _. (
-        all,
-        λ m. iff_false c.each_has_command.ensures c.if-not-each_has_command.true
-            (each_moved there here (logs_in c.args.banks.now) (events_of c.as_slice-logs.result.now) (sym (ap commands_in c.as_slice-commands.ensures.value)) (sym logs) m.each),
-      ),
-      λ _. refl,
-    )
 
 pub all_lines-requires-clause-distinct : goal.all_lines-requires-clause-distinct
 all_lines-requires-clause-distinct c =
     let certified : IsCertified (events_of c.as_slice-logs.result.now) = search rules in
     all_distinct (events_of c.as_slice-logs.result.now) certified
-
-pub all_lines-requires-clause-at : goal.all_lines-requires-clause-at
-all_lines-requires-clause-at c =
-    λ client.
-    all_at_access (commands_in c.as_slice-commands.result.now) (events_of c.as_slice-logs.result.now)
-    (c.each_has_command.ensures.0 c.if-not-each_has_command.false) client
 
 pub returns-in_err-clients-clause-not_ordered : goal.returns-in_err-clients-clause-not_ordered
 returns-in_err-clients-clause-not_ordered c =
@@ -50,3 +27,22 @@ returns-in_err-lines-clause-not_ordered c =
 pub returns-clause-not_ordered : goal.returns-clause-not_ordered
 returns-clause-not_ordered c =
     let m : AreMatched c.args.script.now c.args.banks.now = search rules in (λ p. absurd (cc), λ n. absurd (n.1 m))
+
+pub returns-in_default-2-clause-not_ordered : goal.returns-in_default-2-clause-not_ordered
+returns-in_default-2-clause-not_ordered c =
+    let all : AreAllShares c.args.banks.now c.args.shares.now = search rules in
+    let logs = ap events_of c.as_slice-logs.ensures.value ∙ c.logs_of-lists.ensures.logs in
+    let never = rw c.in_default-2.is at c.in_ok-clients.ensures.none in (
+      λ _. (
+        all,
+        λ m. never (carried c.args.script.now c.args.banks.now c.commands_of.result.now c.as_slice-logs.result.now c.commands_of.ensures.is logs m),
+      ),
+      λ _. refl,
+    )
+
+pub is_one_memory-requires-clause-shown : goal.is_one_memory-requires-clause-shown
+is_one_memory-requires-clause-shown c =
+    let logs = ap events_of c.as_slice-logs.ensures.value ∙ c.logs_of-lists.ensures.logs in
+    let found = rw c.in-Some-2.is at c.in_ok-clients.ensures.some in
+    shown_moved c.commands_of.result.now c.args.script.now.commands.items (events_of c.as_slice-logs.result.now) (logs_in c.args.banks.now) c.in-Some-2.clients.items c.as_slice-2.result.now
+    c.commands_of.ensures.is logs c.as_slice-2.ensures.value found.1
