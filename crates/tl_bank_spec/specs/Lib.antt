@@ -1,6 +1,9 @@
 pub mod Calls
 pub mod Cases
+pub mod Coherent
+pub mod Counted
 pub mod Effects
+pub mod Forbidden
 pub mod HomeCalls
 pub mod HomeCases
 pub mod Refusal
