@@ -12,7 +12,6 @@ use Rattle.tl_protocol.specs.Client.{took_c_from}
 use Rattle.tl_protocol.specs.Copy.{perm_of}
 use Rattle.tl_protocol.specs.Ledger.{has_copy}
 use Rattle.tl_protocol.specs.Protocol.{Block, MayOn, accepted_from, after, block_of, grants, is_none, served, took_data}
-use Rattle.tl_protocol.specs.Runs.{after_next}
 use Rattle.tl_protocol.specs.declared.client.Client.{Client}
 use Rattle.tl_protocol.specs.declared.event.Event.{Event}
 use Rattle.tl_protocol.specs.declared.event.Event.TheVariants.{Load, Store, SendAcquire, SendRelease, AnswerProbe, TakeGrant, TakeReleaseAck, AcceptAcquire, SendProbe, TakeC, SendGrant, TakeGrantAck, SendGet, Serve, TakeData, Drop, SendPut, TakePutAck}
@@ -21,10 +20,10 @@ use Rattle.tl_protocol.specs.declared.home.Outward.{Outward}
 use Rattle.tl_protocol.specs.declared.home.Outward.TheVariants.{Quiet, Get, Data, Put, PutAck}
 use Rattle.tl_protocol.specs.declared.shape.Shape.{Shape}
 use Rattle.tl_protocol.proofs.Blocks.{at_put}
-use Rattle.tl_lanes.specs.Lists.{IsOther}
+use Rattle.tl_lanes.specs.Lists.{IsOther, client_of}
 use Rattle.tl_lanes.proofs.Events.{every_event_is_of_one_client}
-use Rattle.tl_lanes.proofs.Logs.{end_of-append}
 use Rattle.tl_bank_spec.specs.Counted.{EveryEventLeavesOtherCounts, client_counted}
+use Rattle.tl_bank_spec.proofs.Logged.{block-next}
 use Rattle.tl_bank_spec.specs.View.{View, Extends, block_at, client_at, copies_at, shape_of}
 
 -- ## One client
@@ -113,12 +112,6 @@ block-same shape s own e x true is same =
     subst (λ (r : Block). SameHas ((after shape r e).client x) (r.client x)) (sym (is refl)) same
 block-same shape s own e x false is same = refl
 
--- what the log leaves of a block, with one event more
-block-next : (old new : View) (e : Event) (b : ℕ) → Extends old new e
-    → block_at new b ≡ after_next (shape_of old.geometry) (block_at old) e b
-block-next old new e b x =
-    rw (x.geometry, x.image, x.log) (ap (λ (t : ℕ → Block). t b) (end_of-append (shape_of old.geometry) old.image old.log e))
-
 -- where of each block one client has a copy just where it had one, its number is the same
 same-count : (old new : View) (x : ℕ) → new.geometry ≡ old.geometry
     → ((b : ℕ) → SameHas (client_at new x b) (client_at old x b)) → copies_at new x ≡ copies_at old x
@@ -126,6 +119,17 @@ same-count old new x geometry same =
     ap (λ (g : Numbers). count_below (λ b. has_copy (client_at new x b)) g.memory_blocks) geometry
     ∙ (count_below-same (λ b. has_copy (client_at new x b)) (λ b. has_copy (client_at old x b)) old.geometry.memory_blocks
     (λ b l. same b))
+
+-- any event leaves the number of every client but its own
+pub others-keep : (old new : View) (e : Event) (x : ℕ) → Extends old new e → IsOther (client_of e) x
+    → copies_at new x ≡ copies_at old x
+others-keep old new e x extends other =
+    let shape : Shape = shape_of old.geometry in
+    let own : ℕ = block_of shape e in
+    same-count old new x extends.geometry
+    (λ b. ap (λ (s : Block). has_copy (s.client x)) (block-next old new e b extends)
+    ∙ block-same shape (block_at old b) (block_at old own) e x (b == own) (λ t. ap (block_at old) (eqb-true b own t))
+    (ap has_copy (every_event_is_of_one_client shape (block_at old own) e x other)))
 
 -- a permitted event leaves the number of every client but the one that it counts
 pub every_event_leaves_other_counts : EveryEventLeavesOtherCounts

@@ -113,39 +113,100 @@ pub every_refusal_is_the_protocols : EveryRefusalIsTheProtocols
 every_refusal_is_the_protocols v lawful = (
   record {
     load = λ a clock h may.
-        not-first NoPermission (load_cases v a.client a.address (length a.bytes) clock) ((λ e. cc), ((λ e. cc), ((λ e. reads _ may.1.1.1), ((λ e. cc), tt)))) h;
+        not-first NoPermission (load_cases v a.client a.address (length a.bytes) clock)
+        ((λ e. cc), ((λ e. cc), ((λ e. reads _ may.1.1.1), ((λ e. cc), tt)))) h;
     store = λ a clock h may.
-        not-first NoPermission (store_cases v a.client a.address (length a.bytes) clock) ((λ e. cc), ((λ e. cc), ((λ e. writes _ may.1.1.1), ((λ e. cc), tt)))) h;
+        not-first NoPermission (store_cases v a.client a.address (length a.bytes) clock)
+        ((λ e. cc), ((λ e. cc), ((λ e. writes _ may.1.1.1), ((λ e. cc), tt)))) h;
     acquire_waits = λ client block grow h may.
-        not-first Waiting (acquire_cases v client block grow) ((λ e. cc), ((λ e. cc), ((λ e. idle _ may.1.1.0), ((λ e. cc), ((λ e. cc), ((λ e. cc), tt)))))) h;
+        not-first Waiting (acquire_cases v client block grow)
+        ((λ e. cc), ((λ e. cc), ((λ e. idle _ may.1.1.0), ((λ e. cc), ((λ e. cc), ((λ e. cc), tt)))))) h;
     acquire_from = λ client block grow h may.
-        not-first WrongFrom (acquire_cases v client block grow) ((λ e. cc), ((λ e. cc), ((λ e. cc), ((λ e. same-rank _ _ may.1.1.1), ((λ e. cc), ((λ e. cc), tt)))))) h;
+        not-first WrongFrom (acquire_cases v client block grow)
+        ((λ e. cc), ((λ e. cc), ((λ e. cc), ((λ e. same-rank _ _ may.1.1.1), ((λ e. cc), ((λ e. cc), tt)))))) h;
     release_waits = λ client block prune share h may.
-        not-first Waiting (release_cases v client block prune share) ((λ e. cc), ((λ e. cc), ((λ e. idle _ may.1.1.0), ((λ e. cc), ((λ e. cc), tt))))) h;
+        not-first Waiting (release_cases v client block prune share)
+        ((λ e. cc), ((λ e. cc), ((λ e. idle _ may.1.1.0), ((λ e. cc), ((λ e. cc), tt))))) h;
     release_from = λ client block prune share h may.
-        not-first WrongFrom (release_cases v client block prune share) ((λ e. cc), ((λ e. cc), ((λ e. cc), ((λ e. same-rank _ _ may.1.1.1), ((λ e. cc), tt))))) h;
+        not-first WrongFrom (release_cases v client block prune share)
+        ((λ e. cc), ((λ e. cc), ((λ e. cc), ((λ e. same-rank _ _ may.1.1.1), ((λ e. cc), tt))))) h;
     answer_probe = λ ticket share block h may.
         let first = may.1.1.0 in
-        not-first NothingThere (answer_probe_cases v ticket share) ((λ e. cc), ((λ e. cc), ((λ e. cc), ((λ e. waits v lawful ticket.client block B _ _ (first-marked ProbeBlock _ first)), ((λ e. cc), ((λ e. cc), ((λ e. cc), tt))))))) h;
+        not-first NothingThere (answer_probe_cases v ticket share) (
+          (λ e. cc),
+          (
+            (λ e. cc),
+            (
+              (λ e. cc),
+              ((λ e. waits v lawful ticket.client block B _ _ (first-marked ProbeBlock _ first)), ((λ e. cc), ((λ e. cc), ((λ e. cc), tt)))),
+            ),
+          ),
+        ) h;
     take_grant = λ ticket share block h may.
         let grant = may.1.1 in
-        not-first NothingThere (take_grant_cases v ticket share) ((λ e. cc), ((λ e. cc), ((λ e. cc), ((λ e. waits v lawful ticket.client block D _ _ (ap (map b_Downward) grant.3)), ((λ e. cc), ((λ e. cc), tt)))))) h;
+        not-first NothingThere (take_grant_cases v ticket share) (
+          (λ e. cc),
+          (
+            (λ e. cc),
+            (
+              (λ e. cc),
+              ((λ e. waits v lawful ticket.client block D _ _ (ap (map b_Downward) grant.3)), ((λ e. cc), ((λ e. cc), tt))),
+            ),
+          ),
+        ) h;
     take_release_ack = λ ticket block h may.
         let ack = may.1.1 in
-        not-first NothingThere (take_release_ack_cases v ticket) ((λ e. cc), ((λ e. cc), ((λ e. cc), ((λ e. waits v lawful ticket.client block D _ _ (ap (map b_Downward) ack.1)), ((λ e. cc), tt))))) h;
+        not-first NothingThere (take_release_ack_cases v ticket) (
+          (λ e. cc),
+          (
+            (λ e. cc),
+            (
+              (λ e. cc),
+              ((λ e. waits v lawful ticket.client block D _ _ (ap (map b_Downward) ack.1)), ((λ e. cc), tt)),
+            ),
+          ),
+        ) h;
     answer_pending = λ ticket share h may.
-        not-first ReleasePending (answer_probe_cases v ticket share) ((λ e. cc), ((λ e. cc), ((λ e. cc), ((λ e. cc), ((λ e. cc), ((λ e. no-ack _ may.1.1.1), ((λ e. cc), tt))))))) h;
+        not-first ReleasePending (answer_probe_cases v ticket share)
+        ((λ e. cc), ((λ e. cc), ((λ e. cc), ((λ e. cc), ((λ e. cc), ((λ e. no-ack _ may.1.1.1), ((λ e. cc), tt))))))) h;
   },
   record {
     accept = λ ticket block h may.
         let first = may.1.1 in
-        not-first NothingThere (accept_cases v ticket) ((λ e. cc), ((λ e. cc), ((λ e. cc), ((λ e. waits v lawful ticket.client block A _ _ (first-marked AcquireBlock _ first)), ((λ e. cc), ((λ e. cc), ((λ e. cc), tt))))))) h;
+        not-first NothingThere (accept_cases v ticket) (
+          (λ e. cc),
+          (
+            (λ e. cc),
+            (
+              (λ e. cc),
+              ((λ e. waits v lawful ticket.client block A _ _ (first-marked AcquireBlock _ first)), ((λ e. cc), ((λ e. cc), ((λ e. cc), tt)))),
+            ),
+          ),
+        ) h;
     take_c = λ ticket block h may.
         let first = may.1.1 in
-        not-first NothingThere (take_c_cases v ticket) ((λ e. cc), ((λ e. cc), ((λ e. cc), ((λ e. waits v lawful ticket.client block C _ _ (first-marked b_Upward _ first)), ((λ e. cc), ((λ e. cc), tt)))))) h;
+        not-first NothingThere (take_c_cases v ticket) (
+          (λ e. cc),
+          (
+            (λ e. cc),
+            (
+              (λ e. cc),
+              ((λ e. waits v lawful ticket.client block C _ _ (first-marked b_Upward _ first)), ((λ e. cc), ((λ e. cc), tt))),
+            ),
+          ),
+        ) h;
     take_grant_ack = λ ticket block h may.
         let first = first-ack _ may.1.1 in
-        not-first NothingThere (take_grant_ack_cases v ticket) ((λ e. cc), ((λ e. cc), ((λ e. cc), ((λ e. waits v lawful ticket.client block E _ _ first.1), ((λ e. cc), tt))))) h;
+        not-first NothingThere (take_grant_ack_cases v ticket) (
+          (λ e. cc),
+          (
+            (λ e. cc),
+            (
+              (λ e. cc),
+              ((λ e. waits v lawful ticket.client block E _ _ first.1), ((λ e. cc), tt)),
+            ),
+          ),
+        ) h;
     serve_memory = λ block h may. not-first NothingThere (serve_memory_cases v block) ((λ e. cc), ((λ e. cc), ((λ e. requested _ may.1), tt))) h;
     take_data = λ block h may. not-first NothingThere (take_memory_cases v block) ((λ e. cc), ((λ e. cc), ((λ e. brings _ may.1), tt))) h;
     take_put_ack = λ block h may. not-first NothingThere (take_memory_cases v block) ((λ e. cc), ((λ e. cc), ((λ e. acknowledges _ may.1), tt))) h;

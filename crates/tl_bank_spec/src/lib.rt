@@ -8,7 +8,7 @@ mod reply;
 mod when;
 
 pub use action::Action;
-pub use laws::{every_count, every_refusal};
+pub use laws::{every_count, every_refusal, every_ticket};
 pub use refusal::Refusal;
 pub use reply::Reply;
 pub use when::{Loaded, When};
