@@ -1,15 +1,16 @@
 //! The bank: its making, its room, and what it shows.
-ghost use Rattle.std.specs.Prelude.{◌≡◌, ◌≤◌, ◌<◌, ◌*◌, ◌^◌, ◌||◌, ℕ, List, [], length, Option, Some, None, IfOk, IfErr, OnOk, OnErr, if◌then◌else◌};
+ghost use Rattle.std.specs.Prelude.{◌≡◌, ◌≤◌, ◌<◌, ◌*◌, ◌^◌, ℕ, List, [], length, Option, Some, None, IfOk, IfErr, OnOk, OnErr, if◌then◌else◌};
 ghost use Rattle.std.specs.List.{All};
 ghost use Rattle.tl_types.specs.declared.channel.Channel.{Channel};
 ghost use Rattle.tl_types.specs.declared.permission.Perm.{Perm};
 ghost use Rattle.tl_protocol.specs.Protocol.{block_of};
 ghost use Rattle.tl_protocol.specs.Runs.{IsRun};
 ghost use Rattle.tl_lanes.specs.Lawful.{Lawful};
-ghost use Rattle.tl_bank_spec.specs.Cases.{no_client, no_block};
+ghost use Rattle.tl_bank_spec.specs.Cases.{no_client};
+ghost use Rattle.tl_bank_spec.specs.Coherent.{IsCoherent};
 ghost use Rattle.tl_bank_spec.specs.Share.{first_shares};
-ghost use Rattle.tl_bank_spec.specs.View.{IsOwn, StampsRise, shape_of, way_at, perm_at, copies_at};
-ghost use Rattle.tl_bank_spec.specs.Views.{IsDelivered};
+ghost use Rattle.tl_bank_spec.specs.View.{IsOwn, StampsRise, shape_of, way_at, copies_at};
+ghost use Rattle.tl_bank_spec.specs.Views.{IsDelivered, copy_perm_at};
 
 use crate::share::Share;
 use arrayvec::ArrayVec;
@@ -138,9 +139,11 @@ impl Bank {
     }
 
     /// What happened, oldest first: a run of the protocol on this bank's blocks, whose stamps rise, and which takes each message of
-    /// a channel once, in the order of sending.
+    /// a channel once, in the order of sending. So the bank is coherent: one writer or readers of each block, each copy in the
+    /// directory and at home, and the bytes last stored in each copy and each load.
     pub fn log(&self) -> &[Event]
         ensures is { result.now ≡ self.now.log }
+        ensures coherent { IsCoherent self.now }
         ensures run { IsRun (shape_of self.now.geometry) self.now.image self.now.log }
         ensures lawful { Lawful (shape_of self.now.geometry) self.now.image self.now.log }
         ensures own { All (λ e. IsOwn self.now.geometry self.now.number (block_of (shape_of self.now.geometry) e)) self.now.log }
@@ -171,11 +174,12 @@ impl Bank {
         self.image.as_slice()
     }
 
-    /// What a client may do with a block. Of a client or a block that is not there it is None.
+    /// What a client may do with a block. It is None also where there is no such client, and where the block is not of the
+    /// memory or of another bank.
     pub fn perm(&self, client: ClientId, block: BlockNo) -> Perm
-        ensures { result ≡ (if no_client self.now client || no_block self.now block then Perm.None else perm_at self.now client block) }
+        ensures { result ≡ copy_perm_at self.now client block }
     {
-        if client.number() >= self.geometry.clients() || !self.geometry.has(block) {
+        if self.has_no_part(client, block) {
             return Perm::None;
         }
         self.perm_of(client, block)

@@ -25,6 +25,8 @@ impl Model for Share {
 
 /// A share of no client and no bank, which stands in an unused place: every bank refuses it.
 impl Default for Share {
+    ghost is_default = { λ s. s ≡ record { client = 2 ^ 32 - 1; bank = 2 ^ 32 - 1; count = 0 } };
+
     fn default() -> Share {
         Share::new(ClientId::new(u32::MAX), BankNo::new(u32::MAX))
     }

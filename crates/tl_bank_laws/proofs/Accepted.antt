@@ -10,7 +10,7 @@ use Rattle.tl_registers.specs.Agree.{Agree, AreApart, Each}
 use Rattle.tl_registers.specs.Fit.{Fits, TaskFits}
 use Rattle.tl_registers.specs.Register.{is_block, victim_in, victim_of, works_on}
 use Rattle.tl_registers.specs.Registers.{is_busy, register_of}
-use Rattle.tl_bank_laws.specs.Means.{acquire_in, accepted_by}
+use Rattle.tl_bank_spec.specs.Kept.{acquire_in, accepted_by}
 
 -- a block on which no register works is no register's own
 pub none-of : (b : ℕ) (registers : List Register) → is_busy b registers ≡ false → register_of b registers ≡ None

@@ -1,41 +1,26 @@
 -- What a bank's layers hold is what its log leaves (this project's own).
-use Rattle.std.specs.Prelude.{◌≡◌, ℕ, ◌<◌, ◌≤◌, ◌==◌, ◌&&◌, not, Bool, true, false, List, [], ◌∷◌, length, Option, Some, None, is_none}
+use Rattle.std.specs.Prelude.{◌≡◌, ℕ, ◌<◌, ◌≤◌, ◌==◌, ◌&&◌, not, Bool, true, false, List, [], ◌∷◌, length, Some, is_none}
 use Rattle.std.specs.List.{All, list_any}
 use Rattle.tl_types.specs.declared.channel.Channel.{Channel}
 use Rattle.tl_map.specs.Numbers.{IsLawful}
 use Rattle.tl_map.specs.Places.{set_of}
-use Rattle.tl_protocol.specs.declared.home.Accepted.{Accepted}
 use Rattle.tl_protocol.specs.declared.home.Outward.TheVariants.{Quiet}
 use Rattle.tl_protocol.specs.Protocol.{Block, block_of}
 use Rattle.tl_lanes.specs.Lawful.{Lawful}
 use Rattle.tl_links.specs.Table.{lane_in}
 use Rattle.tl_copies.specs.Copies.{held_at, clients_of}
 use Rattle.tl_registers.specs.declared.register.Register.{Register}
-use Rattle.tl_registers.specs.declared.register.Task.{Task}
-use Rattle.tl_registers.specs.declared.register.Task.TheVariants.{Acquire, Replace, Evict}
 use Rattle.tl_registers.specs.Agree.{Agree, Each}
 use Rattle.tl_registers.specs.Pending.{grant_pending}
 use Rattle.tl_registers.specs.Register.{works_on}
 use Rattle.tl_registers.specs.Registers.{is_held, register_of}
 use Rattle.tl_registers.specs.VictimWay.{IsInOrder}
+use Rattle.tl_bank_spec.specs.Kept.{accepted_by}
 use Rattle.tl_bank_spec.specs.Ways.{lies_in, slot_at, slots_at}
 use Rattle.tl_bank_spec.specs.View.{View, IsOwn, StampsRise, shape_of, way_at, block_at, client_at, lane_at, clock_of}
 use Rattle.tl_bank_laws.specs.Entry.{entry_of}
 use Rattle.tl_home.specs.Homes.{HomeState, bank_in, geometry_in, line_in, recorded_in, outward_in, memory_in, way_in, free_at, order_at}
 use Rattle.tl_bank_laws.specs.Layers.{Layers}
-
--- ## The Acquire that home serves
-
--- the Acquire that a task serves: an evict task serves none
-abbrev pub acquire_in : Task → Option Accepted
-acquire_in (Acquire acquire) = Some acquire
-acquire_in (Replace acquire victim) = Some acquire
-acquire_in Evict = None
-
--- the one that a register was opened for
-abbrev pub accepted_by : Option Register → Option Accepted
-accepted_by None = None
-accepted_by (Some r) = acquire_in r.task
 
 -- ## Home
 

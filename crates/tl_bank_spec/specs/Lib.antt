@@ -1,8 +1,13 @@
 pub mod Calls
 pub mod Cases
+pub mod Coherent
+pub mod Counted
+pub mod Delivered
 pub mod Effects
+pub mod Forbidden
 pub mod HomeCalls
 pub mod HomeCases
+pub mod Kept
 pub mod Refusal
 pub mod Share
 pub mod View

@@ -142,6 +142,13 @@ latest v clock = max (clock_of v.log) clock
 
 -- ## What a call leaves
 
+-- A bank made as before, with one event more in its log.
+pub record Extends (old new : View) (event : Event) : Type 0 where
+  pub geometry : new.geometry ≡ old.geometry
+  pub number : new.number ≡ old.number
+  pub image : new.image ≡ old.image
+  pub log : new.log ≡ old.log ++ event ∷ []
+
 -- One event at the log's end, and at most one from the room; nothing else changed.
 pub record Appends (old new : View) (event : Event) : Type 0 where
   pub is : new ≡ record old { log = old.log ++ event ∷ []; room = new.room }

@@ -36,6 +36,10 @@ no_part v client block = no_client v client || not_own v block
 abbrev pub recorded_at : View → ℕ → ℕ → Perm
 recorded_at v client block = if no_part v client block then p_None else (client_at v client block).recorded
 
+-- what a client may do with a block; None where there is no such client or block
+abbrev pub copy_perm_at : View → ℕ → ℕ → Perm
+copy_perm_at v client block = if no_part v client block then p_None else perm_at v client block
+
 -- the byte at an address of a client's copy, where it has one
 abbrev pub byte_at : View → ℕ → ℕ → Option ℕ
 byte_at v client address =
@@ -66,8 +70,8 @@ in_flight_at v ticket =
     if no_client v ticket.client || not (ticket.bank == v.number) then None
     else message_at (lane_at v ticket.client ticket.channel) ticket.serial
 
--- Each message of a channel is taken once, in the order of sending: what the log sends there is what it takes there and then what
--- waits, and as many were taken as the serial of the first that waits says.
+-- Each message of a channel is taken once, in the order of sending: what the log's events send there is what they take, each from its
+-- own block's list, and then what waits; and as many were taken as the serial of the first that waits says.
 abbrev pub IsDelivered : View → ℕ → Channel → Type 0
 IsDelivered v client channel =
     (all_sent (shape_of v.geometry) v.image v.log client channel

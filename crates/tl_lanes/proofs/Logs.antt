@@ -1,6 +1,7 @@
 -- A lawful log stays lawful with one more permitted event that takes the first message of its channel.
-use Rattle.std.proofs.Common.{◌≡◌, ℕ, ◌+◌, ◌≤◌, ◌==◌, Bool, true, false, cond, List, [], ◌∷◌, ◌++◌, length, drop, Option, Some, None, refl, sym, ap, ◌∙◌, subst, arith, length-append, eqb-true, eq-eqb}
+use Rattle.std.proofs.Common.{◌≡◌, ℕ, ◌+◌, ◌≤◌, ◌==◌, Bool, true, false, cond, List, [], ◌∷◌, ◌++◌, length, drop, Option, Some, None, refl, sym, ap, ◌∙◌, subst, arith, append_assoc, length-append, eqb-true, eq-eqb}
 use Rattle.std.specs.List.{All}
+use Rattle.std.proofs.lemmas.List.{append-nil}
 use Rattle.std.proofs.lemmas.List.Elements.{All-nil, All-cons, All-append, All-drop}
 use Rattle.tl_types.specs.Codes.{channel_of}
 use Rattle.tl_types.specs.Lane.{Lane, empty_lane, sent, is_here, with_message, first_taken, without_first, bodies_of, IsFirst}
@@ -32,7 +33,7 @@ use Rattle.tl_protocol.specs.Runs.{at_reset, after_next, MayNext, end_from, end_
 use Rattle.tl_protocol.proofs.Runs.{run_joined, end_joined}
 use Rattle.tl_lanes.specs.Lanes.{Post, Place, post_of, take_of, answer_post, ack_post, grant_post, taken_from, sent_to, lane_after, lane_from, lane_of}
 use Rattle.tl_lanes.specs.Lists.{list_in, shed, added, ListsFollow}
-use Rattle.tl_lanes.specs.Lawful.{IsNext, TakesFirst, Lawful, EmptyIsLawful, LawfulGrowsByOne, LanesGrowByOne, FirstHeadsItsList, MessagesFitTheirChannels}
+use Rattle.tl_lanes.specs.Lawful.{IsNext, TakesFirst, TakeInOrder, Lawful, EmptyIsLawful, LawfulGrowsByOne, LanesGrowByOne, FirstHeadsItsList, MessagesFitTheirChannels}
 use Rattle.tl_lanes.proofs.Events.{every_event_moves_its_lists}
 
 -- ## One more event
@@ -81,7 +82,7 @@ bodies-taken_if true block of lane first = bodies_of-without_first block of lane
 bodies-taken_if false block of lane first = same_cond (of == block) (bodies_of block lane.messages)
 
 -- where something is taken from the lane, its first message is of the block
-abbrev FirstIf : Option Place → ℕ → ℕ → Channel → Lane → Type 0
+abbrev pub FirstIf : Option Place → ℕ → ℕ → Channel → Lane → Type 0
 FirstIf None of x l lane = Unit {0}
 FirstIf (Some place) of x l lane = is_here place.client place.channel x l ≡ true → IsFirst of lane.messages
 
@@ -118,7 +119,7 @@ bodies-after post take block of x l lane first =
     ∙ nested (of == block) (added post x l) (shed take x l) (bodies_of block lane.messages))
 
 -- the first message of the channel is the first of each lane that it is
-first_if :
+pub first_if :
     (shape : Shape) (image : List ℕ) (log : List Event) (take : Option Place) (of x : ℕ) (l : Channel)
     → IsNext shape image log of take → FirstIf take of x l (lane_of shape image log x l)
 first_if shape image log None of x l next = tt
@@ -209,10 +210,23 @@ counted-after shape image log e lawful x l =
     let long : length (log ++ e ∷ []) ≡ length log + 1 = length-append log (e ∷ []) in
     omega arith
 
+-- one more event takes the first of its channel too
+takes-joined :
+    (shape : Shape) (image : List ℕ) (log es : List Event) (e : Event) → TakeInOrder shape image log es
+    → TakesFirst shape image (log ++ es) e → TakeInOrder shape image log (es ++ e ∷ [])
+takes-joined shape image log [] e takes first =
+    (subst (λ (before : List Event). TakesFirst shape image before e) (append-nil log) first, tt)
+takes-joined shape image log (x ∷ es) e takes first = (
+  takes.0,
+  takes-joined shape image (log ++ x ∷ []) es e takes.1
+      (subst (λ (before : List Event). TakesFirst shape image before e) (sym (append_assoc log (x ∷ []) es)) first),
+)
+
 -- a lawful log stays so with one more permitted event that takes the first message of its channel
 pub lawful_grows_by_one : LawfulGrowsByOne
 lawful_grows_by_one shape image log e lawful may takes = record {
   run = run_joined shape (at_reset shape image) log (e ∷ []) lawful.run (may, tt);
+  takes = takes-joined shape image [] log e lawful.takes takes;
   ordered = ordered-after shape image log e lawful may takes;
   counted = counted-after shape image log e lawful;
 }
@@ -232,6 +246,7 @@ unfolding lane_of
 empty_is_lawful shape image = (
   record {
     run = tt;
+    takes = tt;
     ordered = λ x block l. empty_list image shape x block l;
     counted = λ x l. omega arith;
   },

@@ -23,10 +23,16 @@ IsNext shape image log block (Some place) = IsFirst block (lane_of shape image l
 abbrev pub TakesFirst : Shape → List ℕ → List Event → Event → Type 0
 TakesFirst shape image log e = IsNext shape image log (block_of shape e) (take_of e)
 
--- The log is a run that takes each channel's messages in order: so the list of each block is the channel's, with the messages of
--- the other blocks taken out, and no more messages were sent on a channel than there are events.
+-- each of these events, after a log and the ones before it, takes the first message of its channel, if it takes one
+abbrev pub TakeInOrder : Shape → List ℕ → List Event → List Event → Type 0
+TakeInOrder shape image log [] = Unit {0}
+TakeInOrder shape image log (e ∷ es) = TakesFirst shape image log e × TakeInOrder shape image (log ++ e ∷ []) es
+
+-- The log is a run of which each event takes the first message of its channel: so the list of each block is the channel's, with
+-- the messages of the other blocks taken out, and no more messages were sent on a channel than there are events.
 pub record Lawful (shape : Shape) (image : List ℕ) (log : List Event) : Type 0 where
   pub run : IsRun shape image log
+  pub takes : TakeInOrder shape image [] log
   pub ordered :
       (x block : ℕ) (l : Channel)
       → list_in ((end_of shape image log block).client x) l ≡ bodies_of block (lane_of shape image log x l).messages

@@ -1,13 +1,15 @@
 -- One more block of a bank, and one more bank, at the end.
 use Rattle.std.proofs.Common.{◌≡◌, ℕ, zero, suc, ◌≤◌, ◌==◌, Bool, true, false, cond, if◌then◌else◌, Option, Some, None, is_some, append_assoc, refl, List, [], ◌∷◌, ◌++◌, length, take, get_or, ◌+◌, ◌<◌, sym, ap, ◌∙◌, subst, arith}
 use Rattle.std.proofs.lemmas.List.{append-nil, take_more}
+use Rattle.std.proofs.lemmas.List.Elements.{All-push}
 use Rattle.tl_map.specs.Limits.{most_clients}
 use Rattle.tl_map.specs.Numbers.{Numbers, IsLawful}
 use Rattle.tl_trace.specs.declared.closing.BankClosing.{BankClosing}
+use Rattle.tl_bank_spec.specs.Coherent.{IsCoherent}
 use Rattle.tl_bank_spec.specs.View.{View}
 use Rattle.tl_bank_spec.specs.Views.{dirty_at, is_at_home, passing_below}
 use Rattle.tl_player.specs.Closing.{Close, Closes, LineState, line_if, lines_below}
-use Rattle.tl_player.specs.Stage.{SiteState}
+use Rattle.tl_player.specs.Stage.{AreCoherent, SiteState}
 
 -- the closings of some banks, and that of one more, are the closings of all of them
 pub Close-push : (sites : List SiteState) (closings : List BankClosing) (site : SiteState) (closing : BankClosing)
@@ -27,6 +29,15 @@ Close-more sites i site closings more closing lt at h last is =
     subst (λ (xs : List SiteState). Close xs more) (sym t)
     (subst (λ (ys : List BankClosing). Close (take i sites ++ site ∷ []) ys) (sym is)
     (Close-push (take i sites) closings site closing h last))
+
+-- one more of these banks is coherent
+pub coherent-more : (sites : List SiteState) (i : ℕ) (site : SiteState) → i < length sites → site ≡ get_or sites i site
+    → AreCoherent (take i sites) → IsCoherent site.bank → AreCoherent (take (i + 1) sites)
+coherent-more sites i site lt at all one =
+    let t : take (i + 1) sites ≡ take i sites ++ site ∷ [] =
+    take_more sites i site lt ∙ ap (λ (x : SiteState). take i sites ++ x ∷ []) (sym at) in
+    subst (λ (xs : List SiteState). AreCoherent xs) (sym t)
+    (All-push (λ (x : SiteState). IsCoherent x.bank) (take i sites) site all one)
 
 -- ## The lines of a bank
 

@@ -11,10 +11,10 @@ use Rattle.tl_registers.specs.Fit.{event_of}
 use Rattle.tl_registers.specs.declared.due.Due.{Due}
 use Rattle.tl_registers.specs.declared.due.Due.TheVariants.{Probe as due_Probe, Grant as due_Grant, Get as due_Get, Put as due_Put, Drop as due_Drop}
 use Rattle.tl_bank_spec.specs.Effects.{Advances, action_of}
-use Rattle.tl_bank_spec.specs.View.{View, IsOwn, block_at, shape_of}
+use Rattle.tl_bank_spec.specs.View.{View, Extends, IsOwn, block_at, shape_of}
 use Rattle.tl_bank_spec.specs.declared.action.Action.{Action}
 use Rattle.tl_player.specs.Ready.{IsDone, IsWritten}
-use Rattle.tl_player.proofs.Logged.{Extends, block-next, extends-serves, may-next}
+use Rattle.tl_bank_spec.proofs.Logged.{block-next, extends-serves, may-next}
 use Rattle.tl_player.proofs.Posted.{there-grant, there-probe}
 
 -- what holds of each holds of the last

@@ -2,7 +2,6 @@ pub mod Answered
 pub mod Chain
 pub mod ClosingLemmas
 pub mod Done
-pub mod Logged
 pub mod Places
 pub mod Posted
 pub mod Resets

@@ -31,66 +31,21 @@ use Rattle.tl_lanes.proofs.First.{every_first_is_first}
 use Rattle.tl_lanes.proofs.Logs.{first_heads_its_list}
 use Rattle.tl_bank_spec.specs.Cases.{begins, block_named, first_block, is_a_release, waiting_at}
 use Rattle.tl_bank_spec.specs.Effects.{answer_to}
-use Rattle.tl_bank_spec.specs.View.{View, block_at, lane_at, next_ticket, shape_of}
+use Rattle.tl_bank_spec.specs.View.{View, Extends, block_at, lane_at, next_ticket, shape_of}
 use Rattle.tl_bank_spec.specs.Views.{in_flight_at}
 use Rattle.tl_player.specs.Ready.{IsThere}
-use Rattle.tl_player.proofs.Logged.{Extends, lane-next, may-next}
-
--- ## One lane
-
--- the last of a list is behind all others
-last_of : {X : Type 0} (xs : List X) (x : X) → slice_get (xs ++ x ∷ []) (length xs) ≡ Some x
-last_of [] x = refl
-last_of (y ∷ ys) x = last_of ys x
-
--- a message that was sent has the serial of the next
-pub message_at-sent : (lane : Lane) (m : Message) → message_at (with_message lane m) (sent lane) ≡ Some m
-message_at-sent lane m =
-    let past : nat_lt (sent lane) lane.taken ≡ false = le-ltb (sent lane) lane.taken (omega arith) in
-    let place : sent lane - lane.taken ≡ length lane.messages = omega arith in
-    rw (past, place) (last_of lane.messages m)
+use Rattle.tl_bank_spec.proofs.Delivered.{every_message_sent_waits}
+use Rattle.tl_bank_spec.proofs.Logged.{may-next}
 
 -- ## One event
 
--- a message that is sent to a client on a channel goes last on that lane
-sent-here : (post : Option Post) (c block : ℕ) (l : Channel) (body : Body) (lane : Lane)
-    → post ≡ Some (record { client = c; channel = l; body = body })
-    → sent_to post block c l lane ≡ with_message lane (record { block = block; body = body })
-sent-here post c block l body lane is =
-    subst (λ (p : Option Post). sent_to p block c l lane ≡ with_message lane (record { block = block; body = body })) (sym is)
-    (rw (is_here-self c l) refl)
-
--- the ticket is of a client that is there, and of the bank itself
-known : (v w : View) (e : Event) (c : ℕ) (l : Channel) → Extends v w e → c < v.geometry.clients
-    → in_flight_at w (next_ticket v c l) ≡ message_at (lane_at w c l) (sent (lane_at v c l))
-known v w e c l x lt =
-    let outside : nat_le w.geometry.clients c ≡ false = lt-leb w.geometry.clients c (rw x.geometry lt) in
-    let own : (v.number == w.number) ≡ true = eq-eqb v.number w.number (sym x.number) in
-    rw (outside, own) refl
-
--- an event that sends a message on a channel from which it takes none
-pub there : (v w : View) (e : Event) (c : ℕ) (l : Channel) (body : Body) → Extends v w e → c < v.geometry.clients
-    → post_of (shape_of v.geometry) (block_at v (block_of (shape_of v.geometry) e)) e
-    ≡ Some (record { client = c; channel = l; body = body })
-    → ((lane : Lane) → taken_from (take_of e) c l lane ≡ lane) → IsThere w (next_ticket v c l)
-there v w e c l body x lt post untaken =
-    let shape : Shape = shape_of v.geometry in
-    let block : ℕ = block_of shape e in
-    let lane : Lane = lane_at v c l in
-    let message : Message = record { block = block; body = body } in
-    let is : lane_at w c l ≡ with_message lane message =
-    lane-next v w e c l x
-    ∙ (ap (λ (from : Lane). sent_to (post_of shape (block_at v block) e) block c l from) (untaken lane)
-    ∙ sent-here (post_of shape (block_at v block) e) c block l body lane post) in
-    let found : in_flight_at w (next_ticket v c l) ≡ Some message =
-    known v w e c l x lt
-    ∙ (ap (λ (after : Lane). message_at after (sent lane)) is ∙ message_at-sent lane message) in
-    subst (λ (o : Option Message). IsSome o) (sym found) refl
-
--- taking from another channel
-away : (c : ℕ) (k l : Channel) (lane : Lane) → same_channel l k ≡ false
-    → taken_from (Some (record { client = c; channel = k })) c l lane ≡ lane
-away c k l lane other = rw (other, and-false (c == c)) refl
+-- what an event sent waits under the next ticket of its channel
+there : (v w : View) (e : Event) (post : Post) → Extends v w e → IsRun (shape_of w.geometry) w.image w.log
+    → post_of (shape_of v.geometry) (block_at v (block_of (shape_of v.geometry) e)) e ≡ Some post
+    → IsThere w (next_ticket v post.client post.channel)
+there v w e post x run is =
+    let sends = every_message_sent_waits v w e post (may-next v w e x run) x is in
+    subst (λ (o : Option Message). IsSome o) (sym sends.waits) refl
 
 -- ## Each event that sends
 
@@ -98,15 +53,13 @@ away c k l lane other = rw (other, and-false (c == c)) refl
 pub there-acquire : (v w : View) (c b : ℕ) (grow : Grow) → Extends v w (SendAcquire c b grow)
     → IsRun (shape_of w.geometry) w.image w.log → IsThere w (next_ticket v c A)
 there-acquire v w c b grow x run =
-    let e : Event = SendAcquire c b grow in
-    there v w e c A (AcquireBlock grow) x (may-next v w e x run).1.0 refl (λ lane. refl)
+    there v w (SendAcquire c b grow) (record { client = c; channel = A; body = AcquireBlock grow }) x run refl
 
 -- so does a Release that a client sent
 pub there-release : (v w : View) (c b : ℕ) (prune : Prune) → Extends v w (SendRelease c b prune)
     → IsRun (shape_of w.geometry) w.image w.log → IsThere w (next_ticket v c C)
 there-release v w c b prune x run =
-    let e : Event = SendRelease c b prune in
-    there v w e c C _ x (may-next v w e x run).1.0 refl (λ lane. refl)
+    there v w (SendRelease c b prune) (record { client = c; channel = C; body = _ }) x run refl
 
 -- where a Probe waits, answering it sends a message on C
 answer-posts : (c : ℕ) (k : Client) (caps : List ProbeCap) → HasFirst caps
@@ -121,21 +74,19 @@ there-answer v w c b x run =
     let e : Event = AnswerProbe c b in
     let may = may-next v w e x run in
     let post = answer-posts c ((block_at v b).client c) ((block_at v b).client c).b may.1.1.0 in
-    there v w e c C post.0 x may.1.0 post.1 (λ lane. away c B C lane refl)
+    there v w e (record { client = c; channel = C; body = post.0 }) x run post.1
 
 -- so does the GrantAck that a client sends as it takes a Grant
 pub there-grant-ack : (v w : View) (c b : ℕ) → Extends v w (TakeGrant c b)
     → IsRun (shape_of w.geometry) w.image w.log → IsThere w (next_ticket v c E)
 there-grant-ack v w c b x run =
-    let e : Event = TakeGrant c b in
-    there v w e c E GrantAck x (may-next v w e x run).1.0 refl (λ lane. away c D E lane refl)
+    there v w (TakeGrant c b) (record { client = c; channel = E; body = GrantAck }) x run refl
 
 -- so does a Probe that home sent
 pub there-probe : (v w : View) (c b : ℕ) (cap : ProbeCap) → Extends v w (SendProbe c b cap)
     → IsRun (shape_of w.geometry) w.image w.log → IsThere w (next_ticket v c B)
 there-probe v w c b cap x run =
-    let e : Event = SendProbe c b cap in
-    there v w e c B (ProbeBlock cap) x (may-next v w e x run).1.0 refl (λ lane. refl)
+    there v w (SendProbe c b cap) (record { client = c; channel = B; body = ProbeBlock cap }) x run refl
 
 -- where an Acquire is accepted, granting it sends a message on D
 grant-posts : (shape : Shape) (s : Block) (c : ℕ) (accepted : Option Accepted) (acquire : Accepted) → accepted ≡ Some acquire
@@ -150,7 +101,7 @@ there-grant v w c b x run =
     let e : Event = SendGrant c b in
     let may = may-next v w e x run in
     let post = grant-posts (shape_of v.geometry) (block_at v b) c (block_at v b).accepted _ may.1.1.0.1 in
-    there v w e c D post.0 x may.1.0 post.1 (λ lane. refl)
+    there v w e (record { client = c; channel = D; body = post.0 }) x run post.1
 
 -- ## The ReleaseAck
 
@@ -182,9 +133,8 @@ pub there-ack : (v w : View) (c : ℕ) → Lawful (shape_of v.geometry) v.image 
     → IsThere w (next_ticket v c D)
 there-ack v w c lawful release x run =
     let messages : List Message = (lane_at v c C).messages in
-    let e : Event = TakeC c (first_block messages) in
-    there v w e c D (b_Downward ReleaseAck) x (may-next v w e x run).1.0 (acks v c messages lawful refl release)
-    (λ lane. away c C D lane refl)
+    there v w (TakeC c (first_block messages)) (record { client = c; channel = D; body = b_Downward ReleaseAck }) x run
+    (acks v c messages lawful refl release)
 
 -- a ReleaseAck that is shown was sent, and its ticket is the next one
 if-sent : (t : Bool) (next ack : Ticket) → Some ack ≡ (if t then Some next else None) → (t ≡ true) × (ack ≡ next)

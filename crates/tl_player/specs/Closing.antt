@@ -1,8 +1,8 @@
 -- What each bank shows at the end of a trace (this project's own).
 use Rattle.std.specs.Prelude.{◌≡◌, ℕ, zero, suc, Bool, List, [], ◌∷◌, ◌++◌, length, map, Option, Some, None}
 use Rattle.tl_protocol.specs.Ledger.{has_copy, is_recorded}
-use Rattle.tl_bank_spec.specs.View.{View, perm_at}
-use Rattle.tl_bank_spec.specs.Views.{dirty_at, pairs_at, recorded_at}
+use Rattle.tl_bank_spec.specs.View.{View}
+use Rattle.tl_bank_spec.specs.Views.{copy_perm_at, dirty_at, pairs_at, recorded_at}
 use Rattle.tl_trace.specs.declared.closing.BankClosing.{BankClosing}
 use Rattle.tl_trace.specs.declared.closing.BlockLine.{BlockLine}
 use Rattle.tl_trace.specs.declared.closing.Standing.{Standing}
@@ -24,7 +24,7 @@ line_state line = record { block = line.block; dirty = line.dirty; clients = lin
 abbrev pub standings : View → ℕ → ℕ → List Standing
 standings v block zero = []
 standings v block (suc n) =
-    standings v block n ++ record { recorded = recorded_at v n block; held = perm_at v n block } ∷ []
+    standings v block n ++ record { recorded = recorded_at v n block; held = copy_perm_at v n block } ∷ []
 
 -- the line of a block, where home has a copy of it, clean or dirty
 abbrev pub line_if : View → ℕ → Option Bool → List LineState

@@ -7,7 +7,7 @@ use Rattle.tl_trace.specs.declared.answer.Answer.{Answer}
 use Rattle.tl_trace.specs.declared.trace.Trace.{Trace}
 use Rattle.tl_player.specs.Acts.{Acts}
 use Rattle.tl_player.specs.Closing.{Close}
-use Rattle.tl_player.specs.Stage.{SiteState, Stage, IsReset, bank_asked, client_named, share_place}
+use Rattle.tl_player.specs.Stage.{SiteState, Stage, AreCoherent, IsReset, bank_asked, client_named, share_place}
 
 -- ## One step
 
@@ -54,3 +54,5 @@ pub record Traces (g : Numbers) (image : List ℕ) (steps : List Step) (trace : 
   pub reset : IsReset g image start
   pub performs : Performs 0 steps start trace.answers.items end
   pub closes : Close end.sites trace.banks.items
+  -- each bank is coherent: its log is a run, and every load in it got the bytes last stored
+  pub coherent : AreCoherent end.sites

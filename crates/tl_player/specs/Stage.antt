@@ -1,9 +1,11 @@
 -- All banks with their clients' shares and clocks, and which of them a step is asked of (this project's own).
 use Rattle.std.specs.Prelude.{◌≡◌, ℕ, suc, List, [], ◌∷◌, length, nat_lt, replicate, None, if◌then◌else◌}
+use Rattle.std.specs.List.{All}
 use Rattle.tl_map.specs.Numbers.{Numbers}
 use Rattle.tl_map.specs.Places.{bank_of, block_at as block_of_address, has_block}
 use Rattle.tl_words.specs.declared.step.Step.{Step}
 use Rattle.tl_words.specs.declared.step.Step.TheVariants.{Load, Store, Acquire, Release, Ticket, Block}
+use Rattle.tl_bank_spec.specs.Coherent.{IsCoherent}
 use Rattle.tl_bank_spec.specs.Share.{Holding, first_shares}
 use Rattle.tl_bank_spec.specs.View.{View, way_at}
 
@@ -47,6 +49,12 @@ pub record IsReset (g : Numbers) (image : List ℕ) (stage : Stage) : Type 0 whe
   pub count : length stage.sites ≡ g.banks
   pub fresh : AreFresh g image 0 stage.sites
   pub clocks : stage.clocks ≡ replicate g.clients 0
+
+-- ## Whenever
+
+-- each of these banks is coherent
+abbrev pub AreCoherent : List SiteState → Type 0
+AreCoherent sites = All (λ (site : SiteState). IsCoherent site.bank) sites
 
 -- ## What a step is asked of
 

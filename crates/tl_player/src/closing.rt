@@ -1,5 +1,6 @@
 //! What a bank shows at the end.
-ghost use Rattle.std.specs.Prelude.{◌≡◌, ◌<◌, IfOk, map};
+ghost use Rattle.std.specs.Prelude.{◌≡◌, IfOk, map};
+ghost use Rattle.tl_bank_spec.specs.Coherent.{IsCoherent};
 ghost use Rattle.tl_player.specs.Closing.{Closes, line_state, lines_below, standings};
 
 use arrayvec::ArrayVec;
@@ -10,7 +11,8 @@ use tl_types::{BlockNo, ClientId};
 
 /// The blocks that home holds, by rising number, and the bank's counts.
 pub(crate) fn closing(alloc: Global, bank: &Bank) -> Result<BankClosing, AllocError>
-    ensures { IfOk result (Closes bank.now) }
+    ensures closes { IfOk result (Closes bank.now) }
+    ensures coherent { IsCoherent bank.now }
 {
     Ok(BankClosing {
         blocks: lines(alloc, bank)?,
@@ -39,7 +41,6 @@ fn lines(alloc: Global, bank: &Bank) -> Result<Vec<BlockLine>, AllocError>
 
 /// What home records of each client, and what each holds.
 fn standings(bank: &Bank, block: BlockNo) -> ArrayVec<Standing, 16>
-    requires { block < bank.now.geometry.memory_blocks }
     ensures { result.items ≡ standings bank.now block bank.now.geometry.clients }
 {
     let mut clients = ArrayVec::new();

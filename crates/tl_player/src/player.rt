@@ -1,8 +1,8 @@
 //! All banks, and the steps that are asked of them.
-ghost use Rattle.std.specs.Prelude.{◌≡◌, ◌<◌, ◌≤◌, ◌*◌, IfOk, length, slice_index, slice_set};
+ghost use Rattle.std.specs.Prelude.{◌≡◌, ◌<◌, ◌≤◌, ◌*◌, IfOk, OnOk, length, slice_index, slice_set};
 ghost use Rattle.tl_player.specs.Closing.{Close};
 ghost use Rattle.tl_player.specs.Plays.{Performs, Plays};
-ghost use Rattle.tl_player.specs.Stage.{AreFresh, IsReset};
+ghost use Rattle.tl_player.specs.Stage.{AreCoherent, AreFresh, IsReset};
 
 use crate::asked::{bank_asked, client_named};
 use crate::closing::closing;
@@ -89,7 +89,8 @@ impl Player {
 
     /// What each bank shows.
     pub(crate) fn closings(&self, alloc: Global) -> Result<Vec<BankClosing>, AllocError>
-        ensures { IfOk result (λ closings. Close self.now.sites closings.items) }
+        ensures closes { IfOk result (λ closings. Close self.now.sites closings.items) }
+        ensures coherent { OnOk result (AreCoherent self.now.sites) }
     {
         closings(alloc, &self.sites)
     }
@@ -110,7 +111,8 @@ fn sites(alloc: Global, geometry: Geometry, image: &[u8]) -> Result<Vec<Site>, A
 
 /// What each bank shows.
 fn closings(alloc: Global, sites: &[Site]) -> Result<Vec<BankClosing>, AllocError>
-    ensures { IfOk result (λ closings. Close sites.now closings.items) }
+    ensures closes { IfOk result (λ closings. Close sites.now closings.items) }
+    ensures coherent { OnOk result (AreCoherent sites.now) }
 {
     let mut closings = Vec::new(alloc);
     for site in sites {

@@ -1,5 +1,5 @@
 //! The calls of clients.
-ghost use Rattle.std.specs.Prelude.{◌≡◌, ◌+◌, None, false, IfErr, IfOk, OnErr, OnOk, length, slice_range};
+ghost use Rattle.std.specs.Prelude.{◌≡◌, ◌≢◌, ◌+◌, ℕ, None, false, IfErr, IfOk, OnErr, OnOk, length, slice_range};
 ghost use Rattle.tl_types.specs.declared.channel.Channel.{Channel};
 ghost use Rattle.tl_map.specs.Places.{block_at as block_of_address, offset_of};
 ghost use Rattle.tl_protocol.specs.Coherent.{AreLast};
@@ -149,6 +149,7 @@ impl Bank {
         ensures share { OnOk result
             (share.new ≡ recounted (perm_at self.old client block) (perm_at self.new client block) share.old) }
         ensures counted { OnOk result (share.new.count ≡ copies_at self.new client) }
+        ensures others { OnOk result ((x : ℕ) → x ≢ client → copies_at self.new x ≡ copies_at self.old x) }
     {
         if let Some(refusal) = self.release_refusal(client, block, prune, share) {
             return Err(refusal);
@@ -201,6 +202,7 @@ impl Bank {
             ≡ recounted (perm_at self.old ticket.client (block_named self.old ticket Channel.B))
             (perm_at self.new ticket.client (block_named self.old ticket Channel.B)) share.old) }
         ensures counted { OnOk result (share.new.count ≡ copies_at self.new ticket.client) }
+        ensures others { OnOk result ((x : ℕ) → x ≢ ticket.client → copies_at self.new x ≡ copies_at self.old x) }
     {
         if let Some(refusal) = self.answer_probe_refusal(&ticket, share) {
             return Err(refusal);
@@ -242,6 +244,7 @@ impl Bank {
             ≡ recounted (perm_at self.old ticket.client (block_named self.old ticket Channel.D))
             (perm_at self.new ticket.client (block_named self.old ticket Channel.D)) share.old) }
         ensures counted { OnOk result (share.new.count ≡ copies_at self.new ticket.client) }
+        ensures others { OnOk result ((x : ℕ) → x ≢ ticket.client → copies_at self.new x ≡ copies_at self.old x) }
     {
         if let Some(refusal) = self.take_grant_refusal(&ticket, share) {
             return Err(refusal);

@@ -7,6 +7,7 @@ ghost use Rattle.tl_types.specs.declared.permission.Perm.{Perm};
 ghost use Rattle.tl_map.specs.Places.{block_at as block_of_address};
 ghost use Rattle.tl_protocol.specs.Coherent.{last};
 ghost use Rattle.tl_protocol.specs.Ledger.{count_clients, has_copy, is_recorded, is_under_way};
+ghost use Rattle.tl_bank_spec.specs.Kept.{LiesAlone, ServesByRegisters};
 ghost use Rattle.tl_bank_spec.specs.View.{IsOwn, block_at, perm_at};
 ghost use Rattle.tl_bank_spec.specs.Views.{not_own, no_part, recorded_at, byte_at, peeked, HasCopy, MayRead, MayWrite, in_flight_at, dirty_at, outward_at, own_blocks, is_at_home, blocks_at_home, HasNoMessage, AwaitsNothing, IsQuiet, pairs_at, copies_below};
 ghost use Rattle.tl_bank_spec.specs.Ways.{slot_at};
@@ -111,11 +112,15 @@ impl Bank {
         Some(self.home.outward(block)?.copied())
     }
 
-    /// The own blocks of the open registers, by rising number.
+    /// The own blocks of the open registers, by rising number. Home serves of each block the Acquire that its register is open
+    /// for.
     pub fn open_blocks(&self) -> ArrayVec<BlockNo, 8>
         ensures blocks { IsPermutation (own_blocks self.now) result.items }
         ensures rising { IsNonDecreasing result.items }
+        ensures serves { ServesByRegisters self.now }
     {
+        // For the prover: what the bank holds is what its log leaves.
+        let _ = &self.registers;
         let mut numbers = self.open_numbers();
         numbers.as_mut_slice().sort_unstable();
         blocks_of(numbers.as_slice())
@@ -167,11 +172,14 @@ impl Bank {
         count
     }
 
-    /// The blocks of this bank of which home has a copy, by rising number.
+    /// The blocks of this bank of which home has a copy, by rising number. Just they lie in ways of their sets, each alone.
     pub fn blocks_at_home(&self) -> ArrayVec<BlockNo, 512>
         ensures is { result.items ≡ blocks_at_home self.now }
         ensures own { All (λ block. IsOwn self.now.geometry self.now.number block) result.items }
+        ensures ways { LiesAlone self.now }
     {
+        // For the prover: what the bank holds is what its log leaves.
+        let _ = &self.home;
         let mut blocks = self.blocks_by_way();
         blocks
             .as_mut_slice()
@@ -210,7 +218,7 @@ impl Bank {
     }
 
     /// Whether a client is not there, or a block not of the memory or of another bank.
-    fn has_no_part(&self, client: ClientId, block: BlockNo) -> bool
+    pub(crate) fn has_no_part(&self, client: ClientId, block: BlockNo) -> bool
         ensures { result ≡ no_part self.now client block }
     {
         client.number() >= self.geometry.clients() || self.is_not_own(block)

@@ -2,7 +2,7 @@ use Rattle.std.proofs.Common.{sym, subst}
 use Rattle.tl_types.specs.declared.ticket.Ticket.{Ticket}
 use Rattle.tl_player.specs.Ready.{IsThere}
 use Rattle.tl_player.proofs.Answered.{err-answers}
-use Rattle.tl_player.proofs.Logged.{extends-appends}
+use Rattle.tl_bank_spec.proofs.Logged.{extends-appends}
 use Rattle.tl_player.proofs.Posted.{there-release}
 use Rattle.tl_player.proofs.client_steps.release.Goals as goal
 

@@ -1,5 +1,5 @@
 use Rattle.std.proofs.Common.{sym, ◌∙◌}
-use Rattle.tl_player.proofs.Logged.{extends-serves}
+use Rattle.tl_bank_spec.proofs.Logged.{extends-serves}
 use Rattle.tl_player.proofs.Posted.{there-if}
 use Rattle.tl_player.proofs.home_steps.take_c.Goals as goal
 

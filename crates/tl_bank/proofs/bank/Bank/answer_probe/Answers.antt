@@ -1,7 +1,9 @@
-use Rattle.std.proofs.Common.{◌<◌, ◌^◌, ◌∙◌, length, sym, subst, ap}
+use Rattle.std.proofs.Common.{rules, ◌<◌, ◌^◌, ◌∙◌, length, sym, subst, ap}
 use Rattle.tl_protocol.specs.Copy.{perm_of}
 use Rattle.tl_bank_spec.specs.Share.{Holding, recount, recounted}
 use Rattle.tl_bank_spec.specs.View.{View, perm_at}
+use Rattle.tl_bank_spec.proofs.Counted.{others-keep}
+use Rattle.tl_bank_spec.proofs.Logged.{extends-appends}
 use Rattle.tl_bank.specs.Shown.{shown, layers}
 use Rattle.tl_bank_laws.proofs.Probes.{Answers, probe-count, probe-enough, probe-head, probe-keeps, probe-later, probe-place, probe-room}
 use Rattle.tl_bank.proofs.bank.Bank.answer_probe.Goals as goal
@@ -180,3 +182,9 @@ returns-clause-counted c =
     ∙ probe-count v (layers c.self.inside) c.args.ticket c.args.share.now c.first_block-block.result c.first_cap-cap.result c.reduce.new.self c.wait-wait.result
     c.perm-before.result c.of-answer.result
     c.append.new.self.room c.self.invariant answers)
+
+pub returns-clause-appends : goal.returns-clause-appends
+returns-clause-appends c = search rules
+
+pub returns-clause-others : goal.returns-clause-others
+returns-clause-others c x other = others-keep _ _ _ x (extends-appends _ _ _ (returns-clause-appends c)) other

@@ -6,6 +6,8 @@ use Rattle.std.proofs.lemmas.List.Sorted.{IsNonDecreasingBy-from_sort_by_key, su
 use Rattle.std.specs.Prelude.{All}
 use Rattle.tl_bank_spec.specs.View.{View, IsOwn}
 use Rattle.tl_bank_laws.specs.Found.{times}
+use Rattle.tl_bank_laws.specs.Means.{Means}
+use Rattle.tl_bank.specs.Shown.{layers}
 use Rattle.tl_bank_laws.proofs.AtHome.{at_home-is, all-own}
 use Rattle.tl_bank.proofs.bank.Bank.blocks_at_home.Goals as goal
 
@@ -31,3 +33,9 @@ pub returns-clause-own : goal.returns-clause-own
 returns-clause-own c =
     let v : View = c.args.self.now in
     subst (λ (xs : List ℕ). All (λ b. IsOwn v.geometry v.number b) xs) (sym (returns-clause-is c)) (all-own v)
+
+pub returns-clause-ways : goal.returns-clause-ways
+returns-clause-ways c =
+    let m : Means c.args.self.now (layers c.self.inside) =
+    subst (λ (v : View). Means v (layers c.self.inside)) c.self.view_is c.self.invariant in
+    record { holds = m.ways.holds; inside = m.ways.inside; alone = m.ways.once }

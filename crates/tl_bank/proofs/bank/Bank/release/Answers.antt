@@ -1,9 +1,11 @@
-use Rattle.std.proofs.Common.{◌≡◌, ◌∙◌, sym, subst, ap}
+use Rattle.std.proofs.Common.{rules, ◌≡◌, ◌∙◌, sym, subst, ap}
 use Rattle.tl_map.specs.Numbers.{IsLawful}
 use Rattle.tl_protocol.specs.Copy.{perm_of}
 use Rattle.tl_protocol.specs.Protocol.{is_none}
 use Rattle.tl_bank_spec.specs.Share.{Holding, recount, recounted}
 use Rattle.tl_bank_spec.specs.View.{View, perm_at}
+use Rattle.tl_bank_spec.proofs.Counted.{others-keep}
+use Rattle.tl_bank_spec.proofs.Logged.{extends-appends}
 use Rattle.tl_bank.specs.Shown.{shown, layers}
 use Rattle.tl_bank_laws.proofs.Releases.{GivesUp, release-keeps, release-count, release-counted, release-later}
 use Rattle.tl_bank.proofs.bank.Bank.release.Goals as goal
@@ -83,3 +85,9 @@ returns-clause-counted c =
     ∙ ap (λ p. recount c.perm-before.result p c.args.share.now.count) c.perm-later.ensures
     ∙ release-count v c.args.client c.args.block c.args.prune c.args.share.now c.reduce.new.self c.of-given.result
     c.append.new.self.room c.perm-before.result gives before)
+
+pub returns-clause-appends : goal.returns-clause-appends
+returns-clause-appends c = search rules
+
+pub returns-clause-others : goal.returns-clause-others
+returns-clause-others c x other = others-keep _ _ _ x (extends-appends _ _ _ (returns-clause-appends c)) other

@@ -1,7 +1,9 @@
-use Rattle.std.proofs.Common.{◌∙◌, sym, subst, ap}
+use Rattle.std.proofs.Common.{rules, ◌∙◌, sym, subst, ap}
 use Rattle.tl_protocol.specs.Copy.{perm_of}
 use Rattle.tl_bank_spec.specs.Share.{Holding, recount, recounted}
 use Rattle.tl_bank_spec.specs.View.{View, perm_at}
+use Rattle.tl_bank_spec.proofs.Counted.{others-keep}
+use Rattle.tl_bank_spec.proofs.Logged.{extends-appends}
 use Rattle.tl_bank.specs.Shown.{shown, layers}
 use Rattle.tl_bank_laws.proofs.Grants.{Takes, grant-count, grant-enough, grant-keeps, grant-later, grant-place}
 use Rattle.tl_bank.proofs.bank.Bank.take_grant.Goals as goal
@@ -116,3 +118,9 @@ returns-clause-counted c =
     ∙ grant-count v (layers c.self.inside) c.args.ticket c.args.share.now c.first_block-block.result c.perm-before.result
     c.first_granted-copy.result
     c.append.new.self.room c.self.invariant takes)
+
+pub returns-clause-appends : goal.returns-clause-appends
+returns-clause-appends c = search rules
+
+pub returns-clause-others : goal.returns-clause-others
+returns-clause-others c x other = others-keep _ _ _ x (extends-appends _ _ _ (returns-clause-appends c)) other

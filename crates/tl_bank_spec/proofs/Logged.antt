@@ -4,21 +4,15 @@ use Rattle.tl_types.specs.declared.channel.Channel.{Channel}
 use Rattle.tl_map.specs.Numbers.{Numbers}
 use Rattle.tl_protocol.specs.declared.event.Event.{Event}
 use Rattle.tl_protocol.specs.Protocol.{Block, block_of}
-use Rattle.tl_protocol.specs.Runs.{IsRun, MayNext, after_next, end_of}
+use Rattle.tl_protocol.specs.Runs.{IsRun, after_next, end_of}
+use Rattle.tl_bank_spec.specs.Forbidden.{MayAt}
 use Rattle.tl_protocol.proofs.Runs.{runs_grow_by_one}
 use Rattle.tl_lanes.specs.Lanes.{lane_after, lane_of}
 use Rattle.tl_lanes.proofs.Logs.{lanes_grow_by_one, end_of-append}
 use Rattle.tl_registers.specs.declared.register.Register.{Register}
 use Rattle.std.specs.Prelude.{Option}
 use Rattle.tl_bank_spec.specs.Effects.{Serves}
-use Rattle.tl_bank_spec.specs.View.{View, Appends, block_at, lane_at, shape_of}
-
--- the same bank, with one more event
-pub record Extends (v w : View) (e : Event) : Type 0 where
-  pub geometry : w.geometry ≡ v.geometry
-  pub number : w.number ≡ v.number
-  pub image : w.image ≡ v.image
-  pub log : w.log ≡ v.log ++ e ∷ []
+use Rattle.tl_bank_spec.specs.View.{View, Appends, Extends, block_at, lane_at, shape_of}
 
 -- a call that appends an event leaves the same bank, with that event more in its log
 pub extends-appends : (v w : View) (e : Event) → Appends v w e → Extends v w e
@@ -80,7 +74,7 @@ block-next v w e b x =
 -- the event was permitted
 pub may-next :
     (v w : View) (e : Event) → Extends v w e → IsRun (shape_of w.geometry) w.image w.log
-    → MayNext (shape_of v.geometry) (block_at v) e
+    → MayAt v e
 may-next v w e x run =
     (((runs_grow_by_one (shape_of v.geometry) v.image).2 v.log e).0.0
     (back (λ g i log. IsRun (shape_of g) i log) v w e x run)).1

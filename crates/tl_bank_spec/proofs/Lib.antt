@@ -1,0 +1,5 @@
+pub mod Coherent
+pub mod Counted
+pub mod Delivered
+pub mod Forbidden
+pub mod Logged

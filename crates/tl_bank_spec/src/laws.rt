@@ -1,0 +1,22 @@
+//! What holds of a bank's cases and counts, whatever its code.
+ghost use Rattle.tl_bank_spec.specs.Counted.{EveryEventLeavesOtherCounts};
+ghost use Rattle.tl_bank_spec.specs.Delivered.{EveryMessageSentWaits, EveryMessageTakenIsFirst};
+ghost use Rattle.tl_bank_spec.specs.Forbidden.{EveryRefusalIsTheProtocols};
+
+/// A call that is refused for NoPermission, Waiting, WrongFrom, NothingThere or ReleasePending was not permitted by the
+/// protocol at the end of the bank's log.
+pub fn every_refusal()
+    ensures { EveryRefusalIsTheProtocols }
+{}
+
+/// An event leaves the number of copies of each client but the one whose share its call takes.
+pub fn every_count()
+    ensures { EveryEventLeavesOtherCounts }
+{}
+
+/// What an event sends waits under the next ticket of its channel, and what an event took was the first message of its
+/// channel, which lost just that.
+pub fn every_ticket()
+    ensures sends { EveryMessageSentWaits }
+    ensures takes { EveryMessageTakenIsFirst }
+{}
