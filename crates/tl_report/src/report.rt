@@ -2,9 +2,8 @@
 
 use crate::lines;
 use std::alloc::{AllocError, Global};
-use std::fmt;
 use tl_types::AccessBytes;
-use tl_words::{Address, Command, Hex};
+use tl_words::Command;
 
 /// A command that was answered, with the bytes that a load got or a store wrote; none for a drop.
 #[derive(Debug, Drop)]
@@ -26,30 +25,6 @@ pub struct BankLine {
 pub struct Report {
     pub clients: Vec<Vec<Answered>>,
     pub banks: Vec<BankLine>,
-}
-
-impl fmt::Display for Answered {
-    ghost use Rattle.std.specs.Prelude.{Some};
-    ghost use Rattle.tl_report.specs.Report.{answered_text};
-
-    ghost output = { λ a. Some (answered_text a) };
-
-    fn fmt<W: fmt::Write>(&self, f: &mut fmt::Formatter<W>) -> fmt::Result {
-        match &self.command {
-            Command::Load { address, len: _ } => {
-                write!(
-                    f,
-                    "load {} {}",
-                    Address(*address),
-                    Hex(self.bytes.as_slice())
-                )
-            }
-            Command::Store { address, bytes } => {
-                write!(f, "store {} {}", Address(*address), Hex(bytes.as_slice()))
-            }
-            Command::Drop { address } => write!(f, "drop {}", Address(*address)),
-        }
-    }
 }
 
 impl Report {

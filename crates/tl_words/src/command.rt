@@ -1,7 +1,7 @@
 //! The commands of a client.
 
 use crate::error::ParseError;
-use crate::words::{parse_access, parse_address, parse_len, split_words};
+use crate::words::{parse_access, parse_address, parse_len, split_word, two_words};
 use std::alloc::Global;
 use tl_types::AccessBytes;
 
@@ -18,71 +18,55 @@ pub enum Command {
 
 impl Command {
     ghost use Rattle.std.specs.Prelude.{◌≡◌};
-    ghost use Rattle.tl_words.specs.Command.{load_of, store_of, drop_of, command_in, command_of};
+    ghost use Rattle.tl_words.specs.Command.{load_of, store_of, drop_of, command_of};
     ghost use Rattle.tl_words.specs.Reads.{Reads};
-    ghost use Rattle.tl_words.specs.Words.{texts};
+    ghost use Rattle.tl_words.specs.Words.{words_of};
 
     /// The command that a text writes. Malformed where the text is outside the grammar.
+    #[tactic(auto, unfolding(crate::specs::Command::command_in), using(crate::proofs::SpaceLaws::no_arguments))]
     pub fn parse(alloc: Global, text: &str) -> Result<Command, ParseError>
         ensures { Reads (λ command. command) result (command_of text.now) }
     {
-        let words = split_words(alloc, text)?;
-        Command::from_words(alloc, &words)
-    }
-
-    #[tactic(auto, unfolding(crate::specs::Command::command_in))]
-    fn from_words(alloc: Global, words: &[&str]) -> Result<Command, ParseError>
-        ensures { Reads (λ command. command) result (command_in (texts words.now)) }
-    {
-        match words {
-            [] => Err(ParseError::Malformed),
-            [verb, arguments @ ..] => match *verb {
-                "load" => Command::load(arguments),
-                "store" => Command::store(alloc, arguments),
-                "drop" => Command::drop_copy(arguments),
-                _ => Err(ParseError::Malformed),
-            },
-        }
-    }
-
-    #[tactic(auto, unfolding(crate::specs::Command::load_of))]
-    fn load(arguments: &[&str]) -> Result<Command, ParseError>
-        ensures { Reads (λ command. command) result (load_of (texts arguments.now)) }
-    {
-        match *arguments {
-            [address, len] => {
-                let address = parse_address(address).ok_or(ParseError::Malformed)?;
-                let len = parse_len(len).ok_or(ParseError::Malformed)?;
-                Ok(Command::Load { address, len })
-            }
+        let (verb, arguments) = split_word(text);
+        let arguments = arguments.ok_or(ParseError::Malformed)?;
+        match verb {
+            "load" => Command::load(arguments),
+            "store" => Command::store(alloc, arguments),
+            "drop" => Command::drop_copy(arguments),
             _ => Err(ParseError::Malformed),
         }
     }
 
-    #[tactic(auto, unfolding(crate::specs::Command::store_of))]
-    fn store(alloc: Global, arguments: &[&str]) -> Result<Command, ParseError>
-        ensures { Reads (λ command. command) result (store_of (texts arguments.now)) }
+    #[tactic(auto, unfolding(crate::specs::Command::load_of), using(crate::proofs::SpaceLaws::no_load))]
+    fn load(arguments: &str) -> Result<Command, ParseError>
+        ensures { Reads (λ command. command) result (load_of (words_of arguments.now)) }
     {
-        match *arguments {
-            [address, bytes] => {
-                let address = parse_address(address).ok_or(ParseError::Malformed)?;
-                let bytes = parse_access(alloc, bytes)?;
-                Ok(Command::Store { address, bytes })
-            }
-            _ => Err(ParseError::Malformed),
-        }
+        let (address, len) = two_words(arguments).ok_or(ParseError::Malformed)?;
+        let address = parse_address(address).ok_or(ParseError::Malformed)?;
+        let len = parse_len(len).ok_or(ParseError::Malformed)?;
+        Ok(Command::Load { address, len })
+    }
+
+    #[tactic(auto, unfolding(crate::specs::Command::store_of), using(crate::proofs::SpaceLaws::no_store))]
+    fn store(alloc: Global, arguments: &str) -> Result<Command, ParseError>
+        ensures { Reads (λ command. command) result (store_of (words_of arguments.now)) }
+    {
+        let (address, bytes) = two_words(arguments).ok_or(ParseError::Malformed)?;
+        let address = parse_address(address).ok_or(ParseError::Malformed)?;
+        let bytes = parse_access(alloc, bytes)?;
+        Ok(Command::Store { address, bytes })
     }
 
     #[tactic(auto, unfolding(crate::specs::Command::drop_of))]
-    fn drop_copy(arguments: &[&str]) -> Result<Command, ParseError>
-        ensures { Reads (λ command. command) result (drop_of (texts arguments.now)) }
+    fn drop_copy(arguments: &str) -> Result<Command, ParseError>
+        ensures { Reads (λ command. command) result (drop_of (words_of arguments.now)) }
     {
-        match *arguments {
-            [address] => {
+        match split_word(arguments) {
+            (address, None) => {
                 let address = parse_address(address).ok_or(ParseError::Malformed)?;
                 Ok(Command::Drop { address })
             }
-            _ => Err(ParseError::Malformed),
+            (_, Some(_)) => Err(ParseError::Malformed),
         }
     }
 }

@@ -1,10 +1,10 @@
 //! The words that a text of a script is made of.
 
-ghost use Rattle.std.specs.Prelude.{◌≡◌, ◌<◌, ◌==◌, true, IfOk};
+ghost use Rattle.std.specs.Prelude.{◌≡◌, ◌∷◌, ◌<◌, ◌==◌, [], None, true, IfOk, MatchOption};
 ghost use Rattle.std.specs.Char.{is_ascii_digit, digit_value};
 ghost use Rattle.std.specs.List.{list_all, slice_split};
 ghost use Rattle.tl_words.specs.Reads.{Reads};
-ghost use Rattle.tl_words.specs.Words.{words_of, texts, is_plain, number_of, is_lower_hex, address_of, len_of, byte_of, bytes_of, access_of};
+ghost use Rattle.tl_words.specs.Words.{words_of, words_in, two_of, texts, is_plain, number_of, is_lower_hex, address_of, len_of, byte_of, bytes_of, access_of};
 
 use crate::error::ParseError;
 use std::alloc::{AllocError, Global};
@@ -15,6 +15,29 @@ pub fn split_words(alloc: Global, text: &str) -> Result<Vec<&str>, AllocError>
     ensures { IfOk result (λ words. texts words.items ≡ words_of text.now) }
 {
     text.split(' ').collect(alloc)
+}
+
+/// The first word of a text, and what stands behind the space after it, where there is a space.
+#[tactic(auto, using(crate::proofs::SpaceLaws::first_word, crate::proofs::SpaceLaws::only_word))]
+pub(crate) fn split_word(text: &str) -> (&str, Option<&str>)
+    ensures { words_of text.now ≡ result.0.now ∷ words_in result.1 }
+{
+    match text.split_once(' ') {
+        Some((first, rest)) => (first, Some(rest)),
+        None => (text, None),
+    }
+}
+
+/// The words of a text that has just two.
+pub(crate) fn two_words(text: &str) -> Option<(&str, &str)>
+    ensures { MatchOption result (two_of (words_of text.now) ≡ None) (λ two. words_of text.now ≡ two.0.now ∷ two.1.now ∷ []) }
+{
+    let (first, rest) = split_word(text);
+    let (second, more) = split_word(rest?);
+    match more {
+        None => Some((first, second)),
+        Some(_) => None,
+    }
 }
 
 /// The fields of a text, which stand apart by one dot each.
