@@ -3,3 +3,5 @@ pub mod Counted
 pub mod Delivered
 pub mod Forbidden
 pub mod Logged
+pub mod Named
+pub mod Sent

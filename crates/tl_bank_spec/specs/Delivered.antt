@@ -1,13 +1,18 @@
 -- What becomes of the message that an event sends, and of the one that it takes (this project's own).
-use Rattle.std.specs.Prelude.{◌≡◌, List, ◌∷◌, Some}
+use Rattle.std.specs.Prelude.{◌≡◌, Bool, true, List, ◌∷◌, Some, None}
 use Rattle.tl_types.specs.Lane.{without_first}
+use Rattle.tl_types.specs.declared.channel.Channel.{Channel}
+use Rattle.tl_types.specs.declared.message.Body.{Body}
 use Rattle.tl_types.specs.declared.message.Message.{Message}
 use Rattle.tl_types.specs.declared.ticket.Ticket.{Ticket}
 use Rattle.tl_protocol.specs.Protocol.{block_of}
 use Rattle.tl_protocol.specs.declared.event.Event.{Event}
 use Rattle.tl_lanes.specs.Lanes.{Place, Post, post_of, take_of}
 use Rattle.tl_lanes.specs.Lawful.{Lawful}
+use Rattle.tl_bank_spec.specs.Calls.{ticket_cases, shared_ticket_cases}
 use Rattle.tl_bank_spec.specs.Forbidden.{MayAt}
+use Rattle.tl_bank_spec.specs.Refusal.{first_of}
+use Rattle.tl_bank_spec.specs.Share.{Holding}
 use Rattle.tl_bank_spec.specs.View.{View, Extends, block_at, lane_at, next_ticket, shape_of}
 use Rattle.tl_bank_spec.specs.Views.{in_flight_at}
 
@@ -26,6 +31,15 @@ pub record Takes (old new : View) (event : Event) (place : Place) : Type 0 where
   pub block : message.block ≡ block_of (shape_of old.geometry) event
   pub left : lane_at new place.client place.channel ≡ without_first (lane_at old place.client place.channel)
 
+-- A ticket names the first message of a channel, which is of a kind.
+pub record NamesFirst (v : View) (ticket : Ticket) (channel : Channel) (kind : Body → Bool) : Type 0 where
+  pub on : ticket.channel ≡ channel
+  pub message : Message
+  pub rest : List Message
+  pub first : (lane_at v ticket.client channel).messages ≡ message ∷ rest
+  pub is_kind : kind message.body ≡ true
+  pub named : in_flight_at v ticket ≡ Some message
+
 -- What a permitted event sends waits under the next ticket of its channel.
 abbrev pub EveryMessageSentWaits : Type 0
 EveryMessageSentWaits =
@@ -38,3 +52,10 @@ abbrev pub EveryMessageTakenIsFirst : Type 0
 EveryMessageTakenIsFirst =
     (old new : View) (e : Event) (place : Place) → Lawful (shape_of new.geometry) new.image new.log → Extends old new e
     → take_of e ≡ Some place → Takes old new e place
+
+-- So is the message that a call takes whose ticket is not refused: it is the one that its ticket names.
+abbrev pub EveryTicketNamesTheFirst : Type 0
+EveryTicketNamesTheFirst =
+    (v : View) (ticket : Ticket) (channel : Channel) (kind : Body → Bool)
+    → (first_of (ticket_cases v ticket channel kind) ≡ None → NamesFirst v ticket channel kind)
+    × ((share : Holding) → first_of (shared_ticket_cases v ticket share channel kind) ≡ None → NamesFirst v ticket channel kind)

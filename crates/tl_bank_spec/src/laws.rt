@@ -1,6 +1,6 @@
 //! What holds of a bank's cases and counts, whatever its code.
 ghost use Rattle.tl_bank_spec.specs.Counted.{EveryEventLeavesOtherCounts};
-ghost use Rattle.tl_bank_spec.specs.Delivered.{EveryMessageSentWaits, EveryMessageTakenIsFirst};
+ghost use Rattle.tl_bank_spec.specs.Delivered.{EveryMessageSentWaits, EveryMessageTakenIsFirst, EveryTicketNamesTheFirst};
 ghost use Rattle.tl_bank_spec.specs.Forbidden.{EveryRefusalIsTheProtocols};
 
 /// A call that is refused for NoPermission, Waiting, WrongFrom, NothingThere or ReleasePending was not permitted by the
@@ -14,9 +14,10 @@ pub fn every_count()
     ensures { EveryEventLeavesOtherCounts }
 {}
 
-/// What an event sends waits under the next ticket of its channel, and what an event took was the first message of its
-/// channel, which lost just that.
+/// What an event sends waits under the next ticket of its channel; what an event took was the first message of its channel,
+/// which lost just that; and a ticket that is not refused names the first message.
 pub fn every_ticket()
     ensures sends { EveryMessageSentWaits }
     ensures takes { EveryMessageTakenIsFirst }
+    ensures names { EveryTicketNamesTheFirst }
 {}

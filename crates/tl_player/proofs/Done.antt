@@ -15,7 +15,8 @@ use Rattle.tl_bank_spec.specs.View.{View, Extends, IsOwn, block_at, shape_of}
 use Rattle.tl_bank_spec.specs.declared.action.Action.{Action}
 use Rattle.tl_player.specs.Ready.{IsDone, IsWritten}
 use Rattle.tl_bank_spec.proofs.Logged.{block-next, extends-serves, may-next}
-use Rattle.tl_player.proofs.Posted.{there-grant, there-probe}
+use Rattle.tl_bank_spec.proofs.Sent.{sends-grant, sends-probe}
+use Rattle.tl_player.proofs.Posted.{there}
 
 -- what holds of each holds of the last
 All-last : {X : Type 0} (P : X → Type 0) (xs : List X) (x : X) → All P (xs ++ x ∷ []) → P x
@@ -43,8 +44,8 @@ written v w block x own =
 -- what an action sends is there once its event is logged
 done-by : (v w : View) (own : ℕ) (due : Due) → Extends v w (event_of own due) → IsRun (shape_of w.geometry) w.image w.log
     → AllOwn w → IsDone w own (action_of v due)
-done-by v w own (due_Probe client block cap) x run all = there-probe v w client block cap x run
-done-by v w own (due_Grant client) x run all = there-grant v w client own x run
+done-by v w own (due_Probe client block cap) x run all = there _ _ _ _ (sends-probe v w client block cap x run)
+done-by v w own (due_Grant client) x run all = there _ _ _ _ (sends-grant v w client own x run)
 done-by v w own due_Get x run all =
     let lt : own < v.geometry.memory_blocks = (may-next v w (event_of own due_Get) x run).0 in
     subst (λ (g : Numbers). own < g.memory_blocks) (sym x.geometry) lt

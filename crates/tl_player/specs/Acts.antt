@@ -15,6 +15,7 @@ use Rattle.tl_words.specs.declared.step.TicketCall.{TicketCall}
 use Rattle.tl_words.specs.declared.step.TicketCall.TheVariants.{AnswerProbe, TakeGrant, TakeReleaseAck, Accept, TakeC, TakeGrantAck}
 use Rattle.tl_bank_spec.specs.Calls.{load_cases, store_cases, acquire_cases, release_cases, answer_probe_cases, take_grant_cases, take_release_ack_cases}
 use Rattle.tl_bank_spec.specs.Cases.{block_named}
+use Rattle.tl_bank_spec.specs.Delivered.{Sends}
 use Rattle.tl_bank_spec.specs.Effects.{Accepts, Advances, Evicts, Serves, answer_to, registers_then, reply_to, taking, ways_then}
 use Rattle.tl_bank_spec.specs.HomeCalls.{accept_cases, advance_cases, evict_cases, serve_memory_cases, take_c_cases, take_grant_ack_cases, take_memory_cases}
 use Rattle.tl_bank_spec.specs.Refusal.{first_of}
@@ -87,6 +88,7 @@ pub record Stores (index : ℕ) (old new : View) (before after : ℕ) (client ad
 -- An event is logged, and the answer shows the message that it sent.
 pub record Posts (old new : View) (event : Event) (ticket : Ticket) (answer : Answer) : Type 0 where
   pub appends : Appends old new event
+  pub sends : Sends old new event ticket
   pub shows : Shows new ticket answer
 
 -- An event is logged, and there is nothing to show.

@@ -81,10 +81,7 @@ pub(crate) fn acquire(
         (Posts bank.old bank.new (Event.SendAcquire client block grow) (next_ticket bank.old client Channel.A) answer) answer) }
 {
     match bank.acquire(client, block, grow) {
-        Ok(ticket) => {
-            let _log = bank.log();
-            Ok(sent(bank, ticket))
-        }
+        Ok(ticket) => Ok(sent(bank, ticket)),
         Err(refusal) => refused(refusal),
     }
 }
@@ -104,10 +101,7 @@ pub(crate) fn release(
         × Recounts bank.old bank.new client block share.old share.new) answer) }
 {
     match bank.release(client, block, prune, share) {
-        Ok(ticket) => {
-            let _log = bank.log();
-            Ok(sent(bank, ticket))
-        }
+        Ok(ticket) => Ok(sent(bank, ticket)),
         Err(refusal) => refused(refusal),
     }
 }
@@ -126,10 +120,7 @@ pub(crate) fn answer_probe(
         × Recounts bank.old bank.new ticket.client (block_named bank.old ticket Channel.B) share.old share.new) answer) }
 {
     match bank.answer_probe(ticket, share) {
-        Ok(answer) => {
-            let _log = bank.log();
-            Ok(sent(bank, answer))
-        }
+        Ok(answer) => Ok(sent(bank, answer)),
         Err(refusal) => refused(refusal),
     }
 }
@@ -148,10 +139,7 @@ pub(crate) fn take_grant(
         × Recounts bank.old bank.new ticket.client (block_named bank.old ticket Channel.D) share.old share.new) answer) }
 {
     match bank.take_grant(ticket, share) {
-        Ok(ack) => {
-            let _log = bank.log();
-            Ok(sent(bank, ack))
-        }
+        Ok(ack) => Ok(sent(bank, ack)),
         Err(refusal) => refused(refusal),
     }
 }

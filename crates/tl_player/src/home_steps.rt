@@ -30,12 +30,8 @@ pub(crate) fn take_c(bank: &mut Bank, ticket: Ticket) -> Result<Answer, AllocErr
         (λ answer. Answers (first_of (take_c_cases bank.old ticket)) (bank.new ≡ bank.old)
         (TakesC bank.old bank.new ticket answer) answer) }
 {
-    let _before = bank.log();
     match bank.take_c(ticket) {
-        Ok(Some(ack)) => {
-            let _log = bank.log();
-            Ok(sent(bank, ack))
-        }
+        Ok(Some(ack)) => Ok(sent(bank, ack)),
         Ok(None) => Ok(Answer::Done),
         Err(refusal) => refused(refusal),
     }
@@ -61,6 +57,7 @@ pub(crate) fn advance(bank: &mut Bank, block: BlockNo) -> Result<Answer, AllocEr
 {
     match bank.advance(block) {
         Ok(action) => {
+            // For the prover: the log is a run, so what the action sent is there.
             let _log = bank.log();
             Ok(shown(bank, block, action))
         }

@@ -7,6 +7,7 @@ ghost use Rattle.tl_protocol.specs.Copy.{bytes_of, stored_in};
 ghost use Rattle.tl_protocol.specs.declared.event.Event.{Event};
 ghost use Rattle.tl_bank_spec.specs.Calls.{load_cases, store_cases, acquire_cases, release_cases, answer_probe_cases, take_grant_cases, take_release_ack_cases};
 ghost use Rattle.tl_bank_spec.specs.Cases.{block_named, clock_full};
+ghost use Rattle.tl_bank_spec.specs.Delivered.{Sends};
 ghost use Rattle.tl_bank_spec.specs.Refusal.{IsRefused, first_of};
 ghost use Rattle.tl_bank_spec.specs.Share.{recounted};
 ghost use Rattle.tl_bank_spec.specs.View.{Appends, client_at, copies_at, latest, next_ticket, perm_at};
@@ -119,6 +120,7 @@ impl Bank {
         ensures permitted { OnOk result (first_of (acquire_cases self.old client block grow) ≡ None) }
         ensures appends { OnOk result (Appends self.old self.new (Event.SendAcquire client block grow)) }
         ensures ticket { IfOk result (λ ticket. ticket ≡ next_ticket self.old client Channel.A) }
+        ensures sends { IfOk result (λ ticket. Sends self.old self.new (Event.SendAcquire client block grow) ticket) }
     {
         if let Some(refusal) = self.acquire_refusal(client, block, grow) {
             return Err(refusal);
@@ -146,6 +148,7 @@ impl Bank {
         ensures permitted { OnOk result (first_of (release_cases self.old client block prune share.old) ≡ None) }
         ensures appends { OnOk result (Appends self.old self.new (Event.SendRelease client block prune)) }
         ensures ticket { IfOk result (λ ticket. ticket ≡ next_ticket self.old client Channel.C) }
+        ensures sends { IfOk result (λ ticket. Sends self.old self.new (Event.SendRelease client block prune) ticket) }
         ensures share { OnOk result
             (share.new ≡ recounted (perm_at self.old client block) (perm_at self.new client block) share.old) }
         ensures counted { OnOk result (share.new.count ≡ copies_at self.new client) }
@@ -197,6 +200,8 @@ impl Bank {
         ensures appends { OnOk result
             (Appends self.old self.new (Event.AnswerProbe ticket.client (block_named self.old ticket Channel.B))) }
         ensures ticket { IfOk result (λ sent. sent ≡ next_ticket self.old ticket.client Channel.C) }
+        ensures sends { IfOk result
+            (λ sent. Sends self.old self.new (Event.AnswerProbe ticket.client (block_named self.old ticket Channel.B)) sent) }
         ensures share { OnOk result
             (share.new
             ≡ recounted (perm_at self.old ticket.client (block_named self.old ticket Channel.B))
@@ -239,6 +244,8 @@ impl Bank {
         ensures appends { OnOk result
             (Appends self.old self.new (Event.TakeGrant ticket.client (block_named self.old ticket Channel.D))) }
         ensures ticket { IfOk result (λ sent. sent ≡ next_ticket self.old ticket.client Channel.E) }
+        ensures sends { IfOk result
+            (λ sent. Sends self.old self.new (Event.TakeGrant ticket.client (block_named self.old ticket Channel.D)) sent) }
         ensures share { OnOk result
             (share.new
             ≡ recounted (perm_at self.old ticket.client (block_named self.old ticket Channel.D))

@@ -1,5 +1,5 @@
 //! What home takes from the clients.
-ghost use Rattle.std.specs.Prelude.{◌≡◌, ◌&&◌, ℕ, None, Some, true, IfErr, IfOk, OnErr, OnOk, if◌then◌else◌};
+ghost use Rattle.std.specs.Prelude.{◌≡◌, ◌&&◌, ℕ, None, Some, true, IfErr, IfOk, IfSome, OnErr, OnOk, if◌then◌else◌};
 ghost use Rattle.tl_types.specs.Lane.{sent, is_here, with_message};
 ghost use Rattle.tl_types.specs.declared.channel.Channel.{Channel};
 ghost use Rattle.tl_types.specs.declared.message.Body.{Body};
@@ -10,6 +10,7 @@ ghost use Rattle.tl_registers.specs.Registers.{closed};
 ghost use Rattle.tl_bank_laws.specs.Given.{left_by, brought_by};
 ghost use Rattle.tl_bank_laws.specs.Link.{HasRoom};
 ghost use Rattle.tl_bank_spec.specs.Cases.{block_named};
+ghost use Rattle.tl_bank_spec.specs.Delivered.{Sends};
 ghost use Rattle.tl_bank_spec.specs.Effects.{Serves, answer_to};
 ghost use Rattle.tl_bank_spec.specs.HomeCalls.{take_c_cases, take_grant_ack_cases};
 ghost use Rattle.tl_bank_spec.specs.Refusal.{IsRefused, first_of};
@@ -38,6 +39,8 @@ impl Bank {
         ensures serves { OnOk result
             (Serves self.old self.new (Event.TakeC ticket.client (block_named self.old ticket Channel.C)) self.old.registers (way_at self.old)) }
         ensures answer { IfOk result (λ sent. sent ≡ answer_to self.old ticket) }
+        ensures sends { IfOk result
+            (λ sent. IfSome sent (λ ack. Sends self.old self.new (Event.TakeC ticket.client (block_named self.old ticket Channel.C)) ack)) }
     {
         if let Some(refusal) = self.take_c_refusal(&ticket) {
             return Err(refusal);

@@ -1,16 +1,10 @@
-use Rattle.std.proofs.Common.{sym, subst}
-use Rattle.tl_types.specs.declared.ticket.Ticket.{Ticket}
-use Rattle.tl_player.specs.Ready.{IsThere}
 use Rattle.tl_player.proofs.Answered.{err-answers}
-use Rattle.tl_bank_spec.proofs.Logged.{extends-appends}
-use Rattle.tl_player.proofs.Posted.{there-acquire}
+use Rattle.tl_player.proofs.Posted.{there}
 use Rattle.tl_player.proofs.client_steps.acquire.Goals as goal
 
 -- the message waits where its ticket says
 pub sent-requires : goal.sent-requires
-sent-requires c =
-    subst (λ (t : Ticket). IsThere c.acquire.new.self t) (sym c.in-Ok.ensures.ticket)
-    (there-acquire _ _ _ _ _ (extends-appends _ _ _ c.in-Ok.ensures.appends) c.log-log.ensures.run)
+sent-requires c = there _ _ _ _ c.in-Ok.ensures.sends
 
 -- a refusal is the answer
 pub returns-in-Err : goal.returns-in-Err

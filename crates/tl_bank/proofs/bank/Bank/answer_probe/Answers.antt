@@ -4,6 +4,7 @@ use Rattle.tl_bank_spec.specs.Share.{Holding, recount, recounted}
 use Rattle.tl_bank_spec.specs.View.{View, perm_at}
 use Rattle.tl_bank_spec.proofs.Counted.{others-keep}
 use Rattle.tl_bank_spec.proofs.Logged.{extends-appends}
+use Rattle.tl_bank_spec.proofs.Sent.{sends-answer, sends-as}
 use Rattle.tl_bank.specs.Shown.{shown, layers}
 use Rattle.tl_bank_laws.proofs.Probes.{Answers, probe-count, probe-enough, probe-head, probe-keeps, probe-later, probe-place, probe-room}
 use Rattle.tl_bank.proofs.bank.Bank.answer_probe.Goals as goal
@@ -188,3 +189,11 @@ returns-clause-appends c = search rules
 
 pub returns-clause-others : goal.returns-clause-others
 returns-clause-others c x other = others-keep _ _ _ x (extends-appends _ _ _ (returns-clause-appends c)) other
+
+pub returns-clause-ticket : goal.returns-clause-ticket
+returns-clause-ticket c = search rules
+
+pub returns-clause-sends : goal.returns-clause-sends
+returns-clause-sends c =
+    sends-as _ _ _ _ _ (returns-clause-ticket c)
+    (sends-answer _ _ _ _ (extends-appends _ _ _ (returns-clause-appends c)) (invariant_of-self c).lawful.run)

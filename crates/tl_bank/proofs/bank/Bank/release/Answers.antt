@@ -6,6 +6,7 @@ use Rattle.tl_bank_spec.specs.Share.{Holding, recount, recounted}
 use Rattle.tl_bank_spec.specs.View.{View, perm_at}
 use Rattle.tl_bank_spec.proofs.Counted.{others-keep}
 use Rattle.tl_bank_spec.proofs.Logged.{extends-appends}
+use Rattle.tl_bank_spec.proofs.Sent.{sends-release, sends-as}
 use Rattle.tl_bank.specs.Shown.{shown, layers}
 use Rattle.tl_bank_laws.proofs.Releases.{GivesUp, release-keeps, release-count, release-counted, release-later}
 use Rattle.tl_bank.proofs.bank.Bank.release.Goals as goal
@@ -91,3 +92,11 @@ returns-clause-appends c = search rules
 
 pub returns-clause-others : goal.returns-clause-others
 returns-clause-others c x other = others-keep _ _ _ x (extends-appends _ _ _ (returns-clause-appends c)) other
+
+pub returns-clause-ticket : goal.returns-clause-ticket
+returns-clause-ticket c = search rules
+
+pub returns-clause-sends : goal.returns-clause-sends
+returns-clause-sends c =
+    sends-as _ _ _ _ _ (returns-clause-ticket c)
+    (sends-release _ _ _ _ _ (extends-appends _ _ _ (returns-clause-appends c)) (invariant_of-self c).lawful.run)

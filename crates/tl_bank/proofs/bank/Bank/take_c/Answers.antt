@@ -1,4 +1,4 @@
-use Rattle.std.proofs.Common.{◌≡◌, ℕ, ◌<◌, Bool, List, Option, None, slice_index_or, sym, ◌∙◌, ap, subst, arith, ◌+◌}
+use Rattle.std.proofs.Common.{rules, ◌≡◌, ℕ, ◌<◌, Bool, List, Option, None, slice_index_or, sym, ◌∙◌, ap, subst, arith, ◌+◌}
 use Rattle.tl_types.specs.declared.channel.Channel.TheVariants.{C}
 use Rattle.tl_types.specs.declared.permission.Perm.{Perm}
 use Rattle.tl_map.specs.Numbers.{Numbers}
@@ -7,7 +7,10 @@ use Rattle.tl_home.specs.Homes.{way_in}
 use Rattle.tl_bank_spec.specs.Cases.{block_named}
 use Rattle.tl_bank_spec.specs.HomeCalls.{take_c_cases}
 use Rattle.tl_bank_spec.specs.Refusal.{first_of}
-use Rattle.tl_bank_spec.specs.View.{View, way_at, ways_below}
+use Rattle.tl_bank_spec.specs.View.{View, shape_of, way_at, ways_below}
+use Rattle.tl_lanes.specs.Lawful.{Lawful}
+use Rattle.tl_bank_spec.proofs.Logged.{extends-serves}
+use Rattle.tl_bank_spec.proofs.Sent.{sends-if}
 use Rattle.tl_bank.specs.Shown.{shown, layers}
 use Rattle.tl_bank_laws.specs.Given.{brought_by}
 use Rattle.tl_bank_laws.proofs.Serves.{serves-next}
@@ -109,3 +112,12 @@ returns-clause-serves c =
     old.registers (ways_below (way_in c.receive.new.self) v.geometry.memory_blocks) (way_at old) made c.make_room.ensures.grows
     (omega (arith, left, was)) (ap (λ (w : View). w.registers) made)
     (λ b. ap (λ (ways : List (Option ℕ)). slice_index_or ways b None) same))
+
+pub returns-clause-answer : goal.returns-clause-answer
+returns-clause-answer c = search rules
+
+pub returns-clause-sends : goal.returns-clause-sends
+returns-clause-sends c =
+    let lawful : Lawful (shape_of c.args.self.now.geometry) c.args.self.now.image c.args.self.now.log =
+    subst (λ (w : View). Lawful (shape_of w.geometry) w.image w.log) (c.self.view_is ∙ c.make_room.ensures.same) c.self.invariant.lawful in
+    sends-if _ _ c.args.ticket _ (returns-clause-answer c) lawful (extends-serves _ _ _ _ _ (returns-clause-serves c)) (invariant_of-self c).lawful.run

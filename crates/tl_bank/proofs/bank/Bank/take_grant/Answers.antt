@@ -4,6 +4,7 @@ use Rattle.tl_bank_spec.specs.Share.{Holding, recount, recounted}
 use Rattle.tl_bank_spec.specs.View.{View, perm_at}
 use Rattle.tl_bank_spec.proofs.Counted.{others-keep}
 use Rattle.tl_bank_spec.proofs.Logged.{extends-appends}
+use Rattle.tl_bank_spec.proofs.Sent.{sends-grant-ack, sends-as}
 use Rattle.tl_bank.specs.Shown.{shown, layers}
 use Rattle.tl_bank_laws.proofs.Grants.{Takes, grant-count, grant-enough, grant-keeps, grant-later, grant-place}
 use Rattle.tl_bank.proofs.bank.Bank.take_grant.Goals as goal
@@ -124,3 +125,11 @@ returns-clause-appends c = search rules
 
 pub returns-clause-others : goal.returns-clause-others
 returns-clause-others c x other = others-keep _ _ _ x (extends-appends _ _ _ (returns-clause-appends c)) other
+
+pub returns-clause-ticket : goal.returns-clause-ticket
+returns-clause-ticket c = search rules
+
+pub returns-clause-sends : goal.returns-clause-sends
+returns-clause-sends c =
+    sends-as _ _ _ _ _ (returns-clause-ticket c)
+    (sends-grant-ack _ _ _ _ (extends-appends _ _ _ (returns-clause-appends c)) (invariant_of-self c).lawful.run)
