@@ -153,9 +153,15 @@ impl<'x, 'y, G: Gate> Work for HomeWorker<'x, 'y, G> {
             mut stop,
             end: _,
         } = self;
-        let end = match shared.locked.home_port(rt, shared.gate, number) {
-            Some(mut port) => home_turns(rt, shared, &mut port, &mut home, &mut mail, &mut stop),
-            None => End::Stopped,
+        let port = shared
+            .locked
+            .home_port(rt, shared.alloc, shared.gate, number);
+        let end = match port {
+            Ok(Some(mut port)) => {
+                home_turns(rt, shared, &mut port, &mut home, &mut mail, &mut stop)
+            }
+            Ok(None) => End::Stopped,
+            Err(_) => End::Memory,
         };
         stop_if_known(end, &mut stop);
         HomeWorker {
