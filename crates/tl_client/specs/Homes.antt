@@ -1,7 +1,7 @@
 -- What a home's turn asks of its bank (this project's own; each channel of a link keeps its order).
 use Rattle.std.specs.Prelude.{◌≡◌, ◌≢◌, ◌⊎◌, ◌≤◌, ℕ, Bool, true, false, List, [], ◌∷◌, ◌++◌, map, length, MatchResult}
 use Rattle.std.specs.List.{filter}
-use Rattle.core.specs.declared.result.Result.{Result}
+use Rattle.std.specs.declared.result.Result.{Result}
 use Rattle.tl_types.specs.Channel.{place_of}
 use Rattle.tl_types.specs.declared.channel.Channel.TheVariants.{A, C, E}
 use Rattle.tl_types.specs.declared.ticket.Ticket.{Ticket}

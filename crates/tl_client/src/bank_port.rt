@@ -95,28 +95,31 @@ impl<'a, R: Wait, G: Gate> HomePort for BankPort<'a, R, G> {
 
     fn accept(&mut self, ticket: Ticket) -> Result<(), Refusal> {
         self.make_room()?;
+        let again = ticket;
         let mut bank = self.enter();
         let answer = bank.accept(ticket);
         self.leave(bank);
-        self.keep(ticket, answer.is_ok());
+        self.keep(again, answer.is_ok());
         answer
     }
 
     fn take_c(&mut self, ticket: Ticket) -> Result<Option<Ticket>, Refusal> {
         self.make_room()?;
+        let again = ticket;
         let mut bank = self.enter();
         let answer = bank.take_c(ticket);
         self.leave(bank);
-        self.keep(ticket, answer.is_ok());
+        self.keep(again, answer.is_ok());
         answer
     }
 
     fn take_grant_ack(&mut self, ticket: Ticket) -> Result<(), Refusal> {
         self.make_room()?;
+        let again = ticket;
         let mut bank = self.enter();
         let answer = bank.take_grant_ack(ticket);
         self.leave(bank);
-        self.keep(ticket, answer.is_ok());
+        self.keep(again, answer.is_ok());
         answer
     }
 
