@@ -1,14 +1,13 @@
 //! A home's port to its bank.
-ghost use Rattle.std.specs.Prelude.{◌≡◌, ◌<◌, ◌++◌, ◌∷◌, [], length, IfErr, IfOk, OnOk};
+ghost use Rattle.std.specs.Prelude.{◌≡◌, ◌<◌, ◌++◌, ◌∷◌, [], length, IfErr, OnOk};
 ghost use Rattle.tl_bank_spec.specs.declared.refusal.Refusal.TheVariants.{Memory as NoMemory};
 ghost use Rattle.tl_client.specs.Homes.{asked};
 
 use crate::gate::{Gate, Who};
 use crate::locked::LockedBank;
-use crate::mail::BATCH;
 use crate::port::{Asked, HomePort};
 use arrayvec::ArrayVec;
-use std::alloc::{AllocError, Global};
+use std::alloc::Global;
 use std::marker::Model;
 use std::sync::{MutexGuard, Wait};
 use tl_bank::{Action, Bank, Refusal, Reply};
@@ -40,16 +39,15 @@ impl<'a, R: Wait, G: Gate> BankPort<'a, R, G> {
         alloc: Global,
         locked: &'a LockedBank,
         gate: &'a G,
-    ) -> Result<BankPort<'a, R, G>, AllocError>
-        ensures { IfOk result (λ p. p ≡ record { bank = locked.now.number; asked = []; room = BATCH }) }
+    ) -> BankPort<'a, R, G>
+        ensures { (result.bank ≡ locked.now.number) × (result.asked ≡ []) }
     {
-        let asked = Vec::with_capacity(alloc, BATCH)?;
-        Ok(BankPort {
+        BankPort {
             rt,
             locked,
             gate,
-            asked,
-        })
+            asked: Vec::new(alloc),
+        }
     }
 
     /// Makes room for one more ticket that is asked.

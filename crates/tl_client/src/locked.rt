@@ -6,7 +6,6 @@ ghost use Rattle.tl_map.specs.Places.{block_at, has_block, place_of};
 use crate::bank_port::BankPort;
 use crate::client_port::ClientPort;
 use crate::gate::Gate;
-use crate::mail::BATCH;
 use std::alloc::{AllocError, Global};
 use std::marker::Model;
 use std::sync::{Mutex, Wait};
@@ -27,6 +26,8 @@ pub(crate) struct LockedBank {
 pub struct Locked {
     geometry: Geometry,
     banks: Vec<LockedBank>,
+    /// For the ports of homes.
+    alloc: Global,
 }
 
 impl Model for Locked {
@@ -53,6 +54,7 @@ impl Locked {
         Ok(Locked {
             geometry,
             banks: locks,
+            alloc,
         })
     }
 
@@ -102,21 +104,18 @@ impl Locked {
     pub fn home_port<'a, R: Wait, G: Gate>(
         &'a self,
         rt: &'a R,
-        alloc: Global,
         gate: &'a G,
         number: BankNo,
-    ) -> Result<Option<BankPort<'a, R, G>>, AllocError>
-        ensures { IfOk result (λ port. MatchOption port (slice_get self.now.numbers number ≢ Some number) (λ p. p ≡ record { bank = number; asked = []; room = BATCH })) }
+    ) -> Option<BankPort<'a, R, G>>
+        ensures { MatchOption result (slice_get self.now.numbers number ≢ Some number) (λ p. (p.bank ≡ number) × (p.asked ≡ [])) }
     {
-        let Some(bank) = self.bank(number) else {
-            return Ok(None);
-        };
-        Ok(Some(BankPort::new(rt, alloc, bank, gate)?))
+        let bank = self.bank(number)?;
+        Some(BankPort::new(rt, self.alloc, bank, gate))
     }
 
     /// The banks again, as many as there are locks.
     pub fn into_banks(self, alloc: Global) -> Result<Vec<Bank>, AllocError>
-        ensures { IfOk result (λ banks. vec_len banks ≡ length self.entry.numbers) }
+        ensures { IfOk result (λ banks. vec_len banks ≡ length self.numbers) }
     {
         let mut banks = Vec::with_capacity(alloc, self.banks.len())?;
         for locked in self.banks {

@@ -16,13 +16,14 @@ use tl_client::{Asked, Free, Home, HomePort, Mail, Turn};
 use tl_tickets::{Receiver, Ringer, Sender};
 use tl_types::{BankNo, BlockNo, Channel, ClientId, Ticket};
 
-/// A port to no bank: it counts its calls, keeps what was asked, and refuses on channel A as long as it is told to. So many blocks, from
-/// 0 on, have an open register, none of which has a next step; those that were asked for one are kept.
+/// A port to no bank: it counts its calls, keeps what was asked, and on channel A refuses, or has no memory, as long as it is told
+/// to. So many blocks, from 0 on, have an open register, none of which has a next step; those asked for one are kept.
 #[derive(Drop)]
 struct Recorder {
     calls: Cell<u32>,
     asked: Vec<Asked>,
     refuses: bool,
+    has_memory: bool,
     open: u32,
     advanced: Vec<BlockNo>,
 }
@@ -52,6 +53,9 @@ impl HomePort for Recorder {
     }
 
     fn accept(&mut self, ticket: Ticket) -> Result<(), Refusal> {
+        if !self.has_memory {
+            return Err(Refusal::Memory);
+        }
         self.note(ticket, !self.refuses)?;
         if self.refuses {
             Err(Refusal::BlockBusy)
@@ -171,6 +175,26 @@ fn serves_in_order<R: Wait + Clock + Abort>(
     assert!(rt; were_asked(port, &[]));
 }
 
+/// A turn that finds no memory leaves what it did not come to before what comes later.
+fn goes_on_after_memory<R: Wait + Clock + Abort>(
+    rt: &R,
+    home: &mut Home,
+    port: &mut Recorder,
+    mail: &mut Mail<'_>,
+    put: &mut Sender<'_>,
+    bell: &mut Ringer<'_>,
+) {
+    for (serial, turn) in [(2, Turn::Memory), (3, Turn::Memory), (4, Turn::Worked)] {
+        port.has_memory = serial == 4;
+        let was_put = put.put(rt, ticket(Channel::A, serial)).is_ok();
+        assert!(rt; was_put);
+        bell.ring();
+        assert_eq!(rt; home.turn(rt, port, &Free, 1, mail), turn);
+    }
+    assert!(rt; were_asked(port, &[2, 3, 4]));
+    assert_eq!(rt; home.turn(rt, port, &Free, 1, mail), Turn::Worked);
+}
+
 /// Once all clients are done a home asks once whether its bank is quiet, and then no more.
 fn asks_once_at_the_end<R: Wait + Clock + Abort>(
     rt: &R,
@@ -203,13 +227,16 @@ fn take_turns<R: Wait + Clock + Abort>(
         Ringer::new(&done, hears),
     )?;
     starts(rt, home, port, &mut mail);
-    let all_were_put = put_all(rt, &mut Sender::new(&inbox, sender));
+    let mut put = Sender::new(&inbox, sender);
+    let all_were_put = put_all(rt, &mut put);
     assert!(rt; all_were_put);
     // Tickets that nobody rang for stay in the inbox.
     assert_eq!(rt; home.turn(rt, port, &Free, 1, &mut mail), Turn::Idle);
     assert_eq!(rt; port.calls.get(), 1);
-    Ringer::new(&bell, other).ring();
+    let mut bell = Ringer::new(&bell, other);
+    bell.ring();
     serves_in_order(rt, home, port, &mut mail);
+    goes_on_after_memory(rt, home, port, &mut mail, &mut put, &mut bell);
     Ringer::new(&done, rings).ring();
     asks_once_at_the_end(rt, home, port, &mut mail);
     Some(())
@@ -221,6 +248,7 @@ fn a_home_asks_in_order_and_idles_quietly(rt: HostRuntime) -> Result<(), Fail> {
         calls: Cell::new(0),
         asked: Vec::new(rt.alloc()),
         refuses: true,
+        has_memory: true,
         open: 0,
         advanced: Vec::new(rt.alloc()),
     };

@@ -56,7 +56,7 @@ fn take_turns<R: Wait + Clock>(
     let client = ClientId::new(0);
     let mut home = Home::new(alloc, BankNo::new(0)).ok()?;
     let mut port = locked.client_port(rt, alloc, gate, client, 4).ok()?;
-    let mut home_port = locked.home_port(rt, alloc, gate, BankNo::new(0)).ok()??;
+    let mut home_port = locked.home_port(rt, gate, BankNo::new(0))?;
     for _ in 0..TURNS {
         let ours = agent.turn(rt, &mut port, gate, 1, client_mail);
         let theirs = home.turn(rt, &mut home_port, gate, 1, home_mail);

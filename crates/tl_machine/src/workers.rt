@@ -153,15 +153,9 @@ impl<'x, 'y, G: Gate> Work for HomeWorker<'x, 'y, G> {
             mut stop,
             end: _,
         } = self;
-        let port = shared
-            .locked
-            .home_port(rt, shared.alloc, shared.gate, number);
-        let end = match port {
-            Ok(Some(mut port)) => {
-                home_turns(rt, shared, &mut port, &mut home, &mut mail, &mut stop)
-            }
-            Ok(None) => End::Stopped,
-            Err(_) => End::Memory,
+        let end = match shared.locked.home_port(rt, shared.gate, number) {
+            Some(mut port) => home_turns(rt, shared, &mut port, &mut home, &mut mail, &mut stop),
+            None => End::Stopped,
         };
         stop_if_known(end, &mut stop);
         HomeWorker {
