@@ -86,3 +86,12 @@ fewer old new t order p next =
     let is : p.0 ++ new.rest ≡ old.rest = rest-passed old new order p in
     let one : new.rest ≡ t ∷ next.0 = next.1 in
     grind (arith, common_steps, is, one)
+
+-- tickets that were laid behind all that wait, in three parts
+pub laid : (w0 w1 w2 w3 : Round) (one two three : List Ticket) → w1.kept ≡ w0.kept → w1.rest ≡ w0.rest ++ one → w2.kept ≡ w1.kept → w2.rest ≡ w1.rest ++ two
+    → w3.kept ≡ w2.kept → w3.rest ≡ w2.rest ++ three → all_of w3 ≡ all_of w0 ++ (one ++ (two ++ three))
+laid w0 w1 w2 w3 one two three k1 r1 k2 r2 k3 r3 =
+    ap (λ (k : List Ticket). k ++ w3.rest) (k3 ∙ k2 ∙ k1)
+    ∙ ap (λ (r : List Ticket). w0.kept ++ r) (r3 ∙ ap (λ (r : List Ticket). r ++ three) (r2 ∙ ap (λ (r : List Ticket). r ++ two) r1))
+    ∙ ap (λ (r : List Ticket). w0.kept ++ r) (append_assoc (w0.rest ++ one) two three ∙ append_assoc w0.rest one (two ++ three))
+    ∙ sym (append_assoc w0.kept w0.rest (one ++ (two ++ three)))
