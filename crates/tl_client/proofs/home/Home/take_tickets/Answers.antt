@@ -37,7 +37,6 @@ returns g c =
       bank ∙ ap (λ (v : Waits). v.bank) c.self.view_is,
       (
         taken,
-        (
           subst (λ (v : Waits). Took (OfBank v.bank c.args.clients) c.args.mail.now.inbox [] c.take_tickets.new.self.inbox taken) c.self.view_is
               (subst (λ (b : List Ticket). Took (OfBank c.self.inside.bank c.args.clients) c.args.mail.now.inbox b c.take_tickets.new.self.inbox taken)
               (c.reserve.ensures.items ∙ c.clear.ensures.items) c.take_tickets.ensures.taken),
@@ -52,6 +51,5 @@ returns g c =
               c.push_all-3.ensures.kept
               (c.push_all-3.ensures.rest ∙ ap (λ (ts : List Ticket). c.push_all-2.new.self.rest ++ filter (λ (t : Ticket). is_on (place_of A) t) ts) three)
           ∙ ap (λ (v : Waits). all_of v.waiting ++ in_order taken) c.self.view_is,
-        ),
       ),
     )
