@@ -1,3 +1,4 @@
 pub mod AnswerLaws
 pub mod RoundLaws
 pub mod WayLaws
+pub mod ServeLaws

@@ -2,3 +2,5 @@ pub mod Answers
 pub mod Ways
 pub mod Rounds
 pub mod Lanes
+pub mod Homes
+pub mod Locks

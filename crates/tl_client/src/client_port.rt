@@ -175,4 +175,8 @@ impl<'a, R: Wait, G: Gate> Port for ClientPort<'a, R, G> {
         self.leave(number, bank);
         oldest
     }
+
+    fn succeeded(&self) -> &[Success] {
+        &self.successes
+    }
 }

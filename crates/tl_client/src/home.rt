@@ -1,5 +1,6 @@
 //! A bank's home.
-ghost use Rattle.std.specs.Prelude.{◌≡◌, ◌≤◌};
+ghost use Rattle.std.specs.Prelude.{◌≡◌, ◌≤◌, ◌++◌, ◌∷◌, [], IfOk, OnOk};
+ghost use Rattle.tl_client.specs.Homes.{Serves, Takes, Works, asked};
 ghost use Rattle.tl_client.specs.declared.turn.Turn.{Turn};
 
 use crate::gate::Gate;
@@ -11,12 +12,13 @@ use crate::rest::Rest;
 use crate::turn::Turn;
 use crate::waiting::Waiting;
 use std::alloc::{AllocError, Global};
+use std::marker::Model;
 use std::sync::Wait;
 use std::time::Clock;
 use tl_bank::{Action, Refusal};
 use tl_types::{BankNo, BlockNo, Channel, Ticket};
 
-/// A bank's home.
+/// A bank's home. Contracts see its bank, and the tickets that wait.
 #[derive(Drop)]
 pub struct Home {
     bank: BankNo,
@@ -31,9 +33,19 @@ pub struct Home {
     has_changed: bool,
 }
 
+impl Model for Home {
+    ghost use Rattle.tl_client.specs.Homes.{Waits};
+
+    ghost Value = { Waits };
+
+    ghost view = { λ h. record { bank = h.bank; waiting = h.waiting } };
+}
+
 impl Home {
     /// The home of a bank, which has no tickets.
-    pub fn new(alloc: Global, bank: BankNo) -> Result<Home, AllocError> {
+    pub fn new(alloc: Global, bank: BankNo) -> Result<Home, AllocError>
+        ensures { IfOk result (λ h. h ≡ record { bank = bank; waiting = record { kept = []; rest = []; room = BATCH } }) }
+    {
         Ok(Home {
             bank,
             taken: Vec::with_capacity(alloc, BATCH)?,
@@ -45,7 +57,9 @@ impl Home {
         })
     }
 
-    /// One turn, over any port and gate. An idle turn asks the port nothing, and takes no ticket.
+    /// One turn, over any port and gate. What it takes of its inbox, at most 64 tickets, joins those that wait: on E, then C, then A. It
+    /// asks its bank each of them once, in order, but none of whose client and channel an earlier one was refused; the refused and those
+    /// behind them wait on. An idle turn, and one that finds all done, asks none and takes none.
     pub fn turn<P: HomePort, G: Gate, R: Wait + Clock>(
         &mut self,
         rt: &R,
@@ -54,8 +68,9 @@ impl Home {
         clients: u32,
         mail: &mut Mail<'_>,
     ) -> Turn
-        ensures idle { result ≡ Turn.Idle → mail.new.inbox ≡ mail.old.inbox }
-        ensures finished { result ≡ Turn.Finished → clients ≤ mail.new.done.seat.seen }
+        ensures works { result ≡ Turn.Worked → Works clients mail.old.inbox self.old mail.new.inbox self.new (P.asked port.new) }
+        ensures idle { result ≡ Turn.Idle → (self.new ≡ self.old) × (P.asked port.new ≡ P.asked port.old) × (mail.new.inbox ≡ mail.old.inbox) }
+        ensures finished { result ≡ Turn.Finished → (self.new ≡ self.old) × (P.asked port.new ≡ P.asked port.old) × (clients ≤ mail.new.done.seat.seen) }
     {
         let is_due = self.progress.is_due() || !self.waiting.is_empty() || mail.has_back();
         mail.send_again(rt);
@@ -88,7 +103,10 @@ impl Home {
         port: &mut P,
         clients: u32,
         mail: &mut Mail<'_>,
-    ) -> Result<(), AllocError> {
+    ) -> Result<(), AllocError>
+        ensures { OnOk result (Works clients mail.old.inbox self.old mail.new.inbox self.new (P.asked port.new)) }
+    {
+        port.begin();
         self.take_tickets(rt, clients, mail)?;
         self.serve_tickets(rt, port, mail)?;
         self.advance_registers(rt, port, mail)?;
@@ -102,7 +120,9 @@ impl Home {
         rt: &R,
         clients: u32,
         mail: &mut Mail<'_>,
-    ) -> Result<(), AllocError> {
+    ) -> Result<(), AllocError>
+        ensures { OnOk result (Takes clients mail.old.inbox self.old mail.new.inbox self.new) }
+    {
         self.progress.begin();
         self.taken.clear();
         self.taken.reserve(BATCH)?;
@@ -123,12 +143,12 @@ impl Home {
         rt: &R,
         port: &mut P,
         mail: &mut Mail<'_>,
-    ) -> Result<(), AllocError> {
+    ) -> Result<(), AllocError>
+        ensures served { OnOk result (Serves self.old (P.asked port.old) self.new (P.asked port.new)) }
+        ensures inbox { mail.new.inbox ≡ mail.old.inbox }
+    {
         self.waiting.begin();
-        for _ in 0..self.waiting.len() {
-            let Some(ticket) = self.waiting.next() else {
-                return Ok(());
-            };
+        while let Some(ticket) = self.waiting.next() {
             if self.serve(rt, port, mail, ticket)? {
                 self.waiting.served();
             } else {
@@ -145,7 +165,11 @@ impl Home {
         port: &mut P,
         mail: &mut Mail<'_>,
         ticket: Ticket,
-    ) -> Result<bool, AllocError> {
+    ) -> Result<bool, AllocError>
+        ensures asked { IfOk result (λ served. P.asked port.new ≡ P.asked port.old ++ asked ticket served ∷ []) }
+        ensures same { self.new ≡ self.old }
+        ensures inbox { mail.new.inbox ≡ mail.old.inbox }
+    {
         mail.make_room()?;
         let answer = match ticket.channel {
             Channel::E => port.take_grant_ack(ticket).map(|()| None),
@@ -174,7 +198,11 @@ impl Home {
         rt: &R,
         port: &mut P,
         mail: &mut Mail<'_>,
-    ) -> Result<(), AllocError> {
+    ) -> Result<(), AllocError>
+        ensures asked { P.asked port.new ≡ P.asked port.old }
+        ensures same { self.new ≡ self.old }
+        ensures inbox { mail.new.inbox ≡ mail.old.inbox }
+    {
         if !self.may_be_open {
             return Ok(());
         }
@@ -193,7 +221,11 @@ impl Home {
         port: &mut P,
         mail: &mut Mail<'_>,
         block: BlockNo,
-    ) -> Result<(), AllocError> {
+    ) -> Result<(), AllocError>
+        ensures asked { P.asked port.new ≡ P.asked port.old }
+        ensures same { self.new ≡ self.old }
+        ensures inbox { mail.new.inbox ≡ mail.old.inbox }
+    {
         mail.make_room()?;
         let action = match port.advance(block) {
             Ok(action) => action,
@@ -212,7 +244,10 @@ impl Home {
     }
 
     /// The memory serves what was asked of a block, and home takes its answer.
-    fn ask_memory<P: HomePort>(&mut self, port: &mut P, block: BlockNo) -> Result<(), AllocError> {
+    fn ask_memory<P: HomePort>(&mut self, port: &mut P, block: BlockNo) -> Result<(), AllocError>
+        ensures asked { P.asked port.new ≡ P.asked port.old }
+        ensures same { self.new ≡ self.old }
+    {
         if let Err(refusal) = port.serve_memory(block) {
             return self.progress.refuse(refusal);
         }

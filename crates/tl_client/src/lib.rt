@@ -26,7 +26,7 @@ pub use home::Home;
 pub use links::Links;
 pub use locked::Locked;
 pub use mail::Mail;
-pub use port::{HomePort, Port, Success};
+pub use port::{Asked, HomePort, Port, Success};
 pub use sending::Sending;
 pub use tl_words::Command;
 pub use turn::Turn;

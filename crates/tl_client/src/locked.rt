@@ -1,11 +1,13 @@
 //! The banks, each behind a lock of its own.
-ghost use Rattle.std.specs.Prelude.{◌≡◌, true, IfSome};
+ghost use Rattle.std.specs.Prelude.{◌≡◌, ◌≢◌, [], true, length, slice_get, vec_len, IfOk, MatchOption, Some};
+ghost use Rattle.tl_client.specs.Locks.{numbers_of};
 ghost use Rattle.tl_map.specs.Places.{block_at, has_block, place_of};
 
 use crate::bank_port::BankPort;
 use crate::client_port::ClientPort;
 use crate::gate::Gate;
 use std::alloc::{AllocError, Global};
+use std::marker::Model;
 use std::sync::{Mutex, Wait};
 use tl_bank::Bank;
 use tl_map::Geometry;
@@ -18,16 +20,31 @@ pub(crate) struct LockedBank {
     pub(crate) bank: Mutex<Bank>,
 }
 
-/// The banks of a geometry, each behind a lock of its own.
+/// The banks of a geometry, each behind a lock of its own. Contracts see the geometry, and the number beside each lock: what is behind a
+/// lock is known by the bank's type alone.
 #[derive(Drop)]
 pub struct Locked {
     geometry: Geometry,
     banks: Vec<LockedBank>,
+    /// For the ports of homes.
+    alloc: Global,
+}
+
+impl Model for Locked {
+    ghost use Rattle.std.specs.Prelude.{map};
+    ghost use Rattle.tl_client.specs.Locks.{Locks};
+    ghost use Rattle.tl_client.specs.declared.locked.LockedBank.{LockedBank};
+
+    ghost Value = { Locks };
+
+    ghost view = { λ l. record { geometry = l.geometry; numbers = map (λ (b : LockedBank). b.number) l.banks.items } };
 }
 
 impl Locked {
     /// The banks behind locks, in the order of their numbers.
-    pub fn new(alloc: Global, geometry: Geometry, banks: Vec<Bank>) -> Result<Locked, AllocError> {
+    pub fn new(alloc: Global, geometry: Geometry, banks: Vec<Bank>) -> Result<Locked, AllocError>
+        ensures { IfOk result (λ l. l ≡ record { geometry = geometry; numbers = numbers_of banks.items }) }
+    {
         let mut locks = Vec::with_capacity(alloc, banks.len())?;
         for bank in banks {
             let number = bank.number();
@@ -37,6 +54,7 @@ impl Locked {
         Ok(Locked {
             geometry,
             banks: locks,
+            alloc,
         })
     }
 
@@ -58,9 +76,9 @@ impl Locked {
         }
     }
 
-    /// The bank with a number.
+    /// The bank with a number, where its lock is the one with that place.
     pub(crate) fn bank(&self, number: BankNo) -> Option<&LockedBank>
-        ensures { IfSome result (λ bank. bank.now.number ≡ number) }
+        ensures { MatchOption result (slice_get self.now.numbers number ≢ Some number) (λ bank. bank.now.number ≡ number) }
     {
         let bank = self.banks.get(number.index())?;
         if bank.number.number() == number.number() {
@@ -82,19 +100,23 @@ impl Locked {
         ClientPort::new(rt, alloc, self, gate, client, commands)
     }
 
-    /// A port for the home of a bank, if there is one with this number.
+    /// A port for the home of a bank, if there is one with this number, at which nothing was asked yet.
     pub fn home_port<'a, R: Wait, G: Gate>(
         &'a self,
         rt: &'a R,
         gate: &'a G,
         number: BankNo,
-    ) -> Option<BankPort<'a, R, G>> {
+    ) -> Option<BankPort<'a, R, G>>
+        ensures { MatchOption result (slice_get self.now.numbers number ≢ Some number) (λ p. (p.bank ≡ number) × (p.asked ≡ [])) }
+    {
         let bank = self.bank(number)?;
-        Some(BankPort::new(rt, bank, gate))
+        Some(BankPort::new(rt, self.alloc, bank, gate))
     }
 
-    /// The banks again.
-    pub fn into_banks(self, alloc: Global) -> Result<Vec<Bank>, AllocError> {
+    /// The banks again, as many as there are locks.
+    pub fn into_banks(self, alloc: Global) -> Result<Vec<Bank>, AllocError>
+        ensures { IfOk result (λ banks. vec_len banks ≡ length self.numbers) }
+    {
         let mut banks = Vec::with_capacity(alloc, self.banks.len())?;
         for locked in self.banks {
             banks.push(locked.bank.into_inner())?;

@@ -1,6 +1,7 @@
 //! The inboxes and bells that one worker uses.
 ghost use Rattle.std.specs.Prelude.{◌≡◌, ◌++◌, ◌∷◌, ◌+◌, ◌≤◌, [], length, slice_index_or, slice_set, vec_len, vec_capacity, OnOk};
 ghost use Rattle.std.specs.List.{All};
+ghost use Rattle.tl_client.specs.Homes.{Took};
 ghost use Rattle.tl_client.specs.Ways.{HasRoom, sent_by};
 
 use crate::links::Links;
@@ -85,6 +86,7 @@ impl<'a> Mail<'a> {
     pub fn make_room(&mut self) -> Result<(), AllocError>
         ensures room { OnOk result (All HasRoom self.new.ways) }
         ensures sent { sent_by self.new ≡ sent_by self.old }
+        ensures inbox { self.new.inbox ≡ self.old.inbox }
     {
         for to in 0..self.sending.len() {
             self.sending[to].make_room()?;
@@ -95,7 +97,8 @@ impl<'a> Mail<'a> {
     /// Sends a ticket to the receiver with this number, if there is one.
     pub fn send<R: Wait>(&mut self, rt: &R, to: usize, ticket: Ticket)
         requires { All HasRoom self.old.ways }
-        ensures { sent_by self.new ≡ slice_set (sent_by self.old) to (slice_index_or (sent_by self.old) to [] ++ ticket ∷ []) }
+        ensures sent { sent_by self.new ≡ slice_set (sent_by self.old) to (slice_index_or (sent_by self.old) to [] ++ ticket ∷ []) }
+        ensures inbox { self.new.inbox ≡ self.old.inbox }
     {
         if to >= self.sending.len() {
             return;
@@ -123,6 +126,7 @@ impl<'a> Mail<'a> {
         taken: &mut Vec<Ticket>,
     ) -> bool
         requires { vec_len taken.old + BATCH ≤ vec_capacity taken.old }
+        ensures taken { Took links.now self.old.inbox taken.old.items self.new.inbox taken.new.items }
         ensures few { length taken.new.items ≤ length taken.old.items + BATCH }
         ensures sent { sent_by self.new ≡ sent_by self.old }
     {

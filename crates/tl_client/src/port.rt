@@ -1,5 +1,7 @@
 //! The calls through which a client's agent and a bank's home reach the banks.
 ghost use Rattle.std.specs.Prelude.{◌≡◌, ◌++◌, ◌∷◌, [], List, MatchResult};
+ghost use Rattle.tl_client.specs.Homes.{Asks};
+ghost use Rattle.tl_client.specs.declared.port.Asked.{Asked};
 ghost use Rattle.tl_client.specs.declared.port.Success.{Success};
 ghost use Rattle.tl_client.specs.declared.port.Success.TheVariants.{Loaded as WasLoaded, Stored as WasStored};
 
@@ -27,6 +29,13 @@ pub enum Success {
         when: When,
         stamp: u64,
     },
+}
+
+/// A ticket that a home asked, and whether it was served.
+#[derive(Clone, Copy, Debug, PartialEq, Eq)]
+pub struct Asked {
+    pub ticket: Ticket,
+    pub served: bool,
 }
 
 /// A client's calls. `successes` is the list of the loads and stores that succeeded at this port.
@@ -81,23 +90,40 @@ pub trait Port {
 
     /// Of a client's copies in a bank, the one that was granted longest ago.
     fn oldest_copy(&self, client: ClientId, bank: BankNo) -> Option<BlockNo>;
+
+    /// The loads and stores that succeeded at this port, in order.
+    fn succeeded(&self) -> &[Success]
+        ensures { result.now ≡ successes self.now };
 }
 
-/// The calls of a bank's home.
+/// The calls of a bank's home. `asked` is the list of the tickets that were asked in a turn, in order, each with whether it was served.
 pub trait HomePort {
-    fn accept(&mut self, ticket: Ticket) -> Result<(), Refusal>;
+    ghost asked: { Self → List Asked };
 
-    fn take_c(&mut self, ticket: Ticket) -> Result<Option<Ticket>, Refusal>;
+    /// A turn begins, in which nothing was asked yet.
+    fn begin(&mut self)
+        ensures { asked self.new ≡ [] };
 
-    fn take_grant_ack(&mut self, ticket: Ticket) -> Result<(), Refusal>;
+    fn accept(&mut self, ticket: Ticket) -> Result<(), Refusal>
+        ensures { Asks ticket result (asked self.old) (asked self.new) };
 
-    fn advance(&mut self, block: BlockNo) -> Result<Action, Refusal>;
+    fn take_c(&mut self, ticket: Ticket) -> Result<Option<Ticket>, Refusal>
+        ensures { Asks ticket result (asked self.old) (asked self.new) };
 
-    fn evict(&mut self, block: BlockNo) -> Result<(), Refusal>;
+    fn take_grant_ack(&mut self, ticket: Ticket) -> Result<(), Refusal>
+        ensures { Asks ticket result (asked self.old) (asked self.new) };
 
-    fn serve_memory(&mut self, block: BlockNo) -> Result<Reply, Refusal>;
+    fn advance(&mut self, block: BlockNo) -> Result<Action, Refusal>
+        ensures { asked self.new ≡ asked self.old };
 
-    fn take_memory(&mut self, block: BlockNo) -> Result<(), Refusal>;
+    fn evict(&mut self, block: BlockNo) -> Result<(), Refusal>
+        ensures { asked self.new ≡ asked self.old };
+
+    fn serve_memory(&mut self, block: BlockNo) -> Result<Reply, Refusal>
+        ensures { asked self.new ≡ asked self.old };
+
+    fn take_memory(&mut self, block: BlockNo) -> Result<(), Refusal>
+        ensures { asked self.new ≡ asked self.old };
 
     /// The own blocks of open registers, by rising number.
     fn open_blocks(&self) -> ArrayVec<BlockNo, 8>;

@@ -1,4 +1,7 @@
 //! What a turn has come to so far.
+ghost use Rattle.std.specs.Prelude.{◌≢◌, OnOk};
+ghost use Rattle.tl_bank_spec.specs.declared.refusal.Refusal.TheVariants.{Memory};
+
 use std::alloc::AllocError;
 use tl_bank::Refusal;
 
@@ -46,7 +49,9 @@ impl Progress {
     }
 
     /// A call was refused. Want of memory is an error, and where a channel was full the next turn asks again.
-    pub(crate) fn refuse(&mut self, refusal: Refusal) -> Result<(), AllocError> {
+    pub(crate) fn refuse(&mut self, refusal: Refusal) -> Result<(), AllocError>
+        ensures { OnOk result (refusal ≢ Memory) }
+    {
         match refusal {
             Refusal::Memory => return Err(AllocError),
             Refusal::LinkFull => self.again = true,

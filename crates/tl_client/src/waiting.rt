@@ -73,16 +73,16 @@ impl Waiting {
         self.rest.reserve(self.kept.len() + count)
     }
 
-    /// The tickets of a channel join them, in order, behind all that this round has kept.
+    /// The tickets of a channel join them, in order, behind all that wait.
     pub fn push_all(&mut self, tickets: &[Ticket], channel: Channel)
         requires { length self.old.kept + length self.old.rest + length tickets.now ≤ self.old.room }
-        ensures kept { self.new.kept ≡ self.old.kept ++ filter (λ t. is_on (place_of channel) t) tickets.now }
-        ensures rest { self.new.rest ≡ self.old.rest }
-        ensures room { (self.new.room ≡ self.old.room) × (length self.new.kept ≤ length self.old.kept + length tickets.now) }
+        ensures rest { self.new.rest ≡ self.old.rest ++ filter (λ t. is_on (place_of channel) t) tickets.now }
+        ensures kept { self.new.kept ≡ self.old.kept }
+        ensures room { (self.new.room ≡ self.old.room) × (length self.new.rest ≤ length self.old.rest + length tickets.now) }
     {
         for ticket in tickets {
             if ticket.channel.index() == channel.index() {
-                self.kept.push_back_reserved(*ticket);
+                self.rest.push_back_reserved(*ticket);
             }
         }
     }

@@ -1,4 +1,8 @@
 //! What a home's turns ask, and in which order.
+ghost use Rattle.std.specs.Prelude.{◌≡◌, ◌++◌, ◌∷◌, [], MatchResult};
+ghost use Rattle.tl_bank_spec.specs.declared.refusal.Refusal.TheVariants.{Memory as NoMemory};
+ghost use Rattle.tl_client.specs.Homes.{asked};
+
 use crate::mails::{mail, open, open_bell};
 use arrayvec::ArrayVec;
 use std::alloc::Global;
@@ -8,22 +12,32 @@ use std::sync::Wait;
 use std::test::Fail;
 use std::time::Clock;
 use tl_bank::{Action, Refusal, Reply};
-use tl_client::{Free, Home, HomePort, Mail, Turn};
+use tl_client::{Asked, Free, Home, HomePort, Mail, Turn};
 use tl_tickets::{Receiver, Ringer, Sender};
 use tl_types::{BankNo, BlockNo, Channel, ClientId, Ticket};
 
-/// A port to no bank: it counts its calls, keeps the serials that were asked, and refuses on channel A as long as it is told to.
+/// A port to no bank: it counts its calls, keeps what was asked, and on channel A refuses, or has no memory, as long as it is told
+/// to. So many blocks, from 0 on, have an open register, none of which has a next step; those asked for one are kept.
 #[derive(Drop)]
 struct Recorder {
     calls: Cell<u32>,
-    asked: Vec<u64>,
+    asked: Vec<Asked>,
     refuses: bool,
+    has_memory: bool,
+    open: u32,
+    advanced: Vec<BlockNo>,
 }
 
 impl Recorder {
-    fn note(&mut self, ticket: Ticket) {
+    /// Keeps a ticket that was asked, and whether it was served; want of memory is a refusal.
+    fn note(&mut self, ticket: Ticket, served: bool) -> Result<(), Refusal>
+        ensures { MatchResult result (λ _. self.new.asked.items ≡ self.old.asked.items ++ asked ticket served ∷ []) (λ refusal. refusal ≡ NoMemory) }
+    {
         self.count();
-        let _ = self.asked.push(ticket.serial);
+        if self.asked.push(Asked { ticket, served }).is_err() {
+            return Err(Refusal::Memory);
+        }
+        Ok(())
     }
 
     fn count(&self) {
@@ -32,8 +46,17 @@ impl Recorder {
 }
 
 impl HomePort for Recorder {
+    ghost asked = { λ p. p.asked.items };
+
+    fn begin(&mut self) {
+        self.asked.clear();
+    }
+
     fn accept(&mut self, ticket: Ticket) -> Result<(), Refusal> {
-        self.note(ticket);
+        if !self.has_memory {
+            return Err(Refusal::Memory);
+        }
+        self.note(ticket, !self.refuses)?;
         if self.refuses {
             Err(Refusal::BlockBusy)
         } else {
@@ -42,17 +65,17 @@ impl HomePort for Recorder {
     }
 
     fn take_c(&mut self, ticket: Ticket) -> Result<Option<Ticket>, Refusal> {
-        self.note(ticket);
+        self.note(ticket, true)?;
         Ok(None)
     }
 
     fn take_grant_ack(&mut self, ticket: Ticket) -> Result<(), Refusal> {
-        self.note(ticket);
-        Ok(())
+        self.note(ticket, true)
     }
 
-    fn advance(&mut self, _block: BlockNo) -> Result<Action, Refusal> {
+    fn advance(&mut self, block: BlockNo) -> Result<Action, Refusal> {
         self.count();
+        let _ = self.advanced.push(block);
         Err(Refusal::NotYet)
     }
 
@@ -73,7 +96,11 @@ impl HomePort for Recorder {
 
     fn open_blocks(&self) -> ArrayVec<BlockNo, 8> {
         self.count();
-        ArrayVec::new()
+        let mut blocks = ArrayVec::new();
+        for number in 0..self.open {
+            let _ = blocks.try_push(BlockNo::new(number));
+        }
+        blocks
     }
 
     fn is_quiet(&self) -> bool {
@@ -120,7 +147,14 @@ fn put_all<R: Wait>(rt: &R, put: &mut Sender<'_>) -> bool {
     true
 }
 
-/// E, then C, then the first of A, which is refused; the second is not asked before it, and the one on D is dropped.
+/// Whether just the tickets with these serials were asked in the last turn, in order.
+fn were_asked(port: &Recorder, serials: &[u64]) -> bool {
+    let asked = port.asked.iter().map(|asked| asked.ticket.serial);
+    asked.eq(serials.iter().copied())
+}
+
+/// E, then C, then the first of A, which is refused; the second is not asked before it, and the one on D is dropped. Once a ticket on A is
+/// accepted, each open register is asked for one step.
 fn serves_in_order<R: Wait + Clock + Abort>(
     rt: &R,
     home: &mut Home,
@@ -128,12 +162,36 @@ fn serves_in_order<R: Wait + Clock + Abort>(
     mail: &mut Mail<'_>,
 ) {
     assert_eq!(rt; home.turn(rt, port, &Free, 1, mail), Turn::Worked);
-    assert_eq!(rt; port.asked.as_slice(), [9, 7, 0].as_slice());
+    assert!(rt; were_asked(port, &[9, 7, 0]));
     assert_eq!(rt; home.turn(rt, port, &Free, 1, mail), Turn::Worked);
-    assert_eq!(rt; port.asked.as_slice(), [9, 7, 0, 0].as_slice());
+    assert!(rt; were_asked(port, &[0]));
     port.refuses = false;
+    port.open = 2;
     assert_eq!(rt; home.turn(rt, port, &Free, 1, mail), Turn::Worked);
-    assert_eq!(rt; port.asked.as_slice(), [9, 7, 0, 0, 0, 1].as_slice());
+    assert!(rt; were_asked(port, &[0, 1]));
+    assert_eq!(rt; port.advanced.as_slice(), [BlockNo::new(0), BlockNo::new(1)].as_slice());
+    port.open = 0;
+    assert_eq!(rt; home.turn(rt, port, &Free, 1, mail), Turn::Worked);
+    assert!(rt; were_asked(port, &[]));
+}
+
+/// A turn that finds no memory leaves what it did not come to before what comes later.
+fn goes_on_after_memory<R: Wait + Clock + Abort>(
+    rt: &R,
+    home: &mut Home,
+    port: &mut Recorder,
+    mail: &mut Mail<'_>,
+    put: &mut Sender<'_>,
+    bell: &mut Ringer<'_>,
+) {
+    for (serial, turn) in [(2, Turn::Memory), (3, Turn::Memory), (4, Turn::Worked)] {
+        port.has_memory = serial == 4;
+        let was_put = put.put(rt, ticket(Channel::A, serial)).is_ok();
+        assert!(rt; was_put);
+        bell.ring();
+        assert_eq!(rt; home.turn(rt, port, &Free, 1, mail), turn);
+    }
+    assert!(rt; were_asked(port, &[2, 3, 4]));
     assert_eq!(rt; home.turn(rt, port, &Free, 1, mail), Turn::Worked);
 }
 
@@ -169,13 +227,16 @@ fn take_turns<R: Wait + Clock + Abort>(
         Ringer::new(&done, hears),
     )?;
     starts(rt, home, port, &mut mail);
-    let all_were_put = put_all(rt, &mut Sender::new(&inbox, sender));
+    let mut put = Sender::new(&inbox, sender);
+    let all_were_put = put_all(rt, &mut put);
     assert!(rt; all_were_put);
     // Tickets that nobody rang for stay in the inbox.
     assert_eq!(rt; home.turn(rt, port, &Free, 1, &mut mail), Turn::Idle);
     assert_eq!(rt; port.calls.get(), 1);
-    Ringer::new(&bell, other).ring();
+    let mut bell = Ringer::new(&bell, other);
+    bell.ring();
     serves_in_order(rt, home, port, &mut mail);
+    goes_on_after_memory(rt, home, port, &mut mail, &mut put, &mut bell);
     Ringer::new(&done, rings).ring();
     asks_once_at_the_end(rt, home, port, &mut mail);
     Some(())
@@ -187,6 +248,9 @@ fn a_home_asks_in_order_and_idles_quietly(rt: HostRuntime) -> Result<(), Fail> {
         calls: Cell::new(0),
         asked: Vec::new(rt.alloc()),
         refuses: true,
+        has_memory: true,
+        open: 0,
+        advanced: Vec::new(rt.alloc()),
     };
     let mut home = Home::new(rt.alloc(), BankNo::new(0))?;
     let all = take_turns(&rt, rt.alloc(), &mut home, &mut port);

@@ -15,4 +15,5 @@ loop-to-preserved c = (
   sent-same c.loop-to.self-inside.sending.items c.loop-to.to c.index_mut.result.now c.make_room.new.self _ (ap sent_on c.make_room.ensures.same) c.index_mut.ensures.value ∙ c.loop-to.invariant.0,
   c.loop-to.invariant.1,
   AllWithin-more_set c.loop-to.self-inside.sending.items c.loop-to.to c.make_room.new.self (grind (arith, common_steps)) HasRoom c.loop-to.invariant.2 c.in_ok-make_room.ensures.room,
+  c.loop-to.invariant.3,
 )

@@ -9,3 +9,4 @@ invariant-loop-to l =
     (map sent_on l.self-inside.sending.items ≡ map sent_on l.initial.self-inside.sending.items)
     × (vec_len l.self-inside.sending ≡ vec_len l.initial.self-inside.sending)
     × AllWithin HasRoom l.self-inside.sending.items 0 l.to
+    × (l.self-inside.inbox ≡ l.initial.self-inside.inbox)

@@ -5,7 +5,7 @@ use Rattle.tl_client.specs.Ways.{sent_by}
 use Rattle.tl_client.proofs.WayLaws.{sent-more}
 use Rattle.tl_client.proofs.mail.Mail.send.Goals as goal
 
-pub returns : goal.returns
-returns g c =
+pub returns-clause-sent : goal.returns-clause-sent
+returns-clause-sent g c =
     sent-more c.self.inside.sending.items c.args.to c.index_mut.result.now c.send.new.self _ c.args.ticket (grind (arith, common_steps)) c.send.ensures.sent c.index_mut.ensures.value
     ∙ ap (λ (s : List (List Ticket)). slice_set s c.args.to (slice_index_or s c.args.to [] ++ c.args.ticket ∷ [])) (ap sent_by c.self.view_is)

@@ -7,7 +7,7 @@ use Rattle.tl_client.proofs.waiting.Waiting.push_all.Given as goal
 -- of the tickets so far those of the channel have joined
 abbrev pub invariant-loop-ticket : goal.invariant-loop-ticket
 invariant-loop-ticket l =
-    (l.self-inside.kept.items ≡ l.initial.self-inside.kept.items ++ filter (λ t. is_on (place_of l.channel) t) (take l.ticket-index l.tickets))
-    × (deque_len l.self-inside.kept ≤ deque_len l.initial.self-inside.kept + l.ticket-index)
-    × (deque_capacity l.self-inside.kept ≡ deque_capacity l.initial.self-inside.kept)
-    × (l.self-inside.rest ≡ l.initial.self-inside.rest)
+    (l.self-inside.rest.items ≡ l.initial.self-inside.rest.items ++ filter (λ t. is_on (place_of l.channel) t) (take l.ticket-index l.tickets))
+    × (deque_len l.self-inside.rest ≤ deque_len l.initial.self-inside.rest + l.ticket-index)
+    × (deque_capacity l.self-inside.rest ≡ deque_capacity l.initial.self-inside.rest)
+    × (l.self-inside.kept ≡ l.initial.self-inside.kept)
