@@ -7,18 +7,18 @@ ghost use Rattle.tl_words.specs.Hex.{pair, hex_text, address_text};
 use std::alloc::AllocError;
 use std::fmt;
 
-// The lower-case hexadecimal digits.
-const DIGITS: [u8; 16] = *b"0123456789abcdef";
-
 // A lower-case hexadecimal digit.
 #[inline(always)]
-#[tactic(auto, using(crate::proofs::DigitLaws::digit_there))]
 fn digit(value: u8) -> char
     requires { value < 16 }
     ensures glyph { result ≡ digit_glyph false value }
     ensures ascii { result < 128 }
 {
-    DIGITS[value as usize] as char
+    if value < 10 {
+        (b'0' + value) as char
+    } else {
+        (b'a' + (value - 10)) as char
+    }
 }
 
 /// Bytes as pairs of lower-case hexadecimal digits, at the end of a text.
