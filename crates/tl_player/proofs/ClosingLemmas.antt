@@ -1,9 +1,7 @@
 -- One more block of a bank, and one more bank, at the end.
-use Rattle.std.proofs.Common.{◌≡◌, ℕ, zero, suc, ◌≤◌, ◌==◌, Bool, true, false, cond, if◌then◌else◌, Option, Some, None, is_some, append_assoc, refl, List, [], ◌∷◌, ◌++◌, length, take, get_or, ◌+◌, ◌<◌, sym, ap, ◌∙◌, subst, arith}
+use Rattle.std.proofs.Common.{◌≡◌, ℕ, zero, suc, Bool, if◌then◌else◌, Option, Some, None, is_some, append_assoc, refl, List, [], ◌∷◌, ◌++◌, length, take, get_or, ◌+◌, ◌<◌, sym, ap, ◌∙◌, subst}
 use Rattle.std.proofs.lemmas.List.{append-nil, take_more}
 use Rattle.std.proofs.lemmas.List.Elements.{All-push}
-use Rattle.tl_map.specs.Limits.{most_clients}
-use Rattle.tl_map.specs.Numbers.{Numbers, IsLawful}
 use Rattle.tl_trace.specs.declared.closing.BankClosing.{BankClosing}
 use Rattle.tl_bank_spec.specs.Coherent.{IsCoherent}
 use Rattle.tl_bank_spec.specs.View.{View}

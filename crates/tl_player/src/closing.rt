@@ -1,5 +1,5 @@
 //! What a bank shows at the end.
-ghost use Rattle.std.specs.Prelude.{◌≡◌, IfOk, map};
+ghost use Rattle.std.specs.Prelude.{◌≡◌, IfOk, OnOk, map};
 ghost use Rattle.tl_bank_spec.specs.Coherent.{IsCoherent};
 ghost use Rattle.tl_player.specs.Closing.{Closes, line_state, lines_below, standings};
 
@@ -12,7 +12,7 @@ use tl_types::{BlockNo, ClientId};
 /// The blocks that home holds, by rising number, and the bank's counts.
 pub(crate) fn closing(alloc: Global, bank: &Bank) -> Result<BankClosing, AllocError>
     ensures closes { IfOk result (Closes bank.now) }
-    ensures coherent { IsCoherent bank.now }
+    ensures coherent { OnOk result (IsCoherent bank.now) }
 {
     Ok(BankClosing {
         blocks: lines(alloc, bank)?,

@@ -16,5 +16,5 @@ loop-site-preserved c = record {
   coherent =
       coherent-more c.args.sites.now c.loop-site.site-index c.site-item.result c.loop-site-test.true c.site-item.is
       c.loop-site.invariant.coherent
-      (subst (λ (v : View). IsCoherent v) c.bank.ensures c.closing.ensures.coherent);
+      (subst (λ (v : View). IsCoherent v) c.bank.ensures c.in_ok-closing.ensures.coherent);
 }

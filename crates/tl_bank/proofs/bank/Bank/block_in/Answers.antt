@@ -1,6 +1,5 @@
-use Rattle.std.proofs.Common.{◌≡◌, ◌<◌, subst}
+use Rattle.std.proofs.Common.{subst}
 use Rattle.tl_bank_spec.specs.View.{View}
-use Rattle.tl_bank_spec.specs.Ways.{slot_at}
 use Rattle.tl_bank_laws.specs.Means.{Means}
 use Rattle.tl_bank.specs.Shown.{layers}
 use Rattle.tl_bank_laws.proofs.Opens.{slot-found}

@@ -5,7 +5,6 @@ use Rattle.std.proofs.lemmas.Grind.{common_steps}
 use Rattle.std.proofs.lemmas.List.Sorted.{IsNonDecreasingBy-from_sort_by_key, sum_by-IsPermutation}
 use Rattle.std.specs.Prelude.{All}
 use Rattle.tl_bank_spec.specs.View.{View, IsOwn}
-use Rattle.tl_bank_laws.specs.Found.{times}
 use Rattle.tl_bank_laws.specs.Means.{Means}
 use Rattle.tl_bank.specs.Shown.{layers}
 use Rattle.tl_bank_laws.proofs.AtHome.{at_home-is, all-own}

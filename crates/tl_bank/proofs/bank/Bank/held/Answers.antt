@@ -1,4 +1,4 @@
-use Rattle.std.proofs.Common.{rules, ◌≡◌, ℕ, ◌+◌, ◌*◌, ◌^◌, ◌<◌, ◌≤◌, sym, ◌∙◌, ap, subst, arith, add-one}
+use Rattle.std.proofs.Common.{rules, ◌≡◌, ℕ, ◌+◌, ◌^◌, ◌<◌, sym, ◌∙◌, ap, subst, arith, add-one}
 use Rattle.tl_bank_spec.specs.View.{View, copies_at}
 use Rattle.tl_bank_spec.specs.Views.{copies_below}
 use Rattle.tl_bank_laws.specs.Means.{Means}
