@@ -1,6 +1,7 @@
 //! A run of a script over banks and threads.
-ghost use Rattle.std.specs.Prelude.{◌≡◌, ◌<◌, ◌≤◌, IfOk, length, vec_len};
+ghost use Rattle.std.specs.Prelude.{◌≡◌, ◌<◌, ◌≤◌, IfErr, IfOk, length, vec_len};
 ghost use Rattle.tl_conclude.specs.Conclusion.{IsRunReport};
+ghost use Rattle.tl_conclude.specs.RunError.{TellsTurns};
 
 use crate::banks::{Opened, no_shares, open_banks};
 use crate::deal::Post;
@@ -30,7 +31,8 @@ pub fn run<R: Threads + Wait + Clock + Sync, G: Gate + Sync>(
     script: &Script,
     gate: &G,
 ) -> Result<Report, RunError>
-    ensures { IfOk result (IsRunReport script.now) }
+    ensures report { IfOk result (IsRunReport script.now) }
+    ensures stalled { IfErr result (TellsTurns script.now.turns) }
 {
     run_sized(rt, alloc, script, gate, CAPACITY)
 }
@@ -47,7 +49,8 @@ pub fn run_sized<R: Threads + Wait + Clock + Sync, G: Gate + Sync>(
     capacity: usize,
 ) -> Result<Report, RunError>
     requires { (0 < capacity) × (capacity ≤ 4096) }
-    ensures { IfOk result (IsRunReport script.now) }
+    ensures report { IfOk result (IsRunReport script.now) }
+    ensures stalled { IfErr result (TellsTurns script.now.turns) }
 {
     let geometry = script.geometry();
     let Opened { banks, shares } = open_banks(alloc, geometry, &script.image)?;
@@ -69,6 +72,7 @@ fn run_locked<R: Threads + Wait + Clock + Sync, G: Gate + Sync>(
 ) -> Result<Vec<Vec<Share>>, RunError>
     requires capacity { (0 < capacity) × (capacity ≤ 4096) }
     requires shares { vec_len shares ≡ length script.now.commands.items }
+    ensures { IfErr result (TellsTurns script.now.turns) }
 {
     let geometry = script.geometry();
     let shared = Shared {
@@ -154,7 +158,9 @@ fn home_workers<'x, 'y, G: Gate>(
 fn end_of<G>(
     joined: &Joined<ClientWorker<'_, '_, '_, G>, HomeWorker<'_, '_, G>>,
     turns: u32,
-) -> Result<(), RunError> {
+) -> Result<(), RunError>
+    ensures { IfErr result (TellsTurns turns) }
+{
     let mut are_finished = true;
     for worker in &joined.clients {
         match worker.end {
