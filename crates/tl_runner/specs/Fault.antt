@@ -1,15 +1,11 @@
--- What each fault prints, its status, and whose fault it is (this project's own).
-use Rattle.std.specs.Prelude.{◌≡◌, ℕ, Bool, false, List, ◌++◌, codes, Option, None, Some, Result, Ok, Err, IfSome}
-use Rattle.tl_job.specs.declared.asked.Job.{Job}
+-- What each fault prints, and its status (this project's own).
+use Rattle.std.specs.Prelude.{ℕ, List, ◌++◌, codes}
 use Rattle.tl_job.specs.declared.asked.JobError.{JobError}
 use Rattle.tl_job.specs.declared.asked.JobError.TheVariants.{Usage as j_Usage, Memory as j_Memory}
 use Rattle.tl_script.specs.declared.error.ScriptError.{ScriptError}
 use Rattle.tl_script.specs.declared.error.ScriptError.TheVariants as script
-use Rattle.tl_script.specs.declared.script.Script.{Script}
-use Rattle.tl_script.specs.Each.{Fails}
-use Rattle.tl_script.specs.Script.{read_of, value_of}
 use Rattle.tl_script.specs.ScriptError.{script_error_text}
-use Rattle.tl_conclude.specs.RunError.{run_error_text, TellsTurns}
+use Rattle.tl_conclude.specs.RunError.{run_error_text}
 use Rattle.tl_conclude.specs.declared.error.RunError.{RunError}
 use Rattle.tl_conclude.specs.declared.error.RunError.TheVariants.{Memory as r_Memory}
 use Rattle.tl_runner.specs.declared.fault.Fault.{Fault}
@@ -49,25 +45,3 @@ fault_text (Run e) = run_error_text e
 -- the line of a fault
 abbrev pub fault_line : Fault → List ℕ
 fault_line fault = fault_text fault ++ codes "\n"
-
--- a run ends for want of memory, or by a stall after the script's turns, or as its shares and accesses are; a trace only for want
--- of memory
-abbrev pub EndsRun : Bool → Script → RunError → Type 0
-EndsRun traces script r_Memory = Unit {0}
-EndsRun traces script e = (traces ≡ false) × TellsTurns script.turns e
-
--- A file leads to this fault: the refusal of the script that its bytes write, where they are known; or, where they write a script,
--- what ends its run or trace. That a read or the writing fails, or memory is refused, is no matter of bytes.
-abbrev pub LeadsTo : Bool → Option (List ℕ) → Fault → Type 0
-LeadsTo traces bytes Usage = ⊥
-LeadsTo traces bytes File = Unit {0}
-LeadsTo traces bytes Memory = Unit {0}
-LeadsTo traces bytes (Script e) = IfSome bytes (λ known. Fails e (read_of known))
-LeadsTo traces bytes (Run e) =
-    (script : Script) × IfSome bytes (λ known. read_of known ≡ Ok (value_of script)) × EndsRun traces script e
-
--- The fault is that of the words; else the file's, where there is none; else the one that the file leads to.
-abbrev pub IsFaultOf : Result Job JobError → Option (Option (List ℕ)) → Fault → Type 0
-IsFaultOf (Err e) file fault = fault ≡ fault_of_job e
-IsFaultOf (Ok asked) None fault = fault ≡ File
-IsFaultOf (Ok asked) (Some bytes) fault = LeadsTo asked.traces bytes fault

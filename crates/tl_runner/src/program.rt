@@ -1,9 +1,10 @@
 //! The answer to a job.
-ghost use Rattle.std.specs.Prelude.{◌≡◌, ◌≢◌, ◌≤◌, ℕ, List, Err, IfOk, IfErr, IfNone, IfSome, OnOk, OnErr, string_bytes};
+ghost use Rattle.std.specs.Prelude.{◌≡◌, ◌≢◌, ◌≤◌, ◌⊎◌, ℕ, List, Err, IfOk, IfErr, IfNone, IfSome, OnOk, OnErr, string_bytes};
 ghost use Rattle.std.specs.Option.{option_and_then, option_map};
 ghost use Rattle.std.specs.Io.KnownBytes.{Appends};
 ghost use Rattle.tl_runner.specs.Answer.{AppendsBeginning, IsAnswerTo};
-ghost use Rattle.tl_runner.specs.Fault.{IsFaultOf, fault_line, fault_of_job, status_of};
+ghost use Rattle.tl_runner.specs.Cause.{IsFaultOf};
+ghost use Rattle.tl_runner.specs.Fault.{fault_line, fault_of_job, status_of};
 ghost use Rattle.tl_runner.specs.declared.fault.Fault.{Fault};
 
 use crate::fault::Fault;
@@ -24,7 +25,8 @@ use tl_script::read_script;
 const LINE: usize = 64;
 
 fn read_all<R: Read>(alloc: Global, reader: &mut R) -> Result<Vec<u8>, Fault>
-    ensures { IfOk result (λ bytes. IfSome (R.remaining reader.old) (λ known. bytes.items ≡ known)) }
+    ensures bytes { IfOk result (λ bytes. IfSome (R.remaining reader.old) (λ known. bytes.items ≡ known)) }
+    ensures fault { IfErr result (λ fault. (fault ≡ Fault.File) ⊎ (fault ≡ Fault.Memory)) }
 {
     let mut bytes = Vec::new(alloc);
     match reader.read_to_end(&mut bytes) {
