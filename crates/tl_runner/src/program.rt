@@ -86,15 +86,22 @@ fn write_whole<W: Write>(writer: &mut W, text: &[u8]) -> io::Result<()>
     Err(io::Error::from(ErrorKind::TimedOut))
 }
 
-/// Writes the line of a fault, as far as `faults` takes it, and answers its status.
-fn show<E: Write>(faults: &mut E, fault: &Fault) -> u8
-    ensures is { result ≡ status_of fault.now }
-    ensures line { AppendsBeginning (E.contents faults.old) (E.contents faults.new) (fault_line fault.now) }
+/// Writes the line of a fault, or a beginning of it where a write fails.
+fn tell<E: Write>(faults: &mut E, fault: &Fault) -> io::Result<()>
+    ensures ok { OnOk result (Appends (E.contents faults.old) (E.contents faults.new) (fault_line fault.now)) }
+    ensures err { OnErr result (AppendsBeginning (E.contents faults.old) (E.contents faults.new) (fault_line fault.now)) }
 {
     let mut line: ArrayVec<u8, LINE> = ArrayVec::new();
-    if writeln!(line, "{fault}").is_ok() {
-        let _ = write_whole(faults, line.as_slice());
-    }
+    writeln!(line, "{fault}")?;
+    write_whole(faults, line.as_slice())
+}
+
+/// Tells a fault, as far as `faults` takes it, and answers its status.
+fn show<E: Write>(faults: &mut E, fault: &Fault) -> u8
+    ensures status { result ≡ status_of fault.now }
+    ensures line { AppendsBeginning (E.contents faults.old) (E.contents faults.new) (fault_line fault.now) }
+{
+    let _ = tell(faults, fault);
     fault.status()
 }
 
