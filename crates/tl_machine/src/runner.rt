@@ -12,7 +12,7 @@ use std::alloc::{AllocError, Global};
 use std::sync::Wait;
 use std::thread::Threads;
 use std::time::Clock;
-use tl_bank::Share;
+use tl_bank::{Bank, Share};
 use tl_client::{Agent, Command, Gate, Home, Locked};
 use tl_conclude::{RunError, conclude};
 use tl_map::Geometry;
@@ -57,7 +57,20 @@ pub fn run_sized<R: Threads + Wait + Clock + Sync, G: Gate + Sync>(
     let locked = Locked::new(alloc, geometry, banks)?;
     let shares = run_locked(rt, alloc, script, gate, capacity, &locked, shares)?;
     let banks = locked.into_banks(alloc)?;
-    conclude(alloc, script, &banks, &shares)
+    concluded(alloc, script, &banks, &shares)
+}
+
+/// What `conclude` answers, as a run: it says nothing of which banks and shares these are.
+fn concluded(
+    alloc: Global,
+    script: &Script,
+    banks: &[Bank],
+    shares: &[Vec<Share>],
+) -> Result<Report, RunError>
+    ensures report { IfOk result (IsRunReport script.now) }
+    ensures stalled { IfErr result (TellsTurns script.now.turns) }
+{
+    conclude(alloc, script, banks, shares)
 }
 
 /// Runs the threads over locked banks. The shares of each bank come back.
