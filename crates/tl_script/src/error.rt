@@ -9,7 +9,8 @@ use std::fmt;
 use thiserror::Error;
 use tl_map::GeometryError;
 
-/// Why a script could not be read: the first thing that is wrong with it, or want of memory. It prints as the one fault line.
+/// Why a script could not be read: the first thing that is wrong with it, or want of memory. It prints as the one
+/// fault line.
 #[derive(Clone, Copy, Debug, PartialEq, Eq, Error)]
 pub enum ScriptError {
     /// The bytes are no UTF-8, or no TOML.

@@ -9,8 +9,17 @@ use std::time::Clock;
 use tl_runner::{Free, Job, JobError, answer};
 
 /// A script that plays no steps.
-const SCRIPT: &str =
-    "version = 1\nclients = 1\nbanks = 1\nblock_bytes = 8\nsets = 1\nways = 1\nregisters = 1\ncopies = 1\nmemory_blocks = 1\nturns = 1\n";
+const SCRIPT: &str = "\
+version = 1\n\
+clients = 1\n\
+banks = 1\n\
+block_bytes = 8\n\
+sets = 1\n\
+ways = 1\n\
+registers = 1\n\
+copies = 1\n\
+memory_blocks = 1\n\
+turns = 1\n";
 
 /// What a trace without steps prints.
 const TRACE: &str = "bank 0 held 0 recorded 0 events 0\nend\n";

@@ -4,15 +4,24 @@ use std::alloc::{AllocError, Global};
 use std::test::Fail;
 
 /// Eight clients and banks, and room in each for what the steps bring there.
-const NUMBERS: &str =
-    "version = 1\nclients = 8\nbanks = 8\nblock_bytes = 8\nsets = 64\nways = 8\nregisters = 8\ncopies = 16\nmemory_blocks = 65536\nturns = 1\n";
+const NUMBERS: &str = "\
+version = 1\n\
+clients = 8\n\
+banks = 8\n\
+block_bytes = 8\n\
+sets = 64\n\
+ways = 8\n\
+registers = 8\n\
+copies = 16\n\
+memory_blocks = 65536\n\
+turns = 1\n";
 
 /// The bank of a block: the exclusive or of its groups of three bits.
 fn bank_of(block: u32) -> u32 {
     (block ^ (block >> 3) ^ (block >> 6) ^ (block >> 9) ^ (block >> 12) ^ (block >> 15)) & 7
 }
 
-/// The eight steps by which a client acquires a block with Tip, where its messages in the block's bank have this serial.
+/// The eight steps by which a client acquires a block with Tip, where its messages in that bank have this serial.
 fn push_fill(script: &mut String, client: u32, block: u32, serial: u32) -> Result<(), AllocError> {
     let bank = bank_of(block);
     write!(script, "\"acquire {client} {block} NtoT\",")?;

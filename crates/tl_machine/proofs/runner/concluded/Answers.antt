@@ -18,17 +18,17 @@ of_run script banks shares (Err e) concludes = tt
 
 -- what is no Shares and no NotOrdered is want of memory, so no stall
 no_stall :
-    {P : Type 0} (turns : ℕ) (result : Result Report RunError)
-    → IfErr result (λ e. e ≢ Shares → e ≢ NotOrdered → (e ≡ Memory) × P) → IfErr result (TellsTurns turns)
-no_stall turns (Ok report) memory = tt
-no_stall turns (Err Memory) memory = tt
-no_stall turns (Err NotOrdered) memory = tt
-no_stall turns (Err Shares) memory = tt
-no_stall turns (Err (Stalled made)) memory =
+    (P Q : Type 0) (turns : ℕ) (result : Result Report RunError)
+    → IfErr result (λ e. e ≢ Shares → e ≢ NotOrdered → (e ≡ Memory) × P × Q) → IfErr result (TellsTurns turns)
+no_stall P Q turns (Ok report) memory = tt
+no_stall P Q turns (Err Memory) memory = tt
+no_stall P Q turns (Err NotOrdered) memory = tt
+no_stall P Q turns (Err Shares) memory = tt
+no_stall P Q turns (Err (Stalled made)) memory =
     let bad : Stalled made ≡ Memory = (memory (λ e. cc) (λ e. cc)).0 in cc
 
 pub returns-clause-report : goal.returns-clause-report
 returns-clause-report c = of_run c.args.script.now c.args.banks.now c.args.shares.now c.conclude.result c.conclude.ensures.ok
 
 pub returns-clause-stalled : goal.returns-clause-stalled
-returns-clause-stalled c = no_stall c.args.script.now.turns c.conclude.result c.conclude.ensures.memory
+returns-clause-stalled c = no_stall _ _ c.args.script.now.turns c.conclude.result c.conclude.ensures.memory

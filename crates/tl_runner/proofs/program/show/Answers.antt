@@ -1,4 +1,4 @@
-use Rattle.std.proofs.Common.{◌≡◌, List, ℕ, [], ◌++◌, sym, append-nil, Option, Result, Ok, Err, OnOk, OnErr}
+use Rattle.std.proofs.Common.{List, ℕ, [], sym, append-nil, Option, Result, Ok, Err, OnOk, OnErr}
 use Rattle.std.specs.Io.KnownBytes.{Appends}
 use Rattle.std.specs.declared.io.Error.{Error}
 use Rattle.tl_runner.specs.Answer.{AppendsBeginning}

@@ -1,4 +1,5 @@
-use Rattle.std.proofs.Common.{◌≡◌, ◌∙◌, ◌⊎◌, inl, inr, refl, ap, sym, subst, ℕ, Bool, true, false, Global, List, Option, Some, None, Result, String, Ok, Err, IfErr, IfOk, IfSome}
+use Rattle.std.proofs.Common.{◌≡◌, ◌∙◌, ◌⊎◌, inl, inr, refl, ap, sym, subst, ℕ, Bool, true}
+use Rattle.std.proofs.Common.{false, Global, List, Option, Some, None, Result, String, Ok, Err, IfErr, IfOk, IfSome}
 use Rattle.std.proofs.lemmas.Result.{err_from_is_err_and}
 use Rattle.tl_script.specs.Script.{read_of, ScriptValue, value_of}
 use Rattle.tl_job.specs.declared.asked.Job.{Job}
@@ -91,7 +92,7 @@ pub returns-in_err-bytes-clause-fault : goal.returns-in_err-bytes-clause-fault
 returns-in_err-bytes-clause-fault g c =
     let (fault, was, is) = err_from_is_err_and c.from_residual-in_err-bytes.result c.from_residual-in_err-bytes.ensures.1 in
     caused c.args.job c.in_ok-job.job _ _ _ _ _ c.in_ok-job.was refl (ap (option_map g.R.Read.remaining) c.in_ok-reader.ensures.ok_part)
-        (was ∙ ap (λ (f : Fault). Err f) is) (by_reading _ _ _ c.in_err-bytes.ensures.fault)
+    (was ∙ ap (λ (f : Fault). Err f) is) (by_reading _ _ _ c.in_err-bytes.ensures.fault)
 
 pub returns-in_err-script-clause-fault : goal.returns-in_err-script-clause-fault
 returns-in_err-script-clause-fault g c =
@@ -99,8 +100,8 @@ returns-in_err-script-clause-fault g c =
     let known : IfSome (g.R.Read.remaining c.in_ok-reader.reader) (λ all. c.deref.result.now ≡ all) =
     rw c.deref.ensures.value c.in_ok-bytes.ensures.bytes in
     caused c.args.job c.in_ok-job.job _ _ _ _ _ c.in_ok-job.was refl (ap (option_map g.R.Read.remaining) c.in_ok-reader.ensures.ok_part)
-        (was ∙ ap (λ (f : Fault). Err f) is)
-        (at_known (λ all. Fails c.in_err-script.field-0.0 (read_of all)) _ _ known c.in_err-script.ensures)
+    (was ∙ ap (λ (f : Fault). Err f) is)
+    (at_known (λ all. Fails c.in_err-script.field-0.0 (read_of all)) _ _ known c.in_err-script.ensures)
 
 pub returns-in_err-trace-clause-fault : goal.returns-in_err-trace-clause-fault
 returns-in_err-trace-clause-fault g c =
@@ -110,8 +111,8 @@ returns-in_err-trace-clause-fault g c =
     let read : read_of c.deref.result.now ≡ Ok (value_of c.in_ok-script.script) = c.in_ok-script.ensures in
     let ends : EndsRun true c.in_ok-script.script c.in_err-trace.field-0.0 = rw c.in_err-trace.ensures.memory tt in
     caused c.args.job c.in_ok-job.job _ _ true _ _ c.in_ok-job.was c.if-job.true (ap (option_map g.R.Read.remaining) c.in_ok-reader.ensures.ok_part)
-        (was ∙ ap (λ (f : Fault). Err f) is)
-        (c.in_ok-script.script, known_read _ c.deref.result.now (value_of c.in_ok-script.script) known read, ends)
+    (was ∙ ap (λ (f : Fault). Err f) is)
+    (c.in_ok-script.script, known_read _ c.deref.result.now (value_of c.in_ok-script.script) known read, ends)
 
 pub returns-in_err-report-clause-fault : goal.returns-in_err-report-clause-fault
 returns-in_err-report-clause-fault g c =
@@ -120,9 +121,8 @@ returns-in_err-report-clause-fault g c =
     rw c.deref.ensures.value c.in_ok-bytes.ensures.bytes in
     let read : read_of c.deref.result.now ≡ Ok (value_of c.in_ok-script.script) = c.in_ok-script.ensures in
     caused c.args.job c.in_ok-job.job _ _ false _ _ c.in_ok-job.was c.if-job.false (ap (option_map g.R.Read.remaining) c.in_ok-reader.ensures.ok_part)
-        (was ∙ ap (λ (f : Fault). Err f) is)
-        (
-          c.in_ok-script.script,
-          known_read _ c.deref.result.now (value_of c.in_ok-script.script) known read,
-          by_run c.in_ok-script.script _ c.in_err-report.ensures.stalled,
-        )
+    (was ∙ ap (λ (f : Fault). Err f) is) (
+      c.in_ok-script.script,
+      known_read _ c.deref.result.now (value_of c.in_ok-script.script) known read,
+      by_run c.in_ok-script.script _ c.in_err-report.ensures.stalled,
+    )
