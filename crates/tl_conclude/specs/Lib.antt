@@ -2,3 +2,4 @@ pub mod Banks
 pub mod Carried
 pub mod Conclusion
 pub mod Loops
+pub mod RunError

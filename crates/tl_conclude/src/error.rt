@@ -3,23 +3,36 @@ ghost use Rattle.std.specs.Prelude.{◌≡◌};
 ghost use Rattle.tl_conclude.specs.declared.error.RunError.TheVariants.{Memory as OutOfMemory};
 
 use std::alloc::{AllocError, AllocFailed};
+use std::fmt;
 use thiserror::Error;
 
 /// Why a run gave no report. It prints as the one fault line.
 #[derive(Debug, Drop, Error)]
 pub enum RunError {
     /// A client's command was not answered within the script's turns.
-    #[error("error 40 stalled {0}")]
     Stalled(u32),
     /// A request for memory was refused.
-    #[error("error 41 memory")]
     Memory,
     /// The accesses of the banks have no order in which they carry out the script.
-    #[error("error 42 not ordered")]
     NotOrdered,
     /// The shares are not those of the banks, one for each client.
-    #[error("error 43 shares")]
     Shares,
+}
+
+impl fmt::Display for RunError {
+    ghost use Rattle.std.specs.Prelude.{Some};
+    ghost use Rattle.tl_conclude.specs.RunError.{run_error_text};
+
+    ghost output = { λ e. Some (run_error_text e) };
+
+    fn fmt<W: fmt::Write>(&self, f: &mut fmt::Formatter<W>) -> fmt::Result {
+        match self {
+            RunError::Stalled(turns) => write!(f, "error 40 stalled {turns}"),
+            RunError::Memory => write!(f, "error 41 memory"),
+            RunError::NotOrdered => write!(f, "error 42 not ordered"),
+            RunError::Shares => write!(f, "error 43 shares"),
+        }
+    }
 }
 
 impl From<AllocError> for RunError {

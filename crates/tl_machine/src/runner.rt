@@ -1,6 +1,7 @@
 //! A run of a script over banks and threads.
-ghost use Rattle.std.specs.Prelude.{◌≡◌, ◌<◌, ◌≤◌, IfOk, length, vec_len};
+ghost use Rattle.std.specs.Prelude.{◌≡◌, ◌<◌, ◌≤◌, IfErr, IfOk, length, vec_len};
 ghost use Rattle.tl_conclude.specs.Conclusion.{IsRunReport};
+ghost use Rattle.tl_conclude.specs.RunError.{TellsTurns};
 
 use crate::banks::{Opened, no_shares, open_banks};
 use crate::deal::Post;
@@ -11,7 +12,7 @@ use std::alloc::{AllocError, Global};
 use std::sync::Wait;
 use std::thread::Threads;
 use std::time::Clock;
-use tl_bank::Share;
+use tl_bank::{Bank, Share};
 use tl_client::{Agent, Command, Gate, Home, Locked};
 use tl_conclude::{RunError, conclude};
 use tl_map::Geometry;
@@ -30,7 +31,8 @@ pub fn run<R: Threads + Wait + Clock + Sync, G: Gate + Sync>(
     script: &Script,
     gate: &G,
 ) -> Result<Report, RunError>
-    ensures { IfOk result (IsRunReport script.now) }
+    ensures report { IfOk result (IsRunReport script.now) }
+    ensures stalled { IfErr result (TellsTurns script.now.turns) }
 {
     run_sized(rt, alloc, script, gate, CAPACITY)
 }
@@ -47,14 +49,28 @@ pub fn run_sized<R: Threads + Wait + Clock + Sync, G: Gate + Sync>(
     capacity: usize,
 ) -> Result<Report, RunError>
     requires { (0 < capacity) × (capacity ≤ 4096) }
-    ensures { IfOk result (IsRunReport script.now) }
+    ensures report { IfOk result (IsRunReport script.now) }
+    ensures stalled { IfErr result (TellsTurns script.now.turns) }
 {
     let geometry = script.geometry();
     let Opened { banks, shares } = open_banks(alloc, geometry, &script.image)?;
     let locked = Locked::new(alloc, geometry, banks)?;
     let shares = run_locked(rt, alloc, script, gate, capacity, &locked, shares)?;
     let banks = locked.into_banks(alloc)?;
-    conclude(alloc, script, &banks, &shares)
+    concluded(alloc, script, &banks, &shares)
+}
+
+/// What `conclude` answers, as a run: it says nothing of which banks and shares these are.
+fn concluded(
+    alloc: Global,
+    script: &Script,
+    banks: &[Bank],
+    shares: &[Vec<Share>],
+) -> Result<Report, RunError>
+    ensures report { IfOk result (IsRunReport script.now) }
+    ensures stalled { IfErr result (TellsTurns script.now.turns) }
+{
+    conclude(alloc, script, banks, shares)
 }
 
 /// Runs the threads over locked banks. The shares of each bank come back.
@@ -69,6 +85,7 @@ fn run_locked<R: Threads + Wait + Clock + Sync, G: Gate + Sync>(
 ) -> Result<Vec<Vec<Share>>, RunError>
     requires capacity { (0 < capacity) × (capacity ≤ 4096) }
     requires shares { vec_len shares ≡ length script.now.commands.items }
+    ensures { IfErr result (TellsTurns script.now.turns) }
 {
     let geometry = script.geometry();
     let shared = Shared {
@@ -154,7 +171,9 @@ fn home_workers<'x, 'y, G: Gate>(
 fn end_of<G>(
     joined: &Joined<ClientWorker<'_, '_, '_, G>, HomeWorker<'_, '_, G>>,
     turns: u32,
-) -> Result<(), RunError> {
+) -> Result<(), RunError>
+    ensures { IfErr result (TellsTurns turns) }
+{
     let mut are_finished = true;
     for worker in &joined.clients {
         match worker.end {

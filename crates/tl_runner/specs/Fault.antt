@@ -1,9 +1,11 @@
--- The status of each fault (this project's own).
-use Rattle.std.specs.Prelude.{ℕ}
+-- What each fault prints, and its status (this project's own).
+use Rattle.std.specs.Prelude.{ℕ, List, ◌++◌, codes}
 use Rattle.tl_job.specs.declared.asked.JobError.{JobError}
 use Rattle.tl_job.specs.declared.asked.JobError.TheVariants.{Usage as j_Usage, Memory as j_Memory}
 use Rattle.tl_script.specs.declared.error.ScriptError.{ScriptError}
 use Rattle.tl_script.specs.declared.error.ScriptError.TheVariants as script
+use Rattle.tl_script.specs.ScriptError.{script_error_text}
+use Rattle.tl_conclude.specs.RunError.{run_error_text}
 use Rattle.tl_conclude.specs.declared.error.RunError.{RunError}
 use Rattle.tl_conclude.specs.declared.error.RunError.TheVariants.{Memory as r_Memory}
 use Rattle.tl_runner.specs.declared.fault.Fault.{Fault}
@@ -31,3 +33,15 @@ status_of File = 5
 status_of Memory = 4
 status_of (Script e) = script_status e
 status_of (Run e) = run_status e
+
+-- a fault as it prints
+abbrev pub fault_text : Fault → List ℕ
+fault_text Usage = codes "error usage"
+fault_text File = codes "error file"
+fault_text Memory = codes "error 41 memory"
+fault_text (Script e) = script_error_text e
+fault_text (Run e) = run_error_text e
+
+-- the line of a fault
+abbrev pub fault_line : Fault → List ℕ
+fault_line fault = fault_text fault ++ codes "\n"

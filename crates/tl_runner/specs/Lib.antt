@@ -1,3 +1,4 @@
 pub mod Answer
+pub mod Cause
 pub mod Fault
 pub mod Trace

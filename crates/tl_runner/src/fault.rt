@@ -4,6 +4,7 @@ ghost use Rattle.tl_runner.specs.declared.fault.Fault.TheVariants as a;
 ghost use Rattle.tl_runner.specs.Fault.{fault_of_job};
 
 use std::alloc::AllocError;
+use std::fmt;
 use thiserror::Error;
 use tl_conclude::RunError;
 use tl_job::JobError;
@@ -13,20 +14,32 @@ use tl_script::ScriptError;
 #[derive(Debug, Drop, Error)]
 pub enum Fault {
     /// The words of the command line were refused.
-    #[error("error usage")]
     Usage,
     /// The file could not be read, or the output not written.
-    #[error("error file")]
     File,
     /// A request for memory was refused outside the script's reading and its run.
-    #[error("error 41 memory")]
     Memory,
     /// The script was refused, or could not be read for want of memory.
-    #[error(transparent)]
     Script(ScriptError),
     /// The run gave no report.
-    #[error(transparent)]
     Run(RunError),
+}
+
+impl fmt::Display for Fault {
+    ghost use Rattle.std.specs.Prelude.{Some};
+    ghost use Rattle.tl_runner.specs.Fault.{fault_text};
+
+    ghost output = { λ fault. Some (fault_text fault) };
+
+    fn fmt<W: fmt::Write>(&self, f: &mut fmt::Formatter<W>) -> fmt::Result {
+        match self {
+            Fault::Usage => write!(f, "error usage"),
+            Fault::File => write!(f, "error file"),
+            Fault::Memory => write!(f, "error 41 memory"),
+            Fault::Script(error) => write!(f, "{error}"),
+            Fault::Run(error) => write!(f, "{error}"),
+        }
+    }
 }
 
 impl From<JobError> for Fault {

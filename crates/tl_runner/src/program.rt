@@ -1,13 +1,15 @@
 //! The answer to a job.
-ghost use Rattle.std.specs.Prelude.{◌≡◌, ◌≢◌, ◌<◌, ◌≤◌, ℕ, List, Err, IfOk, IfErr, IfNone, IfSome, OnOk, string_bytes};
-ghost use Rattle.std.specs.Option.{option_and_then};
-ghost use Rattle.std.specs.Io.KnownBytes.{Appends, Keeps};
-ghost use Rattle.tl_runner.specs.Answer.{IsAnswerTo};
-ghost use Rattle.tl_runner.specs.Fault.{fault_of_job, status_of};
+ghost use Rattle.std.specs.Prelude.{◌≡◌, ◌≢◌, ◌≤◌, ◌⊎◌, ℕ, List, Err, IfOk, IfErr, IfNone, IfSome, OnOk, OnErr, string_bytes};
+ghost use Rattle.std.specs.Option.{option_and_then, option_map};
+ghost use Rattle.std.specs.Io.KnownBytes.{Appends};
+ghost use Rattle.tl_runner.specs.Answer.{AppendsBeginning, IsAnswerTo};
+ghost use Rattle.tl_runner.specs.Cause.{IsFaultOf};
+ghost use Rattle.tl_runner.specs.Fault.{fault_line, fault_of_job, status_of};
 ghost use Rattle.tl_runner.specs.declared.fault.Fault.{Fault};
 
 use crate::fault::Fault;
 use crate::step_trace::trace;
+use arrayvec::ArrayVec;
 use std::alloc::Global;
 use std::io;
 use std::io::{ErrorKind, Read, Write};
@@ -19,8 +21,12 @@ use tl_job::{Job, JobError};
 use tl_machine::run;
 use tl_script::read_script;
 
+/// The bytes of the longest fault line: `error 33 command`, two numbers of 64 bits, and what lies between.
+const LINE: usize = 64;
+
 fn read_all<R: Read>(alloc: Global, reader: &mut R) -> Result<Vec<u8>, Fault>
-    ensures { IfOk result (λ bytes. IfSome (R.remaining reader.old) (λ known. bytes.items ≡ known)) }
+    ensures bytes { IfOk result (λ bytes. IfSome (R.remaining reader.old) (λ known. bytes.items ≡ known)) }
+    ensures fault { IfErr result (λ fault. (fault ≡ Fault.File) ⊎ (fault ≡ Fault.Memory)) }
 {
     let mut bytes = Vec::new(alloc);
     match reader.read_to_end(&mut bytes) {
@@ -44,6 +50,7 @@ fn text<T: Threads + Wait + Clock + Sync, G: Gate + Sync, R: Read + Drop>(
         (λ text. IfOk job (λ asked. IsAnswerTo asked.traces (option_and_then R.remaining file) (string_bytes text))) }
     ensures usage { IfErr job (λ e. result ≡ Err (fault_of_job e)) }
     ensures no_file { IfOk job (λ _. IfNone file (result ≡ Err Fault.File)) }
+    ensures fault { IfErr result (λ fault. IsFaultOf job (option_map R.remaining file) fault) }
 {
     let job = job?;
     let mut reader = file.ok_or(Fault::File)?;
@@ -56,19 +63,45 @@ fn text<T: Threads + Wait + Clock + Sync, G: Gate + Sync, R: Read + Drop>(
     Ok(report.text(alloc)?)
 }
 
-fn write_all<W: Write>(output: &mut W, text: &str) -> io::Result<()>
-    ensures { OnOk result (Appends (W.contents output.old) (W.contents output.new) text.now) }
+/// Writes the whole text, or a beginning of it where a write fails.
+fn write_whole<W: Write>(writer: &mut W, text: &[u8]) -> io::Result<()>
+    ensures ok { OnOk result (Appends (W.contents writer.old) (W.contents writer.new) text.now) }
+    ensures err { OnErr result (AppendsBeginning (W.contents writer.old) (W.contents writer.new) text.now) }
 {
-    output.write_all(text.as_bytes())?;
-    output.flush()
+    let mut rest = text;
+    for _ in 0..u64::MAX {
+        if rest.is_empty() {
+            return writer.flush();
+        }
+        match writer.write(rest) {
+            Ok(0) => return Err(io::Error::from(ErrorKind::WriteZero)),
+            Ok(taken) => rest = &rest[taken..],
+            Err(error) => {
+                if error.kind() != ErrorKind::Interrupted {
+                    return Err(error);
+                }
+            }
+        }
+    }
+    Err(io::Error::from(ErrorKind::TimedOut))
 }
 
-/// Writes the line of a fault, where that can be written, and answers its status.
-fn show<E: Write>(faults: &mut E, fault: &Fault) -> u8
-    ensures is { result ≡ status_of fault.now }
-    ensures some { 0 < result }
+/// Writes the line of a fault, or a beginning of it where a write fails.
+fn tell<E: Write>(faults: &mut E, fault: &Fault) -> io::Result<()>
+    ensures ok { OnOk result (Appends (E.contents faults.old) (E.contents faults.new) (fault_line fault.now)) }
+    ensures err { OnErr result (AppendsBeginning (E.contents faults.old) (E.contents faults.new) (fault_line fault.now)) }
 {
-    let _ = writeln!(faults, "{fault}");
+    let mut line: ArrayVec<u8, LINE> = ArrayVec::new();
+    writeln!(line, "{fault}")?;
+    write_whole(faults, line.as_slice())
+}
+
+/// Tells a fault, as far as `faults` takes it, and answers its status.
+fn show<E: Write>(faults: &mut E, fault: &Fault) -> u8
+    ensures status { result ≡ status_of fault.now }
+    ensures line { AppendsBeginning (E.contents faults.old) (E.contents faults.new) (fault_line fault.now) }
+{
+    let _ = tell(faults, fault);
     fault.status()
 }
 
@@ -93,9 +126,14 @@ pub fn answer<T: Threads + Wait + Clock + Sync, G: Gate + Sync, R: Read + Drop, 
     ensures usage { IfErr job (λ e. result ≡ status_of (fault_of_job e)) }
     ensures no_file { IfOk job (λ _. IfNone file (result ≡ status_of Fault.File)) }
     ensures quiet { result ≡ 0 → E.contents faults.new ≡ E.contents faults.old }
+    ensures told { result ≢ 0
+        → (fault : Fault)
+        × IsFaultOf job (option_map R.remaining file) fault
+        × (result ≡ status_of fault)
+        × AppendsBeginning (E.contents faults.old) (E.contents faults.new) (fault_line fault) }
 {
     match text(rt, alloc, gate, job, file) {
-        Ok(text) => match write_all(output, &text) {
+        Ok(text) => match write_whole(output, text.as_bytes()) {
             Ok(()) => 0,
             Err(_) => show(faults, &Fault::File),
         },

@@ -1,4 +1,5 @@
 pub mod Key
+pub mod ScriptError
 pub mod Each
 pub mod Document
 pub mod Numbers

@@ -185,3 +185,16 @@ fn tickets_and_shares_are_looked_at_in_order(rt: HostRuntime) -> Result<(), Fail
     assert_eq!(rt; bank.log().len(), 1);
     Ok(())
 }
+
+#[test]
+fn a_default_share_is_refused(rt: HostRuntime) -> Result<(), Fail> {
+    let geometry = Geometry::new(NUMBERS)?;
+    let (mut bank, _shares) = Bank::new(rt.alloc(), geometry, BankNo::new(0), &[])?;
+    let mut share = Share::default();
+    let grant = ticket(0, 0, Channel::D, 0);
+    let refused = Err(Refusal::OutOfRange);
+    assert_eq!(rt; bank.take_grant(grant, &mut share), refused);
+    let given_up = bank.release(client(0), block(0), Prune::TtoN, &mut share);
+    assert_eq!(rt; given_up, refused);
+    Ok(())
+}

@@ -7,6 +7,10 @@ mod bank;
 #[cfg(test)]
 mod calls;
 #[cfg(test)]
+mod faults;
+#[cfg(test)]
+mod largest;
+#[cfg(test)]
 mod oldest;
 #[cfg(test)]
 mod program;

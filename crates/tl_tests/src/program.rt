@@ -60,7 +60,7 @@ fn answered<T: Threads + Wait + Clock + Sync>(
 }
 
 /// The status, the output and the fault line of a script, by `trace` or by `run`.
-fn answered_by<T: Threads + Wait + Clock + Sync>(
+pub fn answered_by<T: Threads + Wait + Clock + Sync>(
     rt: &T,
     alloc: Global,
     traces: bool,

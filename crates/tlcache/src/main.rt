@@ -4,7 +4,7 @@
 use std::fs::File;
 use std::io;
 use std::process::ExitCode;
-use tl_runner::{Free, JobError, answer, job};
+use tl_runner::{Free, Job, JobError, answer, job};
 
 /// The words after the program's name.
 fn words(rt: &HostRuntime) -> io::Result<Vec<String>> {
@@ -15,11 +15,14 @@ fn words(rt: &HostRuntime) -> io::Result<Vec<String>> {
     Ok(words)
 }
 
+/// The job that the words ask for. A word that is no UTF-8 names no file that can be opened here, so it is no job.
+fn asked(rt: &HostRuntime) -> Result<Job, JobError> {
+    let words = words(rt)?;
+    job(rt.alloc(), &words)
+}
+
 fn main(rt: HostRuntime) -> ExitCode {
-    let job = match words(&rt) {
-        Ok(words) => job(rt.alloc(), &words),
-        Err(_) => Err(JobError::Memory),
-    };
+    let job = asked(&rt);
     let file = match &job {
         Ok(job) => File::open(&rt, &job.file).ok(),
         Err(_) => None,
