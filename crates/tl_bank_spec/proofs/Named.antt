@@ -1,5 +1,5 @@
 -- A ticket that is not refused names the first message of its channel.
-use Rattle.std.proofs.Common.{◌≡◌, ◌-◌, ◌==◌, not, Bool, true, false, List, [], ◌∷◌, Some, None, if◌then◌else◌, slice_get, refl, ◌∙◌, ap, arith, eqb-true, nat_lt}
+use Rattle.std.proofs.Common.{◌≡◌, ◌-◌, ◌==◌, not, Bool, true, false, List, [], ◌∷◌, ◌++◌, Some, None, if◌then◌else◌, slice_get, refl, ◌∙◌, ap, arith, eqb-true, nat_lt}
 use Rattle.std.proofs.lemmas.Bool.{or_parts, not-false, le-ltb}
 use Rattle.tl_types.proofs.Lanes.{same_channel-true}
 use Rattle.tl_types.specs.Channel.{same_channel}
@@ -72,13 +72,14 @@ names-first v ticket channel kind client bank other head =
 
 -- so does each that a call with tickets does not refuse
 pub every_ticket_names_the_first : EveryTicketNamesTheFirst
-every_ticket_names_the_first v ticket channel kind = (
+every_ticket_names_the_first v ticket channel kind more = (
   (λ none.
-      let f : NoneHolds (ticket_cases v ticket channel kind) = none-holds (ticket_cases v ticket channel kind) none in
+      let f : NoneHolds (ticket_cases v ticket channel kind ++ more) =
+      none-holds (ticket_cases v ticket channel kind ++ more) none in
       names-first v ticket channel kind f.0 f.1.0 f.1.1.0 f.1.1.1.1.0),
   (λ share none.
-      let f : NoneHolds (shared_ticket_cases v ticket share channel kind) =
-      none-holds (shared_ticket_cases v ticket share channel kind) none in
+      let f : NoneHolds (shared_ticket_cases v ticket share channel kind ++ more) =
+      none-holds (shared_ticket_cases v ticket share channel kind ++ more) none in
       let client = or_parts (no_client v ticket.client) (bad_share v ticket.client share) f.0 in
       let bank = or_parts (not (ticket.bank == v.number)) (other_share v share) f.1.0 in
       names-first v ticket channel kind client.0 bank.0 f.1.1.0 f.1.1.1.1.0),

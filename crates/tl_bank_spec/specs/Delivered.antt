@@ -1,5 +1,5 @@
 -- What becomes of the message that an event sends, and of the one that it takes (this project's own).
-use Rattle.std.specs.Prelude.{◌≡◌, Bool, true, List, ◌∷◌, Some, None}
+use Rattle.std.specs.Prelude.{◌≡◌, Bool, true, List, ◌∷◌, ◌++◌, Some, None}
 use Rattle.tl_types.specs.Lane.{without_first}
 use Rattle.tl_types.specs.declared.channel.Channel.{Channel}
 use Rattle.tl_types.specs.declared.message.Body.{Body}
@@ -11,7 +11,7 @@ use Rattle.tl_lanes.specs.Lanes.{Place, Post, post_of, take_of}
 use Rattle.tl_lanes.specs.Lawful.{Lawful}
 use Rattle.tl_bank_spec.specs.Calls.{ticket_cases, shared_ticket_cases}
 use Rattle.tl_bank_spec.specs.Forbidden.{MayAt}
-use Rattle.tl_bank_spec.specs.Refusal.{first_of}
+use Rattle.tl_bank_spec.specs.Refusal.{Case, first_of}
 use Rattle.tl_bank_spec.specs.Share.{Holding}
 use Rattle.tl_bank_spec.specs.View.{View, Extends, block_at, lane_at, next_ticket, shape_of}
 use Rattle.tl_bank_spec.specs.Views.{in_flight_at}
@@ -53,9 +53,11 @@ EveryMessageTakenIsFirst =
     (old new : View) (e : Event) (place : Place) → Lawful (shape_of new.geometry) new.image new.log → Extends old new e
     → take_of e ≡ Some place → Takes old new e place
 
--- So is the message that a call takes whose ticket is not refused: it is the one that its ticket names.
+-- So is the message that a call takes whose ticket is not refused: it is the one that its ticket names. The cases of each call with
+-- a ticket begin with these.
 abbrev pub EveryTicketNamesTheFirst : Type 0
 EveryTicketNamesTheFirst =
-    (v : View) (ticket : Ticket) (channel : Channel) (kind : Body → Bool)
-    → (first_of (ticket_cases v ticket channel kind) ≡ None → NamesFirst v ticket channel kind)
-    × ((share : Holding) → first_of (shared_ticket_cases v ticket share channel kind) ≡ None → NamesFirst v ticket channel kind)
+    (v : View) (ticket : Ticket) (channel : Channel) (kind : Body → Bool) (more : List Case)
+    → (first_of (ticket_cases v ticket channel kind ++ more) ≡ None → NamesFirst v ticket channel kind)
+    × ((share : Holding) → first_of (shared_ticket_cases v ticket share channel kind ++ more) ≡ None
+    → NamesFirst v ticket channel kind)
