@@ -15,10 +15,16 @@ pub goes-barred : (kept gone : List Ticket) (all : List Asked) (end : List Ticke
     → Goes kept (gone ++ t ∷ []) all (end ++ t ∷ [])
 goes-barred kept [] all end t h is = inl (subst (λ (k : List Ticket). is_barred k t ≡ true) h.1 is, (h.0, ap (λ (k : List Ticket). k ++ t ∷ []) h.1))
 goes-barred kept (p ∷ rest) all end t (inl h) is = inl (h.0, goes-barred (kept ++ p ∷ []) rest all end t h.1 is)
-goes-barred kept (p ∷ rest) all end t (inr h) is = inr (h.0, (h.1.0, elim h.1.1 [
-    | inl k ↦ inl (k.0, goes-barred kept rest h.1.0 end t k.1 is)
-    | inr k ↦ inr (k.0, goes-barred (kept ++ p ∷ []) rest h.1.0 end t k.1 is)
-  ]))
+goes-barred kept (p ∷ rest) all end t (inr h) is = inr (
+  h.0,
+  (
+    h.1.0,
+    elim h.1.1 [
+      | inl k ↦ inl (k.0, goes-barred kept rest h.1.0 end t k.1 is)
+      | inr k ↦ inr (k.0, goes-barred (kept ++ p ∷ []) rest h.1.0 end t k.1 is)
+    ],
+  ),
+)
 
 -- a round that goes over one more ticket, which is served
 pub goes-served : (kept gone : List Ticket) (all : List Asked) (end : List Ticket) (t : Ticket) → Goes kept gone all end → is_barred end t ≡ false
@@ -26,22 +32,36 @@ pub goes-served : (kept gone : List Ticket) (all : List Asked) (end : List Ticke
 goes-served kept [] all end t h is =
     inr (subst (λ (k : List Ticket). is_barred k t ≡ false) h.1 is, ([], inl (ap (λ (a : List Asked). a ++ asked t true ∷ []) h.0, (refl, h.1))))
 goes-served kept (p ∷ rest) all end t (inl h) is = inl (h.0, goes-served (kept ++ p ∷ []) rest all end t h.1 is)
-goes-served kept (p ∷ rest) all end t (inr h) is = inr (h.0, (h.1.0 ++ asked t true ∷ [], elim h.1.1 [
-    | inl k ↦ inl (ap (λ (a : List Asked). a ++ asked t true ∷ []) k.0, goes-served kept rest h.1.0 end t k.1 is)
-    | inr k ↦ inr (ap (λ (a : List Asked). a ++ asked t true ∷ []) k.0, goes-served (kept ++ p ∷ []) rest h.1.0 end t k.1 is)
-  ]))
+goes-served kept (p ∷ rest) all end t (inr h) is = inr (
+  h.0,
+  (
+    h.1.0 ++ asked t true ∷ [],
+    elim h.1.1 [
+      | inl k ↦ inl (ap (λ (a : List Asked). a ++ asked t true ∷ []) k.0, goes-served kept rest h.1.0 end t k.1 is)
+      | inr k ↦ inr (ap (λ (a : List Asked). a ++ asked t true ∷ []) k.0, goes-served (kept ++ p ∷ []) rest h.1.0 end t k.1 is)
+    ],
+  ),
+)
 
 -- a round that goes over one more ticket, which is refused
 pub goes-refused : (kept gone : List Ticket) (all : List Asked) (end : List Ticket) (t : Ticket) → Goes kept gone all end → is_barred end t ≡ false
     → Goes kept (gone ++ t ∷ []) (all ++ asked t false ∷ []) (end ++ t ∷ [])
 goes-refused kept [] all end t h is =
-    inr (subst (λ (k : List Ticket). is_barred k t ≡ false) h.1 is,
-      ([], inr (ap (λ (a : List Asked). a ++ asked t false ∷ []) h.0, (refl, ap (λ (k : List Ticket). k ++ t ∷ []) h.1))))
+    inr (
+      subst (λ (k : List Ticket). is_barred k t ≡ false) h.1 is,
+      ([], inr (ap (λ (a : List Asked). a ++ asked t false ∷ []) h.0, (refl, ap (λ (k : List Ticket). k ++ t ∷ []) h.1))),
+    )
 goes-refused kept (p ∷ rest) all end t (inl h) is = inl (h.0, goes-refused (kept ++ p ∷ []) rest all end t h.1 is)
-goes-refused kept (p ∷ rest) all end t (inr h) is = inr (h.0, (h.1.0 ++ asked t false ∷ [], elim h.1.1 [
-    | inl k ↦ inl (ap (λ (a : List Asked). a ++ asked t false ∷ []) k.0, goes-refused kept rest h.1.0 end t k.1 is)
-    | inr k ↦ inr (ap (λ (a : List Asked). a ++ asked t false ∷ []) k.0, goes-refused (kept ++ p ∷ []) rest h.1.0 end t k.1 is)
-  ]))
+goes-refused kept (p ∷ rest) all end t (inr h) is = inr (
+  h.0,
+  (
+    h.1.0 ++ asked t false ∷ [],
+    elim h.1.1 [
+      | inl k ↦ inl (ap (λ (a : List Asked). a ++ asked t false ∷ []) k.0, goes-refused kept rest h.1.0 end t k.1 is)
+      | inr k ↦ inr (ap (λ (a : List Asked). a ++ asked t false ∷ []) k.0, goes-refused (kept ++ p ∷ []) rest h.1.0 end t k.1 is)
+    ],
+  ),
+)
 
 -- a round that goes over more tickets, each barred in its turn
 pub goes-passed : (kept gone : List Ticket) (all : List Asked) (end passed : List Ticket) → Goes kept gone all end → AreBarred end passed

@@ -13,8 +13,8 @@ use std::sync::{MutexGuard, Wait};
 use tl_bank::{Action, Bank, Refusal, Reply};
 use tl_types::{BlockNo, Ticket};
 
-/// A home's port: each call locks its bank. The tickets that were asked in this turn are kept. Contracts see the number of the bank, and
-/// those tickets.
+/// A home's port: each call locks its bank. The tickets that were asked in this turn are kept. Contracts see the number
+/// of the bank, and those tickets.
 #[derive(Drop)]
 pub struct BankPort<'a, R: Wait, G: Gate> {
     rt: &'a R,

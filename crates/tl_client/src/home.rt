@@ -57,9 +57,10 @@ impl Home {
         })
     }
 
-    /// One turn, over any port and gate. What it takes of its inbox, at most 64 tickets, joins those that wait: on E, then C, then A. It
-    /// asks its bank each of them once, in order, but none of whose client and channel an earlier one was refused; the refused and those
-    /// behind them wait on. An idle turn, and one that finds all done, asks none and takes none.
+    /// One turn, over any port and gate. What it takes of its inbox, at most 64 tickets, joins those that wait: on E,
+    /// then C, then A. It asks its bank each of them once, in order, but none of whose client and channel an earlier
+    /// one was refused; the refused and those behind them wait on. An idle turn, and one that finds all done, asks none
+    /// and takes none.
     pub fn turn<P: HomePort, G: Gate, R: Wait + Clock>(
         &mut self,
         rt: &R,

@@ -20,8 +20,8 @@ pub(crate) struct LockedBank {
     pub(crate) bank: Mutex<Bank>,
 }
 
-/// The banks of a geometry, each behind a lock of its own. Contracts see the geometry, and the number beside each lock: what is behind a
-/// lock is known by the bank's type alone.
+/// The banks of a geometry, each behind a lock of its own. Contracts see the geometry, and the number beside each lock:
+/// what is behind a lock is known by the bank's type alone.
 #[derive(Drop)]
 pub struct Locked {
     geometry: Geometry,

@@ -96,7 +96,8 @@ pub trait Port {
         ensures { result.now ≡ successes self.now };
 }
 
-/// The calls of a bank's home. `asked` is the list of the tickets that were asked in a turn, in order, each with whether it was served.
+/// The calls of a bank's home. `asked` is the list of the tickets that were asked in a turn, in order, each with
+/// whether it was served.
 pub trait HomePort {
     ghost asked: { Self → List Asked };
 

@@ -16,8 +16,9 @@ use tl_client::{Asked, Free, Home, HomePort, Mail, Turn};
 use tl_tickets::{Receiver, Ringer, Sender};
 use tl_types::{BankNo, BlockNo, Channel, ClientId, Ticket};
 
-/// A port to no bank: it counts its calls, keeps what was asked, and on channel A refuses, or has no memory, as long as it is told
-/// to. So many blocks, from 0 on, have an open register, none of which has a next step; those asked for one are kept.
+/// A port to no bank: it counts its calls, keeps what was asked, and on channel A refuses, or has no memory, as long as
+/// it is told to. So many blocks, from 0 on, have an open register, none of which has a next step; those asked for one
+/// are kept.
 #[derive(Drop)]
 struct Recorder {
     calls: Cell<u32>,
@@ -153,8 +154,8 @@ fn were_asked(port: &Recorder, serials: &[u64]) -> bool {
     asked.eq(serials.iter().copied())
 }
 
-/// E, then C, then the first of A, which is refused; the second is not asked before it, and the one on D is dropped. Once a ticket on A is
-/// accepted, each open register is asked for one step.
+/// E, then C, then the first of A, which is refused; the second is not asked before it, and the one on D is dropped.
+/// Once a ticket on A is accepted, each open register is asked for one step.
 fn serves_in_order<R: Wait + Clock + Abort>(
     rt: &R,
     home: &mut Home,
@@ -169,7 +170,10 @@ fn serves_in_order<R: Wait + Clock + Abort>(
     port.open = 2;
     assert_eq!(rt; home.turn(rt, port, &Free, 1, mail), Turn::Worked);
     assert!(rt; were_asked(port, &[0, 1]));
-    assert_eq!(rt; port.advanced.as_slice(), [BlockNo::new(0), BlockNo::new(1)].as_slice());
+    assert_eq!(rt;
+        port.advanced.as_slice(),
+        [BlockNo::new(0), BlockNo::new(1)].as_slice()
+    );
     port.open = 0;
     assert_eq!(rt; home.turn(rt, port, &Free, 1, mail), Turn::Worked);
     assert!(rt; were_asked(port, &[]));

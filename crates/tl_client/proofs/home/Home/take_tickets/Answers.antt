@@ -32,24 +32,23 @@ returns g c =
     let rest : inside.waiting.rest ≡ old.rest = ap (λ (w : Round). w.rest) (waits ∙ c.make_room.ensures.same) in
     let one : c.deref.result.now ≡ taken = c.deref.ensures.value ∙ items in
     let two : c.deref-2.result.now ≡ taken = c.deref-2.ensures.value ∙ items in
-    let three : c.deref-3.result.now ≡ taken = c.deref-3.ensures.value ∙ items in
-    (
+    let three : c.deref-3.result.now ≡ taken = c.deref-3.ensures.value ∙ items in (
       bank ∙ ap (λ (v : Waits). v.bank) c.self.view_is,
       (
         taken,
-          subst (λ (v : Waits). Took (OfBank v.bank c.args.clients) c.args.mail.now.inbox [] c.take_tickets.new.self.inbox taken) c.self.view_is
-              (subst (λ (b : List Ticket). Took (OfBank c.self.inside.bank c.args.clients) c.args.mail.now.inbox b c.take_tickets.new.self.inbox taken)
-              (c.reserve.ensures.items ∙ c.clear.ensures.items) c.take_tickets.ensures.taken),
-          laid old c.push_all.new.self c.push_all-2.new.self c.push_all-3.new.self
-              (filter (λ (t : Ticket). is_on (place_of E) t) taken) (filter (λ (t : Ticket). is_on (place_of C) t) taken)
-              (filter (λ (t : Ticket). is_on (place_of A) t) taken)
-              (c.push_all.ensures.kept ∙ kept)
-              (c.push_all.ensures.rest ∙ ap (λ (r : List Ticket). r ++ filter (λ (t : Ticket). is_on (place_of E) t) c.deref.result.now) rest
-              ∙ ap (λ (ts : List Ticket). old.rest ++ filter (λ (t : Ticket). is_on (place_of E) t) ts) one)
-              c.push_all-2.ensures.kept
-              (c.push_all-2.ensures.rest ∙ ap (λ (ts : List Ticket). c.push_all.new.self.rest ++ filter (λ (t : Ticket). is_on (place_of C) t) ts) two)
-              c.push_all-3.ensures.kept
-              (c.push_all-3.ensures.rest ∙ ap (λ (ts : List Ticket). c.push_all-2.new.self.rest ++ filter (λ (t : Ticket). is_on (place_of A) t) ts) three)
-          ∙ ap (λ (v : Waits). all_of v.waiting ++ in_order taken) c.self.view_is,
+        subst (λ (v : Waits). Took (OfBank v.bank c.args.clients) c.args.mail.now.inbox [] c.take_tickets.new.self.inbox taken) c.self.view_is
+            (subst (λ (b : List Ticket). Took (OfBank c.self.inside.bank c.args.clients) c.args.mail.now.inbox b c.take_tickets.new.self.inbox taken)
+            (c.reserve.ensures.items ∙ c.clear.ensures.items) c.take_tickets.ensures.taken),
+        laid old c.push_all.new.self c.push_all-2.new.self c.push_all-3.new.self
+            (filter (λ (t : Ticket). is_on (place_of E) t) taken) (filter (λ (t : Ticket). is_on (place_of C) t) taken)
+            (filter (λ (t : Ticket). is_on (place_of A) t) taken)
+            (c.push_all.ensures.kept ∙ kept)
+            (c.push_all.ensures.rest ∙ ap (λ (r : List Ticket). r ++ filter (λ (t : Ticket). is_on (place_of E) t) c.deref.result.now) rest
+            ∙ ap (λ (ts : List Ticket). old.rest ++ filter (λ (t : Ticket). is_on (place_of E) t) ts) one)
+            c.push_all-2.ensures.kept
+            (c.push_all-2.ensures.rest ∙ ap (λ (ts : List Ticket). c.push_all.new.self.rest ++ filter (λ (t : Ticket). is_on (place_of C) t) ts) two)
+            c.push_all-3.ensures.kept
+            (c.push_all-3.ensures.rest ∙ ap (λ (ts : List Ticket). c.push_all-2.new.self.rest ++ filter (λ (t : Ticket). is_on (place_of A) t) ts) three)
+            ∙ ap (λ (v : Waits). all_of v.waiting ++ in_order taken) c.self.view_is,
       ),
     )
