@@ -110,12 +110,11 @@ impl<'s> Agent<'s> {
             return Turn::Finished;
         }
         mail.send_again(rt);
-        let is_rung = mail.is_rung();
-        if !is_rung && !is_due {
+        if !mail.is_rung() && !is_due {
             self.rest.after_turn(rt, false);
             return Turn::Idle;
         }
-        match self.work(rt, port, gate, mail, is_rung) {
+        match self.work(rt, port, gate, mail) {
             Ok(()) => Turn::Worked,
             Err(_) => {
                 self.requester.progress.go_on();
@@ -124,19 +123,18 @@ impl<'s> Agent<'s> {
         }
     }
 
-    /// A turn in which something is to be done. `is_rung` says whether the bell has brought tickets.
+    /// A turn in which something is to be done.
     fn work<P: Port, G: Gate, R: Wait + Clock>(
         &mut self,
         rt: &R,
         port: &mut P,
         gate: &G,
         mail: &mut Mail<'_>,
-        is_rung: bool,
     ) -> Result<(), AllocError>
         ensures gains { Gains self.old (P.successes port.old) self.new (P.successes port.new) }
         ensures beginning { IsBeginning self.new }
     {
-        self.requester.begin(rt, mail, is_rung)?;
+        self.requester.take_tickets(rt, mail)?;
         self.requester.serve_downward(rt, port, mail)?;
         self.try_command(rt, port, gate, mail)?;
         self.requester.serve_probes(rt, port, mail)?;

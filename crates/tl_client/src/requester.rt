@@ -38,10 +38,8 @@ pub(crate) struct Requester {
     geometry: Geometry,
     /// The client's share of each bank, by number.
     shares: Vec<Share>,
-    /// The tickets that the last batch took.
+    /// The tickets that this turn took.
     taken: Vec<Ticket>,
-    /// Whether the inbox may have tickets whose bell was heard before.
-    has_more: bool,
     /// Grants and ReleaseAcks that are to be taken.
     downward: Waiting,
     /// Probes that are to be answered.
@@ -64,7 +62,6 @@ impl Requester {
             geometry,
             shares,
             taken: Vec::with_capacity(alloc, BATCH)?,
-            has_more: true,
             downward: Waiting::new(alloc, room)?,
             probes: Waiting::new(alloc, room)?,
             awaited: Awaited::Nothing,
@@ -92,30 +89,19 @@ impl Requester {
         self.progress.is_due() || !self.downward.is_empty() || !self.probes.is_empty()
     }
 
-    /// A turn begins. Where the bell rang, or the last batch may have left some, tickets are taken.
-    pub(crate) fn begin<R: Wait>(
+    /// Takes the tickets of the inbox, at most 64, and lays each to the others of its channel.
+    pub(crate) fn take_tickets<R: Wait>(
         &mut self,
         rt: &R,
         mail: &mut Mail<'_>,
-        is_rung: bool,
     ) -> Result<(), AllocError> {
         self.progress.begin();
-        if is_rung || self.has_more {
-            self.take_tickets(rt, mail)?;
-        }
-        Ok(())
-    }
-
-    /// Takes the tickets of the inbox, at most 64, and lays each to the others of its channel.
-    fn take_tickets<R: Wait>(&mut self, rt: &R, mail: &mut Mail<'_>) -> Result<(), AllocError> {
-        self.has_more = true;
         self.taken.clear();
         self.taken.reserve(BATCH)?;
         self.downward.make_room(BATCH)?;
         self.probes.make_room(BATCH)?;
         let links = Links::OfClient(self.client, self.shares.len());
-        self.has_more = mail.take_tickets(rt, &links, &mut self.taken);
-        if self.has_more {
+        if mail.take_tickets(rt, &links, &mut self.taken) {
             self.progress.go_on();
         }
         self.downward.push_all(&self.taken, Channel::D);
