@@ -3,13 +3,20 @@ use std::sync::Wait;
 use std::thread;
 use std::time::{Clock, Duration};
 
-// So many barren turns in a row come before a nap.
+// After so many barren turns in a row comes a nap, and after as many more the next.
 const PATIENCE: u32 = 64;
 
-// How long a nap lasts, in microseconds.
-const NAP: u64 = 20;
+// How long the first nap lasts, in microseconds. Each further one is twice as long, up to this many doublings.
+const FIRST_NAP: u64 = 20;
 
-/// How many barren turns came one after another since the last nap.
+const DOUBLINGS: u32 = 5;
+
+// How long a nap lasts, in microseconds; the first has number 1.
+fn nap(number: u32) -> u64 {
+    FIRST_NAP << number.saturating_sub(1).min(DOUBLINGS)
+}
+
+/// How many barren turns came one after another.
 #[derive(Drop)]
 pub(crate) struct Rest {
     barren: u32,
@@ -21,16 +28,17 @@ impl Rest {
         Rest { barren: 0 }
     }
 
-    /// After a turn: one in which no call succeeded yields the processor, and each 64th such turn in a row naps instead.
+    /// After a turn: one in which no call succeeded yields the processor, and each 64th such turn in a row naps instead, longer each time.
     pub(crate) fn after_turn<R: Wait + Clock>(&mut self, rt: &R, has_worked: bool) {
         if has_worked {
             self.barren = 0;
-        } else if self.barren < PATIENCE {
-            self.barren += 1;
-            thread::yield_now();
+            return;
+        }
+        self.barren = self.barren.saturating_add(1);
+        if self.barren % PATIENCE == 0 {
+            thread::sleep(rt, Duration::from_micros(nap(self.barren / PATIENCE)));
         } else {
-            self.barren = 0;
-            thread::sleep(rt, Duration::from_micros(NAP));
+            thread::yield_now();
         }
     }
 }
