@@ -6,14 +6,17 @@ use std::time::{Clock, Duration};
 // After so many barren turns in a row comes a nap, and after as many more the next.
 const PATIENCE: u32 = 64;
 
-// How long the first nap lasts, in microseconds. Each further one is twice as long, up to this many doublings.
+// How long the first naps last, in microseconds. After so many naps in a row each lasts twice as long, up to this many doublings: a
+// thread that waits for another at work is not late, and one that waits for a starved one leaves it time.
 const FIRST_NAP: u64 = 20;
+
+const NAPS: u32 = 64;
 
 const DOUBLINGS: u32 = 5;
 
-// How long a nap lasts, in microseconds; the first has number 1.
-fn nap(number: u32) -> u64 {
-    FIRST_NAP << number.saturating_sub(1).min(DOUBLINGS)
+// How long a nap lasts, in microseconds, after so many in a row.
+fn nap(before: u32) -> u64 {
+    FIRST_NAP << (before / NAPS).min(DOUBLINGS)
 }
 
 /// How many barren turns came one after another.
