@@ -57,11 +57,11 @@ impl HomePort for Recorder {
         if !self.has_memory {
             return Err(Refusal::Memory);
         }
-        self.note(ticket, !self.refuses)?;
         if self.refuses {
+            self.note(ticket, false)?;
             Err(Refusal::BlockBusy)
         } else {
-            Ok(())
+            self.note(ticket, true)
         }
     }
 
