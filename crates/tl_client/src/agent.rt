@@ -111,7 +111,7 @@ impl<'s> Agent<'s> {
         }
         mail.send_again(rt);
         if !mail.is_rung() && !is_due {
-            self.rest.after_turn(rt, false);
+            self.rest.after_turn(rt, mail.parker(), false);
             return Turn::Idle;
         }
         match self.work(rt, port, gate, mail) {
@@ -140,7 +140,7 @@ impl<'s> Agent<'s> {
         self.requester.serve_probes(rt, port, mail)?;
         self.finish(mail);
         self.rest
-            .after_turn(rt, self.requester.progress.has_worked());
+            .after_turn(rt, mail.parker(), self.requester.progress.has_worked());
         Ok(())
     }
 

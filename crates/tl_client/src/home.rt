@@ -79,12 +79,13 @@ impl Home {
         let all_are_done = mail.done() >= u64::from(clients);
         if all_are_done && self.has_changed {
             if port.is_quiet() {
+                mail.wake_all();
                 return Turn::Finished;
             }
             self.has_changed = false;
         }
         if !is_rung && !is_due {
-            self.rest.after_turn(rt, false);
+            self.rest.after_turn(rt, mail.parker(), false);
             return Turn::Idle;
         }
         self.has_changed = true;
@@ -111,7 +112,8 @@ impl Home {
         self.take_tickets(rt, clients, mail)?;
         self.serve_tickets(rt, port, mail)?;
         self.advance_registers(rt, port, mail)?;
-        self.rest.after_turn(rt, self.progress.has_worked());
+        self.rest
+            .after_turn(rt, mail.parker(), self.progress.has_worked());
         Ok(())
     }
 

@@ -6,6 +6,7 @@ ghost use Rattle.tl_client.specs.Ways.{HasRoom, sent_by};
 
 use crate::links::Links;
 use crate::sending::Sending;
+use crossbeam_utils::sync::Parker;
 use std::alloc::AllocError;
 use std::marker::Model;
 use std::sync::Wait;
@@ -15,13 +16,14 @@ use tl_types::Ticket;
 /// How many tickets a turn takes at most.
 pub const BATCH: usize = 64;
 
-/// What a worker uses: its own inbox and bell, the way to each of those that it sends to, by number, and the done bell.
+/// What a worker uses: its own inbox and bell, the way to each of those that it sends to, by number, the done bell, and what it rests at.
 #[derive(Drop)]
 pub struct Mail<'a> {
     inbox: Receiver<'a>,
     bell: Ringer<'a>,
     sending: Vec<Sending<'a>>,
     done: Ringer<'a>,
+    parker: Parker,
     heard: u64,
     /// Whether a ticket may have been handed back.
     has_back: bool,
@@ -42,6 +44,7 @@ impl<'a> Mail<'a> {
         bell: Ringer<'a>,
         sending: Vec<Sending<'a>>,
         done: Ringer<'a>,
+        parker: Parker,
     ) -> Mail<'a>
         ensures { result ≡ record { inbox = inbox.entry; bell = bell.entry; ways = sending.entry.items; done = done.entry } }
     {
@@ -50,6 +53,7 @@ impl<'a> Mail<'a> {
             bell,
             sending,
             done,
+            parker,
             heard: 0,
             has_back: false,
         }
@@ -149,8 +153,21 @@ impl<'a> Mail<'a> {
         self.done.heard()
     }
 
-    /// Rings the done bell.
+    /// Rings the done bell, and ends the receivers' rests.
     pub(crate) fn ring_done(&mut self) {
         self.done.ring();
+        self.wake_all();
+    }
+
+    /// Ends the rests of all receivers, so that they hear a bell of which no ticket tells them.
+    pub(crate) fn wake_all(&self) {
+        for way in self.sending.iter() {
+            way.wake();
+        }
+    }
+
+    /// What this worker rests at: its senders end the rest.
+    pub(crate) fn parker(&self) -> &Parker {
+        &self.parker
     }
 }

@@ -1,23 +1,15 @@
 //! How a worker rests after turns in which no call succeeded.
+use crossbeam_utils::sync::Parker;
 use std::sync::Wait;
 use std::thread;
 use std::time::{Clock, Duration};
 
-// After so many barren turns in a row comes a nap, and after as many more the next.
+// After so many barren turns in a row comes a rest, and after as many more the next.
 const PATIENCE: u32 = 64;
 
-// How long the first naps last, in microseconds. After so many naps in a row each lasts twice as long, up to this many doublings: a
-// thread that waits for another at work is not late, and one that waits for a starved one leaves it time.
-const FIRST_NAP: u64 = 20;
-
-const NAPS: u32 = 64;
-
-const DOUBLINGS: u32 = 5;
-
-// How long a nap lasts, in microseconds, after so many in a row.
-fn nap(before: u32) -> u64 {
-    FIRST_NAP << (before / NAPS).min(DOUBLINGS)
-}
+// How long a rest lasts at most, in microseconds: a sender that rings ends it. So a run of the most turns that can't go on is told as
+// stalled after some 16 seconds, and a starved thread has as long.
+const REST: u64 = 1_000;
 
 /// How many barren turns came one after another.
 #[derive(Drop)]
@@ -31,15 +23,20 @@ impl Rest {
         Rest { barren: 0 }
     }
 
-    /// After a turn: one in which no call succeeded yields the processor, and each 64th such turn in a row naps instead, longer each time.
-    pub(crate) fn after_turn<R: Wait + Clock>(&mut self, rt: &R, has_worked: bool) {
+    /// After a turn: one in which no call succeeded yields the processor, and each 64th such turn in a row rests instead.
+    pub(crate) fn after_turn<R: Wait + Clock>(
+        &mut self,
+        rt: &R,
+        parker: &Parker,
+        has_worked: bool,
+    ) {
         if has_worked {
             self.barren = 0;
             return;
         }
         self.barren = self.barren.saturating_add(1);
         if self.barren % PATIENCE == 0 {
-            thread::sleep(rt, Duration::from_micros(nap(self.barren / PATIENCE)));
+            parker.park_timeout(rt, Duration::from_micros(REST));
         } else {
             thread::yield_now();
         }

@@ -2,6 +2,7 @@
 ghost use Rattle.std.specs.Prelude.{◌≡◌, ◌++◌, ◌∷◌, ◌<◌, [], length, IfOk, MatchOption, OnOk};
 ghost use Rattle.tl_client.specs.Ways.{HasRoom, RingsAsItPuts, sent_on};
 
+use crossbeam_utils::sync::Unparker;
 use std::alloc::{AllocError, Global};
 use std::collections::VecDeque;
 use std::marker::Model;
@@ -12,11 +13,12 @@ use tl_types::Ticket;
 /// How many tickets one worker sends to another at most before they are served: 64 on each of three channels.
 pub const MOST_TICKETS: usize = 192;
 
-/// The way to one receiver: its inbox, its bell, and the tickets that the inbox handed back, oldest first.
+/// The way to one receiver: its inbox, its bell, what ends its rest, and the tickets that the inbox handed back, oldest first.
 #[derive(Drop)]
 pub struct Sending<'a> {
     inbox: Sender<'a>,
     bell: Ringer<'a>,
+    rest: Unparker,
     back: VecDeque<Ticket>,
 }
 
@@ -35,12 +37,14 @@ impl<'a> Sending<'a> {
         alloc: Global,
         inbox: Sender<'a>,
         bell: Ringer<'a>,
+        rest: Unparker,
     ) -> Result<Sending<'a>, AllocError>
         ensures { IfOk result (λ way. way ≡ record { inbox = inbox.entry; bell = bell.entry; back = []; room = MOST_TICKETS }) }
     {
         Ok(Sending {
             inbox,
             bell,
+            rest,
             back: VecDeque::with_capacity(alloc, MOST_TICKETS)?,
         })
     }
@@ -55,7 +59,15 @@ impl<'a> Sending<'a> {
         ensures room { OnOk result (HasRoom self.new) }
         ensures same { self.new ≡ record self.old { room = self.new.room } }
     {
+        if self.back.len() < self.back.capacity() {
+            return Ok(());
+        }
         self.back.reserve(1)
+    }
+
+    /// Ends the receiver's rest, if it rests.
+    pub(crate) fn wake(&self) {
+        self.rest.unpark();
     }
 
     /// Puts a ticket and then rings, or hands it back where the inbox was full.
@@ -69,6 +81,7 @@ impl<'a> Sending<'a> {
         match self.inbox.put(rt, ticket) {
             Ok(()) => {
                 self.bell.ring();
+                self.wake();
                 None
             }
             Err(full) => Some(full.0),

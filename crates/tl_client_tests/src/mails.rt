@@ -4,6 +4,7 @@ ghost use Rattle.std.specs.List.{All};
 ghost use Rattle.tl_tickets.specs.Inbox.{IsReceiverOf, IsSenderOf};
 ghost use Rattle.tl_tickets.specs.Bell.{IsSeatOf};
 
+use crossbeam_utils::sync::Parker;
 use std::alloc::Global;
 use tl_client::{Mail, Sending};
 use tl_tickets::{Bell, Inbox, Pass, Receiver, Ringer, Seat, Sender};
@@ -53,7 +54,8 @@ pub fn open(alloc: Global, capacity: usize) -> Option<Opened>
     Some((inbox, bell, receiver, sender, own, other))
 }
 
-/// The mail of a worker that sends to one other.
+/// The mail of a worker that sends to one other. One thread plays all workers, so that a ring need wake nobody: each way
+/// wakes the sender.
 pub fn mail<'a>(
     alloc: Global,
     inbox: Receiver<'a>,
@@ -65,6 +67,8 @@ pub fn mail<'a>(
     ensures { IfSome result (λ mail. mail.inbox ≡ inbox.entry) }
 {
     let mut ways = Vec::new(alloc);
-    ways.push(Sending::new(alloc, to, rings).ok()?).ok()?;
-    Some(Mail::new(inbox, bell, ways, done))
+    let parker = Parker::new(alloc).ok()?;
+    let rest = parker.unparker().clone().ok()?;
+    ways.push(Sending::new(alloc, to, rings, rest).ok()?).ok()?;
+    Some(Mail::new(inbox, bell, ways, done, parker))
 }

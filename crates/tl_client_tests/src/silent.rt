@@ -1,5 +1,6 @@
 //! A client that holds a block and has no thread: the others wait for ever, and nothing is broken.
 use crate::mails::{mail, open, open_bell};
+use crossbeam_utils::sync::{Parker, Unparker};
 use std::alloc::Global;
 use std::process::Abort;
 use std::sync::Wait;
@@ -90,18 +91,19 @@ fn lock(alloc: Global, geometry: Geometry) -> Option<(Locked, Vec<Share>)> {
     Some((locked, shares))
 }
 
-/// The ways of a home to its two clients.
+/// The ways of a home to its two clients. One thread plays both, so that a ring need wake nobody: each way wakes the home.
 fn two_ways<'a>(
     alloc: Global,
     to_first: Sender<'a>,
     rings_first: Ringer<'a>,
     to_second: Sender<'a>,
     rings_second: Ringer<'a>,
+    rest: &Unparker,
 ) -> Option<Vec<Sending<'a>>> {
     let mut ways = Vec::new(alloc);
-    ways.push(Sending::new(alloc, to_first, rings_first).ok()?)
+    ways.push(Sending::new(alloc, to_first, rings_first, rest.clone().ok()?).ok()?)
         .ok()?;
-    ways.push(Sending::new(alloc, to_second, rings_second).ok()?)
+    ways.push(Sending::new(alloc, to_second, rings_second, rest.clone().ok()?).ok()?)
         .ok()?;
     Some(ways)
 }
@@ -154,18 +156,21 @@ fn wait_for_the_silent<R: Wait + Clock>(
         Ringer::new(&home_bell, home_other),
         Ringer::new(&done, rings),
     )?;
+    let parker = Parker::new(alloc).ok()?;
     let ways = two_ways(
         alloc,
         Sender::new(&silent, to_silent),
         Ringer::new(&silent_bell, rings_silent),
         Sender::new(&inbox, sender),
         Ringer::new(&bell, other),
+        parker.unparker(),
     )?;
     let mut home_mail = Mail::new(
         Receiver::new(&home_inbox, home_receiver),
         Ringer::new(&home_bell, home_own),
         ways,
         Ringer::new(&done, hears),
+        parker,
     );
     take_turns(
         rt,

@@ -7,15 +7,17 @@ ghost use Rattle.tl_tickets.specs.Bell.{IsSeatOf};
 ghost use Rattle.tl_machine.specs.Keys.{Fits, FitEach};
 
 use crate::mailbox::{Keys, Mailbox};
+use crossbeam_utils::sync::{Parker, Unparker};
 use std::alloc::{AllocError, Global};
 use tl_client::{Mail, Sending};
 use tl_tickets::{Bell, Inbox, Pass, Receiver, Ringer, Seat, Sender};
 
-/// A mailbox as its receiver uses it.
+/// A mailbox as its receiver uses it, and what the receiver rests at.
 #[derive(Drop)]
 pub(crate) struct Receiving<'x> {
     inbox: Receiver<'x>,
     bell: Ringer<'x>,
+    parker: Parker,
 }
 
 /// Mailboxes as their receivers use them, and for each the ways of its senders.
@@ -55,6 +57,7 @@ fn ways_to<'x>(
     bell: &'x Bell,
     passes: Vec<Pass>,
     mut seats: Vec<Seat>,
+    rest: &Unparker,
 ) -> Result<Vec<Sending<'x>>, AllocError>
     requires passes { All (IsSenderOf inbox.now) passes.items }
     requires seats { All (IsSeatOf bell.now) seats.items }
@@ -66,7 +69,12 @@ fn ways_to<'x>(
         let Some(seat) = seats.pop() else {
             unreachable!()
         };
-        let way = Sending::new(alloc, Sender::new(inbox, pass), Ringer::new(bell, seat))?;
+        let way = Sending::new(
+            alloc,
+            Sender::new(inbox, pass),
+            Ringer::new(bell, seat),
+            rest.clone()?,
+        )?;
         ways.push(way)?;
     }
     Ok(ways)
@@ -89,10 +97,19 @@ fn ends_of<'x>(
         own,
         seats,
     } = keys;
-    let ways = ways_to(alloc, &mailbox.inbox, &mailbox.bell, passes, seats)?;
+    let parker = Parker::new(alloc)?;
+    let ways = ways_to(
+        alloc,
+        &mailbox.inbox,
+        &mailbox.bell,
+        passes,
+        seats,
+        parker.unparker(),
+    )?;
     let receiving = Receiving {
         inbox: Receiver::new(&mailbox.inbox, receiver),
         bell: Ringer::new(&mailbox.bell, own),
+        parker,
     };
     Ok((receiving, ways))
 }
@@ -158,10 +175,14 @@ pub(crate) fn posts<'x>(
 {
     let mut posts = Vec::with_capacity(alloc, receiving.len())?;
     for own in receiving {
-        let Receiving { inbox, bell } = own;
+        let Receiving {
+            inbox,
+            bell,
+            parker,
+        } = own;
         let (ways, rest) = one_of_each(alloc, sending, done.len())?;
         sending = rest;
-        let mail = Mail::new(inbox, bell, ways, done.remove(0));
+        let mail = Mail::new(inbox, bell, ways, done.remove(0), parker);
         posts.push(Post {
             mail,
             stop: stop.remove(0),
