@@ -128,16 +128,15 @@ impl BlockBytes {
     }
 
     /// The `len` bytes of an image from `from` on, 0 past its end.
-    #[tactic(auto, using(crate::proofs::Image::images))]
     pub fn from_image(image: &[u8], from: usize, len: usize) -> BlockBytes
         requires len { len ≤ 64 }
         requires from { from < 2 ^ 32 }
         ensures { result ≡ image_bytes image.now from len }
     {
+        let from = from.min(image.len());
+        let to = image.len().min(from + len);
         let mut bytes = [0; BLOCK];
-        for i in 0..len {
-            bytes[i] = image.get(from + i).copied().unwrap_or(0);
-        }
+        bytes[..to - from].copy_from_slice(&image[from..to]);
         BlockBytes {
             bytes,
             len: len as u8,
