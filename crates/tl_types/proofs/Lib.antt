@@ -4,3 +4,4 @@ pub mod CodeLaws
 pub mod Counts
 pub mod Lanes
 pub mod Lowest
+pub mod Overwrites

@@ -2,21 +2,29 @@
 ghost use Rattle.std.specs.Prelude.{◌≡◌, ◌↔◌, ◌+◌, ◌^◌, ◌<◌, ◌≤◌, IsTrue, IfSome, IsSome, List, ℕ, [], length, slice_range};
 ghost use Rattle.tl_types.specs.Bytes.{overwrite, image_bytes};
 
-use arrayvec::ArrayVec;
 use std::marker::Model;
+
+/// The most bytes of one access.
+const ACCESS: usize = 8;
+
+/// The most bytes of one block.
+const BLOCK: usize = 64;
 
 /// The bytes of one access, at most eight.
 #[derive(Debug, Drop)]
 pub struct AccessBytes {
-    bytes: ArrayVec<u8, 8>,
+    bytes: [u8; ACCESS],
+    len: u8,
 }
 
 impl Model for AccessBytes {
-    ghost use Rattle.std.specs.Prelude.{List, ℕ};
+    ghost use Rattle.std.specs.Prelude.{List, ℕ, ◌≤◌, take};
 
     ghost Value = { List ℕ };
 
-    ghost view = { λ w. w.bytes.items };
+    ghost view = { λ w. take w.len w.bytes };
+
+    ghost invariant = { λ w. w.len ≤ 8 };
 }
 
 impl AccessBytes {
@@ -24,9 +32,10 @@ impl AccessBytes {
     pub fn copied(&self) -> AccessBytes
         ensures { result ≡ self.now }
     {
-        let mut bytes = ArrayVec::new();
-        let _ = bytes.try_extend_from_slice(self.bytes.as_slice());
-        AccessBytes { bytes }
+        AccessBytes {
+            bytes: self.bytes,
+            len: self.len,
+        }
     }
 
     /// No bytes.
@@ -34,7 +43,8 @@ impl AccessBytes {
         ensures { result ≡ [] }
     {
         AccessBytes {
-            bytes: ArrayVec::new(),
+            bytes: [0; ACCESS],
+            len: 0,
         }
     }
 
@@ -43,11 +53,16 @@ impl AccessBytes {
         ensures some { IsSome result ↔ (length bytes.now ≤ 8) }
         ensures bytes { IfSome result (λ w. w ≡ bytes.now) }
     {
-        let mut access = ArrayVec::new();
-        match access.try_extend_from_slice(bytes) {
-            Ok(()) => Some(AccessBytes { bytes: access }),
-            Err(_) => None,
+        let len = bytes.len();
+        if len > ACCESS {
+            return None;
         }
+        let mut kept = [0; ACCESS];
+        kept[..len].copy_from_slice(bytes);
+        Some(AccessBytes {
+            bytes: kept,
+            len: len as u8,
+        })
     }
 
     /// The bytes, in rising order of address.
@@ -55,22 +70,25 @@ impl AccessBytes {
         ensures value { result.now ≡ self.now }
         ensures fits { length self.now ≤ 8 }
     {
-        self.bytes.as_slice()
+        &self.bytes[..self.len as usize]
     }
 }
 
 /// The bytes of one block, at most 64.
 #[derive(Debug, Drop)]
 pub struct BlockBytes {
-    bytes: ArrayVec<u8, 64>,
+    bytes: [u8; BLOCK],
+    len: u8,
 }
 
 impl Model for BlockBytes {
-    ghost use Rattle.std.specs.Prelude.{List, ℕ};
+    ghost use Rattle.std.specs.Prelude.{List, ℕ, ◌≤◌, take};
 
     ghost Value = { List ℕ };
 
-    ghost view = { λ w. w.bytes.items };
+    ghost view = { λ b. take b.len b.bytes };
+
+    ghost invariant = { λ b. b.len ≤ 64 };
 }
 
 impl BlockBytes {
@@ -79,7 +97,8 @@ impl BlockBytes {
         ensures { result ≡ [] }
     {
         BlockBytes {
-            bytes: ArrayVec::new(),
+            bytes: [0; BLOCK],
+            len: 0,
         }
     }
 
@@ -88,7 +107,7 @@ impl BlockBytes {
         ensures value { result.now ≡ self.now }
         ensures fits { length self.now ≤ 64 }
     {
-        self.bytes.as_slice()
+        &self.bytes[..self.len as usize]
     }
 
     /// These bytes, if they are at most 64.
@@ -96,34 +115,42 @@ impl BlockBytes {
         ensures some { IsSome result ↔ (length bytes.now ≤ 64) }
         ensures bytes { IfSome result (λ b. b ≡ bytes.now) }
     {
-        let mut block = ArrayVec::new();
-        match block.try_extend_from_slice(bytes) {
-            Ok(()) => Some(BlockBytes { bytes: block }),
-            Err(_) => None,
+        let len = bytes.len();
+        if len > BLOCK {
+            return None;
         }
+        let mut kept = [0; BLOCK];
+        kept[..len].copy_from_slice(bytes);
+        Some(BlockBytes {
+            bytes: kept,
+            len: len as u8,
+        })
     }
 
     /// The `len` bytes of an image from `from` on, 0 past its end.
-    #[tactic(auto, using(crate::proofs::Image::images))]
     pub fn from_image(image: &[u8], from: usize, len: usize) -> BlockBytes
         requires len { len ≤ 64 }
         requires from { from < 2 ^ 32 }
         ensures { result ≡ image_bytes image.now from len }
     {
-        let mut bytes = ArrayVec::new();
-        for i in 0..len {
-            bytes.push(image.get(from + i).copied().unwrap_or(0));
+        let from = from.min(image.len());
+        let to = image.len().min(from + len);
+        let mut bytes = [0; BLOCK];
+        bytes[..to - from].copy_from_slice(&image[from..to]);
+        BlockBytes {
+            bytes,
+            len: len as u8,
         }
-        BlockBytes { bytes }
     }
 
     /// The same bytes again.
     pub fn copied(&self) -> BlockBytes
         ensures { result ≡ self.now }
     {
-        let mut bytes = ArrayVec::new();
-        let _ = bytes.try_extend_from_slice(self.bytes.as_slice());
-        BlockBytes { bytes }
+        BlockBytes {
+            bytes: self.bytes,
+            len: self.len,
+        }
     }
 
     /// The `len` bytes from `offset` on, where they are there and at most eight.
@@ -131,7 +158,7 @@ impl BlockBytes {
         ensures some { IsSome result ↔ ((offset + len ≤ length self.now) × (len ≤ 8)) }
         ensures bytes { IfSome result (λ access. (access ≡ slice_range self.now offset (offset + len)) × (length access ≡ len)) }
     {
-        let block = self.bytes.as_slice();
+        let block = self.as_slice();
         let from = offset as usize;
         let to = from + len as usize;
         if to <= block.len() {
@@ -147,14 +174,10 @@ impl BlockBytes {
         ensures { self.new ≡ overwrite offset access.now self.old }
     {
         let access = access.as_slice();
-        let block = self.bytes.as_slice();
-        let before = offset.min(block.len());
-        let after = (offset + access.len()).min(block.len());
-        let mut bytes = ArrayVec::new();
-        let _ = bytes.try_extend_from_slice(&block[..before]);
-        let _ = bytes.try_extend_from_slice(access);
-        let _ = bytes.try_extend_from_slice(&block[after..]);
-        self.bytes = bytes;
+        let from = offset.min(self.len as usize);
+        let to = from + access.len();
+        self.bytes[from..to].copy_from_slice(access);
+        self.len = self.len.max(to as u8);
     }
 
     /// Whether the bytes from `offset` on are those of `access`.
@@ -163,7 +186,7 @@ impl BlockBytes {
         requires inside { offset ≤ 64 }
         ensures { IsTrue result ↔ (slice_range self.now offset (offset + length access.now) ≡ access.now) }
     {
-        let block = self.bytes.as_slice();
+        let block = self.as_slice();
         let bytes = access.as_slice();
         if offset + bytes.len() <= block.len() {
             &block[offset..offset + bytes.len()] == bytes
