@@ -7,14 +7,13 @@ use Rattle.std.proofs.lemmas.Bool.{ne_eqb}
 use Rattle.tl_types.specs.Count.{count_below}
 use Rattle.tl_types.proofs.Counts.{count_below-same, count_below-none, count_below-change}
 use Rattle.tl_copies.specs.declared.held.Held.{Held}
-use Rattle.tl_copies.specs.declared.table.Entry.{Entry}
 use Rattle.tl_copies.specs.Held.{is_copy, has_copy}
-use Rattle.tl_copies.specs.Entries.{found, oldest_in, AreApart, IsTable}
+use Rattle.tl_copies.specs.Entries.{Entry, found, oldest_in, AreApart, IsTable}
 use Rattle.tl_copies.specs.Copies.{Tables, held_at, order_in, entries, copies}
 use Rattle.tl_copies.proofs.EntryLaws.{blocks, not_first, same}
 
 -- one if a test is met
-abbrev one_if : Bool → ℕ
+abbrev pub one_if : Bool → ℕ
 one_if passes = if passes then 1 else 0
 
 -- the blocks that pass a test, which no missing entry passes, are as many as the entries that do

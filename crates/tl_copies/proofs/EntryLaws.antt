@@ -3,9 +3,8 @@ use Rattle.std.proofs.Common.{◌≡◌, ℕ, ◌+◌, ◌<◌, ◌≤◌, ◌==
 use Rattle.std.proofs.lemmas.Bool.Decides.{nat_tests}
 use Rattle.std.proofs.lemmas.List.{map-append}
 use Rattle.tl_copies.specs.declared.held.Held.{Held}
-use Rattle.tl_copies.specs.declared.table.Entry.{Entry}
 use Rattle.tl_copies.specs.Held.{is_granted}
-use Rattle.tl_copies.specs.Entries.{found, without, replaced, kept, AreApart, IsTable}
+use Rattle.tl_copies.specs.Entries.{Entry, found, without, replaced, kept, AreApart, IsTable}
 use Rattle.tl_copies.specs.Copies.{order_without, order_after}
 
 -- an entry of a block
@@ -303,7 +302,7 @@ new_order true block held e rest h ih = ap (λ b. b ∷ blocks rest) (sym (eqb-t
 new_order false block held e rest h ih = rw ih refl
 
 -- a changed entry leaves the order
-order-replaced : (block : ℕ) (held : Held) (es : List Entry) → blocks (replaced block held es) ≡ blocks es
+pub order-replaced : (block : ℕ) (held : Held) (es : List Entry) → blocks (replaced block held es) ≡ blocks es
 order-replaced block held [] = refl
 order-replaced block held (e ∷ rest) = new_order (e.block == block) block held e rest refl (order-replaced block held rest)
 

@@ -1,10 +1,10 @@
 -- What a table has of the block of its first copy, and of all blocks where no entry passes a test.
-use Rattle.std.proofs.Common.{◌≡◌, ℕ, ◌<◌, ◌==◌, ◌&&◌, not, Bool, true, false, List, [], ◌∷◌, Option, Some, None, if◌then◌else◌, refl, sym, ◌∙◌, ap, subst, eqb-true}
+use Rattle.std.proofs.Common.{◌≡◌, ℕ, ◌+◌, ◌<◌, ◌==◌, ◌&&◌, not, Bool, true, false, List, [], ◌∷◌, Option, Some, None, if◌then◌else◌, length, drop, slice_index_or, refl, sym, ◌∙◌, ap, subst, eqb-true}
 use Rattle.std.specs.List.{find, list_all}
+use Rattle.std.proofs.lemmas.List.{drop_more}
 use Rattle.tl_copies.specs.declared.held.Held.{Held}
-use Rattle.tl_copies.specs.declared.table.Entry.{Entry}
 use Rattle.tl_copies.specs.Held.{is_copy, has_copy, waits, is_awaited}
-use Rattle.tl_copies.specs.Entries.{found, oldest_in, AreApart}
+use Rattle.tl_copies.specs.Entries.{Entry, found, oldest_in, AreApart}
 use Rattle.tl_copies.proofs.EntryLaws.{same}
 
 -- what is found in a table whose first entry is of the block, or not
@@ -48,6 +48,16 @@ oldest-none (e ∷ rest) h b =
     let both = first-none (is_copy e.held) e.block (oldest_in rest) h in
     found-first (e.block == b) e.held (found b rest) has_copy both.0 (oldest-none rest both.1 b)
 
+-- the first of the entries from a place on is the one there, where it is a copy
+pub oldest-here : (es : List Entry) (place : ℕ) (d : Entry) → place < length es → is_copy (slice_index_or es place d).held ≡ true
+    → oldest_in (drop place es) ≡ Some (slice_index_or es place d).block
+oldest-here es place d l h = rw (drop_more es place d l, h) refl
+
+-- and else the first of the later ones
+pub oldest-later : (es : List Entry) (place : ℕ) (d : Entry) → place < length es → is_copy (slice_index_or es place d).held ≡ false
+    → oldest_in (drop place es) ≡ oldest_in (drop (place + 1) es)
+oldest-later es place d l h = rw (drop_more es place d l, h) refl
+
 -- what is found passes the test
 found-passes : (test : ℕ → Bool) (x b : ℕ) (passes : Bool) (rest : Option ℕ) → test x ≡ passes → (rest ≡ Some b → test b ≡ true)
     → (if passes then Some x else rest) ≡ Some b → test b ≡ true
@@ -60,6 +70,16 @@ find-passes test [] b h = cc
 find-passes test (x ∷ rest) b h = found-passes test x b (test x) (find test rest) refl (find-passes test rest b) h
 
 -- ## Answers
+
+-- where the entry at a place fails a test, not all from there on pass
+pub fails-here : (test : Entry → Bool) (es : List Entry) (place : ℕ) (d : Entry) → place < length es → test (slice_index_or es place d) ≡ false
+    → list_all test (drop place es) ≡ false
+fails-here test es place d l h = rw (drop_more es place d l, h) refl
+
+-- and where it passes, all do if the later ones do
+pub passes-here : (test : Entry → Bool) (es : List Entry) (place : ℕ) (d : Entry) → place < length es → test (slice_index_or es place d) ≡ true
+    → list_all test (drop place es) ≡ list_all test (drop (place + 1) es)
+passes-here test es place d l h = rw (drop_more es place d l, h) refl
 
 -- both of two tests
 both_true : (a b : Bool) → (a && b) ≡ true → (a ≡ true) × (b ≡ true)

@@ -3,3 +3,4 @@ pub mod PlaceLaws
 pub mod CountLaws
 pub mod TableLaws
 pub mod FirstLaws
+pub mod SlotLaws

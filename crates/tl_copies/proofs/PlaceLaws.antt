@@ -1,13 +1,10 @@
 -- The place of a block's entry.
-use Rattle.std.proofs.Common.{◌≡◌, ℕ, zero, suc, ◌==◌, Bool, true, false, List, [], ◌∷◌, ◌++◌, length, drop, Some, None, if◌then◌else◌, slice_index_or, slice_set, refl, sym, ◌∙◌, ap, arith, eq-eqb}
+use Rattle.std.proofs.Common.{◌≡◌, ℕ, zero, suc, ◌<◌, ◌==◌, Bool, true, false, List, [], ◌∷◌, ◌++◌, length, Some, None, if◌then◌else◌, slice_index_or, slice_set, refl, sym, ◌∙◌, ap, arith, eq-eqb}
 use Rattle.std.specs.Prelude.{remove}
-use Rattle.std.specs.List.{refill}
-use Rattle.std.proofs.lemmas.List.{take_at, length-set}
 use Rattle.std.proofs.lemmas.Bool.{ne_eqb}
 use Rattle.tl_copies.specs.declared.held.Held.{Held}
-use Rattle.tl_copies.specs.declared.table.Entry.{Entry}
 use Rattle.tl_copies.specs.Held.{is_granted, is_renewed}
-use Rattle.tl_copies.specs.Entries.{found, without, replaced, kept, IsPlace}
+use Rattle.tl_copies.specs.Entries.{Entry, found, without, replaced, kept, IsPlace}
 use Rattle.tl_copies.proofs.EntryLaws.{entry}
 
 -- a place past the first is one less in the rest
@@ -61,6 +58,12 @@ without-none block (e ∷ rest) n = by_test (e.block == block) n (without-none b
     by_test true h ih = cc
     by_test false h ih = ap (λ (es : List Entry). e ∷ es) (ih h)
 
+-- an entry changed and then taken out is taken out
+pub remove-set : (es : List Entry) (place : ℕ) (e : Entry) → place < length es → remove (slice_set es place e) place ≡ remove es place
+remove-set [] place e h = absurd (omega arith)
+remove-set (x ∷ rest) zero e h = refl
+remove-set (x ∷ rest) (suc i) e h = ap (λ (es : List Entry). x ∷ es) (remove-set rest i e (omega arith))
+
 -- ## What is kept, as the code does it
 
 -- a new entry goes last
@@ -88,13 +91,3 @@ pub kept-same : (block : ℕ) (held : Held) (es : List Entry) (place : ℕ) (old
     → kept block held es ≡ slice_set es place (entry block held)
 kept-same block held es place old p o r =
     rw (granted_is block held es place old false p o r) (sym (set-place block held es place p))
-
--- the same, as a write through the slice leaves it
-pub kept-written : (block : ℕ) (held : Held) (es items shown : List Entry) (place : ℕ) (old : Entry) → items ≡ es
-    → shown ≡ items → IsPlace block es place
-    → old ≡ slice_index_or es place old → is_renewed old.held held ≡ false
-    → refill (length items) items (slice_set shown place (entry block held)) ≡ kept block held es
-kept-written block held es items shown place old v s p o r =
-    rw (s, v)
-    (take_at (slice_set es place (entry block held)) (drop (length (slice_set es place (entry block held))) es) (length es) (length-set es place (entry block held))
-    ∙ sym (kept-same block held es place old p o r))

@@ -1,34 +1,26 @@
 -- The tables of all clients after one of them changes.
-use Rattle.std.proofs.Common.{◌≡◌, ◌≢◌, ℕ, zero, suc, ◌<◌, ◌≤◌, ◌==◌, Bool, true, false, List, [], ◌∷◌, length, Option, Some, None, if◌then◌else◌, slice_index_or, slice_set, refl, sym, ◌∙◌, ap, subst, arith, eqb-true, eq-eqb, inl, inr}
-use Rattle.std.specs.Prelude.{All, OnOk, OnErr, IsErr, Result, ◌↔◌}
+use Rattle.std.proofs.Common.{◌≡◌, ◌≢◌, ℕ, ◌<◌, ◌≤◌, ◌==◌, Bool, true, false, List, [], length, Option, Some, None, if◌then◌else◌, slice_index_or, slice_set, refl, sym, ◌∙◌, ap, subst, arith, eqb-true, eq-eqb, inl, inr}
+use Rattle.std.specs.Prelude.{All, MatchOption, option_map, OnOk, OnErr, IsErr, Result, ◌↔◌}
 use Rattle.std.proofs.Common.{Ok, Err}
 use Rattle.std.proofs.lemmas.List.Elements.{All-set}
 use Rattle.std.proofs.lemmas.Bool.{cases_order}
-use Rattle.std.proofs.lemmas.List.{get_or-set_same, get_or-set_other}
+use Rattle.std.proofs.lemmas.List.{get_or_default, get_or-set_same, get_or-set_other}
 use Rattle.tl_copies.specs.declared.held.Held.{Held}
-use Rattle.tl_copies.specs.declared.table.Entry.{Entry}
 use Rattle.tl_copies.specs.Held.{is_granted}
-use Rattle.tl_copies.specs.Entries.{found, without, kept, IsTable}
+use Rattle.tl_copies.specs.Entries.{Entry, found, without, replaced, kept, IsTable}
 use Rattle.tl_copies.specs.Copies.{Tables, clients_of, held_at, order_in, is_cell, entries, order_without, order_after}
-use Rattle.tl_copies.proofs.EntryLaws.{blocks, found-kept, found-without, order-kept, order-without, IsTable-kept, IsTable-without}
+use Rattle.tl_copies.proofs.EntryLaws.{blocks, flipped, found-replaced_here, found-replaced_other, AreApart-replaced, length-replaced, order-replaced, found-kept, found-without, order-kept, order-without, IsTable-kept, IsTable-without}
 use Rattle.tl_copies.proofs.CountLaws.{entries-table}
 
 -- the bank, the limit, the blocks and the clients' tables, as contracts see them
 abbrev pub tables_of : ℕ → ℕ → ℕ → List (List Entry) → Tables
 tables_of bank limit n tables = record { bank = bank; limit = limit; blocks = n; tables = tables }
 
--- a client that is there has its own table, whatever stands in for a missing one
-any_default : (tables : List (List Entry)) (i : ℕ) (d u : List Entry) → i < length tables
-    → slice_index_or tables i d ≡ slice_index_or tables i u
-any_default [] i d u h = absurd (omega arith)
-any_default (t ∷ rest) zero d u h = refl
-any_default (t ∷ rest) (suc i) d u h = any_default rest i d u (omega arith)
-
 -- the table of a client
 pub table_at : (tables : List (List Entry)) (client : ℕ) (table : List Entry) → client < length tables
     → table ≡ slice_index_or tables client table
     → slice_index_or tables client [] ≡ table
-table_at tables client table h e = sym (e ∙ any_default tables client table [] h)
+table_at tables client table h e = sym (e ∙ get_or_default tables client table [] h)
 
 -- what is read off a client's table is the new table's where that client's changed, and else stays
 set_at : {X : Type 0} (f : List Entry → X) (tables : List (List Entry)) (client x : ℕ) (new : List Entry) (here : Bool)
@@ -102,6 +94,47 @@ kept_sound (Ok x) limit n block held old new e u f t l =
     rw e (IsTable-kept limit n block held old t l (λ none. at_most (length old) limit (λ full. let no = f.1 (none, full) in cc)))
 kept_sound (Err x) limit n block held old new e u f t l = rw u t
 
+-- what a change of the block's entry leaves of a table
+abbrev IsChanged : (Held → Held) → ℕ → List Entry → List Entry → Type 0
+IsChanged f block old new = MatchOption (found block old) (new ≡ old) (λ held. new ≡ replaced block (f held) old)
+
+module _ (f : Held → Held) (block : ℕ) (old new : List Entry) where
+  -- each entry found in the changed table
+  found_changed : IsChanged f block old new → (y : ℕ)
+      → found y new ≡ (if y == block then option_map f (found block old) else found y old)
+  found_changed change y = by_case (found block old) refl change (y == block) refl
+    where
+      by_case : (o : Option Held) → found block old ≡ o → MatchOption o (new ≡ old) (λ held. new ≡ replaced block (f held) old)
+          → (here : Bool) → (y == block) ≡ here
+          → found y new ≡ (if here then option_map f o else found y old)
+      by_case None is same true e = rw (same, eqb-true y block e) is
+      by_case None is same false e = rw same refl
+      by_case (Some held) is changed true e = rw (changed, eqb-true y block e) (found-replaced_here block (f held) held old is)
+      by_case (Some held) is changed false e = rw changed (found-replaced_other block y (f held) old (flipped y block e))
+
+  -- the order stays
+  blocks_changed : IsChanged f block old new → blocks new ≡ blocks old
+  blocks_changed change = by_case (found block old) change
+    where
+      by_case : (o : Option Held) → MatchOption o (new ≡ old) (λ held. new ≡ replaced block (f held) old) → blocks new ≡ blocks old
+      by_case None same = rw same refl
+      by_case (Some held) changed = rw changed (order-replaced block (f held) old)
+
+  -- the table stays one
+  sound_changed : (limit n : ℕ) → IsChanged f block old new → IsTable limit n old → IsTable limit n new
+  sound_changed limit n change t = by_case (found block old) change
+    where
+      by_case : (o : Option Held) → MatchOption o (new ≡ old) (λ held. new ≡ replaced block (f held) old) → IsTable limit n new
+      by_case None same = rw same t
+      by_case (Some held) changed =
+          rw changed
+          (record { short = omega (arith, t.short, length-replaced block (f held) old); apart = AreApart-replaced n block (f held) old t.apart })
+
+-- the same on both sides
+both_ways : {X : Type 0} (b : Bool) (x : X) → (if b then x else x) ≡ x
+both_ways true x = refl
+both_ways false x = refl
+
 -- a client's table among the tables, as the code has it; m is what contracts see of them
 pub record IsRow (m : Tables) (bank limit n : ℕ) (tables : List (List Entry)) (at client : ℕ) (old : List Entry) : Type 0 where
   pub view : tables_of bank limit n tables ≡ m
@@ -167,6 +200,30 @@ module _ {m : Tables} {bank limit n : ℕ} {tables : List (List Entry)} {at clie
       let count : entries m client ≡ length old = entries-table m client old held_at-row sound in
       let most : limit ≡ m.limit = ap (λ (v : Tables). v.limit) r.view in
       rw (held, count, ← most) f
+
+  -- ## A copy changed
+
+  pub held_at-changed : (f : Held → Held) (block : ℕ) (new : List Entry) → IsChanged f block old new
+      → (x y : ℕ)
+      → held_at (tables_of bank limit n (slice_set tables at new)) x y
+      ≡ (if is_cell client block x y then option_map f (held_at m client block) else held_at m x y)
+  held_at-changed f block new change x y =
+      rw (held_at-row block, ← r.view, ← r.at_client)
+      (held_at-set bank limit n tables at block old new (option_map f (found block old)) at_inside table_is
+      (found_changed f block old new change) x y)
+
+  pub order_in-changed : (f : Held → Held) (block : ℕ) (new : List Entry) → IsChanged f block old new
+      → (x : ℕ)
+      → order_in (tables_of bank limit n (slice_set tables at new)) x ≡ order_in m x
+  order_in-changed f block new change x =
+      rw (← r.view)
+      (order_in-set bank limit n tables at old new (λ order. order) at_inside table_is (blocks_changed f block old new change) x
+      ∙ both_ways (x == at) (order_in (tables_of bank limit n tables) x))
+
+  pub sound-changed : (f : Held → Held) (block : ℕ) (new : List Entry) → IsChanged f block old new
+      → All (λ t. IsTable limit n t) (slice_set tables at new)
+  sound-changed f block new change =
+      All-set (λ t. IsTable limit n t) tables at new (sound_changed f block old new limit n change table_sound) r.sound
 
   -- ## An entry taken out
 

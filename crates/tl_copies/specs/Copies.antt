@@ -3,9 +3,8 @@
 use Rattle.std.specs.Prelude.{◌≡◌, ℕ, ◌==◌, ◌&&◌, Bool, List, [], ◌∷◌, ◌++◌, length, map, slice_index_or, Option, is_some, if◌then◌else◌}
 use Rattle.tl_types.specs.Count.{count_below}
 use Rattle.tl_copies.specs.declared.held.Held.{Held}
-use Rattle.tl_copies.specs.declared.table.Entry.{Entry}
 use Rattle.tl_copies.specs.Held.{has_copy}
-use Rattle.tl_copies.specs.Entries.{found}
+use Rattle.tl_copies.specs.Entries.{Entry, found}
 
 -- the bank, the most entries of a client, the blocks of the memory, and a table for each client
 pub record Tables : Type 0 where

@@ -1,8 +1,12 @@
 -- One client's table: its entries, the one granted longest ago first. No public clause cites this module.
 use Rattle.std.specs.Prelude.{◌≡◌, ◌≢◌, ℕ, ◌<◌, ◌≤◌, ◌==◌, List, [], ◌∷◌, ◌++◌, length, Option, Some, None, if◌then◌else◌, slice_index_or}
 use Rattle.tl_copies.specs.declared.held.Held.{Held}
-use Rattle.tl_copies.specs.declared.table.Entry.{Entry}
 use Rattle.tl_copies.specs.Held.{is_copy, is_granted}
+
+-- what a client holds of a block, with the block
+pub record Entry : Type 0 where
+  pub block : ℕ
+  pub held : Held
 
 -- what the table has of a block
 abbrev pub found : ℕ → List Entry → Option Held

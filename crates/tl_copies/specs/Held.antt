@@ -1,5 +1,6 @@
 -- A client's copy of a block.
-use Rattle.std.specs.Prelude.{Bool, true, false, not, ◌&&◌, Option, Some, None}
+use Rattle.std.specs.Prelude.{ℕ, Bool, true, false, not, ◌&&◌, List, Option, Some, None}
+use Rattle.tl_types.specs.Bytes.{overwrite}
 use Rattle.tl_types.specs.declared.permission.Perm.{Perm}
 use Rattle.tl_types.specs.declared.permission.Perm.TheVariants as perm
 use Rattle.tl_types.specs.declared.wait.Wait.{Wait}
@@ -46,3 +47,7 @@ waits ForReleaseAck = true
 abbrev pub is_awaited : Option Held → Bool
 is_awaited None = false
 is_awaited (Some held) = waits held.wait
+
+-- a store writes its bytes over the copy's from an offset on, which is dirty then
+abbrev pub stored : ℕ → List ℕ → Held → Held
+stored offset bytes held = record held { dirty = true; bytes = overwrite offset bytes held.bytes }

@@ -1,3 +1,4 @@
 pub mod Copies
 pub mod Entries
 pub mod Held
+pub mod Slots

@@ -1,9 +1,8 @@
 //! The tables of all clients.
-ghost use Rattle.std.specs.Prelude.{◌≡◌, ◌↔◌, ◌≤◌, ◌<◌, ℕ, ◌==◌, [], None, Some, IfErr, IfOk, IfSome, IsErr, IsTrue, OnErr, OnOk, true, false, map, option_copied, if◌then◌else◌};
+ghost use Rattle.std.specs.Prelude.{◌≡◌, ◌↔◌, ◌≤◌, ◌<◌, ◌+◌, ℕ, ◌==◌, [], None, Some, IfErr, IfOk, IfSome, IsErr, IsTrue, OnErr, OnOk, true, false, length, map, option_copied, option_map, if◌then◌else◌};
 ghost use Rattle.std.specs.List.{find};
-ghost use Rattle.tl_copies.specs.Entries.{found, IsTable};
-ghost use Rattle.tl_copies.specs.declared.table.Entry.{Entry};
-ghost use Rattle.tl_copies.specs.Held.{has_copy, is_granted, is_awaited};
+ghost use Rattle.tl_copies.specs.Entries.{Entry, found, IsTable};
+ghost use Rattle.tl_copies.specs.Held.{has_copy, is_granted, is_awaited, stored};
 ghost use Rattle.tl_copies.specs.Copies.{clients_of, held_at, order_in, is_cell, entries, copies, order_without, order_after, SameSize};
 
 use crate::held::Held;
@@ -11,7 +10,7 @@ use crate::table::{Full, Table};
 use std::alloc::{AllocError, Global};
 use std::marker::Model;
 use tl_map::Geometry;
-use tl_types::{BankNo, BlockNo, ClientId};
+use tl_types::{AccessBytes, BankNo, BlockNo, ClientId};
 
 /// The copies of one bank's blocks. Each client has at most as many entries as the geometry says.
 #[derive(Drop)]
@@ -110,7 +109,7 @@ impl Copies {
         ensures value { result ≡ copies self.now client }
         ensures few { result ≤ self.now.limit }
     {
-        self.table(client).count() as u32
+        self.table(client).count()
     }
 
     /// The block of the client's copy above None that was granted longest ago; None just where it has no copy.
@@ -154,6 +153,22 @@ impl Copies {
     {
         let limit = self.limit as usize;
         self.tables[client.index()].keep(limit, block, held)
+    }
+
+    /// Writes the bytes of a store over what a client holds of a block from `offset` on, which makes it dirty. Nothing changes
+    /// where the table has no entry of the block.
+    #[tactic(auto, unfolding(crate::specs::Copies::clients_of, crate::specs::Copies::held_at, crate::specs::Copies::order_in))]
+    pub fn store(&mut self, client: ClientId, block: BlockNo, offset: usize, access: &AccessBytes)
+        requires client { client < clients_of self.old }
+        requires room { offset + length access.now ≤ 64 }
+        ensures same { SameSize self.old self.new }
+        ensures after { (x y : ℕ)
+            → held_at self.new x y
+            ≡ (if is_cell client block x y then option_map (stored offset access.now) (held_at self.old client block)
+            else held_at self.old x y) }
+        ensures order { (x : ℕ) → order_in self.new x ≡ order_in self.old x }
+    {
+        self.tables[client.index()].store(block, offset, access);
     }
 
     /// Takes the entry of a block out of a client's table, if there is one.

@@ -1,8 +1,8 @@
 //! A client's copy of a block.
-ghost use Rattle.std.specs.Prelude.{◌≡◌};
-ghost use Rattle.tl_copies.specs.Held.{is_copy, is_renewed};
+ghost use Rattle.std.specs.Prelude.{◌≡◌, ◌≤◌, ◌+◌, length, if◌then◌else◌};
+ghost use Rattle.tl_copies.specs.Held.{is_copy, is_renewed, stored, waits};
 
-use tl_types::{BlockBytes, Perm, Wait};
+use tl_types::{AccessBytes, BlockBytes, Perm, Wait};
 
 /// What a client holds of a block: its permission, whether it stored into it, the bytes, and the answer that it waits for.
 #[derive(Debug, Drop)]
@@ -41,5 +41,30 @@ impl Held {
         ensures { result ≡ is_renewed self.now next.now }
     {
         matches!(self.wait, Wait::ForGrant) && !matches!(next.wait, Wait::ForGrant)
+    }
+    /// Whether an answer is waited for.
+    pub(crate) fn waits(&self) -> bool
+        ensures { result ≡ waits self.now.wait }
+    {
+        match self.wait {
+            Wait::Nothing => false,
+            Wait::ForGrant | Wait::ForReleaseAck => true,
+        }
+    }
+
+    /// What this adds to a number of copies.
+    pub(crate) fn copies(&self) -> u32
+        ensures { result ≡ (if is_copy self.now then 1 else 0) }
+    {
+        if self.is_copy() { 1 } else { 0 }
+    }
+
+    /// Writes the bytes of a store from `offset` on, which makes it dirty.
+    pub(crate) fn store(&mut self, offset: usize, access: &AccessBytes)
+        requires { offset + length access.now ≤ 64 }
+        ensures { self.new ≡ stored offset access.now self.old }
+    {
+        self.bytes.overwrite(offset, access);
+        self.dirty = true;
     }
 }

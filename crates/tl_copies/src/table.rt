@@ -1,34 +1,37 @@
-//! One client's table.
-ghost use Rattle.std.specs.Prelude.{◌≡◌, ◌↔◌, ◌≤◌, ◌<◌, List, [], length, count_by, not, None, IfErr, IsErr, OnErr, OnOk, MatchOption, option_copied};
-ghost use Rattle.std.specs.List.{list_all};
+//! One client's table: keys in the order of age, beside the slots with what the client holds.
+ghost use Rattle.std.specs.Prelude.{◌≡◌, ◌↔◌, ◌≤◌, ◌<◌, ◌+◌, ◌∷◌, ◌++◌, [], length, count_by, not, None, IfErr, IsErr, OnErr, OnOk, MatchOption, option_copied, slice_index_or, slice_set, if◌then◌else◌};
+ghost use Rattle.std.specs.List.{list_all, remove};
 ghost use Rattle.tl_copies.specs.declared.held.Held.{Held};
 
 use crate::held::Held;
 use arrayvec::ArrayVec;
 use std::default::Default;
 use std::marker::Model;
-use tl_types::{BlockBytes, BlockNo, Perm, Wait};
+use tl_types::{AccessBytes, BlockBytes, BlockNo, Perm, Wait};
 
-/// How many entries a table has room for.
-pub(crate) const PLACES: usize = 64;
-
-/// What a client holds of a block, with the block.
+/// The block of an entry, and the slot of what the client holds of it.
 #[derive(Debug, Drop)]
-pub(crate) struct Entry {
+pub(crate) struct Key {
     pub(crate) block: BlockNo,
-    pub(crate) held: Held,
+    pub(crate) slot: u32,
 }
 
-impl Default for Entry {
-    fn default() -> Entry {
-        Entry {
+impl Default for Key {
+    fn default() -> Key {
+        Key {
             block: BlockNo::new(0),
-            held: Held {
-                perm: Perm::None,
-                dirty: false,
-                bytes: BlockBytes::new(),
-                wait: Wait::Nothing,
-            },
+            slot: 0,
+        }
+    }
+}
+
+impl Default for Held {
+    fn default() -> Held {
+        Held {
+            perm: Perm::None,
+            dirty: false,
+            bytes: BlockBytes::new(),
+            wait: Wait::Nothing,
         }
     }
 }
@@ -39,60 +42,83 @@ pub struct Full {
     pub held: Held,
 }
 
-/// A client's entries, the one granted longest ago first.
+/// A client's entries, the one granted longest ago first: a key for each, and the slots that no key has.
 #[derive(Drop)]
 pub(crate) struct Table {
-    entries: ArrayVec<Entry, 64>,
+    keys: ArrayVec<Key, 64>,
+    slots: ArrayVec<Held, 64>,
+    free: ArrayVec<u32, 64>,
+    copies: u32,
 }
 
 impl Model for Table {
     ghost use Rattle.std.specs.Prelude.{List};
-    ghost use Rattle.tl_copies.specs.declared.table.Entry.{Entry};
+    ghost use Rattle.tl_copies.specs.Entries.{Entry};
 
     ghost Value = { List Entry };
 
-    ghost view = { λ t. t.entries.items };
+    ghost use Rattle.tl_copies.specs.Slots.{entries_of, IsSound};
+
+    ghost view = { λ t. entries_of t.slots.items t.keys.items };
+
+    ghost invariant = { λ t. IsSound t.keys.items t.slots.items t.free.items t.copies };
 }
 
 impl Table {
-    ghost use Rattle.tl_copies.specs.Held.{is_copy, waits};
-    ghost use Rattle.tl_copies.specs.Entries.{found, without, kept, oldest_in, IsPlace};
-    ghost use Rattle.tl_copies.specs.declared.table.Entry.{Entry};
+    ghost use Rattle.tl_copies.specs.Held.{is_copy, waits, stored};
+    ghost use Rattle.tl_copies.specs.Entries.{Entry, found, without, replaced, kept, oldest_in, IsPlace};
 
     /// A table with no entry.
     pub(crate) fn new() -> Table
         ensures { result ≡ [] }
     {
         Table {
-            entries: ArrayVec::new(),
+            keys: ArrayVec::new(),
+            slots: ArrayVec::new(),
+            free: ArrayVec::new(),
+            copies: 0,
         }
     }
 
     /// How many entries there are.
     pub(crate) fn len(&self) -> usize
-        ensures { result ≡ length self.now }
+        ensures value { result ≡ length self.now }
+        ensures few { result ≤ 64 }
     {
-        self.entries.len()
+        self.keys.len()
     }
 
     /// How many entries are copies.
-    pub(crate) fn count(&self) -> usize
+    pub(crate) fn count(&self) -> u32
         ensures { result ≡ count_by (λ (e : Entry). is_copy e.held) self.now }
     {
-        self.entries
-            .as_slice()
-            .iter()
-            .filter(|entry| entry.held.is_copy())
-            .count()
+        self.copies
+    }
+
+    /// The block of the entry at a place.
+    fn block(&self, place: usize) -> BlockNo
+        requires { place < length self.now }
+        ensures { (e : Entry) → result ≡ (slice_index_or self.now place e).block }
+    {
+        self.keys[place].block
+    }
+
+    /// What the entry at a place holds.
+    fn held(&self, place: usize) -> &Held
+        requires { place < length self.now }
+        ensures { (e : Entry) → result.now ≡ (slice_index_or self.now place e).held }
+    {
+        let slot = self.keys[place].slot as usize;
+        &self.slots[slot]
     }
 
     /// The block of the first entry that is a copy.
     pub(crate) fn oldest(&self) -> Option<BlockNo>
         ensures { result ≡ oldest_in self.now }
     {
-        for entry in self.entries.as_slice() {
-            if entry.held.is_copy() {
-                return Some(entry.block);
+        for place in 0..self.len() {
+            if self.held(place).is_copy() {
+                return Some(self.block(place));
             }
         }
         None
@@ -102,34 +128,32 @@ impl Table {
     pub(crate) fn awaits_nothing(&self) -> bool
         ensures { result ≡ list_all (λ (e : Entry). not (waits e.held.wait)) self.now }
     {
-        self.entries
-            .as_slice()
-            .iter()
-            .all(|entry| entry.held.wait == Wait::Nothing)
-    }
-
-    /// The entry of a block.
-    pub(crate) fn of(&self, block: BlockNo) -> Option<&Held>
-        ensures { option_copied result ≡ found block self.now }
-    {
-        for entry in self.entries.as_slice() {
-            if entry.block.number() == block.number() {
-                return Some(&entry.held);
+        for place in 0..self.len() {
+            if self.held(place).waits() {
+                return false;
             }
         }
-        None
+        true
     }
 
     /// Where the entry of a block is.
     fn place_of(&self, block: BlockNo) -> Option<usize>
         ensures { MatchOption result (found block self.now ≡ None) (λ place. IsPlace block self.now place) }
     {
-        for (place, entry) in self.entries.as_slice().iter().enumerate() {
-            if entry.block.number() == block.number() {
+        for (place, key) in self.keys.as_slice().iter().enumerate() {
+            if key.block == block {
                 return Some(place);
             }
         }
         None
+    }
+
+    /// The entry of a block.
+    pub(crate) fn of(&self, block: BlockNo) -> Option<&Held>
+        ensures { option_copied result ≡ found block self.now }
+    {
+        let place = self.place_of(block)?;
+        Some(self.held(place))
     }
 
     /// Puts a copy into the block's entry, or into a new one where there are fewer than `limit`.
@@ -141,17 +165,16 @@ impl Table {
         ensures unchanged { OnErr result (self.new ≡ self.old) }
     {
         let Some(place) = self.place_of(block) else {
-            if self.entries.len() >= limit {
+            if self.len() >= limit {
                 return Err(Full { held });
             }
-            self.entries.push(Entry { block, held });
+            self.add(block, held);
             return Ok(());
         };
-        if self.entries[place].held.is_granted_as(&held) {
-            self.entries.remove(place);
-            self.entries.push(Entry { block, held });
-        } else {
-            self.entries[place] = Entry { block, held };
+        let granted = self.held(place).is_granted_as(&held);
+        self.write(place, held);
+        if granted {
+            self.renew(place);
         }
         Ok(())
     }
@@ -161,7 +184,79 @@ impl Table {
         ensures { self.new ≡ without block self.old }
     {
         if let Some(place) = self.place_of(block) {
-            self.entries.remove(place);
+            self.remove(place);
         }
+    }
+
+    /// Writes the bytes of a store over those of the block's entry from `offset` on, if there is one.
+    pub(crate) fn store(&mut self, block: BlockNo, offset: usize, access: &AccessBytes)
+        requires { offset + length access.now ≤ 64 }
+        ensures { MatchOption (found block self.old) (self.new ≡ self.old)
+            (λ held. self.new ≡ replaced block (stored offset access.now held) self.old) }
+    {
+        if let Some(place) = self.place_of(block) {
+            self.store_at(place, offset, access);
+        }
+    }
+
+    /// Puts a new entry last.
+    fn add(&mut self, block: BlockNo, held: Held)
+        requires { length self.old < 64 }
+        ensures { self.new ≡ self.old ++ record { block = block; held = held } ∷ [] }
+    {
+        self.copies += held.copies();
+        if let Some(slot) = self.free.pop() {
+            self.slots[slot as usize] = held;
+            self.keys.push(Key { block, slot });
+        } else {
+            let slot = self.slots.len() as u32;
+            self.slots.push(held);
+            self.keys.push(Key { block, slot });
+        }
+    }
+
+    /// Writes over what the entry at a place holds.
+    fn write(&mut self, place: usize, held: Held)
+        requires { place < length self.old }
+        ensures { (e : Entry)
+            → self.new ≡ slice_set self.old place (record { block = (slice_index_or self.old place e).block; held = held }) }
+    {
+        let slot = self.keys[place].slot as usize;
+        self.copies = self.copies + held.copies() - self.slots[slot].copies();
+        self.slots[slot] = held;
+    }
+
+    /// Writes the bytes of a store over those of the entry at a place.
+    fn store_at(&mut self, place: usize, offset: usize, access: &AccessBytes)
+        requires place { place < length self.old }
+        requires room { offset + length access.now ≤ 64 }
+        ensures { (e : Entry)
+            → self.new
+            ≡ slice_set self.old place (record {
+              block = (slice_index_or self.old place e).block;
+              held = stored offset access.now (slice_index_or self.old place e).held;
+            }) }
+    {
+        let slot = self.keys[place].slot as usize;
+        self.slots[slot].store(offset, access);
+    }
+
+    /// Puts the entry at a place last.
+    fn renew(&mut self, place: usize)
+        requires { place < length self.old }
+        ensures { (e : Entry) → self.new ≡ remove self.old place ++ slice_index_or self.old place e ∷ [] }
+    {
+        let key = self.keys.remove(place);
+        self.keys.push(key);
+    }
+
+    /// Takes the entry at a place out, and its slot is free.
+    fn remove(&mut self, place: usize)
+        requires { place < length self.old }
+        ensures { self.new ≡ remove self.old place }
+    {
+        let key = self.keys.remove(place);
+        self.copies -= self.slots[key.slot as usize].copies();
+        self.free.push(key.slot);
     }
 }

@@ -1,39 +1,53 @@
-use Rattle.std.proofs.Common.{◌≡◌, ◌∙◌, ◌∷◌, ◌++◌, [], List, Some, None, ap, sym, slice_index_or}
-use Rattle.std.specs.Prelude.{remove}
-use Rattle.tl_copies.specs.declared.table.Entry.{Entry}
+use Rattle.std.proofs.Common.{◌≡◌, ◌∙◌, ◌∷◌, ◌++◌, [], List, length, Some, None, ap, sym, arith, slice_index_or, slice_set}
+use Rattle.std.specs.List.{remove}
+use Rattle.std.proofs.lemmas.List.{get_or_default, get_or-set_same, length-set}
+use Rattle.tl_copies.specs.declared.held.Held.{Held}
 use Rattle.tl_copies.specs.Held.{is_renewed}
-use Rattle.tl_copies.specs.Entries.{found}
+use Rattle.tl_copies.specs.Entries.{Entry, found}
 use Rattle.tl_copies.proofs.EntryLaws.{entry}
-use Rattle.tl_copies.proofs.PlaceLaws.{found-place, kept-new, kept-granted, kept-written}
+use Rattle.tl_copies.proofs.PlaceLaws.{found-place, remove-set, kept-new, kept-granted, kept-same}
 use Rattle.tl_copies.proofs.table.Table.keep.Goals as goal
-use Rattle.tl_copies.proofs.table.Table.keep.Goals.{then-is_granted_as, else-is_granted_as}
+use Rattle.tl_copies.proofs.table.Table.keep.Goals.{then-granted, else-granted}
 
 pub returns-in_default-clause-after : goal.returns-in_default-clause-after
-returns-in_default-clause-after c =
-    c.push.ensures.items
-    ∙ ap (λ (es : List Entry). es ++ entry c.args.block c.args.held ∷ []) c.self.view_is
-    ∙ sym (kept-new c.args.block c.args.held c.args.self.now c.in_default.ensures)
+returns-in_default-clause-after c = c.add.ensures ∙ sym (kept-new c.args.block c.args.held c.args.self.now c.in_default.ensures)
+
+pub renew-requires : goal.renew-requires
+renew-requires c =
+    let new : Entry = entry c.args.block c.args.held in
+    omega (
+      arith,
+      c.in-Some.ensures.inside,
+      ap (λ (es : List Entry). length es) (c.write.ensures new),
+      length-set c.args.self.now c.in-Some.place (entry (slice_index_or c.args.self.now c.in-Some.place new).block c.args.held),
+    )
 
 pub returns-clause-after : goal.returns-clause-after
 returns-clause-after c =
-    let here : c.index-deref-place.result ≡ slice_index_or c.args.self.now c.in-Some.place c.index-deref-place.result =
-    c.index-deref-place.is ∙ ap (λ (es : List Entry). slice_index_or es c.in-Some.place c.index-deref-place.result) (c.deref.ensures.0 ∙ c.self.view_is) in
-    elim c.if-is_granted_as.branch [
-      | then-is_granted_as w ↦
+    let es : List Entry = c.args.self.now in
+    let place = c.in-Some.place in
+    let is = c.in-Some.ensures in
+    let new : Entry = entry c.args.block c.args.held in
+    let old : Entry = slice_index_or es place new in
+    let itself : old ≡ slice_index_or es place old = get_or_default es place new old is.inside in
+    let written : c.write.new.self ≡ slice_set es place new =
+    c.write.ensures new ∙ ap (λ b. slice_set es place (entry b c.args.held)) (is.here new) in
+    let renewed : is_renewed old.held c.args.held ≡ c.is_granted_as-granted.result =
+    ap (λ (h : Held). is_renewed h c.args.held) (sym (c.held.ensures new)) ∙ sym c.is_granted_as-granted.ensures in
+    elim c.if-granted.branch [
+      | then-granted w ↦
           w.self-is
-          ∙ w.push-then-is_granted_as.ensures.items
-          ∙ ap (λ (es : List Entry). es ++ entry c.args.block c.args.held ∷ []) (w.remove.ensures.items ∙ ap (λ (es : List Entry). remove es c.in-Some.place) c.self.view_is)
-          ∙ sym (kept-granted c.args.block c.args.held c.args.self.now c.in-Some.place c.index-deref-place.result c.in-Some.ensures here
-          (ap (λ (e : Entry). is_renewed e.held c.args.held) c.index-deref-place.is ∙ sym c.is_granted_as.ensures ∙ w.if-is_granted_as.true))
-      | else-is_granted_as w ↦
-          w.self-is
-          ∙ kept-written c.args.block c.args.held c.args.self.now c.self.inside.entries.items w.deref_mut.result.now c.in-Some.place c.index-deref-place.result
-          c.self.view_is w.deref_mut.ensures.value c.in-Some.ensures here
-          (ap (λ (e : Entry). is_renewed e.held c.args.held) c.index-deref-place.is ∙ sym c.is_granted_as.ensures ∙ w.if-is_granted_as.false)
+          ∙ w.renew.ensures new
+          ∙ ap (λ (xs : List Entry). remove xs place ++ slice_index_or xs place new ∷ []) written
+          ∙ rw (remove-set es place new is.inside, get_or-set_same es place new new is.inside)
+          (sym (kept-granted c.args.block c.args.held es place old is itself (renewed ∙ w.if-granted.true)))
+      | else-granted w ↦
+          w.self-is ∙ written ∙ sym (kept-same c.args.block c.args.held es place old is itself (renewed ∙ w.if-granted.false))
     ]
 
 pub returns-clause-full : goal.returns-clause-full
 returns-clause-full c =
-    let is : found c.args.block c.args.self.now ≡ Some (slice_index_or c.args.self.now c.in-Some.place c.index-deref-place.result).held =
-    found-place c.args.block c.args.self.now c.in-Some.place c.index-deref-place.result c.in-Some.ensures in
+    let new : Entry = entry c.args.block c.args.held in
+    let is : found c.args.block c.args.self.now ≡ Some (slice_index_or c.args.self.now c.in-Some.place new).held =
+    found-place c.args.block c.args.self.now c.in-Some.place new c.in-Some.ensures in
     (λ h. cc, λ h. let none : found c.args.block c.args.self.now ≡ None = h.0 in cc)

@@ -1,0 +1,32 @@
+-- How a table keeps its entries: keys in order, and for each a slot with what is held. No public clause cites this module.
+use Rattle.std.specs.Prelude.{◌≡◌, ℕ, ◌+◌, ◌≤◌, ◌==◌, List, [], length, map, count_by, slice_index_or, false}
+use Rattle.tl_types.specs.declared.permission.Perm.TheVariants.{None as p_None}
+use Rattle.tl_types.specs.declared.wait.Wait.TheVariants.{Nothing}
+use Rattle.tl_copies.specs.declared.held.Held.{Held}
+use Rattle.tl_copies.specs.declared.table.Key.{Key}
+use Rattle.tl_copies.specs.Entries.{Entry}
+use Rattle.tl_copies.specs.Held.{is_copy}
+
+-- what a slot that is not there would hold
+abbrev pub blank : Held
+blank = record { perm = p_None; dirty = false; bytes = []; wait = Nothing }
+
+-- the entry of a key
+abbrev pub entry_at : List Held → Key → Entry
+entry_at slots key = record { block = key.block; held = slice_index_or slots key.slot blank }
+
+-- the entries of keys, in their order
+abbrev pub entries_of : List Held → List Key → List Entry
+entries_of slots keys = map (λ (key : Key). entry_at slots key) keys
+
+-- how many keys have a slot, or list it as free
+abbrev pub uses : List Key → List ℕ → ℕ → ℕ
+uses keys free slot = count_by (λ (key : Key). key.slot == slot) keys + count_by (λ x. x == slot) free
+
+-- Each of at most 64 slots has one key or is free, and no other has one. The number of entries that are copies is kept.
+pub record IsSound (keys : List Key) (slots : List Held) (free : List ℕ) (copies : ℕ) : Type 0 where
+  pub once : (slot : ℕ) → uses keys free slot ≤ 1
+  pub inside : (slot : ℕ) → length slots ≤ slot → uses keys free slot ≡ 0
+  pub few : length slots ≤ 64
+  pub all : length keys + length free ≡ length slots
+  pub counted : copies ≡ count_by (λ (e : Entry). is_copy e.held) (entries_of slots keys)
