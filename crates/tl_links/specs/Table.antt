@@ -1,10 +1,13 @@
 -- The links of a bank: a lane for each client and channel.
-use Rattle.std.specs.Prelude.{◌≡◌, ◌≢◌, ℕ, ◌+◌, ◌*◌, List, [], slice_index_or}
+use Rattle.std.specs.Prelude.{◌≡◌, ◌≢◌, ◌≤◌, ℕ, zero, suc, ◌+◌, ◌*◌, ◌||◌, Bool, false, List, [], length, slice_index, slice_index_or}
+use Rattle.std.specs.List.{list_any}
 use Rattle.tl_types.specs.Channel.{place_of}
-use Rattle.tl_types.specs.Lane.{Lane, empty_lane}
+use Rattle.tl_types.specs.Lane.{Lane, bodies_of, empty_lane}
 use Rattle.tl_types.specs.declared.channel.Channel.{Channel}
 use Rattle.tl_links.specs.declared.ticket_error.TicketError.{TicketError}
 use Rattle.tl_links.specs.declared.ticket_error.TicketError.TheVariants.{NothingThere, NotHead}
+use Rattle.tl_links.specs.declared.wanted.Wanted.{Wanted}
+use Rattle.tl_links.specs.Wanted.{is_wanted}
 
 -- the bank, how many clients it has, and their channels
 pub record Table : Type 0 where
@@ -25,3 +28,23 @@ pub record SameSize (old new : Table) : Type 0 where
 abbrev pub IsNotHead : Lane → ℕ → TicketError → Type 0
 IsNotHead lane serial NothingThere = lane.messages ≡ []
 IsNotHead lane serial NotHead = (lane.messages ≢ []) × (serial ≢ lane.taken)
+
+-- some client below n has, among a block's messages on a channel, one that is looked for
+abbrev pub some_has : Table → Channel → ℕ → Wanted → ℕ → Bool
+some_has table channel block wanted zero = false
+some_has table channel block wanted (suc n) =
+    some_has table channel block wanted n || list_any (is_wanted wanted) (bodies_of block (lane_in table n channel).messages)
+
+-- how many messages wait on a channel of the clients below n
+abbrev pub waiting_below : Table → Channel → ℕ → ℕ
+waiting_below table channel zero = 0
+waiting_below table channel (suc n) = waiting_below table channel n + length (lane_in table n channel).messages
+
+-- Each client has its five channels, with 64 messages at most on each; and by channel, the numbers are those of the messages
+-- that wait on it.
+pub record IsCounted (table : Table) (numbers : List ℕ) : Type 0 where
+  pub all : length table.lanes ≡ table.clients * 5
+  pub few : table.clients ≤ 16
+  pub most : (client : ℕ) (channel : Channel) → length (lane_in table client channel).messages ≤ 64
+  pub five : length numbers ≡ 5
+  pub numbered : (channel : Channel) → slice_index numbers (place_of channel) ≡ waiting_below table channel table.clients

@@ -5,7 +5,7 @@ ghost use Rattle.tl_types.specs.Channel.{place_of};
 ghost use Rattle.tl_types.specs.Lane.{empty_lane, message_at, sent, is_here, with_message, without_first, bodies_of};
 ghost use Rattle.tl_types.specs.declared.channel.Channel.{Channel};
 ghost use Rattle.tl_types.specs.declared.message.Message.{Message};
-ghost use Rattle.tl_links.specs.Table.{lane_in, IsNotHead, SameSize};
+ghost use Rattle.tl_links.specs.Table.{lane_in, some_has, IsNotHead, SameSize};
 ghost use Rattle.tl_links.specs.Wanted.{is_wanted};
 
 use crate::queue::{PLACES, Queue};
@@ -21,17 +21,18 @@ pub struct Links {
     bank: BankNo,
     clients: u32,
     queues: Vec<Queue>,
+    /// How many messages wait on each of the five channels, at all clients.
+    waiting: [u32; 5],
 }
 
 impl Model for Links {
-    ghost use Rattle.std.specs.Prelude.{◌≡◌, ◌≤◌, ◌*◌, length};
-    ghost use Rattle.tl_links.specs.Table.{Table};
+    ghost use Rattle.tl_links.specs.Table.{Table, IsCounted};
 
     ghost Value = { Table };
 
     ghost view = { λ l. record { bank = l.bank; clients = l.clients; lanes = l.queues.items } };
 
-    ghost invariant = { λ l. (length l.queues.items ≡ l.clients * 5) × (l.clients ≤ 16) };
+    ghost invariant = { λ l. IsCounted (record { bank = l.bank; clients = l.clients; lanes = l.queues.items }) l.waiting };
 }
 
 /// 64 messages wait on the channel. The message comes back.
@@ -57,6 +58,7 @@ impl Links {
             bank,
             clients,
             queues,
+            waiting: [0; 5],
         })
     }
 
@@ -127,6 +129,21 @@ impl Links {
         self.queue(client, channel).has(block, wanted)
     }
 
+    /// Whether some client has, among the messages of a block that wait on a channel, one that is looked for.
+    pub fn some_has(&self, channel: Channel, block: BlockNo, wanted: Wanted) -> bool
+        ensures { result ≡ some_has self.now channel block wanted self.now.clients }
+    {
+        if self.waiting[channel.index()] == 0 {
+            return false;
+        }
+        for number in 0..self.clients {
+            if self.has(ClientId::new(number), channel, block, wanted) {
+                return true;
+            }
+        }
+        false
+    }
+
     /// Sends a message. The answer is its ticket, or the message where 64 wait already, and then nothing changes.
     #[tactic(auto, unfolding(crate::specs::Table::lane_in))]
     pub fn send(
@@ -157,6 +174,7 @@ impl Links {
         }
         let serial = queue.sent();
         self.queues[place(client, channel)].push(message);
+        self.waiting[channel.index()] += 1;
         Ok(Ticket {
             bank: self.bank,
             client,
@@ -175,14 +193,8 @@ impl Links {
         ensures refused { IfErr result (IsNotHead (lane_in self.now ticket.client ticket.channel) ticket.serial) }
     {
         let queue = self.queue(ticket.client, ticket.channel);
-        let Some(message) = queue.first() else {
-            return Err(TicketError::NothingThere);
-        };
-        if ticket.serial == queue.taken() {
-            Ok(message)
-        } else {
-            Err(TicketError::NotHead)
-        }
+        queue.check_first(ticket.serial)?;
+        queue.first().ok_or(TicketError::NothingThere)
     }
 
     /// Takes the message that a ticket names, where it is the first that waits on its channel; else nothing changes.
@@ -203,9 +215,12 @@ impl Links {
         ensures refused { IfErr result (IsNotHead (lane_in self.old ticket.client ticket.channel) ticket.serial) }
         ensures unchanged { OnErr result (self.new ≡ self.old) }
     {
-        let place = place(ticket.client, ticket.channel);
-        self.head(ticket)?;
-        self.queues[place].pop().ok_or(TicketError::NothingThere)
+        self.queue(ticket.client, ticket.channel)
+            .check_first(ticket.serial)?;
+        self.waiting[ticket.channel.index()] -= 1;
+        self.queues[place(ticket.client, ticket.channel)]
+            .pop()
+            .ok_or(TicketError::NothingThere)
     }
 
     #[tactic(auto, unfolding(crate::specs::Table::lane_in))]

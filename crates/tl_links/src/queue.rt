@@ -1,10 +1,12 @@
 //! One channel of one link. Contracts see it as a lane: how many messages were taken, and those that wait.
-ghost use Rattle.std.specs.Prelude.{◌≡◌, ◌≤◌, ◌<◌, ◌+◌, ◌-◌, ◌^◌, ◌∷◌, List, [], length, IfOk, MatchOption, option_copied};
+ghost use Rattle.std.specs.Prelude.{◌≡◌, ◌≢◌, ◌≤◌, ◌<◌, ◌+◌, ◌-◌, ◌^◌, ◌∷◌, List, [], length, IfErr, IfOk, MatchOption, OnOk, option_copied};
 ghost use Rattle.std.specs.List.{list_any};
 ghost use Rattle.tl_types.specs.Lane.{empty_lane, message_at, sent, with_message, without_first, bodies_of};
 ghost use Rattle.tl_types.specs.declared.message.Message.{Message};
+ghost use Rattle.tl_links.specs.Table.{IsNotHead};
 ghost use Rattle.tl_links.specs.Wanted.{is_wanted};
 
+use crate::ticket_error::TicketError;
 use crate::wanted::Wanted;
 use slab::Slab;
 use std::alloc::{AllocError, Global};
@@ -77,6 +79,21 @@ impl Queue {
         self.messages.get(*key)
     }
 
+    /// Looks whether the first message that waits has a serial; the message itself is not looked at.
+    pub(crate) fn check_first(&self, serial: u64) -> Result<(), TicketError>
+        ensures waits { OnOk result (self.now.messages ≢ []) }
+        ensures serial { OnOk result (serial ≡ self.now.taken) }
+        ensures refused { IfErr result (IsNotHead self.now serial) }
+    {
+        if self.waiting() == 0 {
+            return Err(TicketError::NothingThere);
+        }
+        if serial != self.taken {
+            return Err(TicketError::NotHead);
+        }
+        Ok(())
+    }
+
     /// The message with a serial, where it waits.
     pub(crate) fn message(&self, serial: u64) -> Option<&Message>
         ensures { option_copied result ≡ message_at self.now serial }
@@ -103,7 +120,7 @@ impl Queue {
     {
         let key = self.order.pop_front()?;
         self.taken += 1;
-        self.messages.try_remove(key)
+        Some(self.messages.remove(key))
     }
 
     /// Whether some message of a block that waits is one that is looked for.

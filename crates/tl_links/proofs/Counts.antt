@@ -1,0 +1,254 @@
+-- How many messages wait on each channel, as one channel of one client changes.
+use Rattle.std.proofs.Common.{◌≡◌, ◌≢◌, ℕ, zero, suc, ◌+◌, ◌-◌, ◌*◌, ◌<◌, ◌≤◌, false, true, List, [], ◌∷◌, length, slice_index_or, refl, sym, ◌∙◌, ap, arith, inl, inr}
+use Rattle.std.proofs.Math.Bool.{or-true}
+use Rattle.std.specs.Prelude.{slice_index, slice_set}
+use Rattle.std.specs.List.{list_any}
+use Rattle.std.proofs.lemmas.Bool.{cases_eq}
+use Rattle.std.proofs.lemmas.List.{get_or-set_same, get_or-set_other, get_or_default, length_push, nil_from_length, length-set}
+use Rattle.tl_types.specs.Channel.{place_of}
+use Rattle.tl_types.specs.Lane.{Lane, bodies_of, empty_lane, first_taken, with_message, without_first}
+use Rattle.tl_types.specs.declared.channel.Channel.{Channel}
+use Rattle.tl_types.specs.declared.channel.Channel.TheVariants.{A, B, C, D, E}
+use Rattle.tl_types.specs.declared.message.Message.{Message}
+use Rattle.tl_links.specs.declared.wanted.Wanted.{Wanted}
+use Rattle.tl_links.specs.Table.{Table, lane_in, some_has, waiting_below, IsCounted}
+use Rattle.tl_links.specs.Wanted.{is_wanted}
+
+-- there are five channels
+place-few : (k : Channel) → place_of k < 5
+place-few A = omega arith
+place-few B = omega arith
+place-few C = omega arith
+place-few D = omega arith
+place-few E = omega arith
+
+-- how many messages wait on a channel of a client
+abbrev pub waits_at : Table → ℕ → Channel → ℕ
+waits_at t x l = length (lane_in t x l).messages
+
+-- the table with another lane as one channel of a client
+abbrev pub placed : Table → ℕ → Channel → Lane → Table
+placed t c k lane = record { bank = t.bank; clients = t.clients; lanes = slice_set t.lanes (c * 5 + place_of k) lane }
+
+-- where only empty channels stand, none waits
+waiting-none : (t : Table) (l : Channel) → ((x : ℕ) (k : Channel) → lane_in t x k ≡ empty_lane) → (n : ℕ) → waiting_below t l n ≡ 0
+waiting-none t l e zero = refl
+waiting-none t l e (suc n) = rw (waiting-none t l e n, e n l) refl
+
+-- at one client at most as many wait as at all
+waiting-some : (t : Table) (l : Channel) (n x : ℕ) → x < n → waits_at t x l ≤ waiting_below t l n
+waiting-some t l zero x h = absurd (omega arith)
+waiting-some t l (suc n) x h =
+    elim (cases_eq x n) [
+      | inl e ↦ let here : waits_at t x l ≡ waits_at t n l = ap (λ y. waits_at t y l) e in omega arith
+      | inr e ↦ let before = waiting-some t l n x (omega arith) in omega arith
+    ]
+
+-- no more than 64 wait at each client
+waiting-most : (t : Table) (l : Channel) → ((x : ℕ) (k : Channel) → waits_at t x k ≤ 64) → (n : ℕ) → waiting_below t l n ≤ 64 * n
+waiting-most t l m zero = omega arith
+waiting-most t l m (suc n) = let before = waiting-most t l m n in let here : waits_at t n l ≤ 64 = m n l in omega arith
+
+-- where none waits, none is found
+none-found : (messages : List Message) (block : ℕ) (wanted : Wanted) → length messages ≡ 0
+    → list_any (is_wanted wanted) (bodies_of block messages) ≡ false
+none-found messages block wanted h = rw (nil_from_length messages h) refl
+
+none-below : (t : Table) (l : Channel) (block : ℕ) (wanted : Wanted) (n : ℕ) → waiting_below t l n ≡ 0
+    → some_has t l block wanted n ≡ false
+none-below t l block wanted zero h = refl
+none-below t l block wanted (suc n) h =
+    let before : some_has t l block wanted n ≡ false = none-below t l block wanted n (omega arith) in
+    let here : waits_at t n l ≡ 0 = omega arith in
+    rw (before, none-found (lane_in t n l).messages block wanted here) refl
+
+-- where one client below n has a message that is looked for, some has
+pub some-has : (t : Table) (l : Channel) (block : ℕ) (wanted : Wanted) (n x : ℕ) → x < n
+    → list_any (is_wanted wanted) (bodies_of block (lane_in t x l).messages) ≡ true → some_has t l block wanted n ≡ true
+some-has t l block wanted zero x h has = absurd (omega arith)
+some-has t l block wanted (suc n) x h has =
+    elim (cases_eq x n) [
+      | inl e ↦
+          let here : list_any (is_wanted wanted) (bodies_of block (lane_in t n l).messages) ≡ true =
+          ap (λ y. list_any (is_wanted wanted) (bodies_of block (lane_in t y l).messages)) (sym e) ∙ has in
+          rw here (or-true (some_has t l block wanted n))
+      | inr e ↦ let before = some-has t l block wanted n x (omega arith) has in rw before refl
+    ]
+
+-- messages that are some
+pub length-some : (messages : List Message) → messages ≢ [] → 1 ≤ length messages
+length-some [] h = absurd (h refl)
+length-some (x ∷ rest) h = omega arith
+
+-- one fewer once the first is taken
+length-without : (taken : ℕ) (messages : List Message) → messages ≢ [] → length (first_taken taken messages).messages + 1 ≡ length messages
+length-without taken [] h = absurd (h refl)
+length-without taken (x ∷ rest) h = omega arith
+
+module _ (t : Table) (c : ℕ) (k : Channel) (lane : Lane) where
+  at-here : c * 5 + place_of k < length t.lanes → (l : Channel) → place_of l ≡ place_of k → lane_in (placed t c k lane) c l ≡ lane
+  unfolding lane_in
+  at-here inside l e = rw e (get_or-set_same t.lanes (c * 5 + place_of k) lane empty_lane inside)
+
+  was-here : (l : Channel) → place_of l ≡ place_of k → waits_at t c l ≡ waits_at t c k
+  unfolding lane_in
+  was-here l e = rw e refl
+
+  at-other : (x : ℕ) (l : Channel) → x * 5 + place_of l ≢ c * 5 + place_of k → lane_in (placed t c k lane) x l ≡ lane_in t x l
+  unfolding lane_in
+  at-other x l apart = get_or-set_other t.lanes (c * 5 + place_of k) (x * 5 + place_of l) lane empty_lane apart
+
+  -- another client's channel stays
+  other-client : (x : ℕ) (l : Channel) → x ≢ c → lane_in (placed t c k lane) x l ≡ lane_in t x l
+  other-client x l apart =
+      let few = place-few k in let fewer = place-few l in
+      at-other x l (λ e. apart (omega arith))
+
+  -- and another channel
+  other-channel : (x : ℕ) (l : Channel) → place_of l ≢ place_of k → lane_in (placed t c k lane) x l ≡ lane_in t x l
+  other-channel x l apart =
+      let few = place-few k in let fewer = place-few l in
+      at-other x l (λ e. apart (omega arith))
+
+  -- as many wait on another channel
+  waiting-other : (l : Channel) → place_of l ≢ place_of k → (n : ℕ) → waiting_below (placed t c k lane) l n ≡ waiting_below t l n
+  waiting-other l apart zero = refl
+  waiting-other l apart (suc n) = rw (waiting-other l apart n, other-channel n l apart) refl
+
+  -- and at the clients before
+  waiting-before : (l : Channel) (n : ℕ) → n ≤ c → waiting_below (placed t c k lane) l n ≡ waiting_below t l n
+  waiting-before l zero h = refl
+  waiting-before l (suc n) h =
+      rw (waiting-before l n (omega arith), other-client n l (λ e. absurd (omega arith))) refl
+
+  -- on the channel itself as many more or fewer wait as on the one that changed
+  waiting-changed : c * 5 + place_of k < length t.lanes → (l : Channel) → place_of l ≡ place_of k → (n : ℕ) → c < n
+      → waiting_below (placed t c k lane) l n + waits_at t c k ≡ waiting_below t l n + length lane.messages
+  waiting-changed inside l e zero h = absurd (omega arith)
+  waiting-changed inside l e (suc n) h =
+      elim (cases_eq c n) [
+        | inl same ↦
+            let before = waiting-before l n (omega arith) in
+            let now : waits_at (placed t c k lane) n l ≡ length lane.messages =
+            ap (λ y. waits_at (placed t c k lane) y l) (sym same) ∙ ap (λ (a : Lane). length a.messages) (at-here inside l e) in
+            let then : waits_at t n l ≡ waits_at t c k = ap (λ y. waits_at t y l) (sym same) ∙ was-here l e in
+            omega arith
+        | inr apart ↦
+            let before = waiting-changed inside l e n (omega arith) in
+            let stays : waits_at (placed t c k lane) n l ≡ waits_at t n l =
+            ap (λ (a : Lane). length a.messages) (other-client n l (λ same. apart (sym same))) in
+            omega arith
+      ]
+
+  -- no channel has more than 64
+  most-placed : c * 5 + place_of k < length t.lanes → length lane.messages ≤ 64 → ((x : ℕ) (l : Channel) → waits_at t x l ≤ 64)
+      → (x : ℕ) (l : Channel) → waits_at (placed t c k lane) x l ≤ 64
+  most-placed inside few most x l =
+      elim (cases_eq x c) [
+        | inl same ↦
+            elim (cases_eq (place_of l) (place_of k)) [
+              | inl e ↦
+                  let now : waits_at (placed t c k lane) x l ≡ length lane.messages =
+                  ap (λ y. waits_at (placed t c k lane) y l) same ∙ ap (λ (a : Lane). length a.messages) (at-here inside l e) in
+                  omega arith
+              | inr e ↦ rw (other-channel x l e) (most x l)
+            ]
+        | inr apart ↦ rw (other-client x l apart) (most x l)
+      ]
+
+-- A table with its numbers.
+module _ {t : Table} {numbers : List ℕ} (counted : IsCounted t numbers) where
+  -- a client's channel is one of the lanes
+  inside-lanes : (c : ℕ) (k : Channel) → c < t.clients → c * 5 + place_of k < length t.lanes
+  inside-lanes c k h = let few = place-few k in omega (arith, counted.all)
+
+  -- a number is no less than what waits on a channel of one client
+  pub number-some : (c : ℕ) (k : Channel) → c < t.clients → waits_at t c k ≤ slice_index numbers (place_of k)
+  number-some c k h = omega (arith, counted.numbered k, waiting-some t k t.clients c h)
+
+  -- and at most 1,024
+  pub number-most : (k : Channel) → slice_index numbers (place_of k) ≤ 1024
+  number-most k = omega (arith, counted.numbered k, waiting-most t k counted.most t.clients, counted.few)
+
+  -- where a number is 0, no client has a message that is looked for
+  pub none-has : (k : Channel) (block : ℕ) (wanted : Wanted) → slice_index numbers (place_of k) ≡ 0
+      → some_has t k block wanted t.clients ≡ false
+  none-has k block wanted h = none-below t k block wanted t.clients (sym (counted.numbered k) ∙ h)
+
+  -- a channel changes, and its number with it
+  pub IsCounted-placed : (c : ℕ) (k : Channel) (lane : Lane) (number : ℕ) → c < t.clients → length lane.messages ≤ 64
+      → number + waits_at t c k ≡ slice_index numbers (place_of k) + length lane.messages
+      → IsCounted (placed t c k lane) (slice_set numbers (place_of k) number)
+  IsCounted-placed c k lane number h few sum =
+      let inside = inside-lanes c k h in
+      record {
+        all = length-set t.lanes (c * 5 + place_of k) lane ∙ counted.all;
+        few = counted.few;
+        most = most-placed t c k lane inside few counted.most;
+        five = length-set numbers (place_of k) number ∙ counted.five;
+        numbered = λ l.
+            elim (cases_eq (place_of l) (place_of k)) [
+              | inl e ↦
+                  let short = place-few k in
+                  let set : slice_index (slice_set numbers (place_of k) number) (place_of k) ≡ number =
+                  get_or-set_same numbers (place_of k) number 0 (omega (arith, counted.five)) in
+                  let old : slice_index numbers (place_of l) ≡ waiting_below t l t.clients = counted.numbered l in
+                  let then : slice_index numbers (place_of l) ≡ slice_index numbers (place_of k) = ap (λ p. slice_index numbers p) e in
+                  let here : slice_index (slice_set numbers (place_of k) number) (place_of l) ≡ number =
+                  ap (λ p. slice_index (slice_set numbers (place_of k) number) p) e ∙ set in
+                  let changed = waiting-changed t c k lane inside l e t.clients h in
+                  omega arith
+              | inr e ↦
+                  get_or-set_other numbers (place_of k) (place_of l) number 0 e ∙ counted.numbered l
+                  ∙ sym (waiting-other t c k lane l e t.clients)
+            ];
+      }
+
+  -- what a channel's place holds is its lane
+  pub lane-read : (c : ℕ) (k : Channel) (place : ℕ) (lane : Lane) → c < t.clients → place ≡ c * 5 + place_of k
+      → lane ≡ slice_index_or t.lanes place lane → lane ≡ lane_in t c k
+  unfolding lane_in
+  lane-read c k place lane h e read =
+      read ∙ ap (λ p. slice_index_or t.lanes p lane) e
+      ∙ get_or_default t.lanes (c * 5 + place_of k) lane empty_lane (inside-lanes c k h)
+
+  -- one message more
+  pub IsCounted-sent : (c : ℕ) (k : Channel) (message : Message) (new : Lane) → c < t.clients
+      → new ≡ with_message (lane_in t c k) message → waits_at t c k ≢ 64
+      → IsCounted (placed t c k new) (slice_set numbers (place_of k) (slice_index numbers (place_of k) + 1))
+  IsCounted-sent c k message new h e room =
+      let most : waits_at t c k ≤ 64 = counted.most c k in
+      let more : length new.messages ≡ waits_at t c k + 1 =
+      ap (λ (l : Lane). length l.messages) e ∙ length_push (lane_in t c k).messages message in
+      IsCounted-placed c k new (slice_index numbers (place_of k) + 1) h (omega arith) (omega arith)
+
+  -- one message fewer
+  pub IsCounted-taken : (c : ℕ) (k : Channel) (new : Lane) → c < t.clients
+      → new ≡ without_first (lane_in t c k) → (lane_in t c k).messages ≢ []
+      → IsCounted (placed t c k new) (slice_set numbers (place_of k) (slice_index numbers (place_of k) - 1))
+  IsCounted-taken c k new h e waits =
+      let most : waits_at t c k ≤ 64 = counted.most c k in
+      let some : 1 ≤ waits_at t c k = length-some (lane_in t c k).messages waits in
+      let all : waits_at t c k ≤ slice_index numbers (place_of k) = number-some c k h in
+      let fewer : length new.messages + 1 ≡ waits_at t c k =
+      ap (λ (l : Lane). length l.messages + 1) e ∙ length-without (lane_in t c k).taken (lane_in t c k).messages waits in
+      IsCounted-placed c k new (slice_index numbers (place_of k) - 1) h (omega arith) (omega arith)
+
+-- the numbers at the start
+pub IsCounted-empty : (t : Table) → length t.lanes ≡ t.clients * 5 → t.clients ≤ 16
+    → ((x : ℕ) (k : Channel) → lane_in t x k ≡ empty_lane) → IsCounted t (0 ∷ 0 ∷ 0 ∷ 0 ∷ 0 ∷ [])
+IsCounted-empty t all few e =
+    record {
+      all = all;
+      few = few;
+      most = λ x k. rw (e x k) (omega arith);
+      five = refl;
+      numbered = λ k. zero-at k ∙ sym (waiting-none t k e t.clients);
+    }
+  where
+    zero-at : (k : Channel) → slice_index (0 ∷ 0 ∷ 0 ∷ 0 ∷ 0 ∷ []) (place_of k) ≡ 0
+    zero-at A = refl
+    zero-at B = refl
+    zero-at C = refl
+    zero-at D = refl
+    zero-at E = refl
