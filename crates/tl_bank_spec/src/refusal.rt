@@ -2,6 +2,7 @@
 ghost use Rattle.std.specs.Prelude.{◌≡◌, Some, decimal};
 ghost use Rattle.tl_bank_spec.specs.Refusal.{refusal_number};
 
+use std::error::Error;
 use std::fmt;
 
 /// Why a call of a bank was refused. It prints as its number. After a refusal the bank and the shares are as before.
@@ -56,3 +57,5 @@ impl fmt::Display for Refusal {
         write!(f, "{number}")
     }
 }
+
+impl Error for Refusal {}
