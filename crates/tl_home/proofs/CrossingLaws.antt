@@ -1,7 +1,8 @@
 -- What passes of each block, after something comes to pass or is taken.
-use Rattle.std.proofs.Common.{◌≡◌, ◌≢◌, ℕ, zero, suc, ◌+◌, ◌<◌, ◌==◌, Bool, true, false, List, [], ◌∷◌, ◌++◌, length, slice_index_or, if◌then◌else◌, refl, sym, ◌∙◌, ap, arith, eq-eqb, inl, inr}
+use Rattle.std.proofs.Common.{◌≡◌, ◌≢◌, ℕ, zero, suc, ◌+◌, ◌<◌, ◌==◌, Bool, true, false, List, [], ◌∷◌, ◌++◌, length, slice_index_or, slice_set, if◌then◌else◌, refl, sym, ◌∙◌, ap, arith, eq-eqb, inl, inr}
 use Rattle.std.specs.Prelude.{remove, ◌≤◌, ◌⊎◌}
 use Rattle.std.proofs.lemmas.Bool.{cases_eq, ne_eqb}
+use Rattle.tl_protocol.specs.declared.home.Outward.{Outward}
 use Rattle.tl_protocol.specs.declared.home.Outward.TheVariants.{Quiet}
 use Rattle.tl_home.specs.declared.crossings.Crossing.{Crossing}
 use Rattle.tl_home.specs.Crossings.{outward_of, AreApart, without, IsPlace}
@@ -139,6 +140,36 @@ remove-place block (e ∷ rest) (suc i) p =
 -- the same, as the code has it
 pub AreApart-removed : (block : ℕ) (list : List Crossing) (place : ℕ) → IsPlace block list place → AreApart list → AreApart (remove list place)
 AreApart-removed block list place p apart = rw (remove-place block list place p) (AreApart-without block list apart)
+
+-- something else in its place
+pub outward_of-changed : (block : ℕ) (o : Outward) (list : List Crossing) (place : ℕ) → IsPlace block list place → (b : ℕ)
+    → outward_of b (slice_set list place (record { block = block; outward = o })) ≡ (if b == block then o else outward_of b list)
+outward_of-changed block o [] place p b = absurd (omega (arith, p.inside))
+outward_of-changed block o (e ∷ rest) zero p b =
+    elim (cases_eq b block) [
+      | inl same ↦ rw (eq-eqb b block same, eq-eqb block b (sym same)) refl
+      | inr other ↦
+          rw (ne_eqb b block other, ne_eqb block b (λ same. other (sym same)), ne_eqb e.block b (λ same. other (sym same ∙ p.here e)))
+          refl
+    ]
+outward_of-changed block o (e ∷ rest) (suc i) p b =
+    elim (cases_eq e.block b) [
+      | inl same ↦ rw (eq-eqb e.block b same, ne_eqb b block (λ is. p.first 0 e (omega arith) (same ∙ is))) refl
+      | inr other ↦ rw (ne_eqb e.block b other) (outward_of-changed block o rest i (tail_place block e rest i p) b)
+    ]
+
+-- the blocks stay apart
+pub AreApart-changed : (block : ℕ) (o : Outward) (list : List Crossing) (place : ℕ) → IsPlace block list place → AreApart list → o ≢ Quiet
+    → AreApart (slice_set list place (record { block = block; outward = o }))
+AreApart-changed block o [] place p apart passes = absurd (omega (arith, p.inside))
+AreApart-changed block o (e ∷ rest) zero p apart passes = (passes, rw (← p.here e) apart.1, apart.2)
+AreApart-changed block o (e ∷ rest) (suc i) p apart passes =
+    let next = tail_place block e rest i p in (
+      apart.0,
+      outward_of-changed block o rest i next e.block
+          ∙ ap (λ there. if there then o else outward_of e.block rest) (head_differs block e rest i p) ∙ apart.1,
+      AreApart-changed block o rest i next apart.2 passes,
+    )
 
 -- ## Their number
 

@@ -1,4 +1,3 @@
 pub mod DirectoryLaws
 pub mod MoveLaws
 pub mod CrossingLaws
-pub mod BackingLaws

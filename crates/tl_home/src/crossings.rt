@@ -151,6 +151,17 @@ impl Crossings {
         self.list.push(Crossing { block, outward });
     }
 
+    /// Something else passes of a block of which something does.
+    pub fn change(&mut self, block: BlockNo, outward: Outward)
+        requires before { outward_of block self.old ≢ Quiet }
+        requires passes { outward ≢ Quiet }
+        ensures outward { (b : ℕ) → outward_of b self.new ≡ (if b == block then outward else outward_of b self.old) }
+        ensures count { length self.new ≡ length self.old }
+    {
+        let place = self.place_of(block).unwrap();
+        self.list[place] = Crossing { block, outward };
+    }
+
     /// Where what passes of a block stands.
     fn place_of(&self, block: BlockNo) -> Option<usize>
         ensures { MatchOption result (outward_of block self.now ≡ Quiet) (λ place. IsPlace block self.now place) }

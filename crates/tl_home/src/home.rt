@@ -13,7 +13,6 @@ ghost use Rattle.tl_ways.specs.Orders.{chosen, is_busy, rising};
 ghost use Rattle.tl_home.specs.Directories.{is_way, order_after};
 ghost use Rattle.tl_home.specs.Homes.{geometry_in, bank_in, line_in, recorded_in, outward_in, crossing_count, memory_in, way_in, free_at, order_at, SameBank, SameWays, SameOutward, SameHome, SameMemory, EachHasHolder, served_outward, served_memory, fetched};
 
-use crate::backing;
 use crate::crossings::Crossings;
 use crate::directory::Directory;
 use std::alloc::{AllocError, Global};
@@ -323,16 +322,16 @@ impl Home {
             → memory_in self.new b
             ≡ (if b == block then served_memory (memory_in self.old block) (outward_in self.old block) else memory_in self.old b) }
     {
-        match self.crossings.take(block) {
-            Outward::Get => {
-                let bytes = backing::read(&mut self.memory, block);
-                self.crossings.put(block, Outward::Data(bytes));
+        match self.crossings.of(block) {
+            Some(Outward::Get) => {
+                let bytes = self.memory.read(block);
+                self.crossings.change(block, Outward::Data(bytes));
             }
-            Outward::Put(bytes) => {
-                backing::write(&mut self.memory, block, &bytes);
-                self.crossings.put(block, Outward::PutAck);
+            Some(Outward::Put(bytes)) => {
+                self.memory.write(block, bytes);
+                self.crossings.change(block, Outward::PutAck);
             }
-            Outward::Quiet | Outward::Data(_) | Outward::PutAck => {}
+            _ => {}
         }
     }
 

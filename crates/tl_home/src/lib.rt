@@ -2,7 +2,6 @@
 //! the memory, and the memory.
 #![tactic(auto)]
 
-mod backing;
 mod crossings;
 mod directory;
 mod home;

@@ -1,20 +1,20 @@
 -- The blocks of a memory after it is made, and after one is written.
-use Rattle.std.proofs.Common.{◌≡◌, ◌≢◌, ◌⊎◌, ℕ, zero, suc, ◌+◌, ◌*◌, ◌/◌, ◌%◌, ◌<◌, ◌≤◌, ◌==◌, true, false, Option, None, Some, List, [], ◌∷◌, ◌++◌, length, take, drop, get_or, replicate, if◌then◌else◌, refl, sym, ◌∙◌, ap, arith, add-one, eq-eqb, eqb-true, inl, inr, length-append, length-take, length-drop, ◌-◌, ◌^◌, min, subst}
+use Rattle.std.proofs.Common.{◌≡◌, ◌≢◌, ◌⊎◌, ℕ, zero, suc, ◌+◌, ◌*◌, ◌/◌, ◌%◌, ◌<◌, ◌≤◌, ◌==◌, true, false, Option, None, Some, List, [], ◌∷◌, ◌++◌, length, take, drop, get_or, replicate, if◌then◌else◌, refl, sym, ◌∙◌, ap, arith, add-one, eq-eqb, eqb-true, inl, inr, length-append, length-take, length-drop, ◌-◌, ◌^◌, min}
 use Rattle.std.specs.Fork.{slice_chunk}
 use Rattle.std.proofs.lemmas.Bool.{cases_Bool, cases_eq, cases_lt, cases_order, ne_eqb}
-use Rattle.std.proofs.lemmas.List.{get_or_past, take_at, take_all, length-replicate, drop-take}
+use Rattle.std.proofs.lemmas.List.{append_assoc, drop-append-le, drop-take, get_or_past, length-replicate, replicate-append-replicate, take-append-le}
 use Rattle.std.specs.Int.{div_ceil}
 use Rattle.std.proofs.lemmas.Nat.{div-add-mod', mod_below}
 use Rattle.std.proofs.lemmas.Slice.{take-put_mid_below, drop-put_mid, between-put_mid}
-use Rattle.std.proofs.Math.Nat.{mul-le-mul_right, mul-mod_left, mul-div_cancel, pow-suc}
+use Rattle.std.proofs.Math.Nat.{mul-le-mul_right, pow-suc}
 use Rattle.std.proofs.Math.Pow.{pow-lt}
 use Rattle.std.proofs.Math.Seq.{drop-cons}
 use borrow.Rule.Slice.PartMut.{put_mid}
 use Rattle.tl_types.specs.Bytes.{image_bytes}
 use Rattle.tl_map.specs.Numbers.{Numbers, IsLawful, IsPowerBetween}
-use Rattle.tl_map.specs.Places.{bank_of, slot_of, slot_count, block_at}
+use Rattle.tl_map.specs.Places.{bank_of, slot_count}
 use Rattle.tl_map.proofs.PlaceLaws.{slot_of-alone, slot_of-lt}
-use Rattle.tl_memory.specs.Blocks.{Contents, block_in, is_kept, place_in, place_count, IsAddress}
+use Rattle.tl_memory.specs.Blocks.{Contents, block_in, filled_up, is_kept, place_in, place_count}
 
 -- whole beats make a block, and a block has a byte
 pub whole_beats : (n : ℕ) → IsPowerBetween 8 64 n → (n % 8 ≡ 0) × (0 < n)
@@ -64,19 +64,6 @@ image_bytes-part xs image from (suc n) same fits =
     let inside : from < length xs = omega arith in
     rw (drop-cons xs from 0 inside, ← add-one from, same from, image_bytes-part xs image (from + 1) n same (omega arith)) refl
 
--- a block of a memory that was filled with an image and with 0
-pub block_in-image : (g : Numbers) (bytes filled start image : List ℕ) (len k : ℕ) → bytes ≡ take len filled ++ replicate k 0
-    → filled ≡ start ++ image → start ≡ [] → length image + k ≡ len → len ≡ g.memory_blocks * g.block_bytes
-    → (b : ℕ) → b < g.memory_blocks
-    → block_in (record { geometry = g; bank = None; bytes = bytes }) b ≡ image_bytes image (b * g.block_bytes) g.block_bytes
-unfolding block_in
-block_in-image g bytes filled start image len k e f s l m b h =
-    let same : filled ≡ image = f ∙ ap (λ (xs : List ℕ). xs ++ image) s in
-    let whole : take len filled ≡ image = ap (λ (xs : List ℕ). take len xs) same ∙ take_all len image (omega arith) in
-    let is : bytes ≡ image ++ replicate k 0 = e ∙ ap (λ (xs : List ℕ). xs ++ replicate k 0) whole in
-    let count : length bytes ≡ len = ap (λ (xs : List ℕ). length xs) is ∙ length-append image (replicate k 0) ∙ omega (arith, length-replicate {A = ℕ} k 0) in
-    image_bytes-part bytes image (b * g.block_bytes) g.block_bytes (λ i. rw is (padded image k i)) (omega (arith, block_inside b g.memory_blocks g.block_bytes h))
-
 -- ## Places
 
 -- no two blocks that are kept have one place
@@ -91,24 +78,31 @@ pub place_in-lt : (g : Numbers) (bank : Option ℕ) (b : ℕ) → IsLawful g →
 place_in-lt g None b lawful inside = inside
 place_in-lt g (Some bank) b lawful inside = slot_of-lt g b lawful inside
 
--- a place lies within the bytes
-pub place_inside : (g : Numbers) (bank : Option ℕ) (b len : ℕ) → IsLawful g → b < g.memory_blocks
-    → len ≡ place_count g bank * g.block_bytes → place_in g bank b * g.block_bytes + g.block_bytes ≤ len
-place_inside g bank b len lawful inside is =
-    omega (arith, is, block_inside (place_in g bank b) (place_count g bank) g.block_bytes (place_in-lt g bank b lawful inside))
+-- ## A memory of which some bytes are laid down
 
--- a block that is kept has its bytes
-pub length-block : (m : Contents) (b : ℕ) → IsLawful m.geometry
-    → length m.bytes ≡ place_count m.geometry m.bank * m.geometry.block_bytes → b < m.geometry.memory_blocks
-    → is_kept m.geometry m.bank b ≡ true → length (block_in m b) ≡ m.geometry.block_bytes
+-- with 0 behind them they are as many as there is room for
+pub length-filled_up : (room : ℕ) (xs : List ℕ) → length xs ≤ room → length (filled_up room xs) ≡ room
+length-filled_up room xs fits =
+    omega (arith, length-append xs (replicate (room - length xs) 0), length-replicate {A = ℕ} (room - length xs) 0)
+
+-- and no fewer, however many are laid down
+pub filled_up-enough : (room : ℕ) (xs : List ℕ) → room ≤ length (filled_up room xs)
+filled_up-enough room xs =
+    omega (arith, length-append xs (replicate (room - length xs) 0), length-replicate {A = ℕ} (room - length xs) 0)
+
+-- a block is what the bytes that are laid down read there
+pub block_in-laid : (m : Contents) (g : Numbers) (bank : Option ℕ) (room : ℕ) (xs : List ℕ)
+    → record { geometry = g; bank = bank; room = room; bytes = filled_up room xs } ≡ m
+    → length xs ≤ room → room ≡ place_count g bank * g.block_bytes
+    → (b : ℕ) → place_in g bank b < place_count g bank → is_kept g bank b ≡ true
+    → block_in m b ≡ image_bytes xs (place_in g bank b * g.block_bytes) g.block_bytes
 unfolding block_in
-length-block m b lawful is inside kept =
-    let n = m.geometry.block_bytes in
-    let from = place_in m.geometry m.bank b * n in
-    let within = place_inside m.geometry m.bank b (length m.bytes) lawful inside is in
-    rw kept (omega (arith, within, length-take n (drop from m.bytes), length-drop from m.bytes))
-
-pub ruleset blocks = (length-block)
+block_in-laid m g bank room xs v fits is b inside kept =
+    let n = g.block_bytes in
+    let within = block_inside (place_in g bank b) (place_count g bank) n inside in
+    rw (← v, kept)
+    (image_bytes-part (filled_up room xs) xs (place_in g bank b * n) n (λ i. padded xs (room - length xs) i)
+    (omega (arith, within, is, length-filled_up room xs fits)))
 
 -- ## A bank's part that is made
 
@@ -119,28 +113,12 @@ image_bytes-past image from (suc n) past =
     let here : get_or image from 0 ≡ 0 = get_or_past image from 0 past in
     rw (here, image_bytes-past image (from + 1) n (omega arith)) refl
 
--- a block of a bank's part that is all 0
-pub block_in-zeros : (g : Numbers) (bank len k : ℕ) (start bytes : List ℕ) → IsLawful g → bytes ≡ take len start ++ replicate k 0
-    → start ≡ [] → k ≡ len → len ≡ slot_count g * g.block_bytes
-    → (b : ℕ) → b < g.memory_blocks → bank_of g b ≡ bank
-    → block_in (record { geometry = g; bank = Some bank; bytes = bytes }) b ≡ replicate g.block_bytes 0
-unfolding block_in
-block_in-zeros g bank len k start bytes lawful e s c l b inside own =
-    let n = g.block_bytes in
-    let from = slot_of g b * n in
-    let none : take len start ≡ [] = ap (λ (xs : List ℕ). take len xs) s ∙ take_all len [] (omega arith) in
-    let is : bytes ≡ [] ++ replicate k 0 = e ∙ ap (λ (xs : List ℕ). xs ++ replicate k 0) none in
-    let count : length bytes ≡ k = ap (λ (xs : List ℕ). length xs) is ∙ length-append [] (replicate k 0) ∙ omega (arith, length-replicate {A = ℕ} k 0) in
-    let within = place_inside g (Some bank) b (length bytes) lawful inside (omega (arith, count, c, l)) in
-    let kept : (bank_of g b == bank) ≡ true = eq-eqb (bank_of g b) bank own in
-    rw kept
-    (image_bytes-part bytes [] from n (λ i. rw is (padded [] k i)) within ∙ image_bytes-past [] from n (omega arith))
-
 -- a bank's part of an image, so far as it is filled: the blocks below a number are the image's, those from it on are 0
 pub record IsFilled (g : Numbers) (own : ℕ) (image : List ℕ) (number : ℕ) (m : Contents) : Type 0 where
   pub geometry : m.geometry ≡ g
   pub bank : m.bank ≡ Some own
   pub part : length m.bytes ≡ slot_count g * g.block_bytes
+  pub room : m.room ≡ slot_count g * g.block_bytes
   pub below :
       (b : ℕ) → b < g.memory_blocks → bank_of g b ≡ own → b < number
       → block_in m b ≡ image_bytes image (b * g.block_bytes) g.block_bytes
@@ -153,6 +131,7 @@ filled-skip g bank image number m f lost = record {
   geometry = f.geometry;
   bank = f.bank;
   part = f.part;
+  room = f.room;
   below = λ b inside own less. f.below b inside own (omega (arith, other b own));
   rest = λ b inside own more. f.rest b inside own (omega arith);
 }
@@ -164,31 +143,30 @@ filled-skip g bank image number m f lost = record {
         cc
 
 -- a block of the bank is filled
-pub filled-more : (g : Numbers) (bank : ℕ) (image : List ℕ) (number address : ℕ) (bytes : List ℕ) (m after : Contents)
+pub filled-more : (g : Numbers) (bank : ℕ) (image : List ℕ) (number : ℕ) (bytes : List ℕ) (m after : Contents)
     → IsFilled g bank image number m → after.geometry ≡ m.geometry → after.bank ≡ m.bank → length after.bytes ≡ length m.bytes
-    → ((b : ℕ) → block_in after b ≡ (if b == block_at m.geometry address then bytes else block_in m b))
-    → address ≡ number * g.block_bytes → 0 < g.block_bytes → bytes ≡ image_bytes image address g.block_bytes
+    → after.room ≡ m.room
+    → ((b : ℕ) → block_in after b ≡ (if b == number then bytes else block_in m b))
+    → bytes ≡ image_bytes image (number * g.block_bytes) g.block_bytes
     → IsFilled g bank image (number + 1) after
-filled-more g bank image number address bytes m after f geometry bank' len written at some is = record {
+filled-more g bank image number bytes m after f geometry bank' len room written is = record {
   geometry = geometry ∙ f.geometry;
   bank = bank' ∙ f.bank;
   part = len ∙ f.part;
+  room = room ∙ f.room;
   below = λ b inside own less.
       elim (cases_eq b number) [
         | inl same ↦
-            let test : (b == block_at m.geometry address) ≡ true = eq-eqb b _ (same ∙ sym here) in
-            rw (written b, test) (is ∙ ap (λ from. image_bytes image from g.block_bytes) (at ∙ ap (λ x. x * g.block_bytes) (sym same)))
+            let test : (b == number) ≡ true = eq-eqb b number same in
+            rw (written b, test) (is ∙ ap (λ x. image_bytes image (x * g.block_bytes) g.block_bytes) (sym same))
         | inr apart ↦ others b apart ∙ f.below b inside own (omega arith)
       ];
   rest = λ b inside own more. others b (λ same. omega arith) ∙ f.rest b inside own (omega arith);
 }
   where
-    here : block_at m.geometry address ≡ number
-    here = rw (f.geometry, at) (mul-div_cancel number some)
-
     others : (b : ℕ) → b ≢ number → block_in after b ≡ block_in m b
     others b apart =
-        let test : (b == block_at m.geometry address) ≡ false = rw here (ne_eqb b number apart) in
+        let test : (b == number) ≡ false = ne_eqb b number apart in
         rw (written b, test) refl
 
 -- as many blocks as an image needs have its bytes
@@ -202,7 +180,7 @@ ceil_above x n some =
     ]
 
 -- each of them begins within the image
-ceil_below : (x n i : ℕ) → 0 < n → i < div_ceil x n → i * n < x
+pub ceil_below : (x n i : ℕ) → 0 < n → i < div_ceil x n → i * n < x
 ceil_below x n i some below =
     let is = div-add-mod' x n in
     elim (cases_eq (x % n) 0) [
@@ -243,21 +221,6 @@ filled-all g bank image number m f whole b inside own =
 
 -- ## A memory of which a block is written
 
--- the address of a block is its number times its bytes, and the block lies within
-pub address_is : (g : Numbers) (address : ℕ) → IsAddress g address → 0 < g.block_bytes
-    → (address ≡ block_at g address * g.block_bytes) × (address + g.block_bytes ≤ g.memory_blocks * g.block_bytes)
-address_is g address a some =
-    let aligned : address % g.block_bytes ≡ 0 = a.aligned in
-    let inside : address < g.memory_blocks * g.block_bytes = a.inside in
-    let is : address ≡ address / g.block_bytes * g.block_bytes = omega arith in
-    let below : address / g.block_bytes < g.memory_blocks =
-    elim (cases_order (address / g.block_bytes) g.memory_blocks) [
-      | inl same ↦ absurd (omega (arith, ap (λ k. k * g.block_bytes) same))
-      | inr (inl less) ↦ less
-      | inr (inr more) ↦ absurd (omega (arith, mul-le-mul_right {m = g.memory_blocks} {n = address / g.block_bytes} g.block_bytes (omega arith)))
-    ] in
-    (is, omega (arith, block_inside (address / g.block_bytes) g.memory_blocks g.block_bytes below))
-
 -- the bytes that are written at a place
 chunk-here : (xs ys : List ℕ) (n at k place : ℕ) → at ≡ place * n → at + n ≤ length xs → k ≡ n → length ys ≡ n
     → slice_chunk (put_mid at k xs ys) n place ≡ ys
@@ -279,12 +242,12 @@ chunk-other xs ys n at k place other e f s l (inr more) =
     ap (λ (zs : List ℕ). take n zs) (drop-put_mid at k xs ys (other * n) (omega arith) (omega arith) (l ∙ sym s))
 
 -- a block that is written has the new bytes, and every other block its own
-written : (g : Numbers) (bank : Option ℕ) (xs ys : List ℕ) (at k of b : ℕ) → is_kept g bank of ≡ true
+written : (g : Numbers) (bank : Option ℕ) (room : ℕ) (xs ys : List ℕ) (at k of b : ℕ) → is_kept g bank of ≡ true
     → at ≡ place_in g bank of * g.block_bytes → at + g.block_bytes ≤ length xs → k ≡ g.block_bytes → length ys ≡ g.block_bytes
-    → block_in (record { geometry = g; bank = bank; bytes = put_mid at k xs ys }) b
-    ≡ (if b == of then ys else block_in (record { geometry = g; bank = bank; bytes = xs }) b)
+    → block_in (record { geometry = g; bank = bank; room = room; bytes = put_mid at k xs ys }) b
+    ≡ (if b == of then ys else block_in (record { geometry = g; bank = bank; room = room; bytes = xs }) b)
 unfolding block_in
-written g bank xs ys at k of b kept e f s l =
+written g bank room xs ys at k of b kept e f s l =
     elim (cases_Bool (is_kept g bank b)) [
       | inl here ↦
           elim (cases_order (place_in g bank b) (place_in g bank of)) [
@@ -305,42 +268,55 @@ written g bank xs ys at k of b kept e f s l =
     apart (inr more) same = let equal : place_in g bank b ≡ place_in g bank of = ap (place_in g bank) same in omega arith
 
 -- a memory is as long after a write as before
-length-put_mid : (xs ys : List ℕ) (at k : ℕ) → at + k ≤ length xs → length ys ≡ k → length (put_mid at k xs ys) ≡ length xs
+pub length-put_mid : (xs ys : List ℕ) (at k : ℕ) → at + k ≤ length xs → length ys ≡ k → length (put_mid at k xs ys) ≡ length xs
 length-put_mid xs ys at k f l =
     omega (arith, length-append (take at xs) (ys ++ drop k (drop at xs)), length-append ys (drop k (drop at xs)), length-take at xs, length-drop k (drop at xs), length-drop at xs)
 
--- a memory after the block at an address is written, as the code has it
-pub block_in-written : (m : Contents) (g : Numbers) (bank : Option ℕ) (items xs ys block tail : List ℕ) (address from k len : ℕ)
-    → record { geometry = g; bank = bank; bytes = items } ≡ m → xs ≡ items → ys ≡ block → len ≡ length items
-    → is_kept m.geometry m.bank (block_at m.geometry address) ≡ true
-    → from ≡ place_in m.geometry m.bank (block_at m.geometry address) * m.geometry.block_bytes
-    → from + m.geometry.block_bytes ≤ length m.bytes
-    → k ≡ g.block_bytes → length block ≡ m.geometry.block_bytes
+-- 0 behind 0
+zeros_joined : (xs : List ℕ) (a b k : ℕ) → a + b ≡ k → (xs ++ replicate a 0) ++ replicate b 0 ≡ xs ++ replicate k 0
+zeros_joined xs a b k e =
+    append_assoc xs (replicate a 0) (replicate b 0)
+    ∙ ap (λ zs. xs ++ zs) (replicate-append-replicate a b 0 ∙ ap (λ n. replicate n 0) e)
+
+-- bytes that are laid down change nothing
+filled_up-twice : (room len : ℕ) (xs : List ℕ) → len ≤ room → filled_up room (filled_up len xs) ≡ filled_up room xs
+filled_up-twice room len xs fits =
+    let more = len - length xs in
+    let count : length (filled_up len xs) ≡ length xs + more =
+    omega (arith, length-append xs (replicate more 0), length-replicate {A = ℕ} more 0) in
+    zeros_joined xs more (room - length (filled_up len xs)) (room - length xs) (omega (arith, count))
+
+-- what is written among the bytes that are laid down is written among all
+filled_up-put_mid : (room at k : ℕ) (xs ys : List ℕ) → at + k ≤ length xs → length ys ≡ k
+    → filled_up room (put_mid at k xs ys) ≡ put_mid at k (filled_up room xs) ys
+filled_up-put_mid room at k xs ys fits size =
+    let rest : List ℕ = replicate (room - length xs) 0 in
+    let whole : length (put_mid at k xs ys) ≡ length xs = length-put_mid xs ys at k fits size in
+    let front : take at (xs ++ rest) ≡ take at xs = take-append-le at xs rest (omega arith) in
+    let middle : drop at (xs ++ rest) ≡ drop at xs ++ rest = drop-append-le at xs rest (omega arith) in
+    let back : drop k (drop at xs ++ rest) ≡ drop k (drop at xs) ++ rest =
+    drop-append-le k (drop at xs) rest (omega (arith, length-drop at xs)) in
+    rw (whole, front, middle, back) (simp append_assoc)
+
+-- a memory after a block is written, as the code has it
+pub block_in-written : (m : Contents) (g : Numbers) (bank : Option ℕ) (room room' : ℕ) (xs laid ys after block : List ℕ) (of from k : ℕ)
+    → record { geometry = g; bank = bank; room = room; bytes = filled_up room xs } ≡ m
+    → length xs ≤ room → room' ≡ room → laid ≡ filled_up (from + g.block_bytes) xs
+    → after ≡ put_mid from k laid ys → ys ≡ block
+    → is_kept m.geometry m.bank of ≡ true → from ≡ place_in m.geometry m.bank of * m.geometry.block_bytes
+    → from + m.geometry.block_bytes ≤ length m.bytes → k ≡ g.block_bytes → length block ≡ m.geometry.block_bytes
     → (b : ℕ)
-    → block_in (record { geometry = g; bank = bank; bytes = take len (put_mid from k xs ys ++ tail) }) b
-    ≡ (if b == block_at m.geometry address then block else block_in m b)
-block_in-written m g bank items xs ys block tail address from k len v x y t kept at inside e l = λ b.
-    let here : is_kept g bank (block_at g address) ≡ true =
-    subst (λ (n : Contents). is_kept n.geometry n.bank (block_at n.geometry address) ≡ true) (sym v) kept in
-    let starts : from ≡ place_in g bank (block_at g address) * g.block_bytes =
-    subst (λ (n : Contents). from ≡ place_in n.geometry n.bank (block_at n.geometry address) * n.geometry.block_bytes) (sym v) at in
-    let within : from + g.block_bytes ≤ length items =
-    subst (λ (n : Contents). from + n.geometry.block_bytes ≤ length n.bytes) (sym v) inside in
-    let size : length block ≡ g.block_bytes = subst (λ (n : Contents). length block ≡ n.geometry.block_bytes) (sym v) l in
-    let whole : length (put_mid from k items block) ≡ len = length-put_mid items block from k (omega arith) (size ∙ sym e) ∙ sym t in
-    rw (← v, x, y, take_at (put_mid from k items block) tail len whole)
-    (written g bank items block from k (block_at g address) b here starts within e size)
-
--- ## For callers
-
--- the address of a block of the memory is an address of it
-pub IsAddress-of_block : (g : Numbers) (block : ℕ) → block < g.memory_blocks → 0 < g.block_bytes
-    → IsAddress g (block * g.block_bytes)
-IsAddress-of_block g block h some = record {
-  inside = omega (arith, block_inside block g.memory_blocks g.block_bytes h);
-  aligned = mul-mod_left block g.block_bytes;
-}
-
--- and the block at it is that block
-pub block_at-of_block : (g : Numbers) (block : ℕ) → 0 < g.block_bytes → block_at g (block * g.block_bytes) ≡ block
-block_at-of_block g block some = mul-div_cancel block some
+    → block_in (record { geometry = g; bank = bank; room = room'; bytes = filled_up room' after }) b
+    ≡ (if b == of then block else block_in m b)
+block_in-written m g bank room room' xs laid ys after block of from k v fits same l a y kept at inside e size = λ b.
+    let here : is_kept g bank of ≡ true = rw (← v) at kept in
+    let starts : from ≡ place_in g bank of * g.block_bytes = rw (← v) at at in
+    let within : from + g.block_bytes ≤ length (filled_up room xs) = rw (← v) at inside in
+    let bytes : length block ≡ g.block_bytes = rw (← v) at size in
+    let count : length (filled_up (from + g.block_bytes) xs) ≡ length xs + (from + g.block_bytes - length xs) =
+    omega (arith, length-append xs (replicate (from + g.block_bytes - length xs) 0), length-replicate {A = ℕ} (from + g.block_bytes - length xs) 0) in
+    let all : filled_up room after ≡ put_mid from k (filled_up room xs) block =
+    rw (a, y, l)
+    (filled_up-put_mid room from k (filled_up (from + g.block_bytes) xs) block (omega (arith, count)) (bytes ∙ sym e)
+    ∙ ap (λ zs. put_mid from k zs block) (filled_up-twice room (from + g.block_bytes) xs (omega (arith, within, length-filled_up room xs fits)))) in
+    rw (same, ← v, all) (written g bank room (filled_up room xs) block from k of b here starts within e bytes)

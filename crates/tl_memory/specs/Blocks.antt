@@ -1,5 +1,5 @@
 -- A memory of blocks, and what a request does to it (TileLink 1.8, sections 6 and 8).
-use Rattle.std.specs.Prelude.{◌≡◌, ℕ, ◌*◌, ◌%◌, ◌^◌, ◌<◌, ◌==◌, Bool, true, IsTrue, Option, None, Some, List, [], length, if◌then◌else◌}
+use Rattle.std.specs.Prelude.{◌≡◌, ℕ, ◌-◌, ◌*◌, ◌%◌, ◌^◌, ◌<◌, ◌==◌, Bool, true, IsTrue, Option, None, Some, List, [], ◌++◌, length, replicate, if◌then◌else◌}
 use Rattle.std.specs.Fork.{slice_chunk}
 use Rattle.tl_map.specs.Numbers.{Numbers}
 use Rattle.tl_map.specs.Places.{block_at, bank_of, slot_of, slot_count}
@@ -8,10 +8,12 @@ use Rattle.tl_memory.specs.declared.request.Request.TheVariants.{Get, Put}
 use Rattle.tl_memory.specs.declared.request.Reply.{Reply}
 use Rattle.tl_memory.specs.declared.request.Reply.TheVariants.{AccessAckData, AccessAck}
 
--- the geometry, the bank whose blocks alone are kept, if there is one, and their bytes in rising order of their places
+-- the geometry, the bank whose blocks alone are kept, if there is one, for how many bytes there is room, and the bytes of
+-- the blocks in rising order of their places
 pub record Contents : Type 0 where
   pub geometry : Numbers
   pub bank : Option ℕ
+  pub room : ℕ
   pub bytes : List ℕ
 
 -- a block is kept: it is of the bank whose blocks alone are
@@ -28,6 +30,10 @@ place_in g (Some bank) block = slot_of g block
 abbrev pub place_count : Numbers → Option ℕ → ℕ
 place_count g None = g.memory_blocks
 place_count g (Some bank) = slot_count g
+
+-- these bytes, and 0 behind them up to a length
+abbrev pub filled_up : ℕ → List ℕ → List ℕ
+filled_up len bytes = bytes ++ replicate (len - length bytes) 0
 
 -- the bytes of a block; none of a block that is not kept
 unfoldable pub block_in : Contents → ℕ → List ℕ

@@ -1,8 +1,8 @@
 //! The bytes of all blocks.
-ghost use Rattle.std.specs.Prelude.{◌≡◌, ℕ, ◌+◌, ◌*◌, ◌%◌, ◌^◌, ◌<◌, ◌≤◌, ◌==◌, ◌↔◌, length, replicate, IsTrue, IfOk, None, Some, if◌then◌else◌};
+ghost use Rattle.std.specs.Prelude.{◌≡◌, ℕ, ◌+◌, ◌*◌, ◌%◌, ◌^◌, ◌<◌, ◌≤◌, ◌==◌, ◌↔◌, length, replicate, vec_capacity, IsTrue, IfOk, None, Some, if◌then◌else◌};
 ghost use Rattle.tl_map.specs.Places.{block_at, bank_of, slot_count};
 ghost use Rattle.tl_types.specs.Bytes.{image_bytes};
-ghost use Rattle.tl_memory.specs.Blocks.{block_in, block_after, is_kept, place_in, reply_to, IsAddress, IsOfBlock, IsServable};
+ghost use Rattle.tl_memory.specs.Blocks.{block_in, block_after, filled_up, is_kept, place_in, reply_to, IsOfBlock, IsServable};
 
 use crate::burst::Burst;
 use crate::request::{Reply, Request};
@@ -11,7 +11,8 @@ use std::marker::Model;
 use tl_map::Geometry;
 use tl_types::{BankNo, BlockBytes, BlockNo};
 
-/// A memory of the blocks of a geometry, or of those of one bank alone.
+/// A memory of the blocks of a geometry, or of those of one bank alone. The room for all its bytes is taken when it is made;
+/// they are laid down as far as the last block written, and 0 behind.
 #[derive(Drop)]
 pub struct Memory {
     geometry: Geometry,
@@ -20,14 +21,20 @@ pub struct Memory {
 }
 
 impl Model for Memory {
-    ghost use Rattle.std.specs.Prelude.{◌≡◌, ◌*◌, length};
-    ghost use Rattle.tl_memory.specs.Blocks.{Contents, place_count};
+    ghost use Rattle.std.specs.Prelude.{◌≡◌, ◌*◌, ◌≤◌, length, vec_capacity};
+    ghost use Rattle.tl_memory.specs.Blocks.{Contents, filled_up, place_count};
 
     ghost Value = { Contents };
 
-    ghost view = { λ m. record { geometry = m.geometry; bank = m.bank; bytes = m.bytes.items } };
+    ghost view = { λ m. record {
+      geometry = m.geometry;
+      bank = m.bank;
+      room = vec_capacity m.bytes;
+      bytes = filled_up (vec_capacity m.bytes) m.bytes.items;
+    } };
 
-    ghost invariant = { λ m. length m.bytes.items ≡ place_count m.geometry m.bank * m.geometry.block_bytes };
+    ghost invariant = { λ m.
+        (length m.bytes.items ≤ vec_capacity m.bytes) × (vec_capacity m.bytes ≡ place_count m.geometry m.bank * m.geometry.block_bytes) };
 }
 
 impl Memory {
@@ -43,8 +50,8 @@ impl Memory {
     {
         let len = geometry.memory_bytes() as usize;
         let mut bytes = Vec::with_capacity(alloc, len)?;
-        bytes.extend_from_slice(image)?;
-        bytes.resize(len, 0)?;
+        lay_down(&mut bytes, image.len());
+        bytes.as_mut_slice().copy_from_slice(image);
         Ok(Memory {
             geometry,
             bank: None,
@@ -64,6 +71,7 @@ impl Memory {
         ensures geometry { IfOk result (λ m. m.geometry ≡ geometry) }
         ensures bank { IfOk result (λ m. m.bank ≡ Some bank) }
         ensures part { IfOk result (λ m. length m.bytes ≡ slot_count geometry * geometry.block_bytes) }
+        ensures room { IfOk result (λ m. m.room ≡ slot_count geometry * geometry.block_bytes) }
         ensures blocks { IfOk result
             (λ m. (b : ℕ) → b < geometry.memory_blocks → bank_of geometry b ≡ bank
             → block_in m b ≡ image_bytes image.now (b * geometry.block_bytes) geometry.block_bytes) }
@@ -73,9 +81,11 @@ impl Memory {
         for number in 0..(image.len() as u32).div_ceil(block_bytes) {
             let block = BlockNo::new(number);
             if memory.keeps(block) {
-                let address = number * block_bytes;
-                let bytes = BlockBytes::from_image(image, address as usize, block_bytes as usize);
-                memory.write(address, &bytes);
+                let from = (number * block_bytes) as usize;
+                memory.write(
+                    block,
+                    &BlockBytes::from_image(image, from, block_bytes as usize),
+                );
             }
         }
         Ok(memory)
@@ -87,13 +97,13 @@ impl Memory {
         ensures geometry { IfOk result (λ m. m.geometry ≡ geometry) }
         ensures bank { IfOk result (λ m. m.bank ≡ Some bank) }
         ensures part { IfOk result (λ m. length m.bytes ≡ slot_count geometry * geometry.block_bytes) }
+        ensures room { IfOk result (λ m. m.room ≡ slot_count geometry * geometry.block_bytes) }
         ensures blocks { IfOk result
             (λ m. (b : ℕ) → b < geometry.memory_blocks → bank_of geometry b ≡ bank
             → block_in m b ≡ replicate geometry.block_bytes 0) }
     {
         let len = geometry.slots() as usize * geometry.block_bytes() as usize;
-        let mut bytes = Vec::with_capacity(alloc, len)?;
-        bytes.resize(len, 0)?;
+        let bytes = Vec::with_capacity(alloc, len)?;
         Ok(Memory {
             geometry,
             bank: Some(bank),
@@ -102,7 +112,7 @@ impl Memory {
     }
 
     /// The geometry. Each block of the memory that is kept has its bytes.
-    #[tactic(auto, using(crate::proofs::BlockLaws::blocks), unfolding(crate::specs::Blocks::block_in))]
+    #[tactic(auto, unfolding(crate::specs::Blocks::block_in))]
     pub fn geometry(&self) -> Geometry
         ensures value { result ≡ self.now.geometry }
         ensures sized { (b : ℕ)
@@ -135,20 +145,21 @@ impl Memory {
         requires { IsServable self.old request }
         ensures geometry { self.new.geometry ≡ self.old.geometry }
         ensures bank { self.new.bank ≡ self.old.bank }
+        ensures room { self.new.room ≡ self.old.room }
         ensures reply { result ≡ reply_to self.old request }
         ensures blocks { (b : ℕ) → block_in self.new b ≡ block_after self.old request b }
     {
         match request {
             Request::Get { size, address } => Reply::AccessAckData {
                 size,
-                burst: Burst::of_block(&self.read(address)),
+                burst: Burst::of_block(&self.read(self.geometry.block_at(address))),
             },
             Request::Put {
                 size,
                 address,
                 burst,
             } => {
-                self.write(address, &burst.block());
+                self.write(self.geometry.block_at(address), &burst.block());
                 Reply::AccessAck { size }
             }
         }
@@ -177,48 +188,64 @@ impl Memory {
         }
     }
 
-    /// Where the bytes of the block at an address begin.
-    fn start(&self, address: u32) -> usize
-        requires address { IsAddress self.now.geometry address }
-        ensures is { result ≡ place_in self.now.geometry self.now.bank (block_at self.now.geometry address) * self.now.geometry.block_bytes }
+    /// Where the bytes of a block begin.
+    fn start(&self, block: BlockNo) -> usize
+        requires { block < self.now.geometry.memory_blocks }
+        ensures is { result ≡ place_in self.now.geometry self.now.bank block * self.now.geometry.block_bytes }
         ensures inside { result + self.now.geometry.block_bytes ≤ length self.now.bytes }
+        ensures small { result < 2 ^ 32 }
     {
-        let block = self.geometry.block_at(address);
         let place = match self.bank {
             Some(_) => self.geometry.slot(block),
             None => block.number(),
         };
-        place as usize * self.geometry.block_bytes() as usize
+        (place * self.geometry.block_bytes()) as usize
     }
 
-    /// The bytes of the block at an address.
+    /// The bytes of a block that is kept.
     #[tactic(auto, unfolding(crate::specs::Blocks::block_in))]
-    fn read(&self, address: u32) -> BlockBytes
-        requires address { IsAddress self.now.geometry address }
-        requires kept { IsTrue (is_kept self.now.geometry self.now.bank (block_at self.now.geometry address)) }
-        ensures block { result ≡ block_in self.now (block_at self.now.geometry address) }
+    pub fn read(&self, block: BlockNo) -> BlockBytes
+        requires inside { block < self.now.geometry.memory_blocks }
+        requires kept { IsTrue (is_kept self.now.geometry self.now.bank block) }
+        ensures block { result ≡ block_in self.now block }
         ensures len { length result ≡ self.now.geometry.block_bytes }
         ensures beats { length result % 8 ≡ 0 }
     {
-        let from = self.start(address);
-        let to = from + self.geometry.block_bytes() as usize;
-        BlockBytes::from_slice(&self.bytes[from..to]).unwrap()
+        let from = self.start(block);
+        BlockBytes::from_image(
+            self.bytes.as_slice(),
+            from,
+            self.geometry.block_bytes() as usize,
+        )
     }
 
-    /// Writes the block at an address.
+    /// Writes a block that is kept.
     #[tactic(auto, unfolding(crate::specs::Blocks::block_in))]
-    fn write(&mut self, address: u32, block: &BlockBytes)
-        requires address { IsAddress self.old.geometry address }
-        requires kept { IsTrue (is_kept self.old.geometry self.old.bank (block_at self.old.geometry address)) }
-        requires len { length block.now ≡ self.old.geometry.block_bytes }
+    pub fn write(&mut self, block: BlockNo, bytes: &BlockBytes)
+        requires inside { block < self.old.geometry.memory_blocks }
+        requires kept { IsTrue (is_kept self.old.geometry self.old.bank block) }
+        requires len { length bytes.now ≡ self.old.geometry.block_bytes }
         ensures geometry { self.new.geometry ≡ self.old.geometry }
         ensures bank { self.new.bank ≡ self.old.bank }
+        ensures room { self.new.room ≡ self.old.room }
         ensures len { length self.new.bytes ≡ length self.old.bytes }
-        ensures blocks { (b : ℕ) → block_in self.new b ≡ (if b == block_at self.old.geometry address then block.now else block_in self.old b) }
+        ensures blocks { (b : ℕ) → block_in self.new b ≡ (if b == block then bytes.now else block_in self.old b) }
     {
-        let from = self.start(address);
+        let from = self.start(block);
         let to = from + self.geometry.block_bytes() as usize;
-        let bytes = self.bytes.as_mut_slice();
-        bytes[from..to].copy_from_slice(block.as_slice());
+        lay_down(&mut self.bytes, to);
+        let laid = self.bytes.as_mut_slice();
+        laid[from..to].copy_from_slice(bytes.as_slice());
+    }
+}
+
+/// Lays down 0 behind some bytes until there are `len`, for which there is room: no memory is taken.
+fn lay_down(bytes: &mut Vec<u8>, len: usize)
+    requires { len ≤ vec_capacity bytes.old }
+    ensures items { bytes.new.items ≡ filled_up len bytes.old.items }
+    ensures room { vec_capacity bytes.new ≡ vec_capacity bytes.old }
+{
+    'laying: while bytes.len() < len {
+        bytes.push_reserved(0);
     }
 }
