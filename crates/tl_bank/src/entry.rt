@@ -1,9 +1,9 @@
 //! The entries of the clients' tables, as copies of the protocol.
-ghost use Rattle.std.specs.Prelude.{◌≡◌, ◌≤◌, ℕ, length, if◌then◌else◌};
+ghost use Rattle.std.specs.Prelude.{◌≡◌, ◌≤◌, ◌+◌, ℕ, length, slice_range, if◌then◌else◌};
 ghost use Rattle.std.specs.Option.{option_copied};
-ghost use Rattle.tl_bank_laws.specs.Entry.{HasPlace, entry_with, held_as, copy_in, wait_in, perm_in};
+ghost use Rattle.tl_bank_laws.specs.Entry.{HasPlace, entry_with, held_as, copy_in, wait_in, perm_in, bytes_in};
 ghost use Rattle.tl_bank_laws.specs.Head.{asked_by, granted_by};
-ghost use Rattle.tl_bank_spec.specs.View.{has_entry_for};
+ghost use Rattle.tl_bank_spec.specs.View.{has_entry_for, is_waiting};
 ghost use Rattle.tl_copies.specs.Copies.{held_at, is_cell, SameSize};
 
 use tl_copies::{Copies, Held};
@@ -41,6 +41,25 @@ pub(crate) fn perm_in(held: Option<&Held>) -> Perm
     match held {
         Some(held) => held.perm,
         None => Perm::None,
+    }
+}
+
+/// Whether the client waits for an answer.
+pub(crate) fn waits_in(held: Option<&Held>) -> bool
+    ensures { result ≡ is_waiting (wait_in (option_copied held.entry)) }
+{
+    wait_in(held) != Wait::Nothing
+}
+
+/// `len` of the entry's bytes, from `offset` on.
+pub(crate) fn read_in(held: Option<&Held>, offset: u32, len: u32) -> AccessBytes
+    requires inside { offset + len ≤ length (bytes_in (option_copied held)) }
+    requires few { len ≤ 8 }
+    ensures { result ≡ slice_range (bytes_in (option_copied held.entry)) offset (offset + len) }
+{
+    match held {
+        Some(held) => held.bytes.access_at(offset, len).unwrap(),
+        None => AccessBytes::new(),
     }
 }
 

@@ -3,7 +3,7 @@ ghost use Rattle.std.specs.Prelude.{◌≡◌, ◌≢◌, ◌+◌, ℕ, None, fa
 ghost use Rattle.tl_types.specs.declared.channel.Channel.{Channel};
 ghost use Rattle.tl_map.specs.Places.{block_at as block_of_address, offset_of};
 ghost use Rattle.tl_protocol.specs.Coherent.{AreLast};
-ghost use Rattle.tl_protocol.specs.Copy.{bytes_of, stored_in};
+ghost use Rattle.tl_protocol.specs.Copy.{bytes_of};
 ghost use Rattle.tl_protocol.specs.declared.event.Event.{Event};
 ghost use Rattle.tl_bank_spec.specs.Calls.{load_cases, store_cases, acquire_cases, release_cases, answer_probe_cases, take_grant_cases, take_release_ack_cases};
 ghost use Rattle.tl_bank_spec.specs.Cases.{block_named, clock_full};
@@ -16,7 +16,7 @@ use crate::bank::Bank;
 use crate::share::Share;
 use crate::{entry, link};
 use tl_bank_spec::{Loaded, Refusal, When};
-use tl_protocol::{Access, CachedCopy, Event};
+use tl_protocol::{Access, Event};
 use tl_types::{
     AccessBytes, BlockNo, Body, Channel, ClientId, Grow, Message, ProbeAnswer, Prune, Surrender,
     Ticket, Upward, Wait,
@@ -49,10 +49,7 @@ impl Bank {
         ensures newest { IfOk result (λ loaded. AreLast self.old.image self.old.log address loaded.bytes) }
         ensures stamp { IfOk result (λ loaded. loaded.stamp ≡ latest self.old when.clock + 1) }
     {
-        if let Some(refusal) = self.load_refusal(client, address, len, when.clock) {
-            return Err(refusal);
-        }
-        let bytes = self.read(client, address, len, when.clock);
+        let bytes = self.loaded(client, address, len, when.clock)?;
         let stamp = self.next_stamp(when.clock);
         self.make_room()?;
         self.clock = stamp;
@@ -92,11 +89,10 @@ impl Bank {
         }
         let block = self.geometry.block_at(address);
         let access = entry::access_of(bytes);
-        let copy = self.stored(client, address, &access, when.clock);
-        let wait = self.wait(client, block);
         let stamp = self.next_stamp(when.clock);
         self.make_room()?;
-        entry::put(&mut self.copies, client, block, copy, wait);
+        let offset = self.geometry.offset(address) as usize;
+        self.copies.store(client, block, offset, &access);
         self.clock = stamp;
         self.log.append(Event::Store(Access {
             client,
@@ -274,32 +270,6 @@ impl Bank {
         self.log.append(Event::TakeGrant(ticket.client, block));
         share.recount(before, later);
         Ok(sent)
-    }
-
-    /// The copy that a store leaves which may take place.
-    fn stored(&self, client: ClientId, address: u32, access: &AccessBytes, clock: u64) -> CachedCopy
-        requires { first_of (store_cases self.now client address (length access.now) clock) ≡ None }
-        ensures { result
-            ≡ stored_in (offset_of self.now.geometry address) access.now
-            (client_at self.now client (block_of_address self.now.geometry address)).held }
-    {
-        let _ = clock;
-        let mut copy = self.copy(client, self.geometry.block_at(address));
-        copy.store(self.geometry.offset(address) as usize, access);
-        copy
-    }
-
-    /// The bytes of a load that may take place.
-    fn read(&self, client: ClientId, address: u32, len: usize, clock: u64) -> AccessBytes
-        requires { first_of (load_cases self.now client address len clock) ≡ None }
-        ensures { result
-            ≡ slice_range (bytes_of (client_at self.now client (block_of_address self.now.geometry address)).held)
-            (offset_of self.now.geometry address) (offset_of self.now.geometry address + len) }
-    {
-        let _ = clock;
-        let copy = self.copy(client, self.geometry.block_at(address));
-        let offset = self.geometry.offset(address);
-        copy.into_bytes().access_at(offset, len as u32).unwrap()
     }
 
     /// The stamp of the next access.

@@ -1,9 +1,12 @@
 //! Why the calls of clients are refused, and what these tests look at.
-ghost use Rattle.std.specs.Prelude.{◌≡◌, ◌<◌, ◌||◌};
+ghost use Rattle.std.specs.Prelude.{◌≡◌, ◌<◌, ◌+◌, ◌||◌, None, Some, IfErr, IfOk, OnOk, is_some, nat_le, option_copied, slice_range};
 ghost use Rattle.tl_types.specs.declared.channel.Channel.{Channel};
+ghost use Rattle.tl_map.specs.Places.{block_at as block_of_address, offset_of};
+ghost use Rattle.tl_protocol.specs.Copy.{bytes_of};
+ghost use Rattle.tl_bank_laws.specs.Entry.{bytes_in, perm_in, wait_in};
 ghost use Rattle.tl_bank_laws.specs.Head.{first_cap, first_granted};
 ghost use Rattle.tl_bank_spec.specs.Calls.{load_cases, store_cases, acquire_cases, release_cases, answer_probe_cases, take_grant_cases, take_release_ack_cases};
-ghost use Rattle.tl_bank_spec.specs.Cases.{no_client, no_block, bad_access, bad_share, elsewhere, waits, copies_full, link_full, clock_full, first_block, release_pending};
+ghost use Rattle.tl_bank_spec.specs.Cases.{no_client, no_block, bad_access, bad_share, elsewhere, link_full, clock_full, first_block, release_pending};
 ghost use Rattle.tl_bank_spec.specs.Refusal.{first_of};
 ghost use Rattle.tl_bank_spec.specs.View.{client_at, lane_at, perm_at, has_entry, entries_at, copies_at};
 
@@ -11,8 +14,11 @@ use crate::bank::Bank;
 use crate::entry;
 use crate::share::Share;
 use tl_bank_spec::Refusal;
+use tl_copies::Held;
 use tl_protocol::CachedCopy;
-use tl_types::{BlockNo, Channel, ClientId, Grow, Perm, ProbeCap, Prune, Ticket, Wait};
+use tl_types::{
+    AccessBytes, BlockNo, Channel, ClientId, Grow, Perm, ProbeCap, Prune, Ticket, Wait,
+};
 
 /// How many bytes an access has at most.
 const MOST: usize = 8;
@@ -21,6 +27,18 @@ const MOST: usize = 8;
 const PLACES: usize = 64;
 
 impl Bank {
+    /// What a client's table has of a block.
+    pub(super) fn entry(&self, client: ClientId, block: BlockNo) -> Option<&Held>
+        requires client { client < self.now.geometry.clients }
+        requires block { block < self.now.geometry.memory_blocks }
+        ensures perm { perm_in (option_copied result) ≡ perm_at self.now client block }
+        ensures wait { wait_in (option_copied result) ≡ (client_at self.now client block).wait }
+        ensures bytes { bytes_in (option_copied result) ≡ bytes_of (client_at self.now client block).held }
+        ensures has { is_some (option_copied result) ≡ has_entry (client_at self.now client block) }
+    {
+        self.copies.of(client, block)
+    }
+
     /// A client's copy of a block.
     pub(super) fn copy(&self, client: ClientId, block: BlockNo) -> CachedCopy
         requires client { client < self.now.geometry.clients }
@@ -89,30 +107,37 @@ impl Bank {
         self.clock.max(clock) == u64::MAX
     }
 
-    /// Why a load is refused, but for want of memory.
-    pub(super) fn load_refusal(
+    /// The bytes of a load, or why it is refused, but for want of memory.
+    pub(super) fn loaded(
         &self,
         client: ClientId,
         address: u32,
         len: usize,
         clock: u64,
-    ) -> Option<Refusal>
-        ensures { result ≡ first_of (load_cases self.now client address len clock) }
+    ) -> Result<AccessBytes, Refusal>
+        ensures refused { IfErr result (λ r. first_of (load_cases self.now client address len clock) ≡ Some r) }
+        ensures permitted { OnOk result (first_of (load_cases self.now client address len clock) ≡ None) }
+        ensures bytes { IfOk result
+            (λ bytes. bytes
+            ≡ slice_range (bytes_of (client_at self.now client (block_of_address self.now.geometry address)).held)
+            (offset_of self.now.geometry address) (offset_of self.now.geometry address + len)) }
     {
         if self.is_bad_access(client, address, len) {
-            return Some(Refusal::OutOfRange);
+            return Err(Refusal::OutOfRange);
         }
         let block = self.geometry.block_at(address);
         if self.is_elsewhere(block) {
-            return Some(Refusal::WrongBank);
+            return Err(Refusal::WrongBank);
         }
-        if self.perm_of(client, block) == Perm::None {
-            return Some(Refusal::NoPermission);
+        let held = self.entry(client, block);
+        if entry::perm_in(held) == Perm::None {
+            return Err(Refusal::NoPermission);
         }
         if self.is_clock_full(clock) {
-            return Some(Refusal::ClockFull);
+            return Err(Refusal::ClockFull);
         }
-        None
+        let bytes = entry::read_in(held, self.geometry.offset(address), len as u32);
+        Ok(bytes)
     }
 
     /// Why a store is refused, but for want of memory.
@@ -148,31 +173,12 @@ impl Bank {
         client.number() >= self.geometry.clients() || !self.geometry.has(block)
     }
 
-    /// Whether an Acquire or a Release of a block is unanswered.
-    fn waits(&self, client: ClientId, block: BlockNo) -> bool
-        requires client { client < self.now.geometry.clients }
-        requires block { block < self.now.geometry.memory_blocks }
-        ensures { result ≡ waits self.now client block }
+    /// Whether a client's table has as many entries as it may have.
+    fn is_table_full(&self, client: ClientId) -> bool
+        requires { client < self.now.geometry.clients }
+        ensures { result ≡ nat_le self.now.geometry.copies (entries_at self.now client) }
     {
-        self.wait(client, block) != Wait::Nothing
-    }
-
-    /// Whether a client's table has an entry of a block.
-    fn has_entry(&self, client: ClientId, block: BlockNo) -> bool
-        requires client { client < self.now.geometry.clients }
-        requires block { block < self.now.geometry.memory_blocks }
-        ensures { result ≡ has_entry (client_at self.now client block) }
-    {
-        self.copies.of(client, block).is_some()
-    }
-
-    /// Whether a client's table is full and has no entry of a block.
-    fn is_full(&self, client: ClientId, block: BlockNo) -> bool
-        requires client { client < self.now.geometry.clients }
-        requires block { block < self.now.geometry.memory_blocks }
-        ensures { result ≡ copies_full self.now client block }
-    {
-        !self.has_entry(client, block) && self.entries(client) >= self.geometry.copies()
+        self.entries(client) >= self.geometry.copies()
     }
 
     /// Whether 64 messages are on a channel.
@@ -207,13 +213,14 @@ impl Bank {
         if self.is_elsewhere(block) {
             return Some(Refusal::WrongBank);
         }
-        if self.waits(client, block) {
+        let held = self.entry(client, block);
+        if entry::waits_in(held) {
             return Some(Refusal::Waiting);
         }
-        if self.perm_of(client, block) != grow.from() {
+        if entry::perm_in(held) != grow.from() {
             return Some(Refusal::WrongFrom);
         }
-        if self.is_full(client, block) {
+        if held.is_none() && self.is_table_full(client) {
             return Some(Refusal::CopiesFull);
         }
         if self.is_link_full(client, Channel::A) {
@@ -238,10 +245,11 @@ impl Bank {
         if self.is_elsewhere(block) || share.bank().number() != self.number.number() {
             return Some(Refusal::WrongBank);
         }
-        if self.waits(client, block) {
+        let held = self.entry(client, block);
+        if entry::waits_in(held) {
             return Some(Refusal::Waiting);
         }
-        if self.perm_of(client, block) != prune.from() {
+        if entry::perm_in(held) != prune.from() {
             return Some(Refusal::WrongFrom);
         }
         if self.is_link_full(client, Channel::C) {
