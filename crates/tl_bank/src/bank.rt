@@ -9,7 +9,10 @@ ghost use Rattle.tl_lanes.specs.Lawful.{Lawful};
 ghost use Rattle.tl_bank_spec.specs.Cases.{no_client};
 ghost use Rattle.tl_bank_spec.specs.Coherent.{IsCoherent};
 ghost use Rattle.tl_bank_spec.specs.Share.{first_shares};
-ghost use Rattle.tl_bank_spec.specs.View.{IsOwn, StampsRise, shape_of, way_at, copies_at};
+ghost use Rattle.tl_bank_spec.specs.View.{shape_of};
+ghost use Rattle.tl_bank_spec.specs.Own.{IsOwn, way_at};
+ghost use Rattle.tl_bank_spec.specs.Clock.{StampsRise};
+ghost use Rattle.tl_bank_spec.specs.Tables.{copies_at};
 ghost use Rattle.tl_bank_spec.specs.Views.{IsDelivered, copy_perm_at};
 
 use crate::share::Share;

@@ -3,7 +3,7 @@ ghost use Rattle.std.specs.Prelude.{◌≡◌, ◌≤◌, ◌+◌, ℕ, length, 
 ghost use Rattle.std.specs.Option.{option_copied};
 ghost use Rattle.tl_bank_laws.specs.Entry.{HasPlace, entry_with, held_as, copy_in, wait_in, perm_in, bytes_in};
 ghost use Rattle.tl_bank_laws.specs.Head.{asked_by, granted_by};
-ghost use Rattle.tl_bank_spec.specs.View.{has_entry_for, is_waiting};
+ghost use Rattle.tl_bank_spec.specs.Tables.{has_entry_for, is_waiting};
 ghost use Rattle.tl_copies.specs.Copies.{held_at, is_cell, SameSize};
 
 use tl_copies::{Copies, Held};

@@ -26,7 +26,9 @@ use Rattle.tl_bank_spec.specs.Effects.{first_grow, grow_in}
 use Rattle.tl_bank_spec.specs.HomeCalls.{accept_cases}
 use Rattle.tl_bank_spec.specs.HomeCases.{lacks}
 use Rattle.tl_bank_spec.specs.Refusal.{first_of}
-use Rattle.tl_bank_spec.specs.View.{View, IsOwn, block_at, client_at, lane_at, shape_of, way_at}
+use Rattle.tl_bank_spec.specs.View.{View, block_at, client_at, shape_of}
+use Rattle.tl_bank_spec.specs.Own.{IsOwn, way_at}
+use Rattle.tl_bank_spec.specs.Channels.{lane_at}
 use Rattle.tl_bank_spec.specs.Ways.{IsWayFor, registers_full, slots_at, victim_in, way_in_set, ways_held}
 use Rattle.tl_home.specs.Homes.{order_at}
 use Rattle.tl_bank_laws.specs.Entry.{entry_of}

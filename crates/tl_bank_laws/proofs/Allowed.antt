@@ -14,7 +14,8 @@ use Rattle.tl_map.specs.Places.{bank_of}
 use Rattle.tl_bank_spec.specs.Calls.{block_named_by, load_cases, store_cases, acquire_cases, release_cases}
 use Rattle.tl_bank_spec.specs.Cases.{no_client, no_block, bad_access, bad_share, other_share, copies_full, elsewhere}
 use Rattle.tl_bank_spec.specs.Refusal.{first_of}
-use Rattle.tl_bank_spec.specs.View.{View, client_at, copies_at, is_waiting, perm_at}
+use Rattle.tl_bank_spec.specs.View.{View, client_at, perm_at}
+use Rattle.tl_bank_spec.specs.Tables.{copies_at, is_waiting}
 use Rattle.tl_bank_spec.specs.declared.refusal.Refusal.{Refusal}
 
 -- ## No case holds

@@ -5,7 +5,7 @@ use Rattle.tl_types.specs.Count.{count_below}
 use Rattle.tl_types.proofs.Counts.{count_below-change}
 use Rattle.tl_types.specs.declared.permission.Perm.{Perm}
 use Rattle.tl_types.specs.declared.permission.Perm.TheVariants.{None as p_None, Branch, Tip}
-use Rattle.tl_map.specs.Numbers.{IsLawful}
+use Rattle.tl_map.specs.Limits.{IsLawful}
 use Rattle.tl_protocol.specs.Copy.{perm_of}
 use Rattle.tl_protocol.specs.Ledger.{has_copy}
 use Rattle.tl_protocol.specs.Protocol.{is_none, block_of}
@@ -13,7 +13,8 @@ use Rattle.tl_protocol.specs.declared.client.Client.{Client}
 use Rattle.tl_protocol.specs.declared.event.Event.{Event}
 use Rattle.tl_lanes.proofs.Cells.{client-append}
 use Rattle.tl_bank_spec.specs.Share.{recount}
-use Rattle.tl_bank_spec.specs.View.{View, shape_of, client_at, copies_at, perm_at}
+use Rattle.tl_bank_spec.specs.View.{View, shape_of, client_at, perm_at}
+use Rattle.tl_bank_spec.specs.Tables.{copies_at}
 use Rattle.tl_bank_laws.proofs.Keep.{ClientStep}
 
 -- the count after one copy changed is the one told anew from its permission before and later

@@ -18,7 +18,8 @@ use Rattle.tl_registers.specs.declared.register.Register.{Register}
 use Rattle.tl_registers.specs.declared.register.Task.{Task}
 use Rattle.tl_registers.specs.declared.register.Task.TheVariants.{Acquire, Replace, Evict}
 use Rattle.tl_registers.proofs.Tables.{IsOneOf, each-filter, each-follows, one-among}
-use Rattle.tl_bank_spec.specs.View.{View, IsOwn, block_at, shape_of}
+use Rattle.tl_bank_spec.specs.View.{View, block_at, shape_of}
+use Rattle.tl_bank_spec.specs.Own.{IsOwn}
 use Rattle.tl_bank_laws.specs.Layers.{Layers}
 use Rattle.tl_bank_laws.specs.Means.{Means}
 

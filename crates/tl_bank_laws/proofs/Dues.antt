@@ -32,7 +32,9 @@ use Rattle.tl_bank_spec.specs.HomeCalls.{advance_cases}
 use Rattle.tl_bank_spec.specs.Cases.{link_full}
 use Rattle.tl_bank_spec.specs.HomeCases.{due_at, due_full}
 use Rattle.tl_bank_spec.specs.Refusal.{first_of}
-use Rattle.tl_bank_spec.specs.View.{View, IsOwn, block_at, next_ticket, shape_of, way_at}
+use Rattle.tl_bank_spec.specs.View.{View, block_at, shape_of}
+use Rattle.tl_bank_spec.specs.Own.{IsOwn, way_at}
+use Rattle.tl_bank_spec.specs.Channels.{next_ticket}
 use Rattle.tl_bank_spec.specs.declared.action.Action.{Action}
 use Rattle.tl_bank_laws.specs.Layers.{Layers}
 use Rattle.tl_bank_laws.specs.Means.{HoldsWay, Means}

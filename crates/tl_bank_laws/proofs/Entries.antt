@@ -12,7 +12,8 @@ use Rattle.tl_protocol.specs.declared.copy.CachedCopy.TheVariants.{Absent, Reada
 use Rattle.tl_copies.specs.Copies.{Tables, held_at, is_cell, entries, copies}
 use Rattle.tl_copies.specs.Held.{has_copy as table_has_copy}
 use Rattle.tl_copies.specs.declared.held.Held.{Held}
-use Rattle.tl_bank_spec.specs.View.{View, has_entry_for, client_at, entries_at, copies_at, perm_at, has_entry}
+use Rattle.tl_bank_spec.specs.View.{View, client_at, perm_at}
+use Rattle.tl_bank_spec.specs.Tables.{has_entry_for, entries_at, copies_at, has_entry}
 use Rattle.tl_bank_laws.specs.Entry.{entry_with, copy_in, wait_in, perm_in, bytes_in}
 use Rattle.tl_bank_laws.specs.Layers.{Layers}
 use Rattle.tl_bank_laws.specs.Means.{Means}

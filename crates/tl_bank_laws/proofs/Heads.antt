@@ -14,7 +14,9 @@ use Rattle.tl_lanes.specs.Lists.{list_in}
 use Rattle.tl_lanes.proofs.Logs.{first_heads_its_list}
 use Rattle.tl_links.specs.Table.{lane_in}
 use Rattle.tl_bank_spec.specs.Cases.{begins, block_named, first_block, not_head, other_channel}
-use Rattle.tl_bank_spec.specs.View.{View, IsOwn, shape_of, client_at, lane_at}
+use Rattle.tl_bank_spec.specs.View.{View, shape_of, client_at}
+use Rattle.tl_bank_spec.specs.Own.{IsOwn}
+use Rattle.tl_bank_spec.specs.Channels.{lane_at}
 use Rattle.tl_bank_laws.specs.Layers.{Layers}
 use Rattle.tl_bank_laws.specs.Link.{IsHead}
 use Rattle.tl_bank_laws.specs.Means.{Means}

@@ -18,7 +18,9 @@ use Rattle.tl_protocol.specs.declared.event.Event.{Event}
 use Rattle.tl_protocol.specs.declared.shape.Shape.{Shape}
 use Rattle.tl_copies.specs.Copies.{held_at}
 use Rattle.tl_copies.specs.Held.{has_copy as table_has_copy, waits, is_awaited}
-use Rattle.tl_bank_spec.specs.View.{View, IsOwn, shape_of, block_at, client_at, copies_at, perm_at}
+use Rattle.tl_bank_spec.specs.View.{View, shape_of, block_at, client_at, perm_at}
+use Rattle.tl_bank_spec.specs.Own.{IsOwn}
+use Rattle.tl_bank_spec.specs.Tables.{copies_at}
 use Rattle.tl_bank_spec.specs.Views.{not_own, HasCopy, AwaitsNothing, blocks_below, pairs_below, pairs_at, copies_below}
 use Rattle.tl_bank_laws.specs.Entry.{entry_with}
 use Rattle.tl_bank_laws.specs.Layers.{Layers}

@@ -17,7 +17,8 @@ use Rattle.tl_links.specs.Table.{lane_in, SameSize as SameLinks}
 use Rattle.tl_copies.specs.Copies.{held_at, is_cell, SameSize as SameCopies}
 use Rattle.tl_copies.specs.declared.held.Held.{Held}
 use Rattle.tl_registers.specs.Agree.{LeavesRegisters}
-use Rattle.tl_bank_spec.specs.View.{View, IsLater, shape_of, block_at, client_at, stamped, clock_of}
+use Rattle.tl_bank_spec.specs.View.{View, shape_of, block_at, client_at}
+use Rattle.tl_bank_spec.specs.Clock.{IsLater, stamped, clock_of}
 use Rattle.tl_bank_laws.specs.Entry.{entry_of}
 use Rattle.tl_home.specs.Homes.{HomeState, bank_in, geometry_in, way_in, free_at, order_at, outward_in}
 use Rattle.tl_bank_laws.specs.Layers.{Layers}

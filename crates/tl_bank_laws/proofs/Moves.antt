@@ -5,7 +5,8 @@ use Rattle.std.proofs.lemmas.List.{set-append_left}
 use Rattle.std.proofs.Math.Seq.{set-append_seam}
 use Rattle.tl_types.proofs.Lowest.{lowest-same, none-lowest}
 use Rattle.tl_map.specs.Places.{bank_of, set_of}
-use Rattle.tl_bank_spec.specs.View.{View, IsOwn, way_at, ways_below}
+use Rattle.tl_bank_spec.specs.View.{View}
+use Rattle.tl_bank_spec.specs.Own.{IsOwn, way_at, ways_below}
 use Rattle.tl_bank_spec.specs.Ways.{lies_in, slot_at, slots_at}
 use Rattle.tl_bank_laws.proofs.Slots.{below-at, below-length, below-past, below-same, lies-slot, lies-true, slot-empty, slots-are, true-lies}
 

@@ -17,7 +17,9 @@ use Rattle.tl_links.specs.Table.{lane_in, SameSize as SameLinks}
 use Rattle.tl_copies.specs.Copies.{held_at, SameSize as SameCopies}
 use Rattle.tl_registers.specs.declared.register.Register.{Register}
 use Rattle.tl_registers.specs.Agree.{Agree}
-use Rattle.tl_bank_spec.specs.View.{View, IsOwn, IsLater, StampsRiseFrom, shape_of, block_at, stamped, clock_from, clock_of}
+use Rattle.tl_bank_spec.specs.View.{View, shape_of, block_at}
+use Rattle.tl_bank_spec.specs.Own.{IsOwn}
+use Rattle.tl_bank_spec.specs.Clock.{IsLater, StampsRiseFrom, stamped, clock_from, clock_of}
 use Rattle.tl_home.specs.Homes.{SameBank, outward_in}
 use Rattle.tl_bank_laws.specs.Entry.{entry_of}
 use Rattle.tl_bank_laws.specs.Layers.{Layers}

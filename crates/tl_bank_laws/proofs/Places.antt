@@ -9,7 +9,8 @@ use Rattle.tl_protocol.specs.declared.copy.CachedCopy.TheVariants.{Absent, Reada
 use Rattle.tl_copies.specs.Copies.{entries, held_at}
 use Rattle.tl_copies.specs.declared.held.Held.{Held}
 use Rattle.tl_bank_spec.specs.Cases.{copies_full}
-use Rattle.tl_bank_spec.specs.View.{View, has_entry_for, has_entry, client_at, entries_at}
+use Rattle.tl_bank_spec.specs.View.{View, client_at}
+use Rattle.tl_bank_spec.specs.Tables.{has_entry_for, has_entry, entries_at}
 use Rattle.tl_bank_laws.specs.Entry.{HasPlace}
 use Rattle.tl_bank_laws.specs.Layers.{Layers}
 use Rattle.tl_bank_laws.specs.Means.{Means}

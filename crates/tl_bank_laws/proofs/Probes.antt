@@ -32,7 +32,10 @@ use Rattle.tl_bank_spec.specs.Calls.{answer_probe_cases}
 use Rattle.tl_bank_spec.specs.Cases.{any_body, awaits_release_ack, bad_share, block_named, link_full, no_client, other_share}
 use Rattle.tl_bank_spec.specs.Refusal.{first_of}
 use Rattle.tl_bank_spec.specs.Share.{Holding, recount}
-use Rattle.tl_bank_spec.specs.View.{View, IsOwn, has_entry_for, client_at, copies_at, lane_at, perm_at}
+use Rattle.tl_bank_spec.specs.View.{View, client_at, perm_at}
+use Rattle.tl_bank_spec.specs.Own.{IsOwn}
+use Rattle.tl_bank_spec.specs.Tables.{has_entry_for, copies_at}
+use Rattle.tl_bank_spec.specs.Channels.{lane_at}
 use Rattle.tl_bank_laws.specs.Entry.{HasPlace, entry_with}
 use Rattle.tl_bank_laws.specs.Head.{asked_by, first_cap}
 use Rattle.tl_bank_laws.specs.Link.{HasRoom, IsHead}

@@ -20,7 +20,9 @@ use Rattle.tl_copies.specs.Copies.{Tables, held_at, is_cell, SameSize as SameCop
 use Rattle.tl_bank_spec.specs.Calls.{take_release_ack_cases}
 use Rattle.tl_bank_spec.specs.Cases.{block_named, is_a_release_ack}
 use Rattle.tl_bank_spec.specs.Refusal.{first_of}
-use Rattle.tl_bank_spec.specs.View.{View, IsOwn, has_entry_for, client_at}
+use Rattle.tl_bank_spec.specs.View.{View, client_at}
+use Rattle.tl_bank_spec.specs.Own.{IsOwn}
+use Rattle.tl_bank_spec.specs.Tables.{has_entry_for}
 use Rattle.tl_bank_laws.specs.Entry.{HasPlace, entry_with}
 use Rattle.tl_bank_laws.specs.Layers.{Layers}
 use Rattle.tl_bank_laws.specs.Means.{Means}

@@ -13,7 +13,7 @@ use Rattle.tl_types.specs.declared.permission.Perm.TheVariants.{None as p_None}
 use Rattle.tl_types.specs.declared.permission.Prune.{Prune}
 use Rattle.tl_types.specs.declared.permission.Prune.TheVariants.{TtoB, TtoN, BtoN}
 use Rattle.tl_types.specs.declared.wait.Wait.TheVariants.{ForReleaseAck}
-use Rattle.tl_map.specs.Numbers.{IsLawful}
+use Rattle.tl_map.specs.Limits.{IsLawful}
 use Rattle.tl_protocol.specs.Client.{released}
 use Rattle.tl_protocol.specs.Copy.{perm_of, dirty_bytes, reduced}
 use Rattle.tl_protocol.specs.Protocol.{is_none}
@@ -25,7 +25,8 @@ use Rattle.tl_copies.specs.Copies.{Tables, held_at, is_cell, SameSize as SameCop
 use Rattle.tl_bank_spec.specs.Calls.{release_cases}
 use Rattle.tl_bank_spec.specs.Refusal.{first_of}
 use Rattle.tl_bank_spec.specs.Share.{Holding, recount}
-use Rattle.tl_bank_spec.specs.View.{View, client_at, copies_at, perm_at}
+use Rattle.tl_bank_spec.specs.View.{View, client_at, perm_at}
+use Rattle.tl_bank_spec.specs.Tables.{copies_at}
 use Rattle.tl_bank_laws.specs.Entry.{entry_with}
 use Rattle.tl_bank_laws.specs.Layers.{Layers}
 use Rattle.tl_bank_laws.specs.Means.{Means}

@@ -37,7 +37,8 @@ use Rattle.tl_registers.specs.declared.register.Register.{Register}
 use Rattle.tl_registers.proofs.Closing.{granting-keeps-agreement}
 use Rattle.tl_registers.proofs.Order.{grant-keeps-order, other-events-keep-order}
 use Rattle.tl_registers.proofs.Tables.{each-follows}
-use Rattle.tl_bank_spec.specs.View.{View, IsOwn, block_at, client_at, shape_of, way_at}
+use Rattle.tl_bank_spec.specs.View.{View, block_at, client_at, shape_of}
+use Rattle.tl_bank_spec.specs.Own.{IsOwn, way_at}
 use Rattle.tl_bank_spec.specs.Ways.{slot_at, slots_at}
 use Rattle.tl_bank_laws.specs.Entry.{entry_of}
 use Rattle.tl_bank_laws.specs.Layers.{Layers}

@@ -18,7 +18,8 @@ use Rattle.tl_registers.specs.Registers.{noted, register_of, with_probe_of}
 use Rattle.tl_registers.specs.declared.due.Due.TheVariants.{Probe}
 use Rattle.tl_registers.proofs.Probing.{probing-keeps-agreement}
 use Rattle.tl_bank_spec.specs.Cases.{link_full}
-use Rattle.tl_bank_spec.specs.View.{View, block_at, lane_at, shape_of}
+use Rattle.tl_bank_spec.specs.View.{View, block_at, shape_of}
+use Rattle.tl_bank_spec.specs.Channels.{lane_at}
 use Rattle.tl_bank_laws.specs.Entry.{entry_of}
 use Rattle.tl_bank_laws.specs.Layers.{Layers}
 use Rattle.tl_bank_laws.specs.Link.{HasRoom}

@@ -13,7 +13,8 @@ use Rattle.tl_bank_spec.specs.Effects.{reply_to}
 use Rattle.tl_bank_spec.specs.HomeCalls.{serve_memory_cases}
 use Rattle.tl_bank_spec.specs.HomeCases.{is_request}
 use Rattle.tl_bank_spec.specs.Refusal.{first_of}
-use Rattle.tl_bank_spec.specs.View.{View, IsOwn, block_at, shape_of, ways_below}
+use Rattle.tl_bank_spec.specs.View.{View, block_at, shape_of}
+use Rattle.tl_bank_spec.specs.Own.{IsOwn, ways_below}
 use Rattle.tl_bank_laws.specs.Layers.{Layers}
 use Rattle.tl_bank_laws.specs.Means.{IsHome, Means}
 use Rattle.tl_bank_laws.specs.Memory.{answered}

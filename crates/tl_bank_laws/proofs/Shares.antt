@@ -1,13 +1,14 @@
 -- A client's share, where a call changes one of its copies.
 use Rattle.std.proofs.Common.{◌≡◌, ℕ, ◌<◌, ◌^◌, false, [], ◌∷◌, ◌++◌, sym, ◌∙◌, ap}
 use Rattle.tl_types.specs.declared.permission.Perm.{Perm}
-use Rattle.tl_map.specs.Numbers.{IsLawful}
+use Rattle.tl_map.specs.Limits.{IsLawful}
 use Rattle.tl_protocol.specs.Copy.{perm_of}
 use Rattle.tl_protocol.specs.Protocol.{block_of, is_none}
 use Rattle.tl_protocol.specs.declared.client.Client.{Client}
 use Rattle.tl_protocol.specs.declared.event.Event.{Event}
 use Rattle.tl_bank_spec.specs.Share.{Holding, recount}
-use Rattle.tl_bank_spec.specs.View.{View, shape_of, copies_at, perm_at}
+use Rattle.tl_bank_spec.specs.View.{View, shape_of, perm_at}
+use Rattle.tl_bank_spec.specs.Tables.{copies_at}
 use Rattle.tl_bank_laws.proofs.Counts.{step-count, counts-one, copies-few}
 use Rattle.tl_bank_laws.proofs.Keep.{ClientStep}
 

@@ -35,7 +35,8 @@ use Rattle.tl_registers.specs.Pending.{any_below, has_first, is_granted, is_prob
 use Rattle.tl_registers.specs.Register.{IsKnown}
 use Rattle.tl_registers.specs.Registers.{register_of}
 use Rattle.tl_registers.specs.declared.register.Register.{Register}
-use Rattle.tl_bank_spec.specs.View.{View, IsOwn, block_at, client_at, shape_of}
+use Rattle.tl_bank_spec.specs.View.{View, block_at, client_at, shape_of}
+use Rattle.tl_bank_spec.specs.Own.{IsOwn}
 use Rattle.tl_bank_laws.specs.Layers.{Layers}
 use Rattle.tl_bank_laws.specs.Means.{Means}
 use Rattle.tl_bank_laws.proofs.Crossed.{own-or-not}

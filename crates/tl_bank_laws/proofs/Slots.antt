@@ -8,7 +8,8 @@ use Rattle.tl_types.proofs.Lowest.{lowest-none, lowest-one, lowest-some, lowest-
 use Rattle.tl_types.specs.Lowest.{lowest}
 use Rattle.tl_map.specs.Places.{bank_of, set_of}
 use Rattle.tl_registers.specs.VictimWay.{block_in}
-use Rattle.tl_bank_spec.specs.View.{View, IsOwn, way_at, ways_below}
+use Rattle.tl_bank_spec.specs.View.{View}
+use Rattle.tl_bank_spec.specs.Own.{IsOwn, way_at, ways_below}
 use Rattle.tl_bank_spec.specs.Ways.{is_way, lies_in, slot_at, slots_below, slots_at}
 
 -- ## Lists by number

@@ -12,7 +12,8 @@ use Rattle.tl_protocol.specs.declared.event.Event.TheVariants.{Store}
 use Rattle.tl_copies.specs.Copies.{Tables, held_at, is_cell, SameSize}
 use Rattle.tl_bank_spec.specs.Calls.{store_cases}
 use Rattle.tl_bank_spec.specs.Refusal.{first_of}
-use Rattle.tl_bank_spec.specs.View.{View, client_at, clock_of, latest}
+use Rattle.tl_bank_spec.specs.View.{View, client_at}
+use Rattle.tl_bank_spec.specs.Clock.{clock_of, latest}
 use Rattle.tl_bank_laws.specs.Entry.{entry_with}
 use Rattle.tl_bank_laws.specs.Layers.{Layers}
 use Rattle.tl_bank_laws.specs.Means.{Means}

@@ -3,7 +3,8 @@ use Rattle.std.proofs.Common.{◌≡◌, ◌≢◌, ℕ, ◌<◌, ◌≤◌, ◌
 use Rattle.std.proofs.Math.Bool.{or-true}
 use Rattle.std.specs.List.{list_any}
 use Rattle.tl_types.specs.Lane.{Lane, IsFirst, is_here, with_message, without_first, bodies_of}
-use Rattle.tl_types.specs.Message.{upward_from, upward_to, is_probe_ack}
+use Rattle.tl_types.specs.Message.{upward_to, is_probe_ack}
+use Rattle.tl_types.specs.Bodies.{upward_from}
 use Rattle.tl_types.specs.Permission.{rank}
 use Rattle.tl_types.specs.declared.channel.Channel.{Channel}
 use Rattle.tl_types.specs.declared.channel.Channel.TheVariants.{C, D}
@@ -37,7 +38,9 @@ use Rattle.tl_registers.proofs.Blocks.{first-from}
 use Rattle.tl_bank_spec.specs.Cases.{any_body, begins, block_named, first_block, is_a_release}
 use Rattle.tl_bank_spec.specs.HomeCalls.{take_c_cases}
 use Rattle.tl_bank_spec.specs.Refusal.{first_of}
-use Rattle.tl_bank_spec.specs.View.{View, IsOwn, shape_of, block_at, client_at, lane_at}
+use Rattle.tl_bank_spec.specs.View.{View, shape_of, block_at, client_at}
+use Rattle.tl_bank_spec.specs.Own.{IsOwn}
+use Rattle.tl_bank_spec.specs.Channels.{lane_at}
 use Rattle.tl_bank_laws.specs.Entry.{entry_of}
 use Rattle.tl_bank_laws.specs.Given.{left_by, brought_by}
 use Rattle.tl_bank_laws.specs.Layers.{Layers}

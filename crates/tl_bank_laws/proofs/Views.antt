@@ -18,7 +18,8 @@ use Rattle.tl_protocol.specs.declared.event.Event.TheVariants.{Load}
 use Rattle.tl_protocol.proofs.Coherent.{every_run_keeps_copies, every_run_reads_last}
 use Rattle.tl_home.specs.Homes.{recorded_in, outward_in}
 use Rattle.tl_bank_spec.specs.Cases.{no_client, no_block, elsewhere}
-use Rattle.tl_bank_spec.specs.View.{View, IsOwn, shape_of, block_at, client_at, perm_at}
+use Rattle.tl_bank_spec.specs.View.{View, shape_of, block_at, client_at, perm_at}
+use Rattle.tl_bank_spec.specs.Own.{IsOwn}
 use Rattle.tl_bank_spec.specs.Views.{not_own, no_part, byte_at, peeked, MayRead, MayWrite, passing, outward_at}
 use Rattle.tl_bank_laws.specs.Layers.{Layers}
 use Rattle.tl_bank_laws.specs.Means.{Means}

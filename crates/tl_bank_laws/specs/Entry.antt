@@ -10,7 +10,7 @@ use Rattle.tl_protocol.specs.declared.copy.CachedCopy.{CachedCopy}
 use Rattle.tl_protocol.specs.declared.copy.CachedCopy.TheVariants.{Absent, Readable, Writable}
 use Rattle.tl_copies.specs.Copies.{Tables, clients_of, entries, held_at}
 use Rattle.tl_copies.specs.declared.held.Held.{Held}
-use Rattle.tl_bank_spec.specs.View.{has_entry_for}
+use Rattle.tl_bank_spec.specs.Tables.{has_entry_for}
 
 -- whether a copy is dirty: only one that may be written can be
 abbrev pub is_dirty : CachedCopy → Bool

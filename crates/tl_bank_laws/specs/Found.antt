@@ -1,7 +1,8 @@
 -- The blocks that are found at home where its ways are looked at one after another. No public clause cites this module.
 use Rattle.std.specs.Prelude.{◌≡◌, ℕ, ◌+◌, ◌*◌, ◌≤◌, ◌==◌, Bool, false, List, length, count_by, Option, Some, None, nat_lt, if◌then◌else◌}
 use Rattle.tl_map.specs.Places.{set_of}
-use Rattle.tl_bank_spec.specs.View.{View, way_at}
+use Rattle.tl_bank_spec.specs.View.{View}
+use Rattle.tl_bank_spec.specs.Own.{way_at}
 use Rattle.tl_bank_spec.specs.Views.{not_own}
 
 -- one if a test is met

@@ -2,7 +2,7 @@
 use Rattle.std.specs.Prelude.{◌≡◌, ℕ, ◌<◌, ◌≤◌, ◌==◌, ◌&&◌, not, Bool, true, false, List, [], ◌∷◌, length, Some, is_none}
 use Rattle.std.specs.List.{All, list_any}
 use Rattle.tl_types.specs.declared.channel.Channel.{Channel}
-use Rattle.tl_map.specs.Numbers.{IsLawful}
+use Rattle.tl_map.specs.Limits.{IsLawful}
 use Rattle.tl_map.specs.Places.{set_of}
 use Rattle.tl_protocol.specs.declared.home.Outward.TheVariants.{Quiet}
 use Rattle.tl_protocol.specs.Protocol.{Block, block_of}
@@ -17,7 +17,10 @@ use Rattle.tl_registers.specs.Registers.{is_held, register_of}
 use Rattle.tl_registers.specs.VictimWay.{IsInOrder}
 use Rattle.tl_bank_spec.specs.Kept.{accepted_by}
 use Rattle.tl_bank_spec.specs.Ways.{lies_in, slot_at, slots_at}
-use Rattle.tl_bank_spec.specs.View.{View, IsOwn, StampsRise, shape_of, way_at, block_at, client_at, lane_at, clock_of}
+use Rattle.tl_bank_spec.specs.View.{View, shape_of, block_at, client_at}
+use Rattle.tl_bank_spec.specs.Own.{IsOwn, way_at}
+use Rattle.tl_bank_spec.specs.Clock.{StampsRise, clock_of}
+use Rattle.tl_bank_spec.specs.Channels.{lane_at}
 use Rattle.tl_bank_laws.specs.Entry.{entry_of}
 use Rattle.tl_home.specs.Homes.{HomeState, bank_in, geometry_in, line_in, recorded_in, outward_in, memory_in, way_in, free_at, order_at}
 use Rattle.tl_bank_laws.specs.Layers.{Layers}

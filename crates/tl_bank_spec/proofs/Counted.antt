@@ -24,7 +24,9 @@ use Rattle.tl_lanes.specs.Lists.{IsOther, client_of}
 use Rattle.tl_lanes.proofs.Events.{every_event_is_of_one_client}
 use Rattle.tl_bank_spec.specs.Counted.{EveryEventLeavesOtherCounts, client_counted}
 use Rattle.tl_bank_spec.proofs.Logged.{block-next}
-use Rattle.tl_bank_spec.specs.View.{View, Extends, block_at, client_at, copies_at, shape_of}
+use Rattle.tl_bank_spec.specs.View.{View, block_at, client_at, shape_of}
+use Rattle.tl_bank_spec.specs.Steps.{Extends}
+use Rattle.tl_bank_spec.specs.Tables.{copies_at}
 
 -- ## One client
 

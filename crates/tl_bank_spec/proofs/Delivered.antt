@@ -21,7 +21,9 @@ use Rattle.tl_protocol.specs.declared.shape.Shape.{Shape}
 use Rattle.tl_lanes.specs.Lanes.{Place, Post, ack_post, answer_post, grant_post, post_of, sent_to, take_of, taken_from}
 use Rattle.tl_lanes.specs.Lawful.{IsNext, TakeInOrder, TakesFirst}
 use Rattle.tl_bank_spec.specs.Delivered.{EveryMessageSentWaits, EveryMessageTakenIsFirst}
-use Rattle.tl_bank_spec.specs.View.{View, Extends, block_at, lane_at, next_ticket, shape_of}
+use Rattle.tl_bank_spec.specs.View.{View, block_at, shape_of}
+use Rattle.tl_bank_spec.specs.Steps.{Extends}
+use Rattle.tl_bank_spec.specs.Channels.{lane_at, next_ticket}
 use Rattle.tl_bank_spec.specs.Views.{in_flight_at}
 use Rattle.tl_bank_spec.proofs.Logged.{back, lane-next}
 

@@ -23,7 +23,9 @@ use Rattle.tl_bank_spec.specs.Forbidden.{EveryRefusalIsTheProtocols}
 use Rattle.tl_bank_spec.specs.HomeCalls.{accept_cases, take_c_cases, take_grant_ack_cases, serve_memory_cases, take_memory_cases}
 use Rattle.tl_bank_spec.specs.HomeCases.{is_request, is_reply}
 use Rattle.tl_bank_spec.specs.Refusal.{Case, first_of}
-use Rattle.tl_bank_spec.specs.View.{View, client_at, is_waiting, lane_at, shape_of}
+use Rattle.tl_bank_spec.specs.View.{View, client_at, shape_of}
+use Rattle.tl_bank_spec.specs.Tables.{is_waiting}
+use Rattle.tl_bank_spec.specs.Channels.{lane_at}
 use Rattle.tl_bank_spec.specs.declared.refusal.Refusal.{Refusal}
 use Rattle.tl_bank_spec.specs.declared.refusal.Refusal.TheVariants.{NoPermission, Waiting, WrongFrom, NothingThere, ReleasePending}
 

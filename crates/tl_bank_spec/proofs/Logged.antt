@@ -12,7 +12,9 @@ use Rattle.tl_lanes.proofs.Logs.{lanes_grow_by_one, end_of-append}
 use Rattle.tl_registers.specs.declared.register.Register.{Register}
 use Rattle.std.specs.Prelude.{Option}
 use Rattle.tl_bank_spec.specs.Effects.{Serves}
-use Rattle.tl_bank_spec.specs.View.{View, Appends, Extends, block_at, lane_at, shape_of}
+use Rattle.tl_bank_spec.specs.View.{View, block_at, shape_of}
+use Rattle.tl_bank_spec.specs.Steps.{Appends, Extends}
+use Rattle.tl_bank_spec.specs.Channels.{lane_at}
 
 -- a call that appends an event leaves the same bank, with that event more in its log
 pub extends-appends : (v w : View) (e : Event) → Appends v w e → Extends v w e

@@ -12,7 +12,8 @@ use Rattle.tl_bank_spec.specs.Calls.{ticket_cases, shared_ticket_cases}
 use Rattle.tl_bank_spec.specs.Cases.{bad_share, begins, no_client, not_head, other_channel, other_share}
 use Rattle.tl_bank_spec.specs.Delivered.{EveryTicketNamesTheFirst, NamesFirst}
 use Rattle.tl_bank_spec.specs.Refusal.{Case, first_of}
-use Rattle.tl_bank_spec.specs.View.{View, lane_at}
+use Rattle.tl_bank_spec.specs.View.{View}
+use Rattle.tl_bank_spec.specs.Channels.{lane_at}
 use Rattle.tl_bank_spec.specs.Views.{in_flight_at}
 use Rattle.tl_bank_spec.specs.declared.refusal.Refusal.{Refusal}
 

@@ -28,7 +28,9 @@ use Rattle.tl_lanes.proofs.Logs.{first_heads_its_list}
 use Rattle.tl_bank_spec.specs.Cases.{begins, block_named, first_block, is_a_release, waiting_at}
 use Rattle.tl_bank_spec.specs.Delivered.{Sends}
 use Rattle.tl_bank_spec.specs.Effects.{answer_to}
-use Rattle.tl_bank_spec.specs.View.{View, Extends, block_at, lane_at, next_ticket, shape_of}
+use Rattle.tl_bank_spec.specs.View.{View, block_at, shape_of}
+use Rattle.tl_bank_spec.specs.Steps.{Extends}
+use Rattle.tl_bank_spec.specs.Channels.{lane_at, next_ticket}
 use Rattle.tl_bank_spec.proofs.Delivered.{every_message_sent_waits}
 use Rattle.tl_bank_spec.proofs.Logged.{may-next}
 

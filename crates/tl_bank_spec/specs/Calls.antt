@@ -1,7 +1,7 @@
 -- The clients' calls: each with its refusals, in the order in which they are tested (this project's own).
 use Rattle.std.specs.Prelude.{ℕ, ◌||◌, ◌==◌, Bool, List, [], ◌∷◌, ◌++◌, not}
 use Rattle.tl_bank_spec.specs.Refusal.{Case}
-use Rattle.tl_types.specs.Message.{is_a_grant}
+use Rattle.tl_types.specs.Bodies.{is_a_grant}
 use Rattle.tl_types.specs.Permission.{grow_from, prune_from}
 use Rattle.tl_types.specs.declared.channel.Channel.{Channel}
 use Rattle.tl_types.specs.declared.channel.Channel.TheVariants.{A, B, C, D, E}

@@ -15,7 +15,10 @@ use Rattle.tl_types.specs.declared.wait.Wait.TheVariants.{Nothing, ForGrant, For
 use Rattle.tl_types.specs.Message.{is_grant}
 use Rattle.tl_map.specs.Places.{bank_of, has_block, has_bytes}
 use Rattle.tl_bank_spec.specs.Share.{Holding}
-use Rattle.tl_bank_spec.specs.View.{View, client_at, lane_at, perm_at, has_entry, entries_at, copies_at, is_waiting, latest}
+use Rattle.tl_bank_spec.specs.View.{View, client_at, perm_at}
+use Rattle.tl_bank_spec.specs.Channels.{lane_at}
+use Rattle.tl_bank_spec.specs.Tables.{has_entry, entries_at, copies_at, is_waiting}
+use Rattle.tl_bank_spec.specs.Clock.{latest}
 
 -- ## Out of range, and of another bank
 

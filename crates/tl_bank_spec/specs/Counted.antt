@@ -4,7 +4,9 @@ use Rattle.tl_protocol.specs.declared.event.Event.{Event}
 use Rattle.tl_protocol.specs.declared.event.Event.TheVariants.{SendRelease, AnswerProbe, TakeGrant}
 use Rattle.tl_lanes.specs.Lists.{IsOther}
 use Rattle.tl_bank_spec.specs.Forbidden.{MayAt}
-use Rattle.tl_bank_spec.specs.View.{View, Extends, copies_at}
+use Rattle.tl_bank_spec.specs.View.{View}
+use Rattle.tl_bank_spec.specs.Steps.{Extends}
+use Rattle.tl_bank_spec.specs.Tables.{copies_at}
 
 -- the client whose share the call takes that makes the event, if there is one
 abbrev pub client_counted : Event → Option ℕ

@@ -6,7 +6,8 @@ use Rattle.tl_registers.specs.Registers.{register_of}
 use Rattle.tl_registers.specs.declared.register.Register.{Register}
 use Rattle.tl_registers.specs.declared.register.Task.{Task}
 use Rattle.tl_registers.specs.declared.register.Task.TheVariants.{Acquire, Replace, Evict}
-use Rattle.tl_bank_spec.specs.View.{View, IsOwn, block_at, way_at}
+use Rattle.tl_bank_spec.specs.View.{View, block_at}
+use Rattle.tl_bank_spec.specs.Own.{IsOwn, way_at}
 
 -- ## The Acquire that home serves
 

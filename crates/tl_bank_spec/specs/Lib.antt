@@ -11,5 +11,10 @@ pub mod Kept
 pub mod Refusal
 pub mod Share
 pub mod View
+pub mod Steps
+pub mod Clock
+pub mod Tables
+pub mod Channels
+pub mod Own
 pub mod Views
 pub mod Ways

@@ -18,7 +18,10 @@ use Rattle.tl_protocol.specs.declared.home.Outward.TheVariants.{Quiet, Get, Data
 use Rattle.tl_lanes.specs.Delivery.{all_sent, all_taken}
 use Rattle.tl_registers.specs.declared.register.Register.{Register}
 use Rattle.tl_bank_spec.specs.Cases.{no_client, no_block, elsewhere}
-use Rattle.tl_bank_spec.specs.View.{View, IsOwn, block_at, client_at, copies_at, lane_at, perm_at, shape_of}
+use Rattle.tl_bank_spec.specs.View.{View, block_at, client_at, perm_at, shape_of}
+use Rattle.tl_bank_spec.specs.Own.{IsOwn}
+use Rattle.tl_bank_spec.specs.Tables.{copies_at}
+use Rattle.tl_bank_spec.specs.Channels.{lane_at}
 
 -- ## What the bank does not have
 

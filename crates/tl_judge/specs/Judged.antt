@@ -1,6 +1,6 @@
 -- What it is for a record's events to be permitted one after another, and which rule the first breaks that is not.
 use Rattle.std.specs.Prelude.{◌≡◌, ℕ, ◌<◌, List, [], ◌∷◌, ◌++◌, map, Option, Some, None}
-use Rattle.tl_types.specs.Message.{body_kind, body_bytes}
+use Rattle.tl_types.specs.Bodies.{body_kind, body_bytes}
 use Rattle.tl_types.specs.declared.channel.Channel.{Channel}
 use Rattle.tl_protocol.specs.declared.event.Event.{Event}
 use Rattle.tl_protocol.specs.declared.shape.Shape.{Shape}

@@ -1,7 +1,7 @@
 //! What an event takes and sends.
 ghost use Rattle.std.specs.Prelude.{◌≡◌, ◌↔◌, ◌<◌, ℕ, IsTrue, length};
 ghost use Rattle.std.specs.Option.{option_map};
-ghost use Rattle.tl_types.specs.Message.{body_kind, body_bytes};
+ghost use Rattle.tl_types.specs.Bodies.{body_kind, body_bytes};
 ghost use Rattle.tl_protocol.specs.Protocol.{MayOn, MaySendGrant};
 ghost use Rattle.tl_lanes.specs.Lanes.{ack_post, answer_post, grant_post, post_of, take_of};
 ghost use Rattle.tl_rules.specs.Plain.{block_state, client_at};

@@ -5,7 +5,8 @@ use Rattle.std.proofs.lemmas.List.{append-nil}
 use Rattle.std.proofs.lemmas.List.Elements.{All-nil, All-cons, All-append, All-drop}
 use Rattle.tl_types.specs.Codes.{channel_of}
 use Rattle.tl_types.specs.Lane.{Lane, empty_lane, sent, is_here, with_message, first_taken, without_first, bodies_of, IsFirst}
-use Rattle.tl_types.specs.Message.{probe_answer, surrender, body_kind, answer_kind, surrender_kind}
+use Rattle.tl_types.specs.Message.{probe_answer, surrender}
+use Rattle.tl_types.specs.Bodies.{body_kind, answer_kind, surrender_kind}
 use Rattle.tl_types.specs.declared.channel.Channel.{Channel}
 use Rattle.tl_types.specs.declared.channel.Channel.TheVariants.{A, B, C, D, E}
 use Rattle.tl_types.specs.declared.permission.ProbeCap.{ProbeCap}

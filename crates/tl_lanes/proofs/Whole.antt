@@ -2,7 +2,8 @@
 use Rattle.std.proofs.Common.{◌≡◌, ℕ, List, ◌∷◌, sym, subst, arith}
 use Rattle.std.specs.List.{All}
 use Rattle.tl_types.specs.Lane.{bodies_of}
-use Rattle.tl_types.specs.Message.{body_bytes, upward_bytes, downward_bytes}
+use Rattle.tl_types.specs.Message.{upward_bytes}
+use Rattle.tl_types.specs.Bodies.{body_bytes, downward_bytes}
 use Rattle.tl_types.specs.declared.channel.Channel.{Channel}
 use Rattle.tl_types.specs.declared.channel.Channel.TheVariants.{A, B, C, D, E}
 use Rattle.tl_types.specs.declared.message.Body.{Body}

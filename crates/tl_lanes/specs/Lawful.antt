@@ -3,7 +3,7 @@ use Rattle.std.specs.Prelude.{◌≡◌, ℕ, ◌≤◌, List, [], ◌∷◌, �
 use Rattle.std.specs.List.{All}
 use Rattle.tl_types.specs.Codes.{channel_of}
 use Rattle.tl_types.specs.Lane.{empty_lane, sent, bodies_of, IsFirst}
-use Rattle.tl_types.specs.Message.{body_kind, body_bytes}
+use Rattle.tl_types.specs.Bodies.{body_kind, body_bytes}
 use Rattle.tl_types.specs.declared.channel.Channel.{Channel}
 use Rattle.tl_types.specs.declared.message.Message.{Message}
 use Rattle.tl_protocol.specs.declared.event.Event.{Event}

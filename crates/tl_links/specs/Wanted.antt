@@ -1,6 +1,7 @@
 -- Which messages are looked for (the four messages of TileLink 1.8, section 9, that home or a client has pending).
 use Rattle.std.specs.Prelude.{Bool, true, false}
-use Rattle.tl_types.specs.Message.{is_probe_ack, is_a_grant}
+use Rattle.tl_types.specs.Message.{is_probe_ack}
+use Rattle.tl_types.specs.Bodies.{is_a_grant}
 use Rattle.tl_types.specs.declared.message.Body.{Body}
 use Rattle.tl_types.specs.declared.message.Body.TheVariants.{AcquireBlock, ProbeBlock, Upward, Downward, GrantAck}
 use Rattle.tl_links.specs.declared.wanted.Wanted.{Wanted}

@@ -4,7 +4,8 @@ use Rattle.std.specs.Prelude.{bit_xor}
 use Rattle.std.specs.Int.Bits.{xor_assoc, xor_self, xor_zero_l, xor_zero_r}
 use Rattle.std.proofs.lemmas.Nat.{xor_lt, mod_below, pow_pos, div_below, div-add-mod', div-mul-add, mod-mul-add, mul-le}
 use Rattle.std.proofs.Math.Nat.{pow-suc, div-le_self}
-use Rattle.tl_map.specs.Numbers.{Numbers, IsLawful}
+use Rattle.tl_map.specs.Numbers.{Numbers}
+use Rattle.tl_map.specs.Limits.{IsLawful}
 use Rattle.tl_map.specs.Places.{xor_of_groups, bank_of, slot_of, slot_count, set_of, tag_of, place_of}
 use Rattle.tl_map.specs.declared.place.Place.{Place}
 

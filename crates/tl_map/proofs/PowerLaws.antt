@@ -5,7 +5,7 @@ use Rattle.std.proofs.lemmas.Nat.{pow_pos, and_mask}
 use Rattle.std.proofs.Math.Nat.{pow-suc}
 use Rattle.std.proofs.Math.Pow.{pow_mono}
 use Rattle.std.proofs.lemmas.Bool.{cases_order}
-use Rattle.tl_map.specs.Numbers.{IsPowerBetween}
+use Rattle.tl_map.specs.Limits.{IsPowerBetween}
 
 -- a logarithm of a power is its exponent
 pub exponent : (k r n : ℕ) → n ≡ 2 ^ k → 2 ^ r ≤ n → n < 2 * 2 ^ r → 2 ^ r ≡ n

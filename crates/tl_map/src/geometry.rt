@@ -1,7 +1,6 @@
 //! A lawful geometry, and the place of each block and each address in it.
 ghost use Rattle.std.specs.Prelude.{◌≡◌, ◌≢◌, ℕ, ◌*◌, ◌^◌, ◌<◌, ◌≤◌, IfErr, IfNone, IfOk, IfSome, None, Some};
-ghost use Rattle.tl_map.specs.Limits.{most_clients, most_copies};
-ghost use Rattle.tl_map.specs.Numbers.{IsLawful};
+ghost use Rattle.tl_map.specs.Limits.{most_clients, most_copies, IsLawful};
 ghost use Rattle.tl_map.specs.Places.{xor_of_groups, bank_of, slot_of, slot_count, place_of, has_block, block_at, offset_of, has_bytes};
 ghost use Rattle.tl_map.specs.Refusals.{refusal_of, numbers_of};
 
@@ -28,7 +27,8 @@ pub struct Geometry {
 }
 
 impl Model for Geometry {
-    ghost use Rattle.tl_map.specs.Numbers.{Numbers, IsLawful};
+    ghost use Rattle.tl_map.specs.Numbers.{Numbers};
+    ghost use Rattle.tl_map.specs.Limits.{IsLawful};
 
     ghost Value = { Numbers };
 

@@ -11,7 +11,8 @@ use Rattle.std.proofs.Math.Pow.{pow-lt}
 use Rattle.std.proofs.Math.Seq.{drop-cons}
 use borrow.Rule.Slice.PartMut.{put_mid}
 use Rattle.tl_types.specs.Bytes.{image_bytes}
-use Rattle.tl_map.specs.Numbers.{Numbers, IsLawful, IsPowerBetween}
+use Rattle.tl_map.specs.Numbers.{Numbers}
+use Rattle.tl_map.specs.Limits.{IsLawful, IsPowerBetween}
 use Rattle.tl_map.specs.Places.{bank_of, slot_count}
 use Rattle.tl_map.proofs.PlaceLaws.{slot_of-alone, slot_of-lt}
 use Rattle.tl_memory.specs.Blocks.{Contents, block_in, filled_up, is_kept, place_in, place_count}

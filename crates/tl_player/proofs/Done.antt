@@ -11,7 +11,9 @@ use Rattle.tl_registers.specs.Fit.{event_of}
 use Rattle.tl_registers.specs.declared.due.Due.{Due}
 use Rattle.tl_registers.specs.declared.due.Due.TheVariants.{Probe as due_Probe, Grant as due_Grant, Get as due_Get, Put as due_Put, Drop as due_Drop}
 use Rattle.tl_bank_spec.specs.Effects.{Advances, action_of}
-use Rattle.tl_bank_spec.specs.View.{View, Extends, IsOwn, block_at, shape_of}
+use Rattle.tl_bank_spec.specs.View.{View, block_at, shape_of}
+use Rattle.tl_bank_spec.specs.Steps.{Extends}
+use Rattle.tl_bank_spec.specs.Own.{IsOwn}
 use Rattle.tl_bank_spec.specs.declared.action.Action.{Action}
 use Rattle.tl_player.specs.Ready.{IsDone, IsWritten}
 use Rattle.tl_bank_spec.proofs.Logged.{block-next, extends-serves, may-next}

@@ -2,7 +2,8 @@
 use Rattle.std.specs.Prelude.{◌≡◌, ℕ, ◌<◌, List, IsSome}
 use Rattle.tl_types.specs.declared.ticket.Ticket.{Ticket}
 use Rattle.tl_protocol.specs.declared.home.Outward.TheVariants.{Put}
-use Rattle.tl_bank_spec.specs.View.{View, IsOwn, block_at}
+use Rattle.tl_bank_spec.specs.View.{View, block_at}
+use Rattle.tl_bank_spec.specs.Own.{IsOwn}
 use Rattle.tl_bank_spec.specs.Views.{in_flight_at}
 use Rattle.tl_bank_spec.specs.declared.action.Action.{Action}
 use Rattle.tl_bank_spec.specs.declared.action.Action.TheVariants.{Probe as did_Probe, Grant as did_Grant, Get as did_Get, Put as did_Put, Drop as did_Drop}

@@ -7,7 +7,8 @@ use Rattle.tl_words.specs.declared.step.Step.{Step}
 use Rattle.tl_words.specs.declared.step.Step.TheVariants.{Load, Store, Acquire, Release, Ticket, Block}
 use Rattle.tl_bank_spec.specs.Coherent.{IsCoherent}
 use Rattle.tl_bank_spec.specs.Share.{Holding, first_shares}
-use Rattle.tl_bank_spec.specs.View.{View, way_at}
+use Rattle.tl_bank_spec.specs.View.{View}
+use Rattle.tl_bank_spec.specs.Own.{way_at}
 
 -- a bank, and the share of each client in it
 pub record SiteState : Type 0 where

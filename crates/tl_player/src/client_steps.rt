@@ -5,7 +5,7 @@ ghost use Rattle.tl_protocol.specs.declared.event.Event.{Event};
 ghost use Rattle.tl_bank_spec.specs.Calls.{load_cases, store_cases, acquire_cases, release_cases, answer_probe_cases, take_grant_cases, take_release_ack_cases};
 ghost use Rattle.tl_bank_spec.specs.Cases.{block_named};
 ghost use Rattle.tl_bank_spec.specs.Refusal.{first_of};
-ghost use Rattle.tl_bank_spec.specs.View.{next_ticket};
+ghost use Rattle.tl_bank_spec.specs.Channels.{next_ticket};
 ghost use Rattle.tl_player.specs.Answers.{Answers};
 ghost use Rattle.tl_player.specs.Acts.{Loads, Logs, Posts, Recounts, Stores};
 

@@ -1,7 +1,8 @@
 -- What each step of a client, of home towards it and of a message between them leaves of what holds of one client.
 use Rattle.std.proofs.Common.{◌≡◌, ◌≢◌, ℕ, ◌-◌, ◌≤◌, true, false, List, [], ◌∷◌, ◌++◌, drop, Option, inl, inr, ⊎_elim, sym, refl, ap, ◌∙◌, subst, arith}
 use Rattle.tl_types.specs.Permission.{rank, grow_from, prune_from, prune_to, probe_perm, grant_perm}
-use Rattle.tl_types.specs.Message.{probe_answer, surrender, upward_from, upward_to, upward_bytes}
+use Rattle.tl_types.specs.Message.{probe_answer, surrender, upward_to, upward_bytes}
+use Rattle.tl_types.specs.Bodies.{upward_from}
 use Rattle.tl_types.specs.declared.permission.Perm.{Perm}
 use Rattle.tl_types.specs.declared.permission.Perm.TheVariants.{None as p_None, Tip}
 use Rattle.tl_types.specs.declared.permission.Grow.{Grow}

@@ -15,7 +15,8 @@ use Rattle.tl_protocol.specs.Copy.{perm_of}
 use Rattle.tl_protocol.specs.Access.{ReadsAs}
 use Rattle.tl_protocol.specs.Runs.{MayNext, after_next, IsRunFrom, end_from, IsRun, end_of, at_reset}
 use Rattle.tl_types.specs.Bytes.{image_bytes}
-use Rattle.tl_protocol.specs.Coherent.{byte_after, last_from, last, AreLast, IsKeptAt, IsNewestAt, LoadsLast, EveryRunKeepsCopies, EveryRunReadsLast}
+use Rattle.tl_protocol.specs.Coherent.{byte_after, last_from, last, AreLast, LoadsLast}
+use Rattle.tl_protocol.specs.Kept.{IsKeptAt, IsNewestAt, EveryRunKeepsCopies, EveryRunReadsLast}
 use Rattle.tl_protocol.specs.Sizes.{IsWholeAt, EveryRunKeepsSizes}
 use Rattle.tl_protocol.proofs.Sizes.{HomeIsWhole, step_whole, copy_whole, c_whole, d_whole}
 use Rattle.tl_protocol.proofs.Talk.{held_talk}

@@ -3,7 +3,8 @@
 use Rattle.std.proofs.Common.{◌≡◌, ◌≢◌, ℕ, ◌<◌, ◌≤◌, Bool, true, false, List, [], ◌∷◌, Option, Some, None, ◌⊎◌}
 use Rattle.std.specs.List.{list_any}
 use Rattle.tl_types.specs.Permission.{rank, grant_perm}
-use Rattle.tl_types.specs.Message.{upward_from, upward_to, upward_bytes, is_probe_ack, is_grant}
+use Rattle.tl_types.specs.Message.{upward_to, upward_bytes, is_probe_ack, is_grant}
+use Rattle.tl_types.specs.Bodies.{upward_from}
 use Rattle.tl_types.specs.declared.permission.Perm.{Perm}
 use Rattle.tl_types.specs.declared.permission.Perm.TheVariants.{None as p_None, Tip}
 use Rattle.tl_types.specs.declared.permission.Grow.{Grow}

@@ -1,7 +1,8 @@
 -- What home has recorded is what the clients hold, and what is under way.
 use Rattle.std.proofs.Common.{◌≡◌, ℕ, zero, suc, ◌+◌, Bool, true, false, List, [], ◌∷◌, Option, Some, None, refl, ap, arith, sym, not, ◌||◌, ◌<◌, ◌∙◌}
 use Rattle.tl_types.specs.Permission.{grant_perm}
-use Rattle.tl_types.specs.Message.{upward_from, upward_to}
+use Rattle.tl_types.specs.Message.{upward_to}
+use Rattle.tl_types.specs.Bodies.{upward_from}
 use Rattle.tl_types.specs.declared.permission.ProbeCap.{ProbeCap}
 use Rattle.tl_types.specs.declared.message.ProbeAnswer.{ProbeAnswer}
 use Rattle.tl_types.specs.declared.message.ProbeAnswer.TheVariants.{TtoB as a_TtoB, TtoN as a_TtoN, BtoB as a_BtoB, BtoN as a_BtoN, NtoN as a_NtoN}

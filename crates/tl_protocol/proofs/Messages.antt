@@ -1,7 +1,8 @@
 -- Permissions, copies, and what the messages on C say of them.
 use Rattle.std.proofs.Common.{◌≡◌, ◌≢◌, ℕ, ◌≤◌, true, false, List, Option, Some, None, refl, ap, arith}
 use Rattle.tl_types.specs.Permission.{rank, grow_from, prune_from, prune_to, probe_perm, grant_perm}
-use Rattle.tl_types.specs.Message.{probe_answer, surrender, surrender_bytes, upward_from, upward_to, upward_bytes}
+use Rattle.tl_types.specs.Message.{probe_answer, surrender, surrender_bytes, upward_to, upward_bytes}
+use Rattle.tl_types.specs.Bodies.{upward_from}
 use Rattle.tl_types.specs.declared.permission.Perm.{Perm}
 use Rattle.tl_types.specs.declared.permission.Perm.TheVariants.{None as p_None, Branch, Tip}
 use Rattle.tl_types.specs.declared.permission.Grow.{Grow}

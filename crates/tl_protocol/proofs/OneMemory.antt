@@ -8,7 +8,8 @@ use Rattle.tl_protocol.specs.declared.event.Event.TheVariants.{Load, Store}
 use Rattle.tl_protocol.specs.declared.shape.Shape.{Shape}
 use Rattle.tl_protocol.specs.Protocol.{Block, block_of}
 use Rattle.tl_protocol.specs.Access.{FitsBlock, ReadsAs}
-use Rattle.tl_protocol.specs.Runs.{MayNext, after_next, IsRunFrom, at_reset, on_bank}
+use Rattle.tl_protocol.specs.Runs.{MayNext, after_next, IsRunFrom, at_reset}
+use Rattle.tl_protocol.specs.Merges.{on_bank}
 use Rattle.tl_protocol.specs.Coherent.{byte_after, last_from}
 use Rattle.tl_protocol.specs.OneMemory.{accesses, EveryMergeIsOneMemory}
 use Rattle.tl_protocol.proofs.Messages.{bytes_now}

@@ -3,7 +3,8 @@ use Rattle.std.proofs.Common.{◌≡◌, ℕ, Bool, true, false, cond, List, [],
 use Rattle.tl_protocol.specs.declared.event.Event.{Event}
 use Rattle.tl_protocol.specs.declared.shape.Shape.{Shape}
 use Rattle.tl_protocol.specs.Protocol.{Block, block_of, May, after}
-use Rattle.tl_protocol.specs.Runs.{after_next, IsRunFrom, end_from, RunsGrowByOne, at_reset, on_block, IsBlockRunFrom, block_end_from, RunsAreOfBlocks, on_bank, EveryMergeIsARun}
+use Rattle.tl_protocol.specs.Runs.{after_next, IsRunFrom, end_from, RunsGrowByOne, at_reset}
+use Rattle.tl_protocol.specs.Merges.{on_block, IsBlockRunFrom, block_end_from, RunsAreOfBlocks, on_bank, EveryMergeIsARun}
 
 -- what holds of both branches
 pub cond_at :

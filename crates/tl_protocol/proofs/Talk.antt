@@ -1,7 +1,8 @@
 -- The messages between one client and home: what they tell, and that each step keeps them right.
 use Rattle.std.proofs.Common.{◌≡◌, ◌≢◌, ℕ, ◌≤◌, false, List, [], ◌∷◌, ◌++◌, Option, sym, refl, ap, ◌∙◌, subst, arith}
 use Rattle.tl_types.specs.Permission.{rank, prune_from, prune_to, probe_perm, grant_perm}
-use Rattle.tl_types.specs.Message.{probe_answer, surrender, upward_from, upward_to, upward_bytes}
+use Rattle.tl_types.specs.Message.{probe_answer, surrender, upward_to, upward_bytes}
+use Rattle.tl_types.specs.Bodies.{upward_from}
 use Rattle.tl_types.specs.declared.permission.Perm.{Perm}
 use Rattle.tl_types.specs.declared.permission.Perm.TheVariants.{None as p_None, Tip}
 use Rattle.tl_types.specs.declared.permission.Prune.{Prune}

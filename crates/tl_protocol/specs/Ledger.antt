@@ -1,6 +1,7 @@
 -- How many copies home has recorded, the clients hold, and are under way (this project's own theorems).
 use Rattle.std.specs.Prelude.{◌≡◌, ℕ, zero, suc, ◌+◌, ◌<◌, ◌&&◌, ◌||◌, Bool, true, false, not, List, [], ◌∷◌, Some, None}
-use Rattle.tl_types.specs.Message.{upward_from, upward_to}
+use Rattle.tl_types.specs.Message.{upward_to}
+use Rattle.tl_types.specs.Bodies.{upward_from}
 use Rattle.tl_protocol.specs.declared.client.Client.{Client}
 use Rattle.tl_protocol.specs.declared.event.Event.{Event}
 use Rattle.tl_types.specs.declared.message.Downward.{Downward}

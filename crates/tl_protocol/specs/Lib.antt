@@ -1,6 +1,7 @@
 pub mod Access
 pub mod Client
 pub mod Coherent
+pub mod Kept
 pub mod Copy
 pub mod Example
 pub mod Home
@@ -11,4 +12,5 @@ pub mod Probes
 pub mod Protocol
 pub mod Queue
 pub mod Runs
+pub mod Merges
 pub mod Sizes

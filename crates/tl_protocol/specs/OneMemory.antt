@@ -5,7 +5,8 @@ use Rattle.tl_protocol.specs.declared.event.Event.{Event}
 use Rattle.tl_protocol.specs.declared.event.Event.TheVariants.{Load, Store}
 use Rattle.tl_protocol.specs.declared.shape.Shape.{Shape}
 use Rattle.tl_protocol.specs.Coherent.{LoadsLast}
-use Rattle.tl_protocol.specs.Runs.{IsRun, on_bank}
+use Rattle.tl_protocol.specs.Runs.{IsRun}
+use Rattle.tl_protocol.specs.Merges.{on_bank}
 
 -- the access that an event is, if it is a load or a store
 abbrev pub access_of : Event → Option Access

@@ -2,7 +2,8 @@
 -- project's own theorems).
 use Rattle.std.specs.Prelude.{◌≡◌, ◌≢◌, ◌⊎◌, ℕ, ◌<◌, ◌≤◌, true, false, List, [], ◌∷◌, length, Option, Some, None}
 use Rattle.std.specs.List.{list_any}
-use Rattle.tl_types.specs.Message.{probe_answer, upward_from, upward_to, is_grant}
+use Rattle.tl_types.specs.Message.{probe_answer, upward_to, is_grant}
+use Rattle.tl_types.specs.Bodies.{upward_from}
 use Rattle.tl_types.specs.Permission.{rank, probe_perm, grant_perm}
 use Rattle.tl_types.specs.declared.permission.Perm.{Perm}
 use Rattle.tl_types.specs.declared.permission.Perm.TheVariants.{None as p_None, Branch, Tip}

@@ -1,7 +1,8 @@
 -- Wherever the bytes of a block are, they are a whole block (this project's own theorems).
 use Rattle.std.specs.Prelude.{◌≡◌, ℕ, List, length, Option, Some, None}
 use Rattle.std.specs.List.{All}
-use Rattle.tl_types.specs.Message.{upward_bytes, downward_bytes}
+use Rattle.tl_types.specs.Message.{upward_bytes}
+use Rattle.tl_types.specs.Bodies.{downward_bytes}
 use Rattle.tl_protocol.specs.declared.copy.CachedCopy.{CachedCopy}
 use Rattle.tl_protocol.specs.declared.copy.CachedCopy.TheVariants.{Absent, Readable, Writable}
 use Rattle.tl_protocol.specs.declared.event.Event.{Event}

@@ -1,11 +1,12 @@
 //! What holds of each list of events that is a run.
-ghost use Rattle.tl_protocol.specs.Coherent.{EveryRunKeepsCopies, EveryRunReadsLast};
+ghost use Rattle.tl_protocol.specs.Kept.{EveryRunKeepsCopies, EveryRunReadsLast};
 ghost use Rattle.tl_protocol.specs.Example.{EachKindIsARun};
 ghost use Rattle.tl_protocol.specs.Ledger.{EveryLedgerAddsUp};
 ghost use Rattle.tl_protocol.specs.OneMemory.{EveryMergeIsOneMemory};
 ghost use Rattle.tl_protocol.specs.Pending.{EveryAnswerIsWithin, EveryMessageLeadsDown, EveryRunKeepsMessages, EveryRunKeepsService};
 ghost use Rattle.tl_protocol.specs.Probes.{EveryAnswerIsToItsProbe, LastProbeGrowsByOne};
-ghost use Rattle.tl_protocol.specs.Runs.{EveryMergeIsARun, RunsAreOfBlocks, RunsGrowByOne};
+ghost use Rattle.tl_protocol.specs.Runs.{RunsGrowByOne};
+ghost use Rattle.tl_protocol.specs.Merges.{EveryMergeIsARun, RunsAreOfBlocks};
 ghost use Rattle.tl_protocol.specs.Sizes.{EveryRunKeepsSizes};
 
 /// Every run is coherent: at most one client may write a block and then no other may read it, every copy stands in the

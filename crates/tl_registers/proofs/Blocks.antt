@@ -2,7 +2,8 @@
 use Rattle.std.proofs.Common.{◌≡◌, ℕ, ◌≤◌, ◌==◌, true, false, List, [], ◌∷◌, Option, Some, None, refl, sym, ◌∙◌, ap, subst, arith, inl, inr, eqb-true}
 use Rattle.std.proofs.lemmas.Bool.{cases_Bool}
 use Rattle.std.specs.List.{list_any}
-use Rattle.tl_types.specs.Message.{upward_from, upward_to, upward_bytes, is_grant}
+use Rattle.tl_types.specs.Message.{upward_to, upward_bytes, is_grant}
+use Rattle.tl_types.specs.Bodies.{upward_from}
 use Rattle.tl_types.specs.Permission.{rank}
 use Rattle.tl_types.specs.declared.message.Downward.{Downward}
 use Rattle.tl_types.specs.declared.message.Downward.TheVariants.{Grant, ReleaseAck}

@@ -7,10 +7,9 @@ use Rattle.tl_protocol.specs.declared.event.Access.{Access}
 use Rattle.tl_protocol.specs.declared.event.Event.{Event}
 use Rattle.tl_protocol.specs.declared.event.Event.TheVariants.{Load, Store}
 use Rattle.tl_protocol.specs.declared.shape.Shape.{Shape}
-use Rattle.tl_protocol.specs.OneMemory.{accesses, is_access}
+use Rattle.tl_protocol.specs.OneMemory.{accesses, is_access, access_of}
 use Rattle.tl_protocol.specs.Protocol.{block_of}
-use Rattle.tl_protocol.specs.Runs.{on_bank}
-use Rattle.tl_protocol.specs.OneMemory.{access_of}
+use Rattle.tl_protocol.specs.Merges.{on_bank}
 use Rattle.tl_rules.specs.Certified.{accesses_of, all_accesses}
 use Rattle.tl_rules.specs.Left.{Pairwise}
 use Rattle.tl_rules.specs.Ordered.{log_at, joined}

@@ -6,9 +6,9 @@ use Rattle.std.proofs.lemmas.List.Elements.{All-get_or}
 use Rattle.tl_protocol.specs.declared.event.Access.{Access}
 use Rattle.tl_protocol.specs.declared.event.Event.{Event}
 use Rattle.tl_protocol.specs.declared.shape.Shape.{Shape}
-use Rattle.tl_protocol.specs.OneMemory.{accesses, EveryMergeIsOneMemory}
-use Rattle.tl_protocol.specs.Runs.{IsRun, on_bank}
-use Rattle.tl_protocol.specs.OneMemory.{access_of}
+use Rattle.tl_protocol.specs.OneMemory.{accesses, EveryMergeIsOneMemory, access_of}
+use Rattle.tl_protocol.specs.Runs.{IsRun}
+use Rattle.tl_protocol.specs.Merges.{on_bank}
 use Rattle.tl_rules.specs.Certified.{accesses_of, all_accesses, IsEarlier, AreApart, KeepIndexes, IsCertified}
 use Rattle.tl_rules.specs.Left.{Pairwise}
 use Rattle.tl_rules.specs.Ordered.{log_at, joined, ComesBefore, IndexRises, AreRuns, EveryCertifiedHasOneOrder, EveryCertifiedOrderIsOneMemory}

@@ -6,7 +6,8 @@ use Rattle.tl_protocol.specs.declared.shape.Shape.{Shape}
 use Rattle.tl_protocol.specs.Coherent.{LoadsLast}
 use Rattle.tl_protocol.specs.OneMemory.{accesses}
 use Rattle.tl_protocol.specs.Protocol.{block_of}
-use Rattle.tl_protocol.specs.Runs.{IsRun, IsMergeOf}
+use Rattle.tl_protocol.specs.Runs.{IsRun}
+use Rattle.tl_protocol.specs.Merges.{IsMergeOf}
 use Rattle.tl_rules.specs.Certified.{accesses_of, all_accesses, IsCertified}
 
 -- the log of a bank, empty where there is no such bank

@@ -6,13 +6,16 @@ use Rattle.tl_types.specs.Count.{count_below}
 use Rattle.tl_map.specs.Places.{bank_of}
 use Rattle.tl_protocol.specs.Ledger.{has_copy, one_if, count_clients, count_pairs}
 use Rattle.tl_protocol.specs.Protocol.{Block, block_of}
-use Rattle.tl_protocol.specs.Runs.{at_reset, on_block, block_end_from, RunsAreOfBlocks}
+use Rattle.tl_protocol.specs.Runs.{at_reset}
+use Rattle.tl_protocol.specs.Merges.{on_block, block_end_from, RunsAreOfBlocks}
 use Rattle.std.proofs.lemmas.List.Sums.{sum_by-append, sum_by-cons}
 use Rattle.tl_protocol.specs.declared.client.Client.{Client}
 use Rattle.tl_protocol.specs.declared.event.Event.{Event}
 use Rattle.tl_bank_spec.specs.Cases.{no_client}
 use Rattle.tl_bank_spec.specs.Share.{Holding}
-use Rattle.tl_bank_spec.specs.View.{View, IsOwn, shape_of, block_at, client_at, copies_at}
+use Rattle.tl_bank_spec.specs.View.{View, shape_of, block_at, client_at}
+use Rattle.tl_bank_spec.specs.Own.{IsOwn}
+use Rattle.tl_bank_spec.specs.Tables.{copies_at}
 use Rattle.tl_bank_spec.specs.Views.{not_own, blocks_below, pairs_below, pairs_at}
 use Rattle.tl_tickets.specs.Shares.{share_at, sum_of, copies_below}
 

@@ -1,7 +1,7 @@
 -- What a step answers, as text (this project's own format).
 use Rattle.std.specs.Prelude.{ℕ, List, [], ◌++◌, Option, Some, None, codes, decimal}
 use Rattle.tl_types.specs.Codes.{code_of}
-use Rattle.tl_types.specs.Message.{body_kind, body_bytes}
+use Rattle.tl_types.specs.Bodies.{body_kind, body_bytes}
 use Rattle.tl_types.specs.Text.{kind_text}
 use Rattle.tl_types.specs.Ticket.{ticket_text}
 use Rattle.tl_types.specs.declared.kind.Kind.{Kind}

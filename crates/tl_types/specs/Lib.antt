@@ -5,6 +5,8 @@ pub mod Count
 pub mod Lane
 pub mod Lowest
 pub mod Message
+pub mod Bodies
 pub mod Permission
+pub mod Parameters
 pub mod Text
 pub mod Ticket

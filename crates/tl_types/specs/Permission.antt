@@ -2,8 +2,6 @@
 use Rattle.std.specs.Prelude.{ℕ}
 use Rattle.tl_types.specs.declared.permission.Perm.{Perm}
 use Rattle.tl_types.specs.declared.permission.Perm.TheVariants.{None, Branch, Tip}
-use Rattle.tl_types.specs.declared.permission.Cap.{Cap}
-use Rattle.tl_types.specs.declared.permission.Cap.TheVariants.{ToT, ToB, ToN}
 use Rattle.tl_types.specs.declared.permission.ProbeCap.{ProbeCap}
 use Rattle.tl_types.specs.declared.permission.ProbeCap.TheVariants.{ToB as p_ToB, ToN as p_ToN}
 use Rattle.tl_types.specs.declared.permission.GrantCap.{GrantCap}
@@ -12,12 +10,8 @@ use Rattle.tl_types.specs.declared.permission.Grow.{Grow}
 use Rattle.tl_types.specs.declared.permission.Grow.TheVariants.{NtoB, NtoT, BtoT}
 use Rattle.tl_types.specs.declared.permission.Prune.{Prune}
 use Rattle.tl_types.specs.declared.permission.Prune.TheVariants.{TtoB, TtoN, BtoN}
-use Rattle.tl_types.specs.declared.permission.DirtyPrune.{DirtyPrune}
-use Rattle.tl_types.specs.declared.permission.DirtyPrune.TheVariants.{TtoB as d_TtoB, TtoN as d_TtoN}
 use Rattle.tl_types.specs.declared.permission.Report.{Report}
 use Rattle.tl_types.specs.declared.permission.Report.TheVariants.{TtoT, TtoB as r_TtoB, TtoN as r_TtoN, BtoB, BtoN as r_BtoN, NtoN}
-use Rattle.tl_types.specs.declared.permission.ProbeReport.{ProbeReport}
-use Rattle.tl_types.specs.declared.permission.ProbeReport.TheVariants.{TtoB as a_TtoB, TtoN as a_TtoN, BtoB as a_BtoB, BtoN as a_BtoN, NtoN as a_NtoN}
 
 -- the rising order of permissions
 abbrev pub rank : Perm → ℕ
@@ -26,22 +20,6 @@ rank Branch = 1
 rank Tip = 2
 
 -- ## Bounds
-
--- the permission that a bound names
-abbrev pub cap_perm : Cap → Perm
-cap_perm ToT = Tip
-cap_perm ToB = Branch
-cap_perm ToN = None
-
--- the cap of a Probe as a bound
-abbrev pub probe_cap : ProbeCap → Cap
-probe_cap p_ToB = ToB
-probe_cap p_ToN = ToN
-
--- the cap of a Grant as a bound
-abbrev pub grant_cap : GrantCap → Cap
-grant_cap g_ToT = ToT
-grant_cap g_ToB = ToB
 
 -- what a Probe leaves at most
 abbrev pub probe_perm : ProbeCap → Perm
@@ -61,12 +39,6 @@ grow_from NtoB = None
 grow_from NtoT = None
 grow_from BtoT = Branch
 
--- the permission that an Acquire asks for
-abbrev pub grow_to : Grow → Perm
-grow_to NtoB = Branch
-grow_to NtoT = Tip
-grow_to BtoT = Tip
-
 -- the permission that a Release starts from
 abbrev pub prune_from : Prune → Perm
 prune_from TtoB = Tip
@@ -79,20 +51,6 @@ prune_to TtoB = Branch
 prune_to TtoN = None
 prune_to BtoN = None
 
--- a prune value that starts from Tip, among all prune values
-abbrev pub dirty_prune : DirtyPrune → Prune
-dirty_prune d_TtoB = TtoB
-dirty_prune d_TtoN = TtoN
-
--- the permission that a report starts from
-abbrev pub report_from : Report → Perm
-report_from TtoT = Tip
-report_from r_TtoB = Tip
-report_from r_TtoN = Tip
-report_from BtoB = Branch
-report_from r_BtoN = Branch
-report_from NtoN = None
-
 -- the permission that a report leaves
 abbrev pub report_to : Report → Perm
 report_to TtoT = Tip
@@ -101,21 +59,3 @@ report_to r_TtoN = None
 report_to BtoB = Branch
 report_to r_BtoN = None
 report_to NtoN = None
-
--- the report of a ProbeAck, among all reports
-abbrev pub probe_report : ProbeReport → Report
-probe_report a_TtoB = r_TtoB
-probe_report a_TtoN = r_TtoN
-probe_report a_BtoB = BtoB
-probe_report a_BtoN = r_BtoN
-probe_report a_NtoN = NtoN
-
--- what a copy with a permission reports of a bound
-abbrev pub report_of : Perm → Cap → Report
-report_of Tip ToT = TtoT
-report_of Tip ToB = r_TtoB
-report_of Tip ToN = r_TtoN
-report_of Branch ToT = BtoB
-report_of Branch ToB = BtoB
-report_of Branch ToN = r_BtoN
-report_of None cap = NtoN

@@ -1,8 +1,9 @@
 //! The messages between home and a client, and what they carry (TileLink 1.8, section 9).
 ghost use Rattle.std.specs.Prelude.{◌≡◌};
 ghost use Rattle.std.specs.Option.{option_map};
-ghost use Rattle.tl_types.specs.Permission.{report_of, probe_cap};
-ghost use Rattle.tl_types.specs.Message.{probe_answer, surrender, answer_report, answer_bytes, answer_kind, surrender_prune, surrender_bytes, surrender_kind, upward_kind, upward_to, downward_kind, body_kind, body_bytes, upward_bytes, downward_bytes, is_probe_ack, is_grant};
+ghost use Rattle.tl_types.specs.Parameters.{report_of, probe_cap};
+ghost use Rattle.tl_types.specs.Message.{probe_answer, surrender, answer_report, answer_bytes, surrender_prune, surrender_bytes, upward_to, upward_bytes, is_probe_ack, is_grant};
+ghost use Rattle.tl_types.specs.Bodies.{answer_kind, surrender_kind, upward_kind, downward_kind, body_kind, body_bytes, downward_bytes};
 
 use crate::bytes::BlockBytes;
 use crate::kind::Kind;

@@ -1,6 +1,7 @@
 //! Permissions, and the parameters of messages that speak of them (TileLink 1.8, section 9, "Permissions transitions").
 ghost use Rattle.std.specs.Prelude.{◌≡◌, Some};
-ghost use Rattle.tl_types.specs.Permission.{grow_from, grow_to, prune_from, prune_to, dirty_prune, report_from, report_to, report_of, probe_report, cap_perm, probe_cap, grant_cap, probe_perm, grant_perm};
+ghost use Rattle.tl_types.specs.Permission.{grow_from, prune_from, prune_to, report_to, probe_perm, grant_perm};
+ghost use Rattle.tl_types.specs.Parameters.{grow_to, dirty_prune, report_from, report_of, probe_report, cap_perm, probe_cap, grant_cap};
 ghost use Rattle.tl_types.specs.Text.{grow_text, prune_text, dirty_prune_text, probe_report_text, probe_cap_text, grant_cap_text};
 
 use std::fmt;

@@ -7,7 +7,8 @@ ghost use Rattle.tl_bank_spec.specs.Effects.{Advances};
 ghost use Rattle.tl_bank_spec.specs.HomeCalls.{advance_cases};
 ghost use Rattle.tl_bank_spec.specs.HomeCases.{due_at, due_full};
 ghost use Rattle.tl_bank_spec.specs.Refusal.{IsRefused, first_of};
-ghost use Rattle.tl_bank_spec.specs.View.{IsOwn, block_at, client_at, shape_of};
+ghost use Rattle.tl_bank_spec.specs.View.{block_at, client_at, shape_of};
+ghost use Rattle.tl_bank_spec.specs.Own.{IsOwn};
 
 use crate::bank::Bank;
 use crate::link;

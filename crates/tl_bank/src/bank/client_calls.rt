@@ -10,7 +10,11 @@ ghost use Rattle.tl_bank_spec.specs.Cases.{block_named, clock_full};
 ghost use Rattle.tl_bank_spec.specs.Delivered.{Sends};
 ghost use Rattle.tl_bank_spec.specs.Refusal.{IsRefused, first_of};
 ghost use Rattle.tl_bank_spec.specs.Share.{recounted};
-ghost use Rattle.tl_bank_spec.specs.View.{Appends, client_at, copies_at, latest, next_ticket, perm_at};
+ghost use Rattle.tl_bank_spec.specs.View.{client_at, perm_at};
+ghost use Rattle.tl_bank_spec.specs.Steps.{Appends};
+ghost use Rattle.tl_bank_spec.specs.Tables.{copies_at};
+ghost use Rattle.tl_bank_spec.specs.Clock.{latest};
+ghost use Rattle.tl_bank_spec.specs.Channels.{next_ticket};
 
 use crate::bank::Bank;
 use crate::share::Share;

@@ -14,7 +14,7 @@ ghost use Rattle.tl_bank_spec.specs.Delivered.{Sends};
 ghost use Rattle.tl_bank_spec.specs.Effects.{Serves, answer_to};
 ghost use Rattle.tl_bank_spec.specs.HomeCalls.{take_c_cases, take_grant_ack_cases};
 ghost use Rattle.tl_bank_spec.specs.Refusal.{IsRefused, first_of};
-ghost use Rattle.tl_bank_spec.specs.View.{way_at};
+ghost use Rattle.tl_bank_spec.specs.Own.{way_at};
 
 use crate::bank::Bank;
 use crate::bank::ticket_refusals::is_release;

@@ -8,7 +8,8 @@ ghost use Rattle.tl_bank_spec.specs.Effects.{Accepts, Evicts, first_grow, grow_i
 ghost use Rattle.tl_bank_spec.specs.HomeCalls.{accept_cases, evict_cases};
 ghost use Rattle.tl_bank_spec.specs.HomeCases.{lacks, no_register};
 ghost use Rattle.tl_bank_spec.specs.Refusal.{IsRefused, first_of};
-ghost use Rattle.tl_bank_spec.specs.View.{IsOwn, lane_at, way_at};
+ghost use Rattle.tl_bank_spec.specs.Own.{IsOwn, way_at};
+ghost use Rattle.tl_bank_spec.specs.Channels.{lane_at};
 ghost use Rattle.tl_bank_spec.specs.Ways.{IsWayFor, registers_full, victim_in, way_in_set, ways_held};
 
 use crate::bank::Bank;

@@ -8,7 +8,9 @@ ghost use Rattle.tl_bank_laws.specs.Head.{first_cap, first_granted};
 ghost use Rattle.tl_bank_spec.specs.Calls.{load_cases, store_cases, acquire_cases, release_cases, answer_probe_cases, take_grant_cases, take_release_ack_cases};
 ghost use Rattle.tl_bank_spec.specs.Cases.{no_client, no_block, bad_access, bad_share, elsewhere, link_full, clock_full, first_block, release_pending};
 ghost use Rattle.tl_bank_spec.specs.Refusal.{first_of};
-ghost use Rattle.tl_bank_spec.specs.View.{client_at, lane_at, perm_at, has_entry, entries_at, copies_at};
+ghost use Rattle.tl_bank_spec.specs.View.{client_at, perm_at};
+ghost use Rattle.tl_bank_spec.specs.Channels.{lane_at};
+ghost use Rattle.tl_bank_spec.specs.Tables.{has_entry, entries_at, copies_at};
 
 use crate::bank::Bank;
 use crate::entry;

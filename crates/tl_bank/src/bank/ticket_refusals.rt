@@ -1,11 +1,11 @@
 //! Whether a ticket is that of the message which a call takes: the first of its channel.
 ghost use Rattle.std.specs.Prelude.{◌≡◌, ◌<◌};
-ghost use Rattle.tl_types.specs.Message.{is_a_grant};
+ghost use Rattle.tl_types.specs.Bodies.{is_a_grant};
 ghost use Rattle.tl_types.specs.declared.channel.Channel.{Channel};
 ghost use Rattle.tl_bank_spec.specs.Calls.{message_cases, ticket_cases, shared_ticket_cases};
 ghost use Rattle.tl_bank_spec.specs.Cases.{any_body, begins, is_a_release, is_a_release_ack};
 ghost use Rattle.tl_bank_spec.specs.Refusal.{first_of};
-ghost use Rattle.tl_bank_spec.specs.View.{lane_at};
+ghost use Rattle.tl_bank_spec.specs.Channels.{lane_at};
 
 use crate::bank::Bank;
 use crate::share::Share;

@@ -2,7 +2,8 @@ use Rattle.std.proofs.Common.{◌<◌, arith, subst}
 use Rattle.std.proofs.lemmas.Bool.Decides.{nat_tests}
 use Rattle.tl_types.specs.declared.channel.Channel.TheVariants.{A}
 use Rattle.tl_bank_spec.specs.Cases.{block_named}
-use Rattle.tl_bank_spec.specs.View.{View, IsOwn}
+use Rattle.tl_bank_spec.specs.View.{View}
+use Rattle.tl_bank_spec.specs.Own.{IsOwn}
 use Rattle.tl_bank_laws.proofs.Heads.{first-own, named-own}
 use Rattle.tl_bank.specs.Shown.{shown, layers}
 use Rattle.tl_bank.proofs.bank.Bank.accept_refusal.Goals as goal

@@ -4,7 +4,8 @@ use Rattle.std.specs.List.Sorted.{IsNonDecreasing, IsPermutation}
 use Rattle.std.proofs.lemmas.Grind.{common_steps}
 use Rattle.std.proofs.lemmas.List.Sorted.{IsNonDecreasingBy-from_sort_by_key, sum_by-IsPermutation}
 use Rattle.std.specs.Prelude.{All}
-use Rattle.tl_bank_spec.specs.View.{View, IsOwn}
+use Rattle.tl_bank_spec.specs.View.{View}
+use Rattle.tl_bank_spec.specs.Own.{IsOwn}
 use Rattle.tl_bank_laws.specs.Means.{Means}
 use Rattle.tl_bank.specs.Shown.{layers}
 use Rattle.tl_bank_laws.proofs.AtHome.{at_home-is, all-own}

@@ -1,5 +1,6 @@
 use Rattle.std.proofs.Common.{◌≡◌, ◌<◌, ◌∙◌, subst}
-use Rattle.tl_bank_spec.specs.View.{View, copies_at}
+use Rattle.tl_bank_spec.specs.View.{View}
+use Rattle.tl_bank_spec.specs.Tables.{copies_at}
 use Rattle.tl_bank.specs.Shown.{shown, layers}
 use Rattle.tl_bank_laws.proofs.Entries.{copies-is}
 use Rattle.tl_bank.proofs.bank.Bank.count.Goals as goal

@@ -1,5 +1,6 @@
 use Rattle.std.proofs.Common.{◌≡◌, ◌<◌, ◌∙◌, subst}
-use Rattle.tl_bank_spec.specs.View.{View, entries_at}
+use Rattle.tl_bank_spec.specs.View.{View}
+use Rattle.tl_bank_spec.specs.Tables.{entries_at}
 use Rattle.tl_bank.specs.Shown.{shown, layers}
 use Rattle.tl_bank_laws.proofs.Entries.{entries-is}
 use Rattle.tl_bank.proofs.bank.Bank.entries.Goals as goal

@@ -1,7 +1,8 @@
 use Rattle.std.proofs.Common.{◌≡◌, ◌<◌, is_some, ◌∙◌, ap, subst}
 use Rattle.std.specs.Option.{option_copied}
 use Rattle.tl_protocol.specs.Copy.{bytes_of}
-use Rattle.tl_bank_spec.specs.View.{View, client_at, perm_at, has_entry}
+use Rattle.tl_bank_spec.specs.View.{View, client_at, perm_at}
+use Rattle.tl_bank_spec.specs.Tables.{has_entry}
 use Rattle.tl_bank_laws.specs.Entry.{perm_in, wait_in, bytes_in}
 use Rattle.tl_bank.specs.Shown.{shown, layers}
 use Rattle.tl_bank_laws.proofs.Entries.{perm-is, wait-is, bytes_in-entry, has_entry-is}

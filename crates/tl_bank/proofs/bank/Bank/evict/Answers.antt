@@ -5,7 +5,8 @@ use Rattle.tl_registers.specs.declared.register.Task.TheVariants.{Evict}
 use Rattle.tl_registers.specs.declared.way_of_set.WayOfSet.{WayOfSet}
 use Rattle.tl_bank_spec.specs.HomeCalls.{evict_cases}
 use Rattle.tl_bank_spec.specs.Refusal.{first_of}
-use Rattle.tl_bank_spec.specs.View.{View, way_at}
+use Rattle.tl_bank_spec.specs.View.{View}
+use Rattle.tl_bank_spec.specs.Own.{way_at}
 use Rattle.tl_bank_spec.specs.Ways.{way_in_set}
 use Rattle.tl_bank_laws.specs.Means.{Means}
 use Rattle.tl_bank_laws.proofs.Evicts.{evict-allowed, evict-keeps}

@@ -6,7 +6,8 @@ use Rattle.tl_types.specs.declared.permission.Perm.{Perm}
 use Rattle.tl_types.specs.declared.permission.Perm.TheVariants.{None as p_None, Branch, Tip}
 use Rattle.tl_protocol.specs.Protocol.{is_alone, is_none}
 use Rattle.tl_home.specs.Homes.{recorded_in}
-use Rattle.tl_bank_spec.specs.View.{View, IsOwn, block_at, client_at}
+use Rattle.tl_bank_spec.specs.View.{View, block_at, client_at}
+use Rattle.tl_bank_spec.specs.Own.{IsOwn}
 use Rattle.tl_bank.specs.Shown.{shown, layers}
 use Rattle.tl_bank_laws.proofs.Sights.{alone-fails, recorded-read}
 use Rattle.tl_bank.proofs.bank.Bank.is_alone.Goals as goal

@@ -2,7 +2,8 @@ use Rattle.std.proofs.Common.{◌≡◌, ℕ, ◌≤◌, List, take, get_or, len
 use Rattle.std.specs.Prelude.{All, sum_by}
 use Rattle.std.proofs.lemmas.Grind.{common_steps}
 use Rattle.std.proofs.lemmas.List.Sums.{sum_by_more}
-use Rattle.tl_bank_spec.specs.View.{View, IsOwn}
+use Rattle.tl_bank_spec.specs.View.{View}
+use Rattle.tl_bank_spec.specs.Own.{IsOwn}
 use Rattle.tl_bank_laws.specs.Means.{Means}
 use Rattle.tl_bank.specs.Shown.{layers}
 use Rattle.tl_bank_laws.proofs.AtHome.{recorders, recorded-at_home}

@@ -1,5 +1,5 @@
 use Rattle.std.proofs.Common.{rules, ◌≡◌, ◌∙◌, sym, subst, ap}
-use Rattle.tl_map.specs.Numbers.{IsLawful}
+use Rattle.tl_map.specs.Limits.{IsLawful}
 use Rattle.tl_protocol.specs.Copy.{perm_of}
 use Rattle.tl_protocol.specs.Protocol.{is_none}
 use Rattle.tl_bank_spec.specs.Share.{Holding, recount, recounted}

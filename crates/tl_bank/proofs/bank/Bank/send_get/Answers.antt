@@ -2,7 +2,8 @@ use Rattle.std.proofs.Common.{ℕ, Option, None, arith, ap, refl}
 use Rattle.std.specs.Prelude.{slice_index_or}
 use Rattle.tl_home.specs.Homes.{way_in}
 use Rattle.tl_registers.specs.declared.due.Due.TheVariants.{Get}
-use Rattle.tl_bank_spec.specs.View.{View, ways_below}
+use Rattle.tl_bank_spec.specs.View.{View}
+use Rattle.tl_bank_spec.specs.Own.{ways_below}
 use Rattle.tl_bank_spec.specs.declared.action.Action.TheVariants.{Get as did_Get}
 use Rattle.tl_bank.specs.Shown.{shown, layers}
 use Rattle.tl_bank_laws.proofs.Dues.{acts-at, advances-at}

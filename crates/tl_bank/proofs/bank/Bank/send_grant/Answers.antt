@@ -4,7 +4,8 @@ use Rattle.tl_types.specs.declared.channel.Channel.TheVariants.{D}
 use Rattle.tl_types.specs.declared.ticket.Ticket.{Ticket}
 use Rattle.tl_home.specs.Homes.{way_in}
 use Rattle.tl_registers.specs.declared.due.Due.TheVariants.{Grant}
-use Rattle.tl_bank_spec.specs.View.{View, block_at, ways_below}
+use Rattle.tl_bank_spec.specs.View.{View, block_at}
+use Rattle.tl_bank_spec.specs.Own.{ways_below}
 use Rattle.tl_bank_spec.specs.declared.action.Action.TheVariants.{Grant as did_Grant}
 use Rattle.tl_bank.specs.Shown.{shown, layers}
 use Rattle.tl_bank_laws.proofs.Dues.{acts-at, advances-at, client-few, grant-free, ticket-is}

@@ -1,7 +1,8 @@
 use Rattle.std.proofs.Common.{ℕ, true, Option, arith, refl}
 use Rattle.tl_home.specs.Homes.{way_in}
 use Rattle.tl_registers.specs.declared.due.Due.TheVariants.{Put}
-use Rattle.tl_bank_spec.specs.View.{View, ways_below}
+use Rattle.tl_bank_spec.specs.View.{View}
+use Rattle.tl_bank_spec.specs.Own.{ways_below}
 use Rattle.tl_bank_spec.specs.declared.action.Action.TheVariants.{Put as did_Put}
 use Rattle.tl_bank.specs.Shown.{shown, layers}
 use Rattle.tl_bank_laws.proofs.Dues.{acts-at, advances-at}

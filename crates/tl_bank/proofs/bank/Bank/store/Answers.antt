@@ -11,7 +11,8 @@ use Rattle.tl_copies.specs.Held.{stored}
 use Rattle.tl_copies.specs.declared.held.Held.{Held}
 use Rattle.tl_bank_spec.specs.Calls.{store_cases}
 use Rattle.tl_bank_spec.specs.Refusal.{first_of}
-use Rattle.tl_bank_spec.specs.View.{View, client_at, latest}
+use Rattle.tl_bank_spec.specs.View.{View, client_at}
+use Rattle.tl_bank_spec.specs.Clock.{latest}
 use Rattle.tl_bank_laws.specs.Entry.{entry_with}
 use Rattle.tl_bank.specs.Shown.{shown, layers}
 use Rattle.tl_bank_laws.proofs.Allowed.{store-allowed}

@@ -7,7 +7,8 @@ use Rattle.tl_home.specs.Homes.{way_in}
 use Rattle.tl_bank_spec.specs.Cases.{block_named}
 use Rattle.tl_bank_spec.specs.HomeCalls.{take_c_cases}
 use Rattle.tl_bank_spec.specs.Refusal.{first_of}
-use Rattle.tl_bank_spec.specs.View.{View, shape_of, way_at, ways_below}
+use Rattle.tl_bank_spec.specs.View.{View, shape_of}
+use Rattle.tl_bank_spec.specs.Own.{way_at, ways_below}
 use Rattle.tl_lanes.specs.Lawful.{Lawful}
 use Rattle.tl_bank_spec.proofs.Logged.{extends-serves}
 use Rattle.tl_bank_spec.proofs.Sent.{sends-if}

@@ -4,7 +4,8 @@ use Rattle.tl_types.specs.declared.channel.Channel.TheVariants.{E}
 use Rattle.tl_bank_spec.specs.Cases.{block_named}
 use Rattle.tl_bank_spec.specs.HomeCalls.{take_grant_ack_cases}
 use Rattle.tl_bank_spec.specs.Refusal.{first_of}
-use Rattle.tl_bank_spec.specs.View.{View, ways_below}
+use Rattle.tl_bank_spec.specs.View.{View}
+use Rattle.tl_bank_spec.specs.Own.{ways_below}
 use Rattle.tl_bank.specs.Shown.{shown, layers}
 use Rattle.tl_bank_laws.proofs.GrantAcks.{grant_ack-keeps}
 use Rattle.tl_bank_laws.proofs.Slots.{below-at}

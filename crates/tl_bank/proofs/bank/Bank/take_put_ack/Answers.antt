@@ -5,7 +5,8 @@ use Rattle.tl_home.specs.Homes.{way_in}
 use Rattle.tl_registers.specs.Registers.{ended}
 use Rattle.tl_bank_spec.specs.HomeCalls.{take_memory_cases}
 use Rattle.tl_bank_spec.specs.Refusal.{first_of}
-use Rattle.tl_bank_spec.specs.View.{View, block_at, way_at, ways_below}
+use Rattle.tl_bank_spec.specs.View.{View, block_at}
+use Rattle.tl_bank_spec.specs.Own.{way_at, ways_below}
 use Rattle.tl_bank.specs.Shown.{shown, layers}
 use Rattle.tl_bank_laws.proofs.Serves.{serves-next}
 use Rattle.tl_bank_laws.proofs.Slots.{below-same}

@@ -2,7 +2,8 @@ use Rattle.std.proofs.Common.{◌≡◌, ◌<◌, None, sym, ◌∙◌, ap, subs
 use Rattle.tl_map.specs.Places.{set_of}
 use Rattle.tl_map.specs.declared.place.Place.{Place}
 use Rattle.tl_home.specs.Homes.{way_in}
-use Rattle.tl_bank_spec.specs.View.{View, IsOwn, way_at}
+use Rattle.tl_bank_spec.specs.View.{View}
+use Rattle.tl_bank_spec.specs.Own.{IsOwn, way_at}
 use Rattle.tl_bank_spec.specs.Ways.{victim_in}
 use Rattle.tl_bank_laws.proofs.Opens.{not-some, victim-found}
 use Rattle.tl_bank.specs.Shown.{shown, layers}

@@ -5,7 +5,8 @@ use Rattle.tl_map.specs.declared.place.Place.{Place}
 use Rattle.tl_ways.specs.Orders.{chosen}
 use Rattle.tl_home.specs.Homes.{free_at, geometry_in, order_at, way_in}
 use Rattle.tl_registers.specs.Registers.{held_in}
-use Rattle.tl_bank_spec.specs.View.{View, IsOwn}
+use Rattle.tl_bank_spec.specs.View.{View}
+use Rattle.tl_bank_spec.specs.Own.{IsOwn}
 use Rattle.tl_bank_laws.proofs.Opens.{Offered, offered}
 use Rattle.tl_bank.specs.Shown.{shown, layers}
 use Rattle.tl_bank.proofs.bank.Bank.way_for.Goals as goal
