@@ -83,17 +83,27 @@ fn tell<T>(rt: &impl Print, call: &str, answer: &Result<T, Refusal>) -> Result<(
     Ok(())
 }
 
-/// Client 1 asks for the block while client 0 gives it up: home's Probe crosses the Release, and waits for its own answer.
-fn race(rt: &impl Print, driven: &mut Driven, block: BlockNo) -> Result<()> {
-    let (first, second) = (ClientId::new(0), ClientId::new(1));
-    let asked = driven.bank.acquire(second, block, Grow::NtoT)?;
+/// Client 1 asks for the block while client 0 gives it up: home's Probe crosses the Release. Both are named.
+fn cross(driven: &mut Driven, block: BlockNo) -> Result<Option<(Ticket, Ticket)>, Refusal> {
+    let asked = driven.bank.acquire(ClientId::new(1), block, Grow::NtoT)?;
     driven.bank.accept(asked)?;
     let given = driven
         .bank
-        .release(first, block, Prune::TtoN, &mut driven.first)?;
-    let Action::Probe(probe) = driven.bank.advance(block)? else {
-        return Ok(());
-    };
+        .release(ClientId::new(0), block, Prune::TtoN, &mut driven.first)?;
+    match driven.bank.advance(block)? {
+        Action::Probe(probe) => Ok(Some((probe, given))),
+        _ => Ok(None),
+    }
+}
+
+/// Client 0 may not answer the Probe before its ReleaseAck, and home does not take the Release for the answer.
+fn wait(
+    rt: &impl Print,
+    driven: &mut Driven,
+    probe: Ticket,
+    given: Ticket,
+    block: BlockNo,
+) -> Result<()> {
     let early = driven.bank.answer_probe(probe, &mut driven.first);
     tell(rt, "the Probe is answered before the ReleaseAck", &early)?;
     let answer = driven.bank.take_c(given)?;
@@ -102,13 +112,27 @@ fn race(rt: &impl Print, driven: &mut Driven, block: BlockNo) -> Result<()> {
     if let Some(acknowledged) = answer {
         driven.bank.take_release_ack(acknowledged)?;
     }
+    Ok(())
+}
+
+/// Client 0 has nothing left, and client 1 gets what the Release brought.
+fn pass_on(driven: &mut Driven, probe: Ticket, block: BlockNo) -> Result<(), Refusal> {
     let nothing = driven.bank.answer_probe(probe, &mut driven.first)?;
     let _none = driven.bank.take_c(nothing)?;
-    let Some(grant) = granted(&mut driven.bank, block)? else {
+    if let Some(grant) = granted(&mut driven.bank, block)? {
+        let acknowledged = driven.bank.take_grant(grant, &mut driven.second)?;
+        driven.bank.take_grant_ack(acknowledged)?;
+    }
+    Ok(())
+}
+
+/// The race, from the crossing to the Grant.
+fn race(rt: &impl Print, driven: &mut Driven, block: BlockNo) -> Result<()> {
+    let Some((probe, given)) = cross(driven, block)? else {
         return Ok(());
     };
-    let acknowledged = driven.bank.take_grant(grant, &mut driven.second)?;
-    driven.bank.take_grant_ack(acknowledged)?;
+    wait(rt, driven, probe, given, block)?;
+    pass_on(driven, probe, block)?;
     Ok(())
 }
 
