@@ -1,7 +1,8 @@
 -- What a register looks at is what the layers hold, also of the blocks of other banks.
 use Rattle.std.proofs.Common.{◌≡◌, ℕ, zero, suc, ◌<◌, ◌==◌, ◌||◌, not, Bool, true, false, List, [], ◌∷◌, map, replicate, Option, Some, None, refl, sym, ◌∙◌, ap, subst, arith, inl, inr}
 use Rattle.std.proofs.Math.Bool.{or-true, and-false}
-use Rattle.std.specs.Prelude.{◌↔◌, IsTrue, IfSome}
+use Rattle.std.specs.Prelude.{◌↔◌, IsTrue, IfSome, MatchOption}
+use Rattle.std.specs.Option.{option_map}
 use Rattle.std.specs.List.{All, list_any}
 use Rattle.std.proofs.lemmas.Bool.{cases_eq, ne_eqb}
 use Rattle.std.proofs.lemmas.List.Elements.{All-head, All-tail}
@@ -18,20 +19,23 @@ use Rattle.tl_types.specs.declared.permission.ProbeCap.{ProbeCap}
 use Rattle.tl_map.specs.Places.{bank_of}
 use Rattle.tl_protocol.specs.declared.client.Client.{Client}
 use Rattle.tl_protocol.specs.declared.event.Event.{Event}
+use Rattle.tl_protocol.specs.declared.home.Line.{Line}
 use Rattle.tl_protocol.specs.declared.home.Outward.{Outward}
 use Rattle.tl_protocol.specs.declared.home.Outward.TheVariants.{Quiet, Get, Data, Put, PutAck}
 use Rattle.tl_protocol.specs.declared.shape.Shape.{Shape}
 use Rattle.tl_protocol.specs.Protocol.{Block, block_of, is_alone, is_none}
 use Rattle.tl_protocol.specs.Runs.{after_next, at_reset, end_from}
 use Rattle.tl_lanes.specs.Lists.{list_in}
-use Rattle.tl_links.specs.Table.{lane_in}
+use Rattle.tl_links.specs.Table.{lane_in, some_has}
 use Rattle.tl_links.specs.Wanted.{is_wanted}
 use Rattle.tl_links.specs.declared.wanted.Wanted.{Wanted}
 use Rattle.tl_links.specs.declared.wanted.Wanted.TheVariants.{Any, ProbeAck, Grant}
-use Rattle.tl_home.specs.Directories.{line_of, recorded_of, way_of}
+use Rattle.tl_ways.specs.Lines.{Line as Entry}
+use Rattle.tl_home.specs.Directories.{line_of, perm_in, recorded_of, way_of}
 use Rattle.tl_home.specs.Homes.{HomeState, bank_in, geometry_in, line_in, outward_in, recorded_in}
 use Rattle.tl_registers.specs.Fit.{Fits}
-use Rattle.tl_registers.specs.Pending.{any_below, has_first, is_granted, is_probed, is_quiet}
+use Rattle.tl_registers.specs.Pending.{any_below, grant_pending, has_first, is_granted, is_probed, is_quiet, probe_pending}
+use Rattle.tl_registers.specs.Records.{Records}
 use Rattle.tl_registers.specs.Register.{IsKnown}
 use Rattle.tl_registers.specs.Registers.{register_of}
 use Rattle.tl_registers.specs.declared.register.Register.{Register}
@@ -98,6 +102,16 @@ recorded-read v h c b m l =
           ∙ ap (λ (s : Block). (s.client c).recorded) (sym (other-reset v h b m apart))
     ]
 
+-- an entry of the directory that says what home has and records of a block says what the state has
+pub entry-read : (v : View) (h : Layers) (b : ℕ) → Means v h → b < v.geometry.memory_blocks → (found : Option Entry)
+    → MatchOption found (line_in h.home b ≡ None) (λ entry. option_map (λ (l : Line). l.dirty) (line_in h.home b) ≡ Some entry.dirty)
+    → ((client : ℕ) → perm_in found client ≡ recorded_in h.home client b) → Records found (block_at v b)
+entry-read v h b m l None lines recorded =
+    (sym (line-read v h b m l) ∙ lines, λ c. sym (recorded-read v h c b m l) ∙ sym (recorded c))
+entry-read v h b m l (Some entry) lines recorded =
+    (ap (λ (o : Option Line). option_map (λ (line : Line). line.dirty) o) (sym (line-read v h b m l)) ∙ lines,
+    λ c. sym (recorded-read v h c b m l) ∙ sym (recorded c))
+
 -- what passes of each block
 pub outward-read : (v : View) (h : Layers) (b : ℕ) → Means v h → outward_in h.home b ≡ (block_at v b).outward
 outward-read v h b m =
@@ -148,7 +162,7 @@ has-list v h c k b wanted m l =
     rw (m.lanes c k l) (ap (λ (bodies : List Body). list_any (is_wanted wanted) bodies) (sym (m.lawful.ordered c b k)))
 
 -- a Probe of a block, or an answer
-pub probed-read : (v : View) (h : Layers) (c b : ℕ) → Means v h → c < v.geometry.clients
+probed-read : (v : View) (h : Layers) (c b : ℕ) → Means v h → c < v.geometry.clients
     → (has h c B b Any || has h c C b ProbeAck) ≡ is_probed (client_at v c b)
 probed-read v h c b m l =
     let k : Client = client_at v c b in
@@ -157,13 +171,65 @@ probed-read v h c b m l =
     rw (asked, answered) refl
 
 -- a Grant of a block, or its GrantAck
-pub granted-read : (v : View) (h : Layers) (c b : ℕ) → Means v h → c < v.geometry.clients
+granted-read : (v : View) (h : Layers) (c b : ℕ) → Means v h → c < v.geometry.clients
     → (has h c D b Grant || has h c E b Any) ≡ is_granted (client_at v c b)
 granted-read v h c b m l =
     let k : Client = client_at v c b in
     let sent : has h c D b Grant ≡ list_any is_grant k.d = has-list v h c D b Grant m l ∙ any-grant k.d in
     let taken : has h c E b Any ≡ not (k.e == 0) = has-list v h c E b Any m l ∙ any-ack k.e in
     rw (sent, taken) refl
+
+-- the links have such a message at some client just where a client below n has one
+some-read : (h : Layers) (k : Channel) (b : ℕ) (wanted : Wanted) (n : ℕ)
+    → some_has h.links k b wanted n ≡ any_below (λ c. has h c k b wanted) n
+some-read h k b wanted zero = refl
+some-read h k b wanted (suc n) = ap (λ (t : Bool). t || has h n k b wanted) (some-read h k b wanted n)
+
+-- and so for two channels
+some-either : (h : Layers) (k l : Channel) (b : ℕ) (first second : Wanted) (n : ℕ)
+    → (some_has h.links k b first n || some_has h.links l b second n)
+    ≡ (any_below (λ c. has h c k b first) n || any_below (λ c. has h c l b second) n)
+some-either h k l b first second n =
+    ap (λ (t : Bool). t || some_has h.links l b second n) (some-read h k b first n)
+    ∙ ap (λ (t : Bool). any_below (λ c. has h c k b first) n || t) (some-read h l b second n)
+
+-- four tests, paired either way
+paired : (a b c d : Bool) → ((a || b) || (c || d)) ≡ ((a || c) || (b || d))
+paired true b c d = refl
+paired false true true d = refl
+paired false true false d = refl
+paired false false c d = refl
+
+-- one below n passes either of two tests
+either-below : (f g test : ℕ → Bool) (n : ℕ) → ((c : ℕ) → c < n → (f c || g c) ≡ test c)
+    → (any_below f n || any_below g n) ≡ any_below test n
+either-below f g test zero each = refl
+either-below f g test (suc n) each =
+    let before = either-below f g test n (λ c l. each c (omega arith)) in
+    let here = each n (omega arith) in
+    paired (any_below f n) (f n) (any_below g n) (g n) ∙ rw (before, here) refl
+
+-- a Probe of a block at some client, or an answer
+pub probe_pending-read : (v : View) (h : Layers) (b : ℕ) → Means v h
+    → (some_has h.links B b Any h.links.clients || some_has h.links C b ProbeAck h.links.clients)
+    ≡ probe_pending (shape_of v.geometry) (block_at v b)
+probe_pending-read v h b m =
+    let n : ℕ = v.geometry.clients in
+    ap (λ (x : ℕ). some_has h.links B b Any x || some_has h.links C b ProbeAck x) m.links_clients
+    ∙ some-either h B C b Any ProbeAck n
+    ∙ either-below (λ c. has h c B b Any) (λ c. has h c C b ProbeAck) (λ c. is_probed (client_at v c b)) n
+    (λ c l. probed-read v h c b m l)
+
+-- a Grant of a block at some client, or its GrantAck
+pub grant_pending-read : (v : View) (h : Layers) (b : ℕ) → Means v h
+    → (some_has h.links D b Grant h.links.clients || some_has h.links E b Any h.links.clients)
+    ≡ grant_pending (shape_of v.geometry) (block_at v b)
+grant_pending-read v h b m =
+    let n : ℕ = v.geometry.clients in
+    ap (λ (x : ℕ). some_has h.links D b Grant x || some_has h.links E b Any x) m.links_clients
+    ∙ some-either h D E b Grant Any n
+    ∙ either-below (λ c. has h c D b Grant) (λ c. has h c E b Any) (λ c. is_granted (client_at v c b)) n
+    (λ c l. granted-read v h c b m l)
 
 -- the answer where the first of two tests passes, and where it fails
 pub or-passes : (x a b t : Bool) → x ≡ a → x ≡ true → (a || b) ≡ t → x ≡ t
@@ -173,16 +239,13 @@ or-passes x a b t is passes h = let a_is : a ≡ true = sym is ∙ passes in let
 pub or-fails : (x y a b t : Bool) → x ≡ a → x ≡ false → y ≡ b → (a || b) ≡ t → y ≡ t
 or-fails x y a b t is fails last h = let a_is : a ≡ false = sym is ∙ fails in let rest : b ≡ t = (rw a_is at h) in last ∙ rest
 
--- where one below n passes, some does
-pub any_below-some : (test : ℕ → Bool) (n x : ℕ) → x < n → test x ≡ true → any_below test n ≡ true
-any_below-some test zero x l h = absurd (omega arith)
-any_below-some test (suc n) x l h =
-    elim (cases_eq x n) [
-      | inl e ↦ let here : test n ≡ true = ap test (sym e) ∙ h in rw here (or-true (any_below test n))
-      | inr e ↦ let before = any_below-some test n x (omega arith) h in rw before refl
-    ]
-
 -- ## Who has nothing
+
+-- where nobody is recorded, each client is alone
+pub alone-nobody : (n c : ℕ) (client : ℕ → Client) → ((x : ℕ) → (client x).recorded ≡ p_None) → is_alone n c client ≡ true
+alone-nobody zero c client nobody = refl
+alone-nobody (suc n) c client nobody =
+    let before = alone-nobody n c client nobody in rw (nobody n, or-true (n == c), before) refl
 
 -- where one below n is recorded, the client is not alone
 pub alone-fails : (n c x : ℕ) (client : ℕ → Client) → x < n → ((x == c) || is_none (client x).recorded) ≡ false

@@ -6,7 +6,7 @@ ghost use Rattle.tl_types.specs.declared.permission.Perm.TheVariants.{None as No
 ghost use Rattle.tl_map.specs.Places.{bank_of, set_of};
 ghost use Rattle.tl_protocol.specs.declared.home.Line.{Line};
 ghost use Rattle.tl_ways.specs.Orders.{chosen, is_busy, rising};
-ghost use Rattle.tl_home.specs.Directories.{way_of, line_of, recorded_of, free_in, order_of, is_way, order_after, IsHeld, SameBank};
+ghost use Rattle.tl_home.specs.Directories.{way_of, line_of, recorded_of, free_in, order_of, is_way, order_after, perm_in, IsHeld, SameBank};
 
 use std::alloc::{AllocError, Global};
 use std::marker::Model;
@@ -86,6 +86,17 @@ impl Directory {
     {
         let held = self.find(block)?;
         Some(self.store.read(held.set, held.way))
+    }
+
+    /// The entry of a block, if home holds it.
+    pub fn entry(&self, block: BlockNo) -> Option<Entry>
+        requires { block < self.now.geometry.memory_blocks }
+        ensures dirty { MatchOption result (line_of self.now block ≡ None)
+            (λ entry. option_map (λ (line : Line). line.dirty) (line_of self.now block) ≡ Some entry.dirty) }
+        ensures recorded { (client : ℕ) → perm_in result client ≡ recorded_of self.now client block }
+    {
+        let held = self.find(block)?;
+        Some(held.entry)
     }
 
     /// The permission that home records for a client of a block: None where home does not hold it.

@@ -10,7 +10,7 @@ ghost use Rattle.tl_protocol.specs.Sizes.{IsWhole, outward_bytes};
 ghost use Rattle.tl_protocol.specs.declared.home.Line.{Line};
 ghost use Rattle.tl_protocol.specs.declared.home.Outward.TheVariants.{Quiet, Get, Put, PutAck};
 ghost use Rattle.tl_ways.specs.Orders.{chosen, is_busy, rising};
-ghost use Rattle.tl_home.specs.Directories.{is_way, order_after};
+ghost use Rattle.tl_home.specs.Directories.{is_way, order_after, perm_in};
 ghost use Rattle.tl_home.specs.Homes.{geometry_in, bank_in, line_in, recorded_in, outward_in, crossing_count, memory_in, way_in, free_at, order_at, SameBank, SameWays, SameOutward, SameHome, SameMemory, EachHasHolder, served_outward, served_memory, fetched};
 
 use crate::crossings::Crossings;
@@ -21,7 +21,7 @@ use tl_map::{Geometry, Set};
 use tl_memory::Memory;
 use tl_protocol::Outward;
 use tl_types::{BankNo, BlockBytes, BlockNo, ClientId, Perm};
-use tl_ways::Way;
+use tl_ways::{Entry, Way};
 
 /// Home's part of the blocks of one bank, and the memory's.
 #[derive(Drop)]
@@ -113,6 +113,16 @@ impl Home {
         ensures { option_copied result ≡ option_map (λ (line : Line). line.bytes) (line_in self.now block) }
     {
         self.directory.bytes(block)
+    }
+
+    /// The entry of a block in home's directory, if home holds it.
+    pub fn entry(&self, block: BlockNo) -> Option<Entry>
+        requires { block < (geometry_in self.now).memory_blocks }
+        ensures dirty { MatchOption result (line_in self.now block ≡ None)
+            (λ entry. option_map (λ (line : Line). line.dirty) (line_in self.now block) ≡ Some entry.dirty) }
+        ensures recorded { (client : ℕ) → perm_in result client ≡ recorded_in self.now client block }
+    {
+        self.directory.entry(block)
     }
 
     /// The permission that home records for a client of a block: None where home does not hold it.

@@ -1,20 +1,23 @@
 //! The eight cases of the rule, from states written by hand, and the opening and closing of registers.
-ghost use Rattle.std.specs.Prelude.{◌≡◌, ◌<◌, ◌≤◌, ◌==◌, None, [], ◌∷◌, if◌then◌else◌};
+ghost use Rattle.std.specs.Prelude.{◌≡◌, ◌≢◌, ℕ, ◌<◌, ◌≤◌, ◌==◌, None, [], ◌∷◌, unwrap_or, if◌then◌else◌};
 ghost use Rattle.std.specs.Option.{option_map};
+ghost use Rattle.tl_types.specs.declared.permission.Perm.TheVariants.{None as NoAccess, Tip};
 ghost use Rattle.tl_types.specs.declared.permission.ProbeCap.{ProbeCap};
 ghost use Rattle.tl_protocol.specs.declared.home.Outward.{Outward};
 ghost use Rattle.tl_protocol.specs.Client.{fresh_client};
+ghost use Rattle.tl_ways.specs.Lines.{perm_of};
 ghost use Rattle.tl_registers.specs.declared.register.Task.{Task};
 ghost use Rattle.tl_registers.specs.Register.{opened};
 
+use tl_map::Tag;
 use tl_protocol::Accepted;
 use tl_registers::{Due, Protocol, Register, Registers, Task, WayOfSet};
 use tl_types::{BlockNo, ClientId, Grow, Perm, ProbeCap};
+use tl_ways::Entry;
 
-/// What home records of a client, and what is pending at it.
+/// What is pending at a client.
 #[derive(Clone, Copy)]
 struct Seat {
-    recorded: Perm,
     probed: bool,
     granted: bool,
 }
@@ -22,7 +25,7 @@ struct Seat {
 /// What is seen of a block, with three clients.
 #[derive(Clone, Copy)]
 struct Sight {
-    home: Option<bool>,
+    entry: Option<Entry>,
     quiet: bool,
     zero: Seat,
     one: Seat,
@@ -53,12 +56,12 @@ impl Protocol for Scene {
 
     ghost state = { λ s block. let sight = (if block == 0 then s.own else s.victim) in record {
       memory = [];
-      home = option_map (λ dirty. record { bytes = []; dirty = dirty }) sight.home;
+      home = option_map (λ entry. record { bytes = []; dirty = entry.dirty }) sight.entry;
       accepted = None;
       outward = (if sight.quiet then Outward.Quiet else Outward.PutAck);
       client = λ c. let seat = (if c == 0 then sight.zero else (if c == 1 then sight.one else sight.two)) in
           record fresh_client {
-            recorded = seat.recorded;
+            recorded = unwrap_or (option_map (λ entry. perm_of entry c) sight.entry) NoAccess;
             b = (if seat.probed then ProbeCap.ToN ∷ [] else []);
             e = (if seat.granted then 1 else 0);
           };
@@ -68,17 +71,8 @@ impl Protocol for Scene {
         3
     }
 
-    fn home(&self, block: BlockNo) -> Option<bool> {
-        self.sight(block).home
-    }
-
-    fn recorded(&self, client: ClientId, block: BlockNo) -> Perm {
-        let sight = self.sight(block);
-        match client.number() {
-            0 => sight.zero.recorded,
-            1 => sight.one.recorded,
-            _ => sight.two.recorded,
-        }
+    fn entry(&self, block: BlockNo) -> Option<Entry> {
+        self.sight(block).entry
     }
 
     fn is_probe_pending(&self, block: BlockNo) -> bool {
@@ -106,33 +100,69 @@ fn client(number: u32) -> ClientId
     ClientId::new(number)
 }
 
-fn recorded_at(recorded: Perm) -> Seat {
+/// Nothing is pending.
+fn idle() -> Seat {
     Seat {
-        recorded,
         probed: false,
         granted: false,
     }
 }
 
-/// A block at home, clean, with these records and nothing under way.
-fn at_home(zero: Perm, one: Perm, two: Perm) -> Sight {
+/// An entry that records nobody.
+fn nobody(dirty: bool) -> Entry
+    ensures { (other : ℕ) → perm_of result other ≡ NoAccess }
+{
+    Entry::new(Tag::new(0), dirty)
+}
+
+/// The entry where one more client may read.
+fn with_reader(entry: Entry, number: u32) -> Entry
+    requires known { number < 16 }
+    requires read { (other : ℕ) → perm_of entry other ≢ Tip }
+    ensures { (other : ℕ) → perm_of result other ≢ Tip }
+{
+    let mut entry = entry;
+    entry.set(client(number), Perm::Branch);
+    entry
+}
+
+/// An entry of a clean block that two clients may read.
+fn readers(first: u32, second: u32) -> Entry
+    requires first { first < 16 }
+    requires second { second < 16 }
+    ensures { (other : ℕ) → perm_of result other ≢ Tip }
+{
+    with_reader(with_reader(nobody(false), first), second)
+}
+
+/// An entry of a clean block that one client may write.
+fn writer(number: u32) -> Entry
+    requires { number < 16 }
+{
+    let mut entry = nobody(false);
+    entry.set(client(number), Perm::Tip);
+    entry
+}
+
+/// A block at home, with nothing under way.
+fn at_home(entry: Entry) -> Sight {
     Sight {
-        home: Some(false),
+        entry: Some(entry),
         quiet: true,
-        zero: recorded_at(zero),
-        one: recorded_at(one),
-        two: recorded_at(two),
+        zero: idle(),
+        one: idle(),
+        two: idle(),
     }
 }
 
 /// A block that home lacks.
 fn away() -> Sight {
     Sight {
-        home: None,
+        entry: None,
         quiet: true,
-        zero: recorded_at(Perm::None),
-        one: recorded_at(Perm::None),
-        two: recorded_at(Perm::None),
+        zero: idle(),
+        one: idle(),
+        two: idle(),
     }
 }
 
@@ -172,7 +202,7 @@ fn an_eviction_probes_each_client_and_waits(rt: HostRuntime) {
     let mut register = evicting();
     let mut scene = Scene {
         own: away(),
-        victim: at_home(Perm::None, Perm::Branch, Perm::Branch),
+        victim: at_home(readers(1, 2)),
     };
     assert_eq!(rt;
         register.next_action(&scene),
@@ -187,8 +217,7 @@ fn an_eviction_probes_each_client_and_waits(rt: HostRuntime) {
     register.note_probe(victim, client(2));
     scene.victim.two.probed = true;
     assert_eq!(rt; register.next_action(&scene), None);
-    scene.victim.one.recorded = Perm::None;
-    scene.victim.two.recorded = Perm::None;
+    scene.victim.entry = Some(nobody(false));
     assert_eq!(rt;
         register.next_action(&scene),
         None,
@@ -197,9 +226,9 @@ fn an_eviction_probes_each_client_and_waits(rt: HostRuntime) {
     scene.victim.one.probed = false;
     scene.victim.two.probed = false;
     assert_eq!(rt; register.next_action(&scene), Some(Due::Drop(victim)));
-    scene.victim.home = Some(true);
+    scene.victim.entry = Some(nobody(true));
     assert_eq!(rt; register.next_action(&scene), Some(Due::Put(victim)));
-    scene.victim.home = None;
+    scene.victim.entry = None;
     scene.victim.quiet = false;
     assert_eq!(rt;
         register.next_action(&scene),
@@ -227,7 +256,7 @@ fn a_grant_to_write_probes_all_others(rt: HostRuntime) {
     let own = BlockNo::new(OWN);
     let mut register = serving(1, Grow::BtoT);
     let mut scene = Scene {
-        own: at_home(Perm::Branch, Perm::Branch, Perm::Branch),
+        own: at_home(with_reader(readers(0, 1), 2)),
         victim: away(),
     };
     assert_eq!(rt;
@@ -242,13 +271,15 @@ fn a_grant_to_write_probes_all_others(rt: HostRuntime) {
     );
     register.note_probe(own, client(2));
     scene.own.two.probed = true;
-    scene.own.zero = recorded_at(Perm::None);
+    scene.own.entry = Some(readers(1, 2));
+    scene.own.zero = idle();
     assert_eq!(rt;
         register.next_action(&scene),
         None,
         "client 2 has not answered"
     );
-    scene.own.two = recorded_at(Perm::None);
+    scene.own.entry = Some(with_reader(nobody(false), 1));
+    scene.own.two = idle();
     assert_eq!(rt; register.next_action(&scene), Some(Due::Grant(client(1))));
     scene.own.one.granted = true;
     assert_eq!(rt;
@@ -264,14 +295,14 @@ fn a_grant_to_read_probes_a_writer_alone(rt: HostRuntime) {
     let own = BlockNo::new(OWN);
     let register = serving(2, Grow::NtoB);
     let mut scene = Scene {
-        own: at_home(Perm::None, Perm::Tip, Perm::None),
+        own: at_home(writer(1)),
         victim: away(),
     };
     assert_eq!(rt;
         register.next_action(&scene),
         Some(Due::Probe(client(1), own, ProbeCap::ToB))
     );
-    scene.own = at_home(Perm::Branch, Perm::Branch, Perm::None);
+    scene.own = at_home(readers(0, 1));
     assert_eq!(rt; register.next_action(&scene), Some(Due::Grant(client(2))));
 }
 
@@ -289,15 +320,14 @@ fn a_victim_leaves_before_the_own_block_is_served(rt: HostRuntime) {
     );
     let mut scene = Scene {
         own: away(),
-        victim: at_home(Perm::None, Perm::Tip, Perm::None),
+        victim: at_home(writer(1)),
     };
     assert_eq!(rt;
         registers.next_action(own, &scene),
         Some(Due::Probe(client(1), victim, ProbeCap::ToN))
     );
     registers.note_probe(own, client(1));
-    scene.victim = at_home(Perm::None, Perm::None, Perm::None);
-    scene.victim.home = Some(true);
+    scene.victim = at_home(nobody(true));
     assert_eq!(rt; registers.next_action(own, &scene), Some(Due::Put(victim)));
     scene.victim = away();
     assert_eq!(rt;
@@ -307,7 +337,7 @@ fn a_victim_leaves_before_the_own_block_is_served(rt: HostRuntime) {
     );
     registers.end_victim(victim);
     assert_eq!(rt; registers.next_action(own, &scene), Some(Due::Get));
-    scene.own = at_home(Perm::None, Perm::None, Perm::None);
+    scene.own = at_home(nobody(false));
     assert_eq!(rt;
         registers.next_action(own, &scene),
         Some(Due::Grant(client(0)))

@@ -9,4 +9,5 @@ pub mod Pending
 pub mod Permitted
 pub mod Probes
 pub mod Probing
+pub mod Records
 pub mod Tables

@@ -1,12 +1,12 @@
 //! What a register looks at.
 ghost use Rattle.std.specs.Prelude.{◌≡◌, ◌<◌, ℕ};
-ghost use Rattle.std.specs.Option.{option_map};
-ghost use Rattle.tl_protocol.specs.declared.home.Line.{Line};
 ghost use Rattle.tl_protocol.specs.declared.shape.Shape.{Shape};
 ghost use Rattle.tl_protocol.specs.Protocol.{Block};
 ghost use Rattle.tl_registers.specs.Pending.{probe_pending, grant_pending, is_quiet};
+ghost use Rattle.tl_registers.specs.Records.{Records};
 
-use tl_types::{BlockNo, ClientId, Perm};
+use tl_types::BlockNo;
+use tl_ways::Entry;
 
 /// The protocol's state of each block, as far as a register's next action rests on it.
 pub trait Protocol {
@@ -18,16 +18,10 @@ pub trait Protocol {
     fn clients(&self) -> u32
         ensures { result ≡ (shape self.now).clients };
 
-    /// Whether home's copy is dirty, where home holds the block.
-    fn home(&self, block: BlockNo) -> Option<bool>
+    /// What home's directory says of the block, where home holds it: whether its copy is dirty, and what it records for each client.
+    fn entry(&self, block: BlockNo) -> Option<Entry>
         requires { block < (shape self.now).blocks }
-        ensures { result ≡ option_map (λ (l : Line). l.dirty) (state self.now block).home };
-
-    /// The permission that home records for a client.
-    fn recorded(&self, client: ClientId, block: BlockNo) -> Perm
-        requires client { client < (shape self.now).clients }
-        requires block { block < (shape self.now).blocks }
-        ensures { result ≡ ((state self.now block).client client).recorded };
+        ensures { Records result (state self.now block) };
 
     /// Whether a Probe of the block is on its way to a client, or an answer from one.
     fn is_probe_pending(&self, block: BlockNo) -> bool

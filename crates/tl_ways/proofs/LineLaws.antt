@@ -1,12 +1,12 @@
 -- Laws of the directory's entries.
-use Rattle.std.proofs.Common.{◌≡◌, ◌≢◌, ℕ, ◌*◌, ◌%◌, ◌/◌, ◌^◌, ◌<◌, ◌≤◌, Bool, true, false, refl, ap, sym, ◌∙◌, arith, w16, bit_and, bit_or, inl, inr}
-use Rattle.std.specs.Prelude.{Option, None, Some, ◌==◌, if◌then◌else◌}
+use Rattle.std.proofs.Common.{◌≡◌, ◌≢◌, ℕ, ◌*◌, ◌%◌, ◌/◌, ◌^◌, ◌<◌, ◌≤◌, Bool, true, false, refl, ap, sym, ◌∙◌, arith, eq-eqb, eqb-true, w16, bit_and, bit_or, inl, inr}
+use Rattle.std.specs.Prelude.{Option, None, Some, ◌==◌, ◌↔◌, IsTrue, is_some, if◌then◌else◌}
 use Rattle.std.specs.Int.{bit_at, bit_not}
 use Rattle.std.proofs.lemmas.Nat.{and_le_l}
 use mir.Val.{bits}
 use Rattle.std.proofs.lemmas.Bool.{cases_eq, cases_lt}
 use Rattle.std.proofs.lemmas.Bool.Decides.{nat_tests}
-use Rattle.std.proofs.lemmas.Nat.Bits.{bit_at-zero, shr_and_one, bit_at_above, bit_at-lt, bit_at_set_same, bit_at_set_other, bit_at_clear_same, bit_at_clear_other}
+use Rattle.std.proofs.lemmas.Nat.Bits.{bit_at-zero, shr_and_one, bit_at_above, bit_at-lt, bit_at_set_same, bit_at_set_other, bit_at_clear_same, bit_at_clear_other, same_from_bits}
 use Rattle.tl_types.specs.declared.permission.Perm.{Perm}
 use Rattle.tl_types.specs.declared.permission.Perm.TheVariants.{None as NoAccess, Branch, Tip}
 use Rattle.tl_ways.specs.Lines.{Line, IsDirectory, is_owner, perm_by, perm_of}
@@ -54,6 +54,55 @@ pub perm_of-bit : (line : Line) (client : ℕ) → (line.owner ≡ Some client �
     → perm_of line client ≡ perm_by false (bit_at line.branches client)
 unfolding perm_of
 perm_of-bit line client other = ap (λ owns. perm_by owns (bit_at line.branches client)) (is_owner-none line.owner client other)
+
+-- where there is no owner and no bit is set, no client has a permission
+pub nobody-recorded : (line : Line) → line.owner ≡ None → line.branches ≡ 0 → (client : ℕ) → perm_of line client ≡ NoAccess
+unfolding perm_of
+nobody-recorded line owner branches client = rw (owner, branches, bit_at-zero client) refl
+
+-- an owner that is not there
+not-some : (owner : Option ℕ) → is_some owner ≡ false → owner ≡ None
+not-some None h = refl
+not-some (Some owner) h = cc
+
+-- a bit by which a client has nothing is not set
+bit-unset : (bit : ℕ) → bit < 2 → perm_by false bit ≡ NoAccess → bit ≡ 0
+bit-unset bit few nothing =
+    elim (cases_eq bit 1) [
+      | inl e ↦ let bad : perm_by false 1 ≡ NoAccess = ap (perm_by false) (sym e) ∙ nothing in cc
+      | inr e ↦ omega arith
+    ]
+
+-- and then there is none
+pub no-owner : (line : Line) → ((client : ℕ) → perm_of line client ≡ NoAccess) → line.owner ≡ None
+no-owner line nobody =
+    elim line.owner as (λ owner. line.owner ≡ owner → owner ≡ None) [
+      | None ↦ λ is. refl
+      | Some owner ↦ λ is. let bad : Tip ≡ NoAccess = sym (perm_of-owner line owner is) ∙ nobody owner in cc
+    ] refl
+
+pub no-branches : (line : Line) → line.owner ≡ None → ((client : ℕ) → perm_of line client ≡ NoAccess) → line.branches ≡ 0
+no-branches line none nobody =
+    same_from_bits line.branches 0
+    (λ client.
+    let other : line.owner ≡ Some client → ⊥ = λ is. let bad : None ≡ Some client = sym none ∙ is in cc in
+    bit-unset (bit_at line.branches client) (bit_at-lt line.branches client) (sym (perm_of-bit line client other) ∙ nobody client)
+    ∙ sym (bit_at-zero client))
+
+-- where there is no owner, nobody is recorded just where no bit is set
+pub unshared : (line : Line) → is_some line.owner ≡ false
+    → IsTrue (line.branches == 0) ↔ ((client : ℕ) → perm_of line client ≡ NoAccess)
+unshared line h =
+    let none : line.owner ≡ None = not-some line.owner h in
+    (λ zero. nobody-recorded line none (eqb-true line.branches 0 zero),
+    λ nobody. eq-eqb line.branches 0 (no-branches line none nobody))
+
+-- and where there is one, he is recorded
+pub shared : (line : Line) (test : Bool) → is_some line.owner ≡ true → test ≡ false
+    → IsTrue test ↔ ((client : ℕ) → perm_of line client ≡ NoAccess)
+shared line test h fails =
+    (λ passes. let bad : false ≡ true = sym fails ∙ passes in cc,
+    λ nobody. let bad : false ≡ true = ap is_some (sym (no-owner line nobody)) ∙ h in cc)
 
 -- a client past the mask has nothing
 pub perm_of-past : (line : Line) (client : ℕ) → IsDirectory line → 16 ≤ client → (line.owner ≡ Some client → ⊥)

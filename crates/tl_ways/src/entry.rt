@@ -1,5 +1,5 @@
 //! An entry of the directory: what home records of one block that it holds.
-ghost use Rattle.std.specs.Prelude.{◌≡◌, ◌≢◌, ℕ, ◌<◌, ◌==◌, if◌then◌else◌};
+ghost use Rattle.std.specs.Prelude.{◌≡◌, ◌≢◌, ◌↔◌, ℕ, ◌<◌, ◌==◌, IsTrue, if◌then◌else◌};
 ghost use Rattle.tl_types.specs.declared.permission.Perm.TheVariants.{None as NoAccess, Branch, Tip};
 ghost use Rattle.tl_ways.specs.Lines.{perm_of};
 
@@ -87,6 +87,13 @@ impl Entry {
         } else {
             Perm::None
         }
+    }
+
+    /// Whether it records no permission for any client.
+    pub fn is_unshared(self) -> bool
+        ensures { IsTrue result ↔ ((client : ℕ) → perm_of self client ≡ NoAccess) }
+    {
+        self.owner.is_none() && self.branches == 0
     }
 
     /// Records a permission for a client. Beside Tip no other client may have any permission.

@@ -14,7 +14,7 @@ use crate::bank::Bank;
 use crate::link;
 use tl_bank_spec::{Action, Refusal};
 use tl_protocol::{Accepted, Event};
-use tl_registers::{Due, Task};
+use tl_registers::{Due, Protocol, Task};
 use tl_types::{
     BlockBytes, BlockNo, Body, Channel, ClientId, Downward, GrantCap, Grow, Message, Perm, ProbeCap,
 };
@@ -187,10 +187,14 @@ impl Bank {
         requires { IsOwn self.now.geometry self.now.number block }
         ensures { result ≡ is_alone self.now.geometry.clients client (block_at self.now block).client }
     {
+        let Some(entry) = self.entry(block) else {
+            return true;
+        };
+        if entry.is_unshared() {
+            return true;
+        }
         for number in 0..self.geometry.clients() {
-            if number != client.number()
-                && self.home.recorded(ClientId::new(number), block) != Perm::None
-            {
+            if number != client.number() && entry.perm(ClientId::new(number)) != Perm::None {
                 return false;
             }
         }

@@ -1,15 +1,14 @@
-use Rattle.std.proofs.Common.{◌≡◌, ◌<◌, ◌==◌, ◌||◌, ◌∙◌, not, ℕ, false, true, ap, arith, refl, subst, sym}
+use Rattle.std.proofs.Common.{◌≡◌, ◌<◌, ◌==◌, ◌||◌, ◌∙◌, not, ℕ, None, false, true, ap, arith, refl, subst, sym}
 use Rattle.std.proofs.lemmas.Bool.{ne_eqb}
 use denote.Enum.Bare.{sameb}
 use Rattle.tl_types.specs.contracts.permission.Perm.{the_type}
 use Rattle.tl_types.specs.declared.permission.Perm.{Perm}
 use Rattle.tl_types.specs.declared.permission.Perm.TheVariants.{None as p_None, Branch, Tip}
 use Rattle.tl_protocol.specs.Protocol.{is_alone, is_none}
-use Rattle.tl_home.specs.Homes.{recorded_in}
+use Rattle.tl_ways.specs.Lines.{perm_of}
+use Rattle.tl_registers.specs.Records.{Records}
 use Rattle.tl_bank_spec.specs.View.{View, block_at, client_at}
-use Rattle.tl_bank_spec.specs.Own.{IsOwn}
-use Rattle.tl_bank.specs.Shown.{shown, layers}
-use Rattle.tl_bank_laws.proofs.Sights.{alone-fails, recorded-read}
+use Rattle.tl_bank_laws.proofs.Sights.{alone-fails, alone-nobody}
 use Rattle.tl_bank.proofs.bank.Bank.is_alone.Goals as goal
 
 -- a permission that is not None
@@ -18,20 +17,26 @@ not-none p_None h = cc
 not-none Branch h = refl
 not-none Tip h = refl
 
+pub returns-in_default : goal.returns-in_default
+returns-in_default c =
+    let records : Records None (block_at c.args.self.now c.args.block) = (rw c.in_default.is at c.entry.ensures) in
+    sym (alone-nobody c.args.self.now.geometry.clients c.args.client (block_at c.args.self.now c.args.block).client records.1)
+
+pub returns-then-is_unshared : goal.returns-then-is_unshared
+returns-then-is_unshared c =
+    sym (alone-nobody c.args.self.now.geometry.clients c.args.client (block_at c.args.self.now c.args.block).client
+    (λ x. c.in-Some.ensures.1 x ∙ c.is_unshared.ensures.0 c.if-is_unshared.true x))
+
 pub returns-then-ne : goal.returns-then-ne
 returns-then-ne c =
-    let v : View = shown c.self.inside in
+    let v : View = c.args.self.now in
     let x : ℕ = c.loop-number.number in
-    let inside : x < v.geometry.clients = omega (arith, c.clients-number-end.ensures.is) in
-    let own : IsOwn v.geometry v.number c.args.block =
-    subst (λ (w : View). IsOwn w.geometry w.number c.args.block) (sym c.self.view_is) c.requires in
-    let recorded : c.recorded.result ≡ (client_at v x c.args.block).recorded =
-    c.recorded.ensures
-    ∙ ap (λ (y : ℕ). recorded_in c.self.inside.home y c.args.block) c.new.ensures
-    ∙ recorded-read v (layers c.self.inside) x c.args.block c.self.invariant own.0 in
+    let inside : x < c.self.inside.geometry.clients = omega (arith, c.clients-number-end.ensures.is) in
+    let below : x < v.geometry.clients = subst (λ (w : View). x < w.geometry.clients) c.self.view_is inside in
+    let recorded : c.perm.result ≡ (client_at v x c.args.block).recorded =
+    c.perm.ensures.is ∙ ap (λ (y : ℕ). perm_of c.in-Some.entry y) c.new.ensures ∙ sym (c.in-Some.ensures.1 x) in
     let other : (x == c.args.client) ≡ false = ne_eqb x c.args.client (λ e. c.if-number.true (e ∙ sym c.number.ensures)) in
     let some : is_none (client_at v x c.args.block).recorded ≡ false =
-    ap is_none (sym recorded) ∙ not-none c.recorded.result (sym c.ne.ensures ∙ c.if-ne.true) in
+    ap is_none (sym recorded) ∙ not-none c.perm.result (sym c.ne.ensures ∙ c.if-ne.true) in
     let fails : ((x == c.args.client) || is_none (client_at v x c.args.block).recorded) ≡ false = rw (other, some) refl in
-    subst (λ (w : View). false ≡ is_alone w.geometry.clients c.args.client (block_at w c.args.block).client) c.self.view_is
-    (sym (alone-fails v.geometry.clients c.args.client x (block_at v c.args.block).client inside fails))
+    sym (alone-fails v.geometry.clients c.args.client x (block_at v c.args.block).client below fails)

@@ -4,4 +4,4 @@ use Rattle.tl_bank_spec.specs.View.{block_at}
 use Rattle.tl_bank.proofs.bank.Bank.is_alone.Given as goal
 
 abbrev pub invariant-loop-number : goal.invariant-loop-number
-invariant-loop-number l = is_alone l.number l.client (block_at l.self l.block).client ≡ true
+invariant-loop-number l = is_alone l.number l.client (block_at l.self l.fn.block).client ≡ true

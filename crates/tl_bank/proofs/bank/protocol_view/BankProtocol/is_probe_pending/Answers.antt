@@ -1,15 +1,29 @@
-use Rattle.std.proofs.Common.{◌≡◌, ◌<◌, ◌∙◌, ℕ, Bool, true, arith, subst, sym}
-use Rattle.tl_registers.specs.Pending.{is_probed}
-use Rattle.tl_bank_spec.specs.View.{View, client_at}
-use Rattle.tl_bank_laws.proofs.Sights.{any_below-some}
+use Rattle.std.proofs.Common.{◌≡◌, ℕ, subst}
+use Rattle.tl_types.specs.declared.channel.Channel.TheVariants.{B, C}
+use Rattle.tl_links.specs.declared.wanted.Wanted.TheVariants.{Any, ProbeAck}
+use Rattle.tl_links.specs.Table.{some_has}
+use Rattle.tl_registers.specs.Pending.{probe_pending}
+use Rattle.tl_bank_spec.specs.View.{View, block_at, shape_of}
+use Rattle.tl_bank.specs.Shown.{shown, layers}
+use Rattle.tl_bank_laws.proofs.Sights.{or-fails, or-passes, probe_pending-read}
 use Rattle.tl_bank.proofs.bank.protocol_view.BankProtocol.is_probe_pending.Goals as goal
 
-pub returns-then-is_probed : goal.returns-then-is_probed
-returns-then-is_probed c =
-    let test : ℕ → Bool = λ x. is_probed (client_at c.args.self.now x c.args.block) in
-    let inside : c.loop-number.number < c.self.inside.geometry.clients = omega (arith, c.clients-number-end.ensures.is) in
-    let below : c.loop-number.number < c.args.self.now.geometry.clients =
-    subst (λ (v : View). c.loop-number.number < v.geometry.clients) c.self.view_is inside in
-    let passes : test c.loop-number.number ≡ true =
-    subst (λ (x : ℕ). test x ≡ true) c.new.ensures (sym c.is_probed.ensures ∙ c.if-is_probed.true) in
-    sym (any_below-some test c.args.self.now.geometry.clients c.loop-number.number below passes)
+pub returns-then-some_has : goal.returns-then-some_has
+returns-then-some_has c =
+    let h = layers c.self.inside in
+    let n : ℕ = h.links.clients in
+    let b : ℕ = c.args.block in
+    subst (λ (v : View). c.some_has.result ≡ probe_pending (shape_of v.geometry) (block_at v b)) c.self.view_is
+    (or-passes c.some_has.result (some_has h.links B b Any n) (some_has h.links C b ProbeAck n)
+    (probe_pending (shape_of (shown c.self.inside).geometry) (block_at (shown c.self.inside) b)) c.some_has.ensures c.if-some_has.true
+    (probe_pending-read (shown c.self.inside) h b c.self.invariant))
+
+pub returns-else-some_has : goal.returns-else-some_has
+returns-else-some_has c =
+    let h = layers c.self.inside in
+    let n : ℕ = h.links.clients in
+    let b : ℕ = c.args.block in
+    subst (λ (v : View). c.some_has-else-some_has.result ≡ probe_pending (shape_of v.geometry) (block_at v b)) c.self.view_is
+    (or-fails c.some_has.result c.some_has-else-some_has.result (some_has h.links B b Any n) (some_has h.links C b ProbeAck n)
+    (probe_pending (shape_of (shown c.self.inside).geometry) (block_at (shown c.self.inside) b)) c.some_has.ensures c.if-some_has.false
+    c.some_has-else-some_has.ensures (probe_pending-read (shown c.self.inside) h b c.self.invariant))
