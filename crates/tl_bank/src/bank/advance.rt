@@ -187,7 +187,7 @@ impl Bank {
         requires { IsOwn self.now.geometry self.now.number block }
         ensures { result ≡ is_alone self.now.geometry.clients client (block_at self.now block).client }
     {
-        let Some(entry) = self.entry(block) else {
+        let Some(entry) = Protocol::entry(self, block) else {
             return true;
         };
         if entry.is_unshared() {
