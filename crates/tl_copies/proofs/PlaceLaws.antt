@@ -1,10 +1,10 @@
 -- The place of a block's entry.
-use Rattle.std.proofs.Common.{◌≡◌, ℕ, zero, suc, ◌<◌, ◌==◌, Bool, true, false, List, [], ◌∷◌, ◌++◌, length, Some, None, if◌then◌else◌, slice_index_or, slice_set, refl, sym, ◌∙◌, ap, arith, eq-eqb}
+use Rattle.std.proofs.Common.{◌≡◌, ◌≢◌, ℕ, zero, suc, ◌<◌, ◌==◌, Bool, true, false, List, [], ◌∷◌, ◌++◌, length, Some, None, if◌then◌else◌, slice_index_or, slice_set, refl, sym, ◌∙◌, ap, subst, arith, eq-eqb}
 use Rattle.std.specs.Prelude.{remove}
 use Rattle.std.proofs.lemmas.Bool.{ne_eqb}
 use Rattle.tl_copies.specs.declared.held.Held.{Held}
 use Rattle.tl_copies.specs.Held.{is_granted, is_renewed}
-use Rattle.tl_copies.specs.Entries.{Entry, found, without, replaced, kept, IsPlace}
+use Rattle.tl_copies.specs.Entries.{Entry, found, without, replaced, kept, IsPlace, AreApart}
 use Rattle.tl_copies.proofs.EntryLaws.{entry}
 
 -- a place past the first is one less in the rest
@@ -27,6 +27,26 @@ found-place block (e ∷ rest) zero d p =
     let is : (e.block == block) ≡ true = eq-eqb e.block block (p.here d) in
     rw is refl
 found-place block (e ∷ rest) (suc i) d p = rw (head_differs block e rest i p) (found-place block rest i d (tail_place block e rest i p))
+
+-- where no block stands twice, a place of an entry of the block is that of the first
+pub place-once : (n block : ℕ) (es : List Entry) (place : ℕ) (x : Entry) → AreApart n es → place < length es
+    → (slice_index_or es place x).block ≡ block → IsPlace block es place
+place-once n block [] place x a l h = absurd (omega arith)
+place-once n block (e ∷ rest) zero x a l h = record { inside = l; here = λ d. h; first = λ k d less. absurd (omega (arith, less)) }
+place-once n block (e ∷ rest) (suc i) x a l h =
+    let later : IsPlace block rest i = place-once n block rest i x a.2 (omega arith) h in
+    let other : e.block ≢ block = λ same.
+    let none : found block rest ≡ None = subst (λ b. found b rest ≡ None) same a.1 in
+    let some = found-place block rest i x later in
+    cc in
+    record {
+      inside = l;
+      here = later.here;
+      first = λ k. elim k as (λ k. (d : Entry) → k < suc i → (slice_index_or (e ∷ rest) k d).block ≢ block) [
+        | zero ↦ λ d less. other
+        | suc j ↦ λ d less. later.first j d (omega (arith, less))
+      ];
+    }
 
 -- taking out the entry at the place
 pub remove-place : (block : ℕ) (es : List Entry) (place : ℕ) → IsPlace block es place → remove es place ≡ without block es

@@ -154,7 +154,7 @@ module _ {m : Tables} {bank limit n : ℕ} {tables : List (List Entry)} {at clie
   table_is : slice_index_or tables at [] ≡ old
   table_is = table_at tables at old at_inside r.row
 
-  table_sound : IsTable limit n old
+  pub table_sound : IsTable limit n old
   table_sound = subst (λ (t : List Entry). IsTable limit n t) (sym r.row) (r.sound at old at_inside)
 
   -- what a client holds is what its table has

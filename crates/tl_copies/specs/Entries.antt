@@ -44,6 +44,10 @@ abbrev pub AreApart : ℕ → List Entry → Type 0
 AreApart blocks [] = Unit {0}
 AreApart blocks (e ∷ rest) = (e.block < blocks) × (found e.block rest ≡ None) × AreApart blocks rest
 
+-- no block stands twice
+abbrev pub HasEachOnce : List Entry → Type 0
+HasEachOnce es = (blocks : ℕ) × AreApart blocks es
+
 -- a table of at most so many entries
 pub record IsTable (limit blocks : ℕ) (es : List Entry) : Type 0 where
   pub short : length es ≤ limit

@@ -1,5 +1,5 @@
 //! The tables of all clients.
-ghost use Rattle.std.specs.Prelude.{◌≡◌, ◌↔◌, ◌≤◌, ◌<◌, ◌+◌, ℕ, ◌==◌, [], None, Some, IfErr, IfOk, IfSome, IsErr, IsTrue, OnErr, OnOk, true, false, length, map, option_copied, option_map, if◌then◌else◌};
+ghost use Rattle.std.specs.Prelude.{◌≡◌, ◌↔◌, ◌≤◌, ◌<◌, ◌+◌, ℕ, ◌==◌, [], None, Some, IfErr, IfOk, IfSome, IsErr, IsTrue, MatchOption, OnErr, OnOk, true, false, length, map, option_copied, option_map, slice_index_or, if◌then◌else◌};
 ghost use Rattle.std.specs.List.{find};
 ghost use Rattle.tl_copies.specs.Entries.{Entry, found, IsTable};
 ghost use Rattle.tl_copies.specs.Held.{has_copy, is_granted, is_awaited, stored};
@@ -69,6 +69,24 @@ impl Copies {
         ensures { option_copied result ≡ held_at self.now client block }
     {
         self.table(client).of(block)
+    }
+
+    /// Where a client's table has its entry of a block, in the order of age: for a call that takes a place, and then needs no
+    /// search of its own.
+    pub fn place(&self, client: ClientId, block: BlockNo) -> Option<usize>
+        requires { client < clients_of self.now }
+        ensures { MatchOption result (held_at self.now client block ≡ None)
+            (λ place. (default : ℕ) → slice_index_or (order_in self.now client) place default ≡ block) }
+    {
+        self.table(client).place_of(block)
+    }
+
+    /// What a client holds of a block, where its table has an entry of it. It is looked for at `place` first.
+    pub fn near(&self, client: ClientId, block: BlockNo, place: usize) -> Option<&Held>
+        requires { client < clients_of self.now }
+        ensures { option_copied result ≡ held_at self.now client block }
+    {
+        self.table(client).near(block, place)
     }
 
     /// How many entries a client's table has.
@@ -156,9 +174,16 @@ impl Copies {
     }
 
     /// Writes the bytes of a store over what a client holds of a block from `offset` on, which makes it dirty. Nothing changes
-    /// where the table has no entry of the block.
+    /// where the table has no entry of the block. The entry is looked for at `place` first.
     #[tactic(auto, unfolding(crate::specs::Copies::clients_of, crate::specs::Copies::held_at, crate::specs::Copies::order_in))]
-    pub fn store(&mut self, client: ClientId, block: BlockNo, offset: usize, access: &AccessBytes)
+    pub fn store(
+        &mut self,
+        client: ClientId,
+        block: BlockNo,
+        place: usize,
+        offset: usize,
+        access: &AccessBytes,
+    )
         requires client { client < clients_of self.old }
         requires room { offset + length access.now ≤ 64 }
         ensures same { SameSize self.old self.new }
@@ -168,7 +193,7 @@ impl Copies {
             else held_at self.old x y) }
         ensures order { (x : ℕ) → order_in self.new x ≡ order_in self.old x }
     {
-        self.tables[client.index()].store(block, offset, access);
+        self.tables[client.index()].store(block, place, offset, access);
     }
 
     /// Takes the entry of a block out of a client's table, if there is one.

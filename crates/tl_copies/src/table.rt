@@ -66,7 +66,7 @@ impl Model for Table {
 
 impl Table {
     ghost use Rattle.tl_copies.specs.Held.{is_copy, waits, stored};
-    ghost use Rattle.tl_copies.specs.Entries.{Entry, found, without, replaced, kept, oldest_in, IsPlace};
+    ghost use Rattle.tl_copies.specs.Entries.{Entry, found, without, replaced, kept, oldest_in, IsPlace, HasEachOnce};
 
     /// A table with no entry.
     pub(crate) fn new() -> Table
@@ -137,7 +137,7 @@ impl Table {
     }
 
     /// Where the entry of a block is.
-    fn place_of(&self, block: BlockNo) -> Option<usize>
+    pub(crate) fn place_of(&self, block: BlockNo) -> Option<usize>
         ensures { MatchOption result (found block self.now ≡ None) (λ place. IsPlace block self.now place) }
     {
         for (place, key) in self.keys.as_slice().iter().enumerate() {
@@ -153,6 +153,26 @@ impl Table {
         ensures { option_copied result ≡ found block self.now }
     {
         let place = self.place_of(block)?;
+        Some(self.held(place))
+    }
+
+    /// Where the entry of a block is: at `place` if that is the block's, and else where a search finds it.
+    fn place_near(&self, block: BlockNo, place: usize) -> Option<usize>
+        requires { HasEachOnce self.now }
+        ensures { MatchOption result (found block self.now ≡ None) (λ place. IsPlace block self.now place) }
+    {
+        if place < self.len() && self.block(place) == block {
+            return Some(place);
+        }
+        self.place_of(block)
+    }
+
+    /// The entry of a block, which `place` may be the place of.
+    pub(crate) fn near(&self, block: BlockNo, place: usize) -> Option<&Held>
+        requires { HasEachOnce self.now }
+        ensures { option_copied result ≡ found block self.now }
+    {
+        let place = self.place_near(block, place)?;
         Some(self.held(place))
     }
 
@@ -188,13 +208,20 @@ impl Table {
         }
     }
 
-    /// Writes the bytes of a store over those of the block's entry from `offset` on, if there is one.
-    pub(crate) fn store(&mut self, block: BlockNo, offset: usize, access: &AccessBytes)
-        requires { offset + length access.now ≤ 64 }
+    /// Writes the bytes of a store over those of the block's entry from `offset` on, if there is one. `place` may be its place.
+    pub(crate) fn store(
+        &mut self,
+        block: BlockNo,
+        place: usize,
+        offset: usize,
+        access: &AccessBytes,
+    )
+        requires once { HasEachOnce self.old }
+        requires room { offset + length access.now ≤ 64 }
         ensures { MatchOption (found block self.old) (self.new ≡ self.old)
             (λ held. self.new ≡ replaced block (stored offset access.now held) self.old) }
     {
-        if let Some(place) = self.place_of(block) {
+        if let Some(place) = self.place_near(block, place) {
             self.store_at(place, offset, access);
         }
     }

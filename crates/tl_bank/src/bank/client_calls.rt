@@ -88,15 +88,13 @@ impl Bank {
             }))) }
         ensures stamp { IfOk result (λ stamp. stamp ≡ latest self.old when.clock + 1) }
     {
-        if let Some(refusal) = self.store_refusal(client, address, bytes.len(), when.clock) {
-            return Err(refusal);
-        }
+        let place = self.writable_place(client, address, bytes.len(), when.clock)?;
         let block = self.geometry.block_at(address);
         let access = entry::access_of(bytes);
         let stamp = self.next_stamp(when.clock);
         self.make_room()?;
         let offset = self.geometry.offset(address) as usize;
-        self.copies.store(client, block, offset, &access);
+        self.copies.store(client, block, place, offset, &access);
         self.clock = stamp;
         self.log.append(Event::Store(Access {
             client,

@@ -41,6 +41,23 @@ impl Bank {
         self.copies.of(client, block)
     }
 
+    /// Where a client's table has its entry of a block; 0 where it has none.
+    fn place(&self, client: ClientId, block: BlockNo) -> usize
+        requires client { client < self.now.geometry.clients }
+        requires block { block < self.now.geometry.memory_blocks }
+    {
+        self.copies.place(client, block).unwrap_or(0)
+    }
+
+    /// What a client may do with a block, whose entry is looked for at `place` first.
+    fn perm_near(&self, client: ClientId, block: BlockNo, place: usize) -> Perm
+        requires client { client < self.now.geometry.clients }
+        requires block { block < self.now.geometry.memory_blocks }
+        ensures { result ≡ perm_at self.now client block }
+    {
+        entry::perm_in(self.copies.near(client, block, place))
+    }
+
     /// A client's copy of a block.
     pub(super) fn copy(&self, client: ClientId, block: BlockNo) -> CachedCopy
         requires client { client < self.now.geometry.clients }
@@ -142,30 +159,32 @@ impl Bank {
         Ok(bytes)
     }
 
-    /// Why a store is refused, but for want of memory.
-    pub(super) fn store_refusal(
+    /// Where the copy is that a store writes, or why it is refused, but for want of memory.
+    pub(super) fn writable_place(
         &self,
         client: ClientId,
         address: u32,
         len: usize,
         clock: u64,
-    ) -> Option<Refusal>
-        ensures { result ≡ first_of (store_cases self.now client address len clock) }
+    ) -> Result<usize, Refusal>
+        ensures refused { IfErr result (λ r. first_of (store_cases self.now client address len clock) ≡ Some r) }
+        ensures permitted { OnOk result (first_of (store_cases self.now client address len clock) ≡ None) }
     {
         if self.is_bad_access(client, address, len) {
-            return Some(Refusal::OutOfRange);
+            return Err(Refusal::OutOfRange);
         }
         let block = self.geometry.block_at(address);
         if self.is_elsewhere(block) {
-            return Some(Refusal::WrongBank);
+            return Err(Refusal::WrongBank);
         }
-        if self.perm_of(client, block) != Perm::Tip {
-            return Some(Refusal::NoPermission);
+        let place = self.place(client, block);
+        if self.perm_near(client, block, place) != Perm::Tip {
+            return Err(Refusal::NoPermission);
         }
         if self.is_clock_full(clock) {
-            return Some(Refusal::ClockFull);
+            return Err(Refusal::ClockFull);
         }
-        None
+        Ok(place)
     }
 
     /// Whether a block is not of the memory, or its client is not there.

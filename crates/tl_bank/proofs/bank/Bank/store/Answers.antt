@@ -38,7 +38,7 @@ invariant_of-self c =
     λ w. (first_of (store_cases w c.args.client c.args.address (length c.args.bytes.now) c.args.when.clock) ≡ None)
     × (block ≡ c.args.address / w.geometry.block_bytes) × (c.next_stamp-stamp.result ≡ latest w c.args.when.clock + 1) in
     let shows : Shows v = subst Shows (sym (c.self-2.view_is ∙ c.make_room.ensures.same)) (
-      sym c.store_refusal.ensures ∙ c.in_default.is,
+      c.in_ok-place.ensures.permitted,
       c.block_at-block.ensures ∙ ap (λ (w : View). c.args.address / w.geometry.block_bytes) c.self.view_is,
       c.next_stamp-stamp.ensures,
     ) in
