@@ -107,9 +107,10 @@ pub entry-read : (v : View) (h : Layers) (b : ℕ) → Means v h → b < v.geome
     → ((client : ℕ) → perm_in found client ≡ recorded_in h.home client b) → Records found (block_at v b)
 entry-read v h b m l None lines recorded =
     (sym (line-read v h b m l) ∙ lines, λ c. sym (recorded-read v h c b m l) ∙ sym (recorded c))
-entry-read v h b m l (Some entry) lines recorded =
-    (ap (λ (o : Option Line). option_map (λ (line : Line). line.dirty) o) (sym (line-read v h b m l)) ∙ lines,
-    λ c. sym (recorded-read v h c b m l) ∙ sym (recorded c))
+entry-read v h b m l (Some entry) lines recorded = (
+  ap (λ (o : Option Line). option_map (λ (line : Line). line.dirty) o) (sym (line-read v h b m l)) ∙ lines,
+  λ c. sym (recorded-read v h c b m l) ∙ sym (recorded c),
+)
 
 -- what passes of each block
 pub outward-read : (v : View) (h : Layers) (b : ℕ) → Means v h → outward_in h.home b ≡ (block_at v b).outward

@@ -93,16 +93,18 @@ no-branches line none nobody =
 pub unshared : (line : Line) → is_some line.owner ≡ false
     → IsTrue (line.branches == 0) ↔ ((client : ℕ) → perm_of line client ≡ NoAccess)
 unshared line h =
-    let none : line.owner ≡ None = not-some line.owner h in
-    (λ zero. nobody-recorded line none (eqb-true line.branches 0 zero),
-    λ nobody. eq-eqb line.branches 0 (no-branches line none nobody))
+    let none : line.owner ≡ None = not-some line.owner h in (
+      λ zero. nobody-recorded line none (eqb-true line.branches 0 zero),
+      λ nobody. eq-eqb line.branches 0 (no-branches line none nobody),
+    )
 
 -- and where there is one, he is recorded
 pub shared : (line : Line) (test : Bool) → is_some line.owner ≡ true → test ≡ false
     → IsTrue test ↔ ((client : ℕ) → perm_of line client ≡ NoAccess)
-shared line test h fails =
-    (λ passes. let bad : false ≡ true = sym fails ∙ passes in cc,
-    λ nobody. let bad : false ≡ true = ap is_some (sym (no-owner line nobody)) ∙ h in cc)
+shared line test h fails = (
+  λ passes. let bad : false ≡ true = sym fails ∙ passes in cc,
+  λ nobody. let bad : false ≡ true = ap is_some (sym (no-owner line nobody)) ∙ h in cc,
+)
 
 -- a client past the mask has nothing
 pub perm_of-past : (line : Line) (client : ℕ) → IsDirectory line → 16 ≤ client → (line.owner ≡ Some client → ⊥)
