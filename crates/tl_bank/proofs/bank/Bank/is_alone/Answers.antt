@@ -4,7 +4,7 @@ use denote.Enum.Bare.{sameb}
 use Rattle.tl_types.specs.contracts.permission.Perm.{the_type}
 use Rattle.tl_types.specs.declared.permission.Perm.{Perm}
 use Rattle.tl_types.specs.declared.permission.Perm.TheVariants.{None as p_None, Branch, Tip}
-use Rattle.tl_protocol.specs.Protocol.{is_alone, is_none}
+use Rattle.tl_protocol.specs.Protocol.{is_none}
 use Rattle.tl_ways.specs.Lines.{perm_of}
 use Rattle.tl_registers.specs.Records.{Records}
 use Rattle.tl_bank_spec.specs.View.{View, block_at, client_at}

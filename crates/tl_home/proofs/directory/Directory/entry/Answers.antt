@@ -1,4 +1,4 @@
-use Rattle.std.proofs.Common.{◌∙◌, refl, sym}
+use Rattle.std.proofs.Common.{refl, sym}
 use Rattle.tl_home.proofs.DirectoryLaws.{line_of-held, line_of-none, recorded_of-held, recorded_of-none}
 use Rattle.tl_home.proofs.directory.Directory.entry.Goals as goal
 
