@@ -83,30 +83,31 @@ fn tell<T>(rt: &impl Print, call: &str, answer: &Result<T, Refusal>) -> Result<(
     Ok(())
 }
 
-/// Client 1 asks for the block while client 0 gives it up: home's Probe crosses the Release. Both are named.
-fn cross(driven: &mut Driven, block: BlockNo) -> Result<Option<(Ticket, Ticket)>, Refusal> {
+/// Two messages that cross: home's Probe, and client 0's Release.
+#[derive(Clone, Copy)]
+struct Crossing {
+    probe: Ticket,
+    given: Ticket,
+}
+
+/// Client 1 asks for the block while client 0 gives it up.
+fn cross(driven: &mut Driven, block: BlockNo) -> Result<Option<Crossing>, Refusal> {
     let asked = driven.bank.acquire(ClientId::new(1), block, Grow::NtoT)?;
     driven.bank.accept(asked)?;
     let given = driven
         .bank
         .release(ClientId::new(0), block, Prune::TtoN, &mut driven.first)?;
     match driven.bank.advance(block)? {
-        Action::Probe(probe) => Ok(Some((probe, given))),
+        Action::Probe(probe) => Ok(Some(Crossing { probe, given })),
         _ => Ok(None),
     }
 }
 
 /// Client 0 may not answer the Probe before its ReleaseAck, and home does not take the Release for the answer.
-fn wait(
-    rt: &impl Print,
-    driven: &mut Driven,
-    probe: Ticket,
-    given: Ticket,
-    block: BlockNo,
-) -> Result<()> {
-    let early = driven.bank.answer_probe(probe, &mut driven.first);
+fn wait(rt: &impl Print, driven: &mut Driven, crossing: &Crossing, block: BlockNo) -> Result<()> {
+    let early = driven.bank.answer_probe(crossing.probe, &mut driven.first);
     tell(rt, "the Probe is answered before the ReleaseAck", &early)?;
-    let answer = driven.bank.take_c(given)?;
+    let answer = driven.bank.take_c(crossing.given)?;
     let waits = driven.bank.advance(block);
     tell(rt, "home goes on with the Release alone", &waits)?;
     if let Some(acknowledged) = answer {
@@ -116,8 +117,8 @@ fn wait(
 }
 
 /// Client 0 has nothing left, and client 1 gets what the Release brought.
-fn pass_on(driven: &mut Driven, probe: Ticket, block: BlockNo) -> Result<(), Refusal> {
-    let nothing = driven.bank.answer_probe(probe, &mut driven.first)?;
+fn pass_on(driven: &mut Driven, crossing: &Crossing, block: BlockNo) -> Result<(), Refusal> {
+    let nothing = driven.bank.answer_probe(crossing.probe, &mut driven.first)?;
     let _none = driven.bank.take_c(nothing)?;
     if let Some(grant) = granted(&mut driven.bank, block)? {
         let acknowledged = driven.bank.take_grant(grant, &mut driven.second)?;
@@ -128,11 +129,10 @@ fn pass_on(driven: &mut Driven, probe: Ticket, block: BlockNo) -> Result<(), Ref
 
 /// The race, from the crossing to the Grant.
 fn race(rt: &impl Print, driven: &mut Driven, block: BlockNo) -> Result<()> {
-    let Some((probe, given)) = cross(driven, block)? else {
-        return Ok(());
-    };
-    wait(rt, driven, probe, given, block)?;
-    pass_on(driven, probe, block)?;
+    if let Some(crossing) = cross(driven, block)? {
+        wait(rt, driven, &crossing, block)?;
+        pass_on(driven, &crossing, block)?;
+    }
     Ok(())
 }
 
