@@ -1,5 +1,5 @@
 //! Home opens miss registers: to serve an Acquire, and to send a block away.
-ghost use Rattle.std.specs.Prelude.{◌≡◌, ◌<◌, ◌&&◌, None, IfErr, IfNone, IfSome, OnErr, OnOk, is_none};
+ghost use Rattle.std.specs.Prelude.{◌≡◌, ◌<◌, ◌&&◌, None, IfErr, IfOk, IfSome, OnErr, OnOk, is_none};
 ghost use Rattle.tl_types.specs.declared.channel.Channel.{Channel};
 ghost use Rattle.tl_map.specs.Places.{set_of};
 ghost use Rattle.tl_registers.specs.Registers.{held_in};
@@ -19,8 +19,23 @@ use tl_bank_spec::Refusal;
 use tl_map::Set;
 use tl_protocol::{Accepted, Event};
 use tl_registers::WayOfSet;
-use tl_types::{BlockNo, Body, Channel, ClientId, Grow, Ticket};
+use tl_types::{BlockNo, Body, Channel, Grow, Ticket};
 use tl_ways::Way;
+
+/// Where a register opens: the way that it takes, and the block that has to leave that way first.
+#[derive(Clone, Copy)]
+struct Opening {
+    way: WayOfSet,
+    victim: Option<BlockNo>,
+}
+
+/// What an Acquire that home accepts asks for, and where its register opens.
+#[derive(Clone, Copy)]
+struct Asked {
+    block: BlockNo,
+    grow: Grow,
+    opening: Opening,
+}
 
 impl Bank {
     /// Takes the first Acquire of a client, and opens a register for it. The register holds the way of home's copy; where home
@@ -34,20 +49,18 @@ impl Bank {
             (Accepts self.old self.new ticket (block_named self.old ticket Channel.A)
             (set_of self.old.geometry (block_named self.old ticket Channel.A))) }
     {
-        if let Some(refusal) = self.accept_refusal(&ticket) {
-            return Err(refusal);
-        }
-        let client = ticket.client;
-        let block = self.first_block(client, Channel::A);
-        let grow = self.first_grow(client);
-        let way = self.way_for(block).unwrap();
-        let held = self.way_in_set(block, way);
-        let victim = self.victim_in(block, way);
+        let asked = self.asked(&ticket)?;
         self.make_room()?;
         link::discard(&mut self.links, ticket);
+        let Opening { way, victim } = asked.opening;
+        let accepted = Accepted {
+            client: ticket.client,
+            grow: asked.grow,
+        };
         self.registers
-            .open_acquire(block, Accepted { client, grow }, held, victim);
-        self.log.append(Event::AcceptAcquire(client, block));
+            .open_acquire(asked.block, accepted, way, victim);
+        self.log
+            .append(Event::AcceptAcquire(ticket.client, asked.block));
         Ok(())
     }
 
@@ -62,38 +75,51 @@ impl Bank {
             return Err(refusal);
         }
         let way = self.home.way(block).unwrap();
-        let held = self.way_in_set(block, way);
-        self.registers.open_evict(block, held);
+        let set = self.geometry.place(block).set;
+        self.registers.open_evict(block, in_set(set, way));
         Ok(())
     }
 
-    /// Why an Acquire is not accepted, but for want of memory.
-    fn accept_refusal(&self, ticket: &Ticket) -> Option<Refusal>
-        ensures is { result ≡ first_of (accept_cases self.now ticket.now) }
-        ensures own { IfNone result (IsOwn self.now.geometry self.now.number (block_named self.now ticket.now Channel.A)) }
+    /// What the Acquire of a ticket asks for and where its register opens, or why it is not accepted, but for want of memory.
+    fn asked(&self, ticket: &Ticket) -> Result<Asked, Refusal>
+        ensures refused { IfErr result (λ r. first_of (accept_cases self.now ticket.now) ≡ Some r) }
+        ensures permitted { OnOk result (first_of (accept_cases self.now ticket.now) ≡ None) }
+        ensures block { IfOk result (λ a. a.block ≡ block_named self.now ticket.now Channel.A) }
+        ensures grow { IfOk result (λ a. a.grow ≡ first_grow (lane_at self.now ticket.now.client Channel.A).messages) }
+        ensures set { IfOk result (λ a. a.opening.way.set ≡ set_of self.now.geometry a.block) }
+        ensures way { IfOk result (λ a. IsWayFor self.now (set_of self.now.geometry a.block) (way_at self.now a.block) a.opening.way.way) }
+        ensures victim { IfOk result
+            (λ a. a.opening.victim ≡ victim_in self.now (set_of self.now.geometry a.block) (way_at self.now a.block) a.opening.way.way) }
     {
         if ticket.client.number() >= self.geometry.clients() {
-            return Some(Refusal::OutOfRange);
+            return Err(Refusal::OutOfRange);
         }
         if ticket.bank.number() != self.number.number() {
-            return Some(Refusal::WrongBank);
+            return Err(Refusal::WrongBank);
         }
         if ticket.channel.index() != Channel::A.index() {
-            return Some(Refusal::NotHead);
+            return Err(Refusal::NotHead);
         }
         let Some(message) = self.links.first(ticket.client, Channel::A) else {
-            return Some(Refusal::NothingThere);
+            return Err(Refusal::NothingThere);
         };
         if ticket.serial != self.links.taken(ticket.client, Channel::A) {
-            return Some(Refusal::NotHead);
+            return Err(Refusal::NotHead);
         }
         if self.registers.is_busy(message.block) {
-            return Some(Refusal::BlockBusy);
+            return Err(Refusal::BlockBusy);
         }
-        if self.has_no_register(message.block) {
-            return Some(Refusal::NoRegister);
+        if self.is_in_use() {
+            return Err(Refusal::NoRegister);
         }
-        None
+        let Some(opening) = self.opening(message.block) else {
+            return Err(Refusal::NoRegister);
+        };
+        Ok(Asked {
+            block: message.block,
+            grow: grow_in(&message.body),
+            opening,
+        })
     }
 
     /// Why an eviction is refused.
@@ -133,26 +159,42 @@ impl Bank {
         self.registers.is_full()
     }
 
-    /// Whether no register can open for a block.
-    fn has_no_register(&self, block: BlockNo) -> bool
+    /// Where a register of a block opens: in the way of home's copy, which no block has to leave, else in the one that is taken
+    /// next of those that no register holds.
+    fn opening(&self, block: BlockNo) -> Option<Opening>
         requires { IsOwn self.now.geometry self.now.number block }
-        ensures { result ≡ no_register self.now block }
+        ensures set { IfSome result (λ o. o.way.set ≡ set_of self.now.geometry block) }
+        ensures way { IfSome result (λ o. IsWayFor self.now (set_of self.now.geometry block) (way_at self.now block) o.way.way) }
+        ensures victim { IfSome result
+            (λ o. o.victim ≡ victim_in self.now (set_of self.now.geometry block) (way_at self.now block) o.way.way) }
+        ensures none { is_none result ≡ (lacks self.now block && ways_held self.now (set_of self.now.geometry block)) }
     {
-        self.is_in_use() || self.way_for(block).is_none()
+        let set = self.geometry.place(block).set;
+        if let Some(way) = self.home.way(block) {
+            return Some(Opening {
+                way: in_set(set, way),
+                victim: None,
+            });
+        }
+        let way = self.way_taken(block, set)?;
+        let victim = self.victim_in(block, set, way);
+        Some(Opening {
+            way: in_set(set, way),
+            victim,
+        })
     }
 
-    /// The way that a register of a block takes: that of home's copy, else the one that is taken next of those that no register
-    /// holds.
-    fn way_for(&self, block: BlockNo) -> Option<Way>
-        requires { IsOwn self.now.geometry self.now.number block }
+    /// The way that is taken next for a block that home lacks, of those that no register holds.
+    fn way_taken(&self, block: BlockNo, set: Set) -> Option<Way>
+        requires own { IsOwn self.now.geometry self.now.number block }
+        requires set { set ≡ set_of self.now.geometry block }
+        requires small { set < self.now.geometry.sets }
+        requires away { way_at self.now block ≡ None }
         ensures is { IfSome result (λ way. IsWayFor self.now (set_of self.now.geometry block) (way_at self.now block) way) }
         ensures inside { IfSome result (λ way. way < self.now.geometry.ways) }
         ensures none { is_none result ≡ (lacks self.now block && ways_held self.now (set_of self.now.geometry block)) }
     {
-        if let Some(way) = self.home.way(block) {
-            return Some(way);
-        }
-        let set = self.geometry.place(block).set;
+        let _ = block;
         self.home.choose(set, self.busy_ways(set).as_slice())
     }
 
@@ -167,38 +209,27 @@ impl Bank {
         busy
     }
 
-    /// The block that has to leave a way first that a block's register takes: none where home's copy of the block lies there.
-    fn victim_in(&self, block: BlockNo, way: Way) -> Option<BlockNo>
+    /// The block that has to leave a way first that is taken for a block which home lacks.
+    fn victim_in(&self, block: BlockNo, set: Set, way: Way) -> Option<BlockNo>
         requires own { IsOwn self.now.geometry self.now.number block }
+        requires set { set ≡ set_of self.now.geometry block }
+        requires small { set < self.now.geometry.sets }
+        requires away { way_at self.now block ≡ None }
         requires inside { way < self.now.geometry.ways }
         ensures { result ≡ victim_in self.now (set_of self.now.geometry block) (way_at self.now block) way }
     {
-        if self.home.way(block).is_some() {
-            return None;
-        }
-        self.home.block_at(self.geometry.place(block).set, way)
+        let _ = block;
+        self.home.block_at(set, way)
     }
+}
 
-    /// A way of a block's set.
-    fn way_in_set(&self, block: BlockNo, way: Way) -> WayOfSet
-        requires { block < self.now.geometry.memory_blocks }
-        ensures { result ≡ way_in_set (set_of self.now.geometry block) way }
-    {
-        WayOfSet {
-            set: self.geometry.place(block).set.number(),
-            way: way.number(),
-        }
-    }
-
-    /// What the first Acquire on its way from a client asks for.
-    fn first_grow(&self, client: ClientId) -> Grow
-        requires { client < self.now.geometry.clients }
-        ensures { result ≡ first_grow (lane_at self.now client Channel.A).messages }
-    {
-        match self.links.first(client, Channel::A) {
-            Some(message) => grow_in(&message.body),
-            None => Grow::NtoB,
-        }
+/// A way of a set.
+fn in_set(set: Set, way: Way) -> WayOfSet
+    ensures { result ≡ way_in_set set way }
+{
+    WayOfSet {
+        set: set.number(),
+        way: way.number(),
     }
 }
 

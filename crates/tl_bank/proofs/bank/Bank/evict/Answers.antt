@@ -1,5 +1,6 @@
-use Rattle.std.proofs.Common.{◌≡◌, ℕ, [], ◌∷◌, ◌++◌, Some, None, sym, ◌∙◌, subst}
+use Rattle.std.proofs.Common.{◌≡◌, ℕ, [], ◌∷◌, ◌++◌, Some, None, sym, ◌∙◌, ap, subst}
 use Rattle.tl_map.specs.Places.{set_of}
+use Rattle.tl_map.specs.declared.place.Place.{Place}
 use Rattle.tl_registers.specs.Register.{opened}
 use Rattle.tl_registers.specs.declared.register.Task.TheVariants.{Evict}
 use Rattle.tl_registers.specs.declared.way_of_set.WayOfSet.{WayOfSet}
@@ -22,8 +23,8 @@ invariant_of-self c =
     let allowed : Allowed v = subst Allowed (sym c.self.view_is) (sym c.evict_refusal.ensures ∙ c.in_default.is) in
     let lies : way_at v block ≡ Some way =
     c.self.invariant.ways.shown block (evict-allowed v block allowed).own.0 ∙ sym c.way.ensures ∙ c.unwrap-way.ensures in
-    let Held : View → Type 0 = λ w. c.way_in_set-held.result ≡ way_in_set (set_of w.geometry block) way in
-    let held : Held v = subst Held (sym c.self.view_is) c.way_in_set-held.ensures in
+    let held : c.in_set.result ≡ way_in_set (set_of v.geometry block) way =
+    c.in_set.ensures ∙ ap (λ (p : Place). way_in_set p.set way) c.place-set.ensures.is in
     let Result : WayOfSet → Type 0 = λ x. Means (record v { registers = v.registers ++ opened block x Evict ∷ [] }) (layers c.self.inside) in
     rw c.open_evict.ensures
     (subst Result (sym held) (evict-keeps v (layers c.self.inside) block way c.self.invariant allowed lies))
