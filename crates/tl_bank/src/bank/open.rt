@@ -1,10 +1,13 @@
 //! Home opens miss registers: to serve an Acquire, and to send a block away.
-ghost use Rattle.std.specs.Prelude.{◌≡◌, ◌<◌, ◌&&◌, None, IfErr, IfNone, IfSome, OnErr, OnOk, is_none};
+ghost use Rattle.std.specs.Prelude.{◌≡◌, ◌<◌, ◌&&◌, ℕ, List, ◌∷◌, None, IfErr, IfNone, IfSome, OnErr, OnOk, is_none};
 ghost use Rattle.tl_types.specs.declared.channel.Channel.{Channel};
+ghost use Rattle.tl_types.specs.declared.message.Body.TheVariants.{AcquireBlock};
+ghost use Rattle.tl_types.specs.declared.message.Message.{Message};
+ghost use Rattle.tl_types.specs.declared.permission.Grow.{Grow};
 ghost use Rattle.tl_map.specs.Places.{set_of};
 ghost use Rattle.tl_registers.specs.Registers.{held_in};
 ghost use Rattle.tl_bank_spec.specs.Cases.{block_named};
-ghost use Rattle.tl_bank_spec.specs.Effects.{Accepts, Evicts, first_grow, grow_in};
+ghost use Rattle.tl_bank_spec.specs.Effects.{Accepts, Evicts};
 ghost use Rattle.tl_bank_spec.specs.HomeCalls.{accept_cases, evict_cases};
 ghost use Rattle.tl_bank_spec.specs.HomeCases.{lacks, no_register};
 ghost use Rattle.tl_bank_spec.specs.Refusal.{IsRefused, first_of};
@@ -193,7 +196,9 @@ impl Bank {
     /// What the first Acquire on its way from a client asks for.
     fn first_grow(&self, client: ClientId) -> Grow
         requires { client < self.now.geometry.clients }
-        ensures { result ≡ first_grow (lane_at self.now client Channel.A).messages }
+        ensures { (block : ℕ) → (grow : Grow) → (rest : List Message)
+            → (lane_at self.now client Channel.A).messages ≡ (record { block = block; body = AcquireBlock grow }) ∷ rest
+            → result ≡ grow }
     {
         match self.links.first(client, Channel::A) {
             Some(message) => grow_in(&message.body),
@@ -204,7 +209,7 @@ impl Bank {
 
 /// What an Acquire asks for.
 fn grow_in(body: &Body) -> Grow
-    ensures { result ≡ grow_in body.now }
+    ensures { (grow : Grow) → body.now ≡ AcquireBlock grow → result ≡ grow }
 {
     match body {
         Body::AcquireBlock(grow) => *grow,
