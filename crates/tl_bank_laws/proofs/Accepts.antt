@@ -21,8 +21,7 @@ use Rattle.tl_registers.specs.Register.{acquire_task, opened}
 use Rattle.tl_registers.specs.Registers.{is_busy}
 use Rattle.tl_registers.specs.declared.register.Register.{Register}
 use Rattle.tl_registers.proofs.Opening.{accepting-keeps-agreement}
-use Rattle.tl_bank_spec.specs.Cases.{any_body, block_named}
-use Rattle.tl_bank_spec.specs.Effects.{first_grow, grow_in}
+use Rattle.tl_bank_spec.specs.Cases.{any_body, block_named, first_block}
 use Rattle.tl_bank_spec.specs.HomeCalls.{accept_cases}
 use Rattle.tl_bank_spec.specs.HomeCases.{lacks}
 use Rattle.tl_bank_spec.specs.Refusal.{first_of}
@@ -66,24 +65,39 @@ accept-allowed v t none =
 
 -- a list of Acquires begins with what its first message asks for
 acquire-begins : (xs : List Grow) (body : Body) (zs : List Body) → map AcquireBlock xs ≡ body ∷ zs
-    → (rest : List Grow) × (xs ≡ grow_in body ∷ rest)
+    → (grow : Grow) × (rest : List Grow) × (body ≡ AcquireBlock grow) × (xs ≡ grow ∷ rest)
 acquire-begins [] body zs e = cc
-acquire-begins (grow ∷ xs) body zs e = let h : body ≡ AcquireBlock grow = cc in (xs, rw h refl)
+acquire-begins (grow ∷ xs) body zs e = let h : body ≡ AcquireBlock grow = cc in (grow, xs, h, refl)
 
--- the client's list on A begins with an Acquire, which asks for this
+-- the first message on A is an Acquire, and the client's list of its block begins with what it asks for
 pub record Asked (v : View) (t : Ticket) : Type 0 where
+  pub grow : Grow
+  pub waits : List Message
+  pub first : (lane_at v t.client A).messages ≡ (record { block = block_named v t A; body = AcquireBlock grow }) ∷ waits
   pub rest : List Grow
-  pub list : (client_at v t.client (block_named v t A)).a ≡ first_grow (lane_at v t.client A).messages ∷ rest
+  pub list : (client_at v t.client (block_named v t A)).a ≡ grow ∷ rest
 
 -- so it does where the ticket names the first message on A
 asked-is : (v : View) (h : Layers) (t : Ticket) → Means v h → HeadAllowed v t A any_body → Asked v t
 asked-is v h t m ok =
     let x : Message = ok.first.0 in
-    let list = acquire-begins (client_at v t.client (block_named v t A)).a x.body (bodies_of x.block ok.first.1) (head-list v h t A any_body m ok) in
+    let asks = acquire-begins (client_at v t.client (block_named v t A)).a x.body (bodies_of x.block ok.first.1) (head-list v h t A any_body m ok) in
+    let says : ℕ → Body → Message = λ block body. record { block = block; body = body } in
+    let named : x.block ≡ block_named v t A = sym (ap first_block ok.first.2) in
     record {
-      rest = list.0;
-      list = list.1 ∙ ap (λ (grow : Grow). grow ∷ list.0) (sym (ap first_grow ok.first.2));
+      grow = asks.0;
+      waits = ok.first.1;
+      first =
+          ok.first.2
+          ∙ ap (λ (block : ℕ). says block x.body ∷ ok.first.1) named
+          ∙ ap (λ (body : Body). says (block_named v t A) body ∷ ok.first.1) asks.2;
+      rest = asks.1;
+      list = asks.3;
     }
+
+-- and where no refusal's case holds
+pub accept-asked : (v : View) (h : Layers) (t : Ticket) → Means v h → first_of (accept_cases v t) ≡ None → Asked v t
+accept-asked v h t m none = asked-is v h t m (accept-allowed v t none).head
 
 -- the links have the ticket's message first, where no refusal's case holds
 pub accept-head : (v : View) (h : Layers) (t : Ticket) → Means v h → first_of (accept_cases v t) ≡ None → IsHead h.links t
@@ -179,7 +193,8 @@ accepting v t block grow way victim =
 pub record Accepting (v : View) (t : Ticket) (block : ℕ) (grow : Grow) (way : ℕ) (victim : Option ℕ) : Type 0 where
   pub allowed : first_of (accept_cases v t) ≡ None
   pub block_is : block ≡ block_named v t A
-  pub grow_is : grow ≡ first_grow (lane_at v t.client A).messages
+  pub asked : Asked v t
+  pub grow_is : grow ≡ asked.grow
   pub way_is : IsWayFor v (set_of v.geometry block) (way_at v block) way
   pub victim_is : victim ≡ victim_in v (set_of v.geometry block) (way_at v block) way
 
@@ -190,14 +205,13 @@ fills-on true false new f h = rw (f refl) refl
 fills-on false old new f h = cc
 
 -- home may accept that Acquire next
-accept-event : (v : View) (h : Layers) (t : Ticket) → Means v h → AcceptAllowed v t
+accept-event : (v : View) (h : Layers) (t : Ticket) → Means v h → AcceptAllowed v t → Asked v t
     → NextEvent v (AcceptAcquire t.client (block_named v t A))
-accept-event v h t m ok =
+accept-event v h t m ok asked =
     let block : ℕ = block_named v t A in
-    let asked : Asked v t = asked-is v h t m ok.head in
     let own : IsOwn v.geometry v.number block = head-own v h t A any_body m ok.head in
     record {
-      may = (own.0, (ok.head.client, (first_grow (lane_at v t.client A).messages, asked.rest, asked.list), (m.registers.agree.at_rest block ok.free).not_accepted));
+      may = (own.0, (ok.head.client, (asked.grow, asked.rest, asked.list), (m.registers.agree.at_rest block ok.free).not_accepted));
       first = head-first v t A any_body ok.head;
       here = own.1;
       later = tt;
@@ -232,24 +246,23 @@ accept-ways v h t block grow way victim room m may =
 
 -- the bank is kept, told with the very block, grow and victim that the ticket's message and the way give
 accept-core : (v : View) (h : Layers) (t : Ticket) (way room : ℕ) (links : Table) → Means v h → first_of (accept_cases v t) ≡ None
-    → IsWayFor v (set_of v.geometry (block_named v t A)) (way_at v (block_named v t A)) way → SameLinks h.links links
+    → (asked : Asked v t) → IsWayFor v (set_of v.geometry (block_named v t A)) (way_at v (block_named v t A)) way → SameLinks h.links links
     → ((x : ℕ) (l : Channel) → lane_in links x l
     ≡ (if is_here t.client A x l then without_first (lane_in h.links x l) else lane_in h.links x l))
     → Means (opened_view v (v.log ++ AcceptAcquire t.client (block_named v t A) ∷ []) room
-    (accepting v t (block_named v t A) (first_grow (lane_at v t.client A).messages) way
+    (accepting v t (block_named v t A) asked.grow way
     (victim_in v (set_of v.geometry (block_named v t A)) (way_at v (block_named v t A)) way)))
     (record h { links = links })
-accept-core v h t way room links m none way_is same takes =
+accept-core v h t way room links m none asked way_is same takes =
     let block : ℕ = block_named v t A in
     let set : ℕ = set_of v.geometry block in
-    let grow : Grow = first_grow (lane_at v t.client A).messages in
+    let grow : Grow = asked.grow in
     let victim : Option ℕ = victim_in v set (way_at v block) way in
     let e : Event = AcceptAcquire t.client block in
     let shape = shape_of v.geometry in
     let ok : AcceptAllowed v t = accept-allowed v t none in
-    let asked : Asked v t = asked-is v h t m ok.head in
     let own : IsOwn v.geometry v.number block = head-own v h t A any_body m ok.head in
-    let event : NextEvent v e = accept-event v h t m ok in
+    let event : NextEvent v e = accept-event v h t m ok asked in
     let may : MayHold v block way victim = may-hold v h.home block way (way_at v block) m.ways own ok.free refl way_is in
     let r : Register = accepting v t block grow way victim in
     let agree = accepting-keeps-agreement shape (block_at v) v.registers t.client block grow asked.rest (way_in_set set way) victim
@@ -274,9 +287,9 @@ accept-keeps v h t block grow way victim room links m a same takes =
     let Result : ℕ → Grow → Option ℕ → Type 0 = λ b g x.
     Means (opened_view v (v.log ++ AcceptAcquire t.client b ∷ []) room (accepting v t b g way x)) (record h { links = links }) in
     let VictimAt : ℕ → Option ℕ = λ b. victim_in v (set_of v.geometry b) (way_at v b) way in
-    let core : Result (block_named v t A) (first_grow (lane_at v t.client A).messages) (VictimAt (block_named v t A)) =
-    accept-core v h t way room links m a.allowed (subst Way a.block_is a.way_is) same (subst Takes ok.head.channel takes) in
-    let at_block : Result block (first_grow (lane_at v t.client A).messages) (VictimAt block) =
-    subst (λ (b : ℕ). Result b (first_grow (lane_at v t.client A).messages) (VictimAt b)) (sym a.block_is) core in
+    let core : Result (block_named v t A) a.asked.grow (VictimAt (block_named v t A)) =
+    accept-core v h t way room links m a.allowed a.asked (subst Way a.block_is a.way_is) same (subst Takes ok.head.channel takes) in
+    let at_block : Result block a.asked.grow (VictimAt block) =
+    subst (λ (b : ℕ). Result b a.asked.grow (VictimAt b)) (sym a.block_is) core in
     let at_grow : Result block grow (VictimAt block) = subst (λ (g : Grow). Result block g (VictimAt block)) (sym a.grow_is) at_block in
     subst (λ (x : Option ℕ). Result block grow x) (sym a.victim_is) at_grow

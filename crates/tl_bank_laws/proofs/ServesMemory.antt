@@ -9,7 +9,7 @@ use Rattle.tl_protocol.specs.declared.home.Outward.{Outward}
 use Rattle.tl_protocol.specs.declared.home.Outward.TheVariants.{Quiet, Get, Data, Put, PutAck}
 use Rattle.tl_protocol.proofs.Coherent.{every_run_keeps_sizes}
 use Rattle.tl_home.specs.Homes.{HomeState, SameBank, SameHome, memory_in, outward_in, served_memory, served_outward, way_in}
-use Rattle.tl_bank_spec.specs.Effects.{reply_to}
+use Rattle.tl_bank_spec.specs.Effects.{MemoryReplies}
 use Rattle.tl_bank_spec.specs.HomeCalls.{serve_memory_cases}
 use Rattle.tl_bank_spec.specs.HomeCases.{is_request}
 use Rattle.tl_bank_spec.specs.Refusal.{first_of}
@@ -155,22 +155,22 @@ serve-keeps v h home block room m none did =
 -- ## The reply
 
 -- what passes once a request was answered says the memory's reply
-reply-of : (memory : List ℕ) (out : Outward) → IsRequest out → answered (served_outward memory out) ≡ reply_to memory out
-reply-of memory Quiet h = absurd (elim h [ inl q ↦ cc | inr q ↦ let bad = q.1 in cc ])
-reply-of memory Get h = refl
-reply-of memory (Data bytes) h = absurd (elim h [ inl q ↦ cc | inr q ↦ let bad = q.1 in cc ])
-reply-of memory (Put bytes) h = refl
-reply-of memory PutAck h = absurd (elim h [ inl q ↦ cc | inr q ↦ let bad = q.1 in cc ])
+reply-of : (s : Block) → IsRequest s.outward → MemoryReplies s (answered (served_outward s.memory s.outward))
+reply-of s h =
+    elim h [
+      | inl get ↦ inl (get, ap (λ out. answered (served_outward s.memory out)) get)
+      | inr put ↦ inr (put.0, put.1, ap (λ out. answered (served_outward s.memory out)) put.1)
+    ]
 
 -- What the memory answered is what it answers to the request.
 pub serve-reply : (v : View) (h : Layers) (home : HomeState) (block : ℕ) → Means v h → first_of (serve_memory_cases v block) ≡ None
-    → Served h.home home block
-    → answered (outward_in home block) ≡ reply_to (block_at v block).memory (block_at v block).outward
+    → Served h.home home block → MemoryReplies (block_at v block) (answered (outward_in home block))
 serve-reply v h home block m none did =
     let ok = serve-allowed v block none in
     let part = m.home block ok.own in
     let s : Block = block_at v block in
-    ap answered (did.outward block ∙ at-block block (served_outward (memory_in h.home block) (outward_in h.home block)) (outward_in h.home block)
+    let passes : outward_in home block ≡ served_outward s.memory s.outward =
+    did.outward block ∙ at-block block (served_outward (memory_in h.home block) (outward_in h.home block)) (outward_in h.home block)
     ∙ ap (λ out. served_outward (memory_in h.home block) out) part.outward
-    ∙ ap (λ bytes. served_outward bytes s.outward) part.memory)
-    ∙ reply-of s.memory s.outward ok.request
+    ∙ ap (λ bytes. served_outward bytes s.outward) part.memory in
+    subst (λ (out : Outward). MemoryReplies s (answered out)) (sym passes) (reply-of s ok.request)

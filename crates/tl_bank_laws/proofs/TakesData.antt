@@ -16,13 +16,11 @@ use Rattle.tl_registers.specs.declared.register.Register.{Register}
 use Rattle.tl_registers.specs.Agree.{Each, IsSteady}
 use Rattle.tl_registers.specs.Pending.{grant_pending}
 use Rattle.tl_registers.specs.Register.{works_on}
-use Rattle.tl_registers.specs.Registers.{register_of}
 use Rattle.tl_registers.specs.VictimWay.{IsInOrder}
 use Rattle.tl_registers.proofs.Opening.{elsewhere, here}
 use Rattle.tl_registers.proofs.Order.{placing-keeps-order}
 use Rattle.tl_registers.proofs.Tables.{IsOther, each-both, one-among}
 use Rattle.tl_home.specs.Homes.{HomeState, SameBank, SameMemory, bank_in, fetched, free_at, geometry_in, line_in, order_at, outward_in, recorded_in, way_in}
-use Rattle.tl_bank_spec.specs.Effects.{way_held_by}
 use Rattle.tl_bank_spec.specs.HomeCalls.{take_memory_cases}
 use Rattle.tl_bank_spec.specs.Refusal.{first_of}
 use Rattle.tl_bank_spec.specs.View.{View, block_at, shape_of}
@@ -30,6 +28,7 @@ use Rattle.tl_bank_spec.specs.Own.{IsOwn, way_at, ways_below}
 use Rattle.tl_bank_spec.specs.Ways.{slot_at, slots_at}
 use Rattle.tl_bank_laws.specs.Layers.{Layers}
 use Rattle.tl_bank_laws.specs.Means.{HoldsWay, IsHome, Means, WaysFit, is_filling, is_filling_by}
+use Rattle.tl_bank_laws.specs.Memory.{RegisterHolds}
 use Rattle.tl_bank_laws.proofs.Fetched.{DataComes, HoldsOther, any-found, data-comes, one-way, works-own}
 use Rattle.tl_bank_laws.proofs.HomeSteps.{SameAt, homes-event, homes-layers}
 use Rattle.tl_bank_laws.proofs.Moves.{Comes, Moves, at-block, at-other, empty-lies, lies-of, moved-here, moved-lies, moved-other, of-lies, slot-comes, slot-comes-other, slots-come, slots-come-other, with_ways}
@@ -385,7 +384,7 @@ data-fits v h home block way room m d did =
 -- The bank after home took the bytes.
 pub data-keeps : (v : View) (h : Layers) (home : HomeState) (block way room : ℕ) → Means v h
     → first_of (take_memory_cases v block) ≡ None → IsData (block_at v block).outward
-    → way_held_by (register_of block v.registers) ≡ Some way → TookData h.home home block way
+    → RegisterHolds v block way → TookData h.home home block way
     → Means (next_view v (TakeData block) room v.registers (home_ways v home)) (record h { home = home })
 data-keeps v h home block way room m none came held did =
     let d = data-comes v h block way m none came held in
@@ -412,7 +411,7 @@ pub record MayPlace (home : HomeState) (number place : ℕ) : Type 0 where
 
 -- so it is where bytes came, the block's register holds the way, and no refusal's case holds
 pub data-place : (v : View) (h : Layers) (block way : ℕ) → Means v h → first_of (take_memory_cases v block) ≡ None
-    → IsData (block_at v block).outward → way_held_by (register_of block v.registers) ≡ Some way → MayPlace h.home block way
+    → IsData (block_at v block).outward → RegisterHolds v block way → MayPlace h.home block way
 data-place v h block way m none came held =
     let d = data-comes v h block way m none came held in
     let part = m.home block d.own in

@@ -1,6 +1,10 @@
--- What the memory answered, by what waits for home. No public clause cites this module.
+-- What the memory answered, and the way that takes the bytes. No public clause cites this module.
+use Rattle.std.specs.Prelude.{◌≡◌, ℕ, Some}
 use Rattle.tl_protocol.specs.declared.home.Outward.{Outward}
 use Rattle.tl_protocol.specs.declared.home.Outward.TheVariants.{Quiet, Get, Data, Put, PutAck}
+use Rattle.tl_registers.specs.Registers.{register_of}
+use Rattle.tl_registers.specs.declared.register.Register.{Register}
+use Rattle.tl_bank_spec.specs.View.{View}
 use Rattle.tl_bank_spec.specs.declared.reply.Reply.{Reply}
 use Rattle.tl_bank_spec.specs.declared.reply.Reply.TheVariants.{AccessAckData, AccessAck}
 
@@ -11,3 +15,8 @@ answered Get = AccessAck
 answered (Data bytes) = AccessAckData bytes
 answered (Put bytes) = AccessAck
 answered PutAck = AccessAck
+
+-- a block has a register, which holds this way
+abbrev pub RegisterHolds : View → ℕ → ℕ → Type 0
+RegisterHolds v block way =
+    (register : Register) × (register_of block v.registers ≡ Some register) × (register.way.way ≡ way)

@@ -1,17 +1,16 @@
 -- What the calls of home and of the memory leave, and what they answer (this project's own).
-use Rattle.std.specs.Prelude.{◌≡◌, ℕ, ◌+◌, ◌==◌, ◌≤◌, List, [], ◌∷◌, ◌++◌, Option, Some, None, if◌then◌else◌}
+use Rattle.std.specs.Prelude.{◌≡◌, ◌⊎◌, ℕ, ◌+◌, ◌==◌, ◌≤◌, List, [], ◌∷◌, ◌++◌, Option, Some, None, if◌then◌else◌}
 use Rattle.tl_types.specs.declared.channel.Channel.TheVariants.{A, B, C, D}
-use Rattle.tl_types.specs.declared.message.Body.{Body}
-use Rattle.tl_types.specs.declared.message.Body.TheVariants.{AcquireBlock, ProbeBlock, Upward as b_Upward, Downward as b_Downward, GrantAck}
+use Rattle.tl_types.specs.declared.message.Body.TheVariants.{AcquireBlock}
 use Rattle.tl_types.specs.declared.message.Message.{Message}
 use Rattle.tl_types.specs.declared.permission.Grow.{Grow}
-use Rattle.tl_types.specs.declared.permission.Grow.TheVariants.{NtoB}
 use Rattle.tl_types.specs.declared.ticket.Ticket.{Ticket}
 use Rattle.tl_map.specs.Places.{set_of}
+use Rattle.tl_protocol.specs.Home.{IsData}
+use Rattle.tl_protocol.specs.Protocol.{Block}
 use Rattle.tl_protocol.specs.declared.event.Event.{Event}
 use Rattle.tl_protocol.specs.declared.event.Event.TheVariants.{AcceptAcquire, TakeData, TakePutAck}
-use Rattle.tl_protocol.specs.declared.home.Outward.{Outward}
-use Rattle.tl_protocol.specs.declared.home.Outward.TheVariants.{Quiet, Get, Data, Put, PutAck}
+use Rattle.tl_protocol.specs.declared.home.Outward.TheVariants.{Get, Put, PutAck}
 use Rattle.tl_registers.specs.Fit.{event_of}
 use Rattle.tl_registers.specs.Register.{acquire_task, opened}
 use Rattle.tl_registers.specs.Registers.{ended, noted, register_of}
@@ -21,7 +20,7 @@ use Rattle.tl_registers.specs.declared.register.Register.{Register}
 use Rattle.tl_registers.specs.declared.register.Task.TheVariants.{Evict}
 use Rattle.tl_bank_spec.specs.Cases.{begins, is_a_release, waiting_at}
 use Rattle.tl_bank_spec.specs.HomeCases.{due_at}
-use Rattle.tl_bank_spec.specs.View.{View}
+use Rattle.tl_bank_spec.specs.View.{View, block_at}
 use Rattle.tl_bank_spec.specs.Channels.{next_ticket}
 use Rattle.tl_bank_spec.specs.Own.{way_at}
 use Rattle.tl_bank_spec.specs.Ways.{IsWayFor, victim_in, way_in_set}
@@ -40,27 +39,17 @@ pub record Serves (old new : View) (event : Event) (open_then : List Register) (
 
 -- ## accept
 
--- what an AcquireBlock asks for; any other message is read as NtoB
-abbrev pub grow_in : Body → Grow
-grow_in (AcquireBlock grow) = grow
-grow_in (ProbeBlock cap) = NtoB
-grow_in (b_Upward message) = NtoB
-grow_in (b_Downward message) = NtoB
-grow_in GrantAck = NtoB
-
--- what the first message asks for, an AcquireBlock; any other is read as NtoB
-abbrev pub first_grow : List Message → Grow
-first_grow [] = NtoB
-first_grow (first ∷ rest) = grow_in first.body
-
--- A register is open for the Acquire of a ticket, with the way that the rules say.
+-- A register is open for the Acquire of a ticket, the first message that waits on A, with the way that the rules say.
 pub record Accepts (old new : View) (ticket : Ticket) (block set : ℕ) : Type 0 where
+  pub grow : Grow
+  pub rest : List Message
+  pub first : waiting_at old ticket A ≡ (record { block = block; body = AcquireBlock grow }) ∷ rest
   pub way : ℕ
   pub is_way : IsWayFor old set (way_at old block) way
   pub serves :
       Serves old new (AcceptAcquire ticket.client block)
       (old.registers ++ opened block (way_in_set set way)
-      (acquire_task (record { client = ticket.client; grow = first_grow (waiting_at old ticket A) })
+      (acquire_task (record { client = ticket.client; grow = grow })
       (victim_in old set (way_at old block) way)) ∷ []) (way_at old)
 
 -- ## evict
@@ -120,39 +109,25 @@ answer_to v ticket = if begins is_a_release (waiting_at v ticket C) then Some (n
 
 -- ## The memory
 
--- what the memory answers to a request, a Get or a Put; anything else is read as a Put
-abbrev pub reply_to : List ℕ → Outward → Reply
-reply_to memory Quiet = AccessAck
-reply_to memory Get = AccessAckData memory
-reply_to memory (Data bytes) = AccessAck
-reply_to memory (Put bytes) = AccessAck
-reply_to memory PutAck = AccessAck
+-- what the memory answers: to a Get the block's bytes, to a Put that they are written
+abbrev pub MemoryReplies : Block → Reply → Type 0
+MemoryReplies block reply =
+    ((block.outward ≡ Get) × (reply ≡ AccessAckData block.memory))
+    ⊎ ((bytes : List ℕ) × (block.outward ≡ Put bytes) × (reply ≡ AccessAck))
 
--- home takes a block's bytes, or the acknowledgement of a Put; anything else is read as bytes
-abbrev pub taking : ℕ → Outward → Event
-taking block Quiet = TakeData block
-taking block Get = TakeData block
-taking block (Data bytes) = TakeData block
-taking block (Put bytes) = TakeData block
-taking block PutAck = TakePutAck block
+-- Home takes the bytes that it asked for: the block lies in the way that its register holds.
+pub record TakesData (old new : View) (block : ℕ) : Type 0 where
+  pub came : IsData (block_at old block).outward
+  pub register : Register
+  pub is_register : register_of block old.registers ≡ Some register
+  pub serves :
+      Serves old new (TakeData block) old.registers (λ b. if b == block then Some register.way.way else way_at old b)
 
--- the registers then: the acknowledgement ends the victim
-abbrev pub registers_then : ℕ → Outward → List Register → List Register
-registers_then block Quiet registers = registers
-registers_then block Get registers = registers
-registers_then block (Data bytes) registers = registers
-registers_then block (Put bytes) registers = registers
-registers_then block PutAck registers = ended block registers
+-- Home takes the acknowledgement of a Put: the block is no register's victim any more.
+pub record TakesPutAck (old new : View) (block : ℕ) : Type 0 where
+  pub came : (block_at old block).outward ≡ PutAck
+  pub serves : Serves old new (TakePutAck block) (ended block old.registers) (way_at old)
 
--- the way that a register holds; none where there is no register
-abbrev pub way_held_by : Option Register → Option ℕ
-way_held_by None = None
-way_held_by (Some register) = Some register.way.way
-
--- the ways then: a block whose bytes came lies in the way that its register holds
-abbrev pub ways_then : ℕ → Outward → List Register → (ℕ → Option ℕ) → ℕ → Option ℕ
-ways_then came Quiet registers ways = ways
-ways_then came Get registers ways = ways
-ways_then came (Data bytes) registers ways = λ block. if block == came then way_held_by (register_of came registers) else ways block
-ways_then came (Put bytes) registers ways = ways
-ways_then came PutAck registers ways = ways
+-- home takes what the memory answered: bytes, or the acknowledgement of a Put
+abbrev pub TakesMemory : View → View → ℕ → Type 0
+TakesMemory old new block = TakesData old new block ⊎ TakesPutAck old new block

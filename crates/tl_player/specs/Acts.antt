@@ -16,7 +16,7 @@ use Rattle.tl_words.specs.declared.step.TicketCall.TheVariants.{AnswerProbe, Tak
 use Rattle.tl_bank_spec.specs.Calls.{load_cases, store_cases, acquire_cases, release_cases, answer_probe_cases, take_grant_cases, take_release_ack_cases}
 use Rattle.tl_bank_spec.specs.Cases.{block_named}
 use Rattle.tl_bank_spec.specs.Delivered.{Sends}
-use Rattle.tl_bank_spec.specs.Effects.{Accepts, Advances, Evicts, Serves, answer_to, registers_then, reply_to, taking, ways_then}
+use Rattle.tl_bank_spec.specs.Effects.{Accepts, Advances, Evicts, MemoryReplies, Serves, TakesMemory, answer_to}
 use Rattle.tl_bank_spec.specs.HomeCalls.{accept_cases, advance_cases, evict_cases, serve_memory_cases, take_c_cases, take_grant_ack_cases, take_memory_cases}
 use Rattle.tl_bank_spec.specs.Refusal.{first_of}
 use Rattle.tl_bank_spec.specs.Share.{Holding, recounted}
@@ -27,6 +27,7 @@ use Rattle.tl_bank_spec.specs.Channels.{next_ticket}
 use Rattle.tl_bank_spec.specs.Own.{way_at}
 use Rattle.tl_bank_spec.specs.declared.action.Action.{Action}
 use Rattle.tl_bank_spec.specs.declared.refusal.Refusal.{Refusal}
+use Rattle.tl_bank_spec.specs.declared.reply.Reply.{Reply}
 use Rattle.tl_trace.specs.declared.answer.Answer.{Answer}
 use Rattle.tl_trace.specs.declared.answer.Answer.TheVariants.{Loaded, Done}
 use Rattle.tl_player.specs.Answers.{Answers, Shows, ShowsAction, ShowsIfSent, ShowsMemory, message_in}
@@ -137,15 +138,13 @@ pub record SendsAway (old new : View) (block : ℕ) (answer : Answer) : Type 0 w
 -- The memory answers a request, and the answer shows that.
 pub record Replies (old new : View) (block : ℕ) (answer : Answer) : Type 0 where
   pub serves : Serves old new (event.Serve block) old.registers (way_at old)
-  pub shows :
-      ShowsMemory new (message_in (reply_to (block_at old block).memory (block_at old block).outward)) answer
+  pub reply : Reply
+  pub replies : MemoryReplies (block_at old block) reply
+  pub shows : ShowsMemory new (message_in reply) answer
 
 -- Home takes what the memory answered.
 pub record TakesReply (old new : View) (block : ℕ) (answer : Answer) : Type 0 where
-  pub serves :
-      Serves old new (taking block (block_at old block).outward)
-      (registers_then block (block_at old block).outward old.registers)
-      (ways_then block (block_at old block).outward old.registers (way_at old))
+  pub takes : TakesMemory old new block
   pub says : answer ≡ Done
 
 -- ## Steps

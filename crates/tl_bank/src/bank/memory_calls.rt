@@ -1,7 +1,7 @@
 //! What passes between home and the memory: the memory answers a request, and home takes the answer.
-ghost use Rattle.std.specs.Prelude.{◌≡◌, ◌==◌, None, Some, IfErr, IfOk, OnErr, OnOk, if◌then◌else◌};
-ghost use Rattle.tl_bank_laws.specs.Memory.{answered};
-ghost use Rattle.tl_bank_spec.specs.Effects.{Serves, registers_then, reply_to, taking, way_held_by, ways_then};
+ghost use Rattle.std.specs.Prelude.{◌≡◌, None, IfErr, IfOk, OnErr, OnOk};
+ghost use Rattle.tl_bank_laws.specs.Memory.{RegisterHolds, answered};
+ghost use Rattle.tl_bank_spec.specs.Effects.{MemoryReplies, Serves, TakesData, TakesMemory, TakesPutAck};
 ghost use Rattle.tl_bank_spec.specs.HomeCalls.{serve_memory_cases, take_memory_cases};
 ghost use Rattle.tl_bank_spec.specs.Refusal.{IsRefused, first_of};
 ghost use Rattle.tl_bank_spec.specs.View.{block_at};
@@ -10,7 +10,6 @@ ghost use Rattle.tl_home.specs.Homes.{outward_in};
 ghost use Rattle.tl_protocol.specs.Home.{IsData};
 ghost use Rattle.tl_protocol.specs.declared.event.Event.{Event};
 ghost use Rattle.tl_protocol.specs.declared.home.Outward.{Outward};
-ghost use Rattle.tl_registers.specs.Registers.{ended, register_of};
 
 use crate::bank::Bank;
 use tl_bank_spec::{Refusal, Reply};
@@ -28,8 +27,7 @@ impl Bank {
         ensures unchanged { OnErr result (self.new ≡ self.old) }
         ensures permitted { OnOk result (first_of (serve_memory_cases self.old block) ≡ None) }
         ensures serves { OnOk result (Serves self.old self.new (Event.Serve block) self.old.registers (way_at self.old)) }
-        ensures reply { IfOk result
-            (λ reply. reply ≡ reply_to (block_at self.old block).memory (block_at self.old block).outward) }
+        ensures reply { IfOk result (λ reply. MemoryReplies (block_at self.old block) reply) }
     {
         if let Some(refusal) = self.serve_memory_refusal(block) {
             return Err(refusal);
@@ -49,10 +47,7 @@ impl Bank {
         ensures refused { IfErr result (λ r. IsRefused (first_of (take_memory_cases self.old block)) self.old.room r) }
         ensures unchanged { OnErr result (self.new ≡ self.old) }
         ensures permitted { OnOk result (first_of (take_memory_cases self.old block) ≡ None) }
-        ensures serves { OnOk result
-            (Serves self.old self.new (taking block (block_at self.old block).outward)
-            (registers_then block (block_at self.old block).outward self.old.registers)
-            (ways_then block (block_at self.old block).outward self.old.registers (way_at self.old))) }
+        ensures takes { OnOk result (TakesMemory self.old self.new block) }
     {
         if let Some(refusal) = self.take_memory_refusal(block) {
             return Err(refusal);
@@ -70,9 +65,7 @@ impl Bank {
         requires data { IsData (block_at self.old block).outward }
         ensures refused { IfErr result (λ refusal. (refusal ≡ Refusal.Memory) × (self.old.room ≡ 0)) }
         ensures unchanged { OnErr result (self.new ≡ self.old) }
-        ensures serves { OnOk result
-            (Serves self.old self.new (Event.TakeData block) self.old.registers
-            (λ b. if b == block then way_held_by (register_of block self.old.registers) else way_at self.old b)) }
+        ensures takes { OnOk result (TakesData self.old self.new block) }
     {
         let way = self.way_of_data(block);
         self.make_room()?;
@@ -87,8 +80,7 @@ impl Bank {
         requires put_ack { (block_at self.old block).outward ≡ Outward.PutAck }
         ensures refused { IfErr result (λ refusal. (refusal ≡ Refusal.Memory) × (self.old.room ≡ 0)) }
         ensures unchanged { OnErr result (self.new ≡ self.old) }
-        ensures serves { OnOk result
-            (Serves self.old self.new (Event.TakePutAck block) (ended block self.old.registers) (way_at self.old)) }
+        ensures takes { OnOk result (TakesPutAck self.old self.new block) }
     {
         self.make_room()?;
         self.home.take_put_ack(block);
@@ -100,7 +92,7 @@ impl Bank {
     /// The way that the register of a block holds whose bytes come.
     fn way_of_data(&self, block: BlockNo) -> Way
         requires { IsData (block_at self.now block).outward }
-        ensures { way_held_by (register_of block self.now.registers) ≡ Some result }
+        ensures { RegisterHolds self.now block result }
     {
         let register = self.registers.of_block(block).unwrap();
         Way::new(register.way.way)

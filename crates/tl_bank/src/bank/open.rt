@@ -1,10 +1,13 @@
 //! Home opens miss registers: to serve an Acquire, and to send a block away.
-ghost use Rattle.std.specs.Prelude.{◌≡◌, ◌<◌, ◌&&◌, None, IfErr, IfOk, IfSome, OnErr, OnOk, is_none};
+ghost use Rattle.std.specs.Prelude.{◌≡◌, ◌<◌, ◌&&◌, ℕ, List, ◌∷◌, None, IfErr, IfOk, IfSome, OnErr, OnOk, is_none};
 ghost use Rattle.tl_types.specs.declared.channel.Channel.{Channel};
+ghost use Rattle.tl_types.specs.declared.message.Body.TheVariants.{AcquireBlock};
+ghost use Rattle.tl_types.specs.declared.message.Message.{Message};
+ghost use Rattle.tl_types.specs.declared.permission.Grow.{Grow};
 ghost use Rattle.tl_map.specs.Places.{set_of};
 ghost use Rattle.tl_registers.specs.Registers.{held_in};
 ghost use Rattle.tl_bank_spec.specs.Cases.{block_named};
-ghost use Rattle.tl_bank_spec.specs.Effects.{Accepts, Evicts, first_grow, grow_in};
+ghost use Rattle.tl_bank_spec.specs.Effects.{Accepts, Evicts};
 ghost use Rattle.tl_bank_spec.specs.HomeCalls.{accept_cases, evict_cases};
 ghost use Rattle.tl_bank_spec.specs.HomeCases.{lacks, no_register};
 ghost use Rattle.tl_bank_spec.specs.Refusal.{IsRefused, first_of};
@@ -85,7 +88,9 @@ impl Bank {
         ensures refused { IfErr result (λ r. first_of (accept_cases self.now ticket.now) ≡ Some r) }
         ensures permitted { OnOk result (first_of (accept_cases self.now ticket.now) ≡ None) }
         ensures block { IfOk result (λ a. a.block ≡ block_named self.now ticket.now Channel.A) }
-        ensures grow { IfOk result (λ a. a.grow ≡ first_grow (lane_at self.now ticket.now.client Channel.A).messages) }
+        ensures grow { IfOk result (λ a. (block : ℕ) → (grow : Grow) → (rest : List Message)
+            → (lane_at self.now ticket.now.client Channel.A).messages ≡ (record { block = block; body = AcquireBlock grow }) ∷ rest
+            → a.grow ≡ grow) }
         ensures set { IfOk result (λ a. a.opening.way.set ≡ set_of self.now.geometry a.block) }
         ensures way { IfOk result (λ a. IsWayFor self.now (set_of self.now.geometry a.block) (way_at self.now a.block) a.opening.way.way) }
         ensures victim { IfOk result
@@ -235,7 +240,7 @@ fn in_set(set: Set, way: Way) -> WayOfSet
 
 /// What an Acquire asks for.
 fn grow_in(body: &Body) -> Grow
-    ensures { result ≡ grow_in body.now }
+    ensures { (grow : Grow) → body.now ≡ AcquireBlock grow → result ≡ grow }
 {
     match body {
         Body::AcquireBlock(grow) => *grow,

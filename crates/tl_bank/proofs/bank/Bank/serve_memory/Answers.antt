@@ -3,7 +3,7 @@ use Rattle.tl_map.specs.Numbers.{Numbers}
 use Rattle.tl_protocol.specs.Sizes.{IsWhole, outward_bytes}
 use Rattle.tl_protocol.specs.declared.event.Event.TheVariants.{Serve}
 use Rattle.tl_home.specs.Homes.{outward_in, way_in}
-use Rattle.tl_bank_spec.specs.Effects.{reply_to}
+use Rattle.tl_bank_spec.specs.Effects.{MemoryReplies}
 use Rattle.tl_bank_spec.specs.HomeCalls.{serve_memory_cases}
 use Rattle.tl_bank_spec.specs.Refusal.{first_of}
 use Rattle.tl_bank_spec.specs.View.{View, block_at}
@@ -69,12 +69,12 @@ returns-clause-reply c =
     let none : first_of (serve_memory_cases v c.args.block) ≡ None =
     subst (λ (w : View). first_of (serve_memory_cases w c.args.block) ≡ None) (sym made)
     (sym c.serve_memory_refusal.ensures ∙ c.in_default.is) in
-    c.answered-reply.ensures
-    ∙ serve-reply v (layers c.self.inside) c.serve.new.self c.args.block c.self.invariant none
+    subst (λ (w : View). MemoryReplies (block_at w c.args.block) c.answered-reply.result) made
+    (rw c.answered-reply.ensures
+    (serve-reply v (layers c.self.inside) c.serve.new.self c.args.block c.self.invariant none
     (record {
       bank = c.serve.ensures.bank;
       home = c.serve.ensures.home;
       outward = c.serve.ensures.outward;
       memory = c.serve.ensures.memory;
-    })
-    ∙ ap (λ (w : View). reply_to (block_at w c.args.block).memory (block_at w c.args.block).outward) made
+    })))

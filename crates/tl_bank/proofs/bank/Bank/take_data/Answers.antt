@@ -2,13 +2,13 @@ use Rattle.std.proofs.Common.{◌≡◌, ℕ, ◌+◌, ◌==◌, Option, Some, N
 use Rattle.tl_protocol.specs.Home.{IsData}
 use Rattle.tl_protocol.specs.declared.event.Event.TheVariants.{TakeData}
 use Rattle.tl_home.specs.Homes.{HomeState, way_in}
-use Rattle.tl_registers.specs.Registers.{register_of}
-use Rattle.tl_bank_spec.specs.Effects.{way_held_by}
+use Rattle.tl_registers.specs.declared.register.Register.{Register}
 use Rattle.tl_bank_spec.specs.HomeCalls.{take_memory_cases}
 use Rattle.tl_bank_spec.specs.Refusal.{first_of}
 use Rattle.tl_bank_spec.specs.View.{View, block_at}
 use Rattle.tl_bank_spec.specs.Own.{way_at}
 use Rattle.tl_bank.specs.Shown.{shown, layers}
+use Rattle.tl_bank_laws.specs.Memory.{RegisterHolds}
 use Rattle.tl_bank_laws.proofs.Moves.{list-moves}
 use Rattle.tl_bank_laws.proofs.Serves.{serves-next}
 use Rattle.tl_bank_laws.proofs.TakesData.{data-keeps, data-place, home_ways}
@@ -19,7 +19,7 @@ use Rattle.tl_bank.proofs.bank.Bank.take_data.Goals as goal
 record Takes (v : View) (block way : ℕ) : Type 0 where
   pub permitted : first_of (take_memory_cases v block) ≡ None
   pub came : IsData (block_at v block).outward
-  pub held : way_held_by (register_of block v.registers) ≡ Some way
+  pub held : RegisterHolds v block way
 
 pub take_data-requires-clause-away : goal.take_data-requires-clause-away
 take_data-requires-clause-away c =
@@ -65,25 +65,32 @@ invariant_of-self c =
       memory = c.take_data.ensures.memory;
     }))
 
-pub returns-clause-serves : goal.returns-clause-serves
-returns-clause-serves c =
+pub returns-clause-takes : goal.returns-clause-takes
+returns-clause-takes c =
     let v : View = shown c.self.inside in
     let old : View = c.args.self.now in
     let block : ℕ = c.args.block in
     let way : ℕ = c.way_of_data-way.result in
     let home : HomeState = c.take_data.new.self in
     let made : v ≡ record old { room = c.make_room.new.self.room } = c.self.view_is ∙ c.make_room.ensures.same in
-    let held : way_held_by (register_of block old.registers) ≡ Some way = c.way_of_data-way.ensures in
+    let held : RegisterHolds old block way = c.way_of_data-way.ensures in
+    let register : Register = held.0 in
+    let lies : Some register.way.way ≡ Some way = ap (λ (x : ℕ). Some x) held.2 in
     let takes : Takes v block way =
     subst (λ (w : View). Takes w block way) (sym made)
     (record { permitted = c.requires.permitted; came = c.requires.data; held = held }) in
     let left : c.append.new.self.room + 1 ≡ c.self.inside.log.room = c.append.ensures.room in
     let was : c.self.inside.log.room ≡ c.make_room.new.self.room = ap (λ (w : View). w.room) made in
-    rw c.append.ensures.events
-    (serves-next old v (TakeData block) c.make_room.new.self.room c.append.new.self.room v.registers old.registers (home_ways v home)
-    (λ b. if b == block then way_held_by (register_of block old.registers) else way_at old b) made c.make_room.ensures.grows
-    (omega (arith, left, was)) (ap (λ (w : View). w.registers) made)
-    (λ b.
-    list-moves (way_in c.self.inside.home) (way_in home) v.geometry.memory_blocks block (Some way) (take-own v block takes.permitted).0 c.take_data.ensures.ways b
-    ∙ ap (λ (w : View). if b == block then Some way else way_at w b) made
-    ∙ ap (λ (at : Option ℕ). if b == block then at else way_at old b) (sym held)))
+    record {
+      came = c.requires.data;
+      register = register;
+      is_register = held.1;
+      serves = rw c.append.ensures.events
+          (serves-next old v (TakeData block) c.make_room.new.self.room c.append.new.self.room v.registers old.registers (home_ways v home)
+          (λ b. if b == block then Some register.way.way else way_at old b) made c.make_room.ensures.grows
+          (omega (arith, left, was)) (ap (λ (w : View). w.registers) made)
+          (λ b.
+          list-moves (way_in c.self.inside.home) (way_in home) v.geometry.memory_blocks block (Some way) (take-own v block takes.permitted).0 c.take_data.ensures.ways b
+          ∙ ap (λ (w : View). if b == block then Some way else way_at w b) made
+          ∙ ap (λ (at : Option ℕ). if b == block then at else way_at old b) (sym lies)));
+    }

@@ -30,8 +30,8 @@ invariant_of-self c =
       memory = c.take_put_ack.ensures.memory;
     }))
 
-pub returns-clause-serves : goal.returns-clause-serves
-returns-clause-serves c =
+pub returns-clause-takes : goal.returns-clause-takes
+returns-clause-takes c =
     let v : View = shown c.self.inside in
     let old : View = c.args.self.now in
     let made : v ≡ record old { room = c.make_room.new.self.room } = c.self.view_is ∙ c.make_room.ensures.same in
@@ -41,8 +41,11 @@ returns-clause-serves c =
     ∙ ap (λ (w : View). w.ways) made in
     let left : c.append.new.self.room + 1 ≡ c.self.inside.log.room = c.append.ensures.room in
     let was : c.self.inside.log.room ≡ c.make_room.new.self.room = ap (λ (w : View). w.room) made in
-    rw (c.append.ensures.events, c.end_victim.ensures)
-    (serves-next old v (TakePutAck c.args.block) c.make_room.new.self.room c.append.new.self.room (ended c.args.block v.registers)
-    (ended c.args.block old.registers) (ways_below (way_in c.take_put_ack.new.self) v.geometry.memory_blocks) (way_at old) made
-    c.make_room.ensures.grows (omega (arith, left, was)) (ap (λ (w : View). ended c.args.block w.registers) made)
-    (λ b. ap (λ (ways : List (Option ℕ)). slice_index_or ways b None) same))
+    record {
+      came = c.requires.put_ack;
+      serves = rw (c.append.ensures.events, c.end_victim.ensures)
+          (serves-next old v (TakePutAck c.args.block) c.make_room.new.self.room c.append.new.self.room (ended c.args.block v.registers)
+          (ended c.args.block old.registers) (ways_below (way_in c.take_put_ack.new.self) v.geometry.memory_blocks) (way_at old) made
+          c.make_room.ensures.grows (omega (arith, left, was)) (ap (λ (w : View). ended c.args.block w.registers) made)
+          (λ b. ap (λ (ways : List (Option ℕ)). slice_index_or ways b None) same));
+    }
