@@ -1,16 +1,21 @@
 #!/usr/bin/env python3
-"""soak.py TLCACHE TLCHECK [RUNS] [TRACES] [SEED]: plays random scripts through `run` and `trace`, and checks each answer by itself.
+"""soak.py TLCACHE TLCHECK [RUNS] [TRACES] [SEED] [--tlgen TLGEN]: plays random scripts through `run` and `trace`, and checks each answer by itself.
 
 A run: status 0; each client's lines are its commands, in order; a client sees its own last store to a byte, where no other stores there; of the
 stores of one writer it never sees an older one after a newer one; with one client each load is exact; each bank's held equals its recorded.
 A trace: random steps, each next one made of the answers before, a share of them refused; the events that the answers tell are given to tlcheck,
 bank by bank, which must call them lawful. Prints the figures, and ends with status 1 where an answer was another.
+
+With --tlgen the scripts are those that TLGEN, a built tlgen, prints. Their stores are of any bytes: of a run each byte of a load is the
+image's or was stored there by somebody, and where nobody else stores there, the client's own last one; of a trace as many steps are refused
+as the script's first line says.
 """
 import os
 import random
 import subprocess
 import sys
 import tempfile
+import tomllib
 from concurrent.futures import ThreadPoolExecutor
 
 PATIENCE = 120
@@ -244,6 +249,81 @@ class Trace:
         self.banks, self.sets = banks, sets
 
 
+class GivenRun:
+    """A script that tlgen prints for `run`, and the check of its report."""
+
+    def __init__(self, text):
+        script = tomllib.loads(text)
+        self.script, self.banks = text, script["banks"]
+        self.image = bytes.fromhex(script["image"])
+        self.commands = [[command.split(" ") for command in commands] for commands in script["commands"]]
+        # (who stored which bytes at each address)
+        self.stores = {}
+        for client, commands in enumerate(self.commands):
+            for words in commands:
+                if words[0] == "store":
+                    for at, byte in enumerate(bytes.fromhex(words[2]), int(words[1], 16)):
+                        self.stores.setdefault(at, []).append((client, byte))
+
+    def text(self):
+        return self.script
+
+    def wrong(self, status, output, fault):
+        """What is wrong with an answer, if anything is."""
+        if status or fault:
+            return f"status {status}, {fault!r}"
+        lines = iter(output.decode().splitlines())
+        for client, commands in enumerate(self.commands):
+            if next(lines) != f"client {client}":
+                return f"no line of client {client}"
+            own = {}
+            for index, words in enumerate(commands):
+                said = self.line(client, index, words, next(lines), own)
+                if said:
+                    return said
+        for bank in range(self.banks):
+            words = next(lines).split(" ")
+            if words[:3] != ["bank", str(bank), "held"] or words[4] != "recorded" or words[3] != words[5]:
+                return f"bank {bank}: {words}"
+        return None if list(lines) == ["ok"] else "no end"
+
+    def line(self, client, index, words, line, own):
+        begin = " ".join([str(index), *words[:2]])
+        if words[0] != "load":
+            own.update(enumerate(bytes.fromhex(words[2]), int(words[1], 16)) if words[0] == "store" else ())
+            return None if line == " ".join([str(index), *words]) else f"{line}, and not {words}"
+        got = bytes.fromhex(line.removeprefix(begin + " "))
+        if len(got) != int(words[2]):
+            return f"{line}: {len(got)} bytes"
+        for at, byte in enumerate(got, int(words[1], 16)):
+            first = self.image[at] if at < len(self.image) else 0
+            stores = self.stores.get(at, [])
+            if all(writer == client for writer, _ in stores):
+                if byte != own.get(at, first):
+                    return f"{line}: byte {at:#x} of client {client} is not its last store"
+            elif byte != first and all(byte != stored for _, stored in stores):
+                return f"{line}: byte {at:#x} was never stored"
+        return None
+
+
+class GivenTrace(Trace):
+    """A script that tlgen prints for `trace`."""
+
+    def __init__(self, text, ask):
+        script = tomllib.loads(text)
+        self.ask, self.script, self.numbers, self.steps = ask, text, script, script["steps"]
+        self.image = bytes.fromhex(script["image"])
+
+    def grow(self):
+        status, output, fault = self.ask(self.script)
+        if status or fault:
+            return f"status {status}, {fault!r}"
+        self.answers = [line.split(" ")[1:] for line in output.decode().splitlines()[:len(self.steps)]]
+        refused = sum(answer[0] == "refused" for answer in self.answers)
+        told = self.script.splitlines()[0]
+        return None if told == f"# {len(self.steps)} steps, {refused} of them refused" else f"{refused} refused, and not {told}"
+
+
 def places(numbers):
     """Each block's bank, the exclusive or of its groups of bits, and its set."""
     bank_bits, set_bits = numbers["banks"].bit_length() - 1, numbers["sets"].bit_length() - 1
@@ -259,8 +339,12 @@ def places(numbers):
 
 
 class Soak:
-    def __init__(self, tlcache, tlcheck, folder):
-        self.tlcache, self.tlcheck, self.folder = tlcache, tlcheck, folder
+    def __init__(self, tlcache, tlcheck, tlgen, folder):
+        self.tlcache, self.tlcheck, self.tlgen, self.folder = tlcache, tlcheck, tlgen, folder
+
+    def given(self, seed, *words):
+        """What tlgen prints."""
+        return subprocess.run([self.tlgen, str(seed), *words], capture_output=True, timeout=PATIENCE, check=True).stdout.decode()
 
     def answer(self, words, name, text):
         path = os.path.join(self.folder, name)
@@ -274,11 +358,13 @@ class Soak:
         return ran.returncode, ran.stdout, ran.stderr
 
     def run(self, seed):
-        run = Run(seed)
+        run = GivenRun(self.given(seed, "run")) if self.tlgen else Run(seed)
         return run.wrong(*self.answer([self.tlcache, "run"], f"run{seed}", run.text()))
 
     def trace(self, seed):
-        trace = Trace(seed, lambda text: self.answer([self.tlcache, "trace"], f"trace{seed}", text))
+        ask = lambda text: self.answer([self.tlcache, "trace"], f"trace{seed}", text)
+        # (with one way, as above)
+        trace = GivenTrace(self.given(seed, "trace", "ways=1"), ask) if self.tlgen else Trace(seed, ask)
         trace.learn(*places(trace.numbers))
         wrong = trace.grow()
         if wrong:
@@ -293,12 +379,17 @@ class Soak:
 
 
 def main():
-    if len(sys.argv) < 3:
+    words, tlgen = sys.argv[1:], None
+    if "--tlgen" in words[:-1]:
+        place = words.index("--tlgen")
+        tlgen = os.path.abspath(words[place + 1])
+        del words[place:place + 2]
+    if len(words) < 2:
         sys.exit(__doc__)
-    runs, traces, seed = ([int(word) for word in sys.argv[3:]] + [1000, 200, 1][len(sys.argv) - 3:])[:3]
+    runs, traces, seed = ([int(word) for word in words[2:]] + [1000, 200, 1][len(words) - 2:])[:3]
     wrong = []
     with tempfile.TemporaryDirectory() as folder, ThreadPoolExecutor(2) as pool:
-        soak = Soak(os.path.abspath(sys.argv[1]), os.path.abspath(sys.argv[2]), folder)
+        soak = Soak(os.path.abspath(words[0]), os.path.abspath(words[1]), tlgen, folder)
         for number, said in enumerate(pool.map(soak.run, range(seed, seed + runs)), seed):
             if said:
                 wrong.append(f"run {number}: {said}")

@@ -1,0 +1,50 @@
+//! The answer to the words of the command line.
+ghost use Rattle.std.specs.Prelude.{◌≡◌, ◌≢◌, Bool, IfOk, List, OnOk, string_bytes, ℕ};
+ghost use Rattle.std.specs.Io.KnownBytes.{Appends};
+ghost use Rattle.tlgen.specs.Offered.{Offers};
+ghost use Rattle.tlgen.specs.Status.{status_of};
+
+use crate::certify::text;
+use crate::fault::Fault;
+use crate::request::Request;
+use std::alloc::Global;
+use std::io;
+use std::io::Write;
+
+fn write_whole<W: Write>(output: &mut W, text: &str) -> io::Result<()>
+    ensures { OnOk result (Appends (W.contents output.old) (W.contents output.new) text.now) }
+{
+    output.write_all(text.as_bytes())?;
+    output.flush()
+}
+
+/// The script that the words ask for.
+fn asked_text(alloc: Global, words: &[String]) -> Result<String, Fault>
+    ensures { IfOk result (λ text. (traces : Bool) × Offers traces (string_bytes text)) }
+{
+    let request = Request::new(alloc, words)?;
+    text(alloc, &request)
+}
+
+/// Writes the script that the words ask for to `output`, or one line to `faults` that says why there is none, and answers the status:
+/// 0, or that of the fault.
+pub(crate) fn answer<W: Write, E: Write>(
+    alloc: Global,
+    words: &[String],
+    output: &mut W,
+    faults: &mut E,
+) -> u8
+    ensures whole { result ≡ 0
+        → (traces : Bool) × (text : List ℕ) × Offers traces text × Appends (W.contents output.old) (W.contents output.new) text }
+    ensures nothing { result ≢ 0 → result ≢ 5 → W.contents output.new ≡ W.contents output.old }
+{
+    let fault = match asked_text(alloc, words) {
+        Ok(text) => match write_whole(output, &text) {
+            Ok(()) => return 0,
+            Err(_) => Fault::File,
+        },
+        Err(fault) => fault,
+    };
+    let _ = writeln!(faults, "{fault}");
+    fault.status()
+}
