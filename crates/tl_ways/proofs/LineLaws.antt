@@ -166,8 +166,8 @@ above-owner line owner perm kept is other =
     let under : rank perm < 2 = below-tip perm other in (
       omega (arith, tip, under),
       λ client below.
-        let none : rank (perm_of line client) ≡ 0 = ap rank (perm_of-beside line owner client kept is (λ same. omega (arith, same, below))) in
-        omega (arith, none),
+          let none : rank (perm_of line client) ≡ 0 = ap rank (perm_of-beside line owner client kept is (λ same. omega (arith, same, below))) in
+          omega (arith, none),
     )
 
 -- where there is no owner, nobody has more than Branch
@@ -201,8 +201,8 @@ above-nothing line perm (Some first) none is lowest =
     let here : rank (perm_of line first) ≡ 1 = rank-set line first 1 none lowest.0 in (
       omega (arith, least, here),
       λ client below.
-        let rest : rank (perm_of line client) ≡ 0 = rank-set line client 0 none (lowest.1 client below) in
-        omega (arith, rest),
+          let rest : rank (perm_of line client) ≡ 0 = rank-set line client 0 none (lowest.1 client below) in
+          omega (arith, rest),
     )
 
 -- ## Recording a permission
