@@ -4,11 +4,12 @@ ghost use Rattle.std.specs.Option.{option_copied};
 ghost use Rattle.tl_bank_laws.specs.Entry.{HasPlace, entry_with, held_as, copy_in, wait_in, perm_in, bytes_in};
 ghost use Rattle.tl_bank_laws.specs.Head.{asked_by, granted_by};
 ghost use Rattle.tl_bank_spec.specs.Tables.{has_entry_for, is_waiting};
+ghost use Rattle.tl_protocol.specs.Copy.{dirty_bytes, reduced};
 ghost use Rattle.tl_copies.specs.Copies.{held_at, is_cell, SameSize};
 
 use tl_copies::{Copies, Held};
 use tl_protocol::CachedCopy;
-use tl_types::{AccessBytes, BlockNo, Body, ClientId, Downward, Perm, ProbeCap, Wait};
+use tl_types::{AccessBytes, BlockBytes, BlockNo, Body, ClientId, Downward, Perm, ProbeCap, Wait};
 
 /// The copy that an entry keeps.
 pub(crate) fn copy_in(held: Option<&Held>) -> CachedCopy
@@ -21,6 +22,39 @@ pub(crate) fn copy_in(held: Option<&Held>) -> CachedCopy
         Perm::None => CachedCopy::Absent,
         Perm::Branch => CachedCopy::Readable(held.bytes.copied()),
         Perm::Tip => CachedCopy::Writable(held.bytes.copied(), held.dirty),
+    }
+}
+
+/// The bytes of that copy where it is dirty, which are sent where it is reduced.
+pub(crate) fn dirty_in(held: Option<&Held>) -> Option<BlockBytes>
+    ensures { result ≡ dirty_bytes (copy_in (option_copied held.entry)) }
+{
+    let Some(held) = held else {
+        return None;
+    };
+    match held.perm {
+        Perm::None | Perm::Branch => None,
+        Perm::Tip => {
+            if held.dirty {
+                Some(held.bytes.copied())
+            } else {
+                None
+            }
+        }
+    }
+}
+
+/// That copy, reduced to at most a permission.
+pub(crate) fn reduced_in(held: Option<&Held>, perm: Perm) -> CachedCopy
+    ensures { result ≡ reduced (copy_in (option_copied held.entry)) perm }
+{
+    match perm {
+        Perm::None => CachedCopy::Absent,
+        Perm::Branch | Perm::Tip => {
+            let mut copy = copy_in(held);
+            copy.reduce(perm);
+            copy
+        }
     }
 }
 
@@ -90,9 +124,9 @@ pub(crate) fn asked_by(body: &Body) -> ProbeCap
     }
 }
 
-/// The copy that a Grant makes of a client's own.
-pub(crate) fn granted_by(body: &Body, own: CachedCopy) -> CachedCopy
-    ensures { result ≡ granted_by body.now own }
+/// The copy that a Grant makes of a client's own, which its entry keeps.
+pub(crate) fn granted_by(body: &Body, held: Option<&Held>) -> CachedCopy
+    ensures { result ≡ granted_by body.now (copy_in (option_copied held.entry)) }
 {
     match body {
         Body::Downward(Downward::Grant(cap, Some(bytes))) => CachedCopy::clean(
@@ -101,7 +135,7 @@ pub(crate) fn granted_by(body: &Body, own: CachedCopy) -> CachedCopy
         ),
         Body::Downward(Downward::Grant(cap, None)) => CachedCopy::clean(
             cap.perm(),
-            own.into_bytes(),
+            copy_in(held).into_bytes(),
         ),
         _ => CachedCopy::Absent,
     }

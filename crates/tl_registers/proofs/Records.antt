@@ -1,10 +1,11 @@
 -- Whom a register has to probe, by the entry of home's directory.
-use Rattle.std.proofs.Common.{◌≡◌, ℕ, suc, ◌+◌, ◌&&◌, not, Bool, false, Option, Some, None, refl, sym, ◌∙◌, ap, subst, arith}
+use Rattle.std.proofs.Common.{◌≡◌, ℕ, suc, ◌+◌, ◌&&◌, ◌<◌, ◌≤◌, not, Bool, false, Option, Some, None, refl, sym, ◌∙◌, ap, subst, arith}
 use Rattle.std.proofs.Math.Bool.{and-false}
-use Rattle.tl_types.proofs.Lowest.{none-lowest}
+use Rattle.tl_types.proofs.Lowest.{lowest-none, none-lowest}
 use Rattle.tl_types.specs.Lowest.{lowest}
+use Rattle.tl_types.specs.Permission.{rank, probe_perm}
 use Rattle.tl_types.specs.declared.permission.Perm.{Perm}
-use Rattle.tl_types.specs.declared.permission.Perm.TheVariants.{None as NoAccess}
+use Rattle.tl_types.specs.declared.permission.Perm.TheVariants.{None as NoAccess, Branch, Tip}
 use Rattle.tl_types.specs.declared.permission.ProbeCap.{ProbeCap}
 use Rattle.tl_types.specs.declared.permission.ProbeCap.TheVariants.{ToB, ToN}
 use Rattle.tl_protocol.specs.Protocol.{Block}
@@ -29,15 +30,29 @@ pub probed-by : (r : Register) (entry : Entry) (s : Block) (asking : Option ℕ)
 probed-by r entry s asking cap client number perm records same is =
     ap (probes_at r asking cap client) (is ∙ sym (records.1 client)) ∙ ap (must_probe r s asking cap) same
 
--- where an entry records nobody, nobody has to be probed
-pub nobody-probed : (r : Register) (entry : Entry) (s : Block) (asking : Option ℕ) (cap : ProbeCap) (clients : ℕ)
-    → Records (Some entry) s → ((client : ℕ) → perm_of entry client ≡ NoAccess) → lowest (must_probe r s asking cap) clients ≡ None
-nobody-probed r entry s asking cap clients records nobody =
-    none-lowest (must_probe r s asking cap) clients
+-- who has no more than the cap has not to be probed
+not-above : (perm : Perm) (cap : ProbeCap) → rank perm ≤ rank (probe_perm cap) → is_above perm cap ≡ false
+not-above NoAccess cap within = nothing-above cap
+not-above Branch ToB within = refl
+not-above Branch ToN within = let bad : 1 ≤ 0 = within in absurd (omega (arith, bad))
+not-above Tip ToB within = let bad : 2 ≤ 1 = within in absurd (omega (arith, bad))
+not-above Tip ToN within = let bad : 2 ≤ 0 = within in absurd (omega (arith, bad))
+
+-- where an entry records no more than the cap for the clients below a number, none of them has to be probed
+pub none-probed : (r : Register) (entry : Entry) (s : Block) (asking : Option ℕ) (cap : ProbeCap) (n : ℕ)
+    → Records (Some entry) s → ((client : ℕ) → client < n → rank (perm_of entry client) ≤ rank (probe_perm cap))
+    → lowest (must_probe r s asking cap) n ≡ None
+none-probed r entry s asking cap n records few =
+    none-lowest (must_probe r s asking cap) n
     (λ client below.
-    ap (probes_at r asking cap client) (records.1 client ∙ nobody client)
-    ∙ ap (λ above. is_other asking client && (above && not (has_probed r client))) (nothing-above cap)
+    ap (probes_at r asking cap client) (records.1 client)
+    ∙ ap (λ above. is_other asking client && (above && not (has_probed r client)))
+    (not-above (perm_of entry client) cap (few client below))
     ∙ and-false (is_other asking client))
+
+-- where there is no lowest, there is none below a lower number either
+pub none-within : (test : ℕ → Bool) (n m : ℕ) → lowest test n ≡ None → m ≤ n → lowest test m ≡ None
+none-within test n m none within = none-lowest test m (λ x below. lowest-none test n x none (omega (arith, below, within)))
 
 -- where the next one fails too, there is still no lowest
 pub lowest-more : (test : ℕ → Bool) (n : ℕ) → lowest test n ≡ None → test n ≡ false → lowest test (n + 1) ≡ None

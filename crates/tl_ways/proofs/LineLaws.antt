@@ -1,12 +1,13 @@
 -- Laws of the directory's entries.
 use Rattle.std.proofs.Common.{◌≡◌, ◌≢◌, ℕ, ◌*◌, ◌%◌, ◌/◌, ◌^◌, ◌<◌, ◌≤◌, Bool, true, false, refl, ap, sym, ◌∙◌, arith, eq-eqb, eqb-true, w16, bit_and, bit_or, inl, inr}
-use Rattle.std.specs.Prelude.{Option, None, Some, ◌==◌, ◌↔◌, IsTrue, is_some, if◌then◌else◌}
-use Rattle.std.specs.Int.{bit_at, bit_not}
+use Rattle.std.specs.Prelude.{Option, None, Some, ◌==◌, ◌↔◌, IsTrue, MatchOption, is_some, if◌then◌else◌}
+use Rattle.std.specs.Int.{bit_at, bit_not, trailing_zeros}
 use Rattle.std.proofs.lemmas.Nat.{and_le_l}
 use mir.Val.{bits}
 use Rattle.std.proofs.lemmas.Bool.{cases_eq, cases_lt}
 use Rattle.std.proofs.lemmas.Bool.Decides.{nat_tests}
-use Rattle.std.proofs.lemmas.Nat.Bits.{bit_at-zero, shr_and_one, bit_at_above, bit_at-lt, bit_at_set_same, bit_at_set_other, bit_at_clear_same, bit_at_clear_other, same_from_bits}
+use Rattle.std.proofs.lemmas.Nat.Bits.{bit_at-zero, bit_at-trailing_zeros, shr_and_one, bit_at_above, bit_at-lt, bit_at_set_same, bit_at_set_other, bit_at_clear_same, bit_at_clear_other, same_from_bits}
+use Rattle.tl_types.specs.Permission.{rank}
 use Rattle.tl_types.specs.declared.permission.Perm.{Perm}
 use Rattle.tl_types.specs.declared.permission.Perm.TheVariants.{None as NoAccess, Branch, Tip}
 use Rattle.tl_ways.specs.Lines.{Line, IsDirectory, is_owner, perm_by, perm_of}
@@ -126,6 +127,83 @@ bit_clear branches client test =
     let not_one : bit_at branches client ≡ 1 → ⊥ = λ one. test (shr_and_one branches client ∙ one) in
     let small = bit_at-lt branches client in
     zero_bit (bit_at branches client) small not_one
+
+-- ## The lowest client with more than a permission
+
+-- a number that is not 0
+not-zero : (n : ℕ) → (n ≡ 0 → ⊥) → 0 < n
+not-zero n other = omega (arith, other)
+
+-- the lowest bit that is set
+pub first-bit : (branches first : ℕ) → branches < 2 ^ 16 → (branches ≡ 0 → ⊥) → first ≡ trailing_zeros w16 branches
+    → (bit_at branches first ≡ 1) × ((client : ℕ) → client < first → bit_at branches client ≡ 0)
+first-bit branches first small some is =
+    let lowest = bit_at-trailing_zeros w16 branches (not-zero branches some) small in
+    rw is (lowest.1, lowest.2)
+
+-- a permission that is not Tip is below it
+below-tip : (perm : Perm) → (perm ≡ Tip → ⊥) → rank perm < 2
+below-tip NoAccess other = omega arith
+below-tip Branch other = omega arith
+below-tip Tip other = absurd (other refl)
+
+-- a permission that is not None is above it
+above-none : (perm : Perm) → (perm ≡ NoAccess → ⊥) → 1 ≤ rank perm
+above-none NoAccess other = absurd (other refl)
+above-none Branch other = omega arith
+above-none Tip other = omega arith
+
+-- one that is not the owner has Branch at most
+rank-bit : (test : Bool) → rank (if test then Branch else NoAccess) ≤ 1
+rank-bit true = omega arith
+rank-bit false = omega arith
+
+-- the owner is the lowest, as nobody else has a permission
+pub above-owner : (line : Line) (owner : ℕ) (perm : Perm) → IsDirectory line → line.owner ≡ Some owner → (perm ≡ Tip → ⊥)
+    → (rank perm < rank (perm_of line owner)) × ((client : ℕ) → client < owner → rank (perm_of line client) ≤ rank perm)
+above-owner line owner perm kept is other =
+    let tip : rank (perm_of line owner) ≡ 2 = ap rank (perm_of-owner line owner is) in
+    let under : rank perm < 2 = below-tip perm other in (
+      omega (arith, tip, under),
+      λ client below.
+          let none : rank (perm_of line client) ≡ 0 = ap rank (perm_of-beside line owner client kept is (λ same. omega (arith, same, below))) in
+          omega (arith, none),
+    )
+
+-- where there is no owner, nobody has more than Branch
+pub above-branches : (line : Line) (perm : Perm) → line.owner ≡ None → (perm ≡ NoAccess → ⊥)
+    → (client : ℕ) → rank (perm_of line client) ≤ rank perm
+above-branches line perm none other client =
+    let nobody : line.owner ≡ Some client → ⊥ = λ is. let bad : None ≡ Some client = sym none ∙ is in cc in
+    let is : rank (perm_of line client) ≡ rank (perm_by false (bit_at line.branches client)) = ap rank (perm_of-bit line client nobody) in
+    let few : rank (perm_by false (bit_at line.branches client)) ≤ 1 = rank-bit (bit_at line.branches client == 1) in
+    let more : 1 ≤ rank perm = above-none perm other in
+    omega (arith, is, few, more)
+
+-- and by whether his bit is set, each has Branch or nothing
+rank-set : (line : Line) (client bit : ℕ) → line.owner ≡ None → bit_at line.branches client ≡ bit
+    → rank (perm_of line client) ≡ rank (perm_by false bit)
+rank-set line client bit none is =
+    let nobody : line.owner ≡ Some client → ⊥ = λ some. let bad : None ≡ Some client = sym none ∙ some in cc in
+    ap rank (perm_of-bit line client nobody ∙ ap (perm_by false) is)
+
+-- so the lowest bit is the lowest client's with a permission
+pub above-nothing : (line : Line) (perm : Perm) (found : Option ℕ) → line.owner ≡ None → perm ≡ NoAccess
+    → MatchOption found (line.branches ≡ 0)
+    (λ first. (bit_at line.branches first ≡ 1) × ((client : ℕ) → client < first → bit_at line.branches client ≡ 0))
+    → MatchOption found ((client : ℕ) → rank (perm_of line client) ≤ rank perm)
+    (λ first. (rank perm < rank (perm_of line first)) × ((client : ℕ) → client < first → rank (perm_of line client) ≤ rank perm))
+above-nothing line perm None none is zero = λ client.
+    let rest : rank (perm_of line client) ≡ 0 = ap rank (nobody-recorded line none zero client) in
+    omega (arith, rest)
+above-nothing line perm (Some first) none is lowest =
+    let least : rank perm ≡ 0 = ap rank is in
+    let here : rank (perm_of line first) ≡ 1 = rank-set line first 1 none lowest.0 in (
+      omega (arith, least, here),
+      λ client below.
+          let rest : rank (perm_of line client) ≡ 0 = rank-set line client 0 none (lowest.1 client below) in
+          omega (arith, rest),
+    )
 
 -- ## Recording a permission
 

@@ -1,5 +1,7 @@
 //! An entry of the directory: what home records of one block that it holds.
-ghost use Rattle.std.specs.Prelude.{◌≡◌, ◌≢◌, ◌↔◌, ℕ, ◌<◌, ◌==◌, IsTrue, if◌then◌else◌};
+ghost use Rattle.std.specs.Prelude.{◌≡◌, ◌≢◌, ◌↔◌, ℕ, ◌<◌, ◌≤◌, ◌==◌, IsTrue, MatchOption, if◌then◌else◌};
+ghost use Rattle.std.specs.Int.{bit_at};
+ghost use Rattle.tl_types.specs.Permission.{rank};
 ghost use Rattle.tl_types.specs.declared.permission.Perm.TheVariants.{None as NoAccess, Branch, Tip};
 ghost use Rattle.tl_ways.specs.Lines.{perm_of};
 
@@ -94,6 +96,30 @@ impl Entry {
         ensures { IsTrue result ↔ ((client : ℕ) → perm_of self client ≡ NoAccess) }
     {
         self.owner.is_none() && self.branches == 0
+    }
+
+    /// The lowest client for which it records more than a permission.
+    pub fn first_above(self, perm: Perm) -> Option<ClientId>
+        ensures { MatchOption result ((client : ℕ) → rank (perm_of self client) ≤ rank perm)
+            (λ first. (rank perm < rank (perm_of self first)) × ((client : ℕ) → client < first → rank (perm_of self client) ≤ rank perm)) }
+    {
+        match (self.owner, perm) {
+            (Some(_), Perm::Tip) => None,
+            (Some(owner), _) => Some(owner),
+            (None, Perm::None) => self.first_branch(),
+            (None, _) => None,
+        }
+    }
+
+    /// The lowest client whose bit is set.
+    fn first_branch(self) -> Option<ClientId>
+        ensures { MatchOption result (self.branches ≡ 0)
+            (λ first. (bit_at self.branches first ≡ 1) × ((client : ℕ) → client < first → bit_at self.branches client ≡ 0)) }
+    {
+        if self.branches == 0 {
+            return None;
+        }
+        Some(ClientId::new(self.branches.trailing_zeros()))
     }
 
     /// Records a permission for a client. Beside Tip no other client may have any permission.

@@ -212,11 +212,11 @@ impl Bank {
         }
         let block = self.first_block(ticket.client, Channel::B);
         let cap = self.first_cap(ticket.client);
-        let mut copy = self.copy(ticket.client, block);
-        let wait = self.wait(ticket.client, block);
-        let before = copy.perm();
-        let answer = ProbeAnswer::of(before, cap, copy.dirty_bytes());
-        copy.reduce(cap.perm());
+        let held = self.entry(ticket.client, block);
+        let wait = entry::wait_in(held);
+        let before = entry::perm_in(held);
+        let answer = ProbeAnswer::of(before, cap, entry::dirty_in(held));
+        let copy = entry::reduced_in(held, cap.perm());
         let later = copy.perm();
         self.make_room()?;
         link::discard(&mut self.links, ticket);
@@ -255,9 +255,9 @@ impl Bank {
             return Err(refusal);
         }
         let block = self.first_block(ticket.client, Channel::D);
-        let own = self.copy(ticket.client, block);
-        let before = own.perm();
-        let copy = self.first_granted(ticket.client, own);
+        let held = self.entry(ticket.client, block);
+        let before = entry::perm_in(held);
+        let copy = self.first_granted(ticket.client, held);
         let later = copy.perm();
         self.make_room()?;
         link::discard(&mut self.links, ticket);

@@ -3,7 +3,7 @@ ghost use Rattle.std.specs.Prelude.{◌≡◌, ◌<◌, ◌+◌, ◌||◌, None,
 ghost use Rattle.tl_types.specs.declared.channel.Channel.{Channel};
 ghost use Rattle.tl_map.specs.Places.{block_at as block_of_address, offset_of};
 ghost use Rattle.tl_protocol.specs.Copy.{bytes_of};
-ghost use Rattle.tl_bank_laws.specs.Entry.{bytes_in, perm_in, wait_in};
+ghost use Rattle.tl_bank_laws.specs.Entry.{bytes_in, copy_in, perm_in, wait_in};
 ghost use Rattle.tl_bank_laws.specs.Head.{first_cap, first_granted};
 ghost use Rattle.tl_bank_spec.specs.Calls.{load_cases, store_cases, acquire_cases, release_cases, answer_probe_cases, take_grant_cases, take_release_ack_cases};
 ghost use Rattle.tl_bank_spec.specs.Cases.{no_client, no_block, bad_access, bad_share, elsewhere, link_full, clock_full, first_block, release_pending};
@@ -33,6 +33,7 @@ impl Bank {
     pub(super) fn entry(&self, client: ClientId, block: BlockNo) -> Option<&Held>
         requires client { client < self.now.geometry.clients }
         requires block { block < self.now.geometry.memory_blocks }
+        ensures copy { copy_in (option_copied result) ≡ (client_at self.now client block).held }
         ensures perm { perm_in (option_copied result) ≡ perm_at self.now client block }
         ensures wait { wait_in (option_copied result) ≡ (client_at self.now client block).wait }
         ensures bytes { bytes_in (option_copied result) ≡ bytes_of (client_at self.now client block).held }
@@ -302,13 +303,13 @@ impl Bank {
         }
     }
 
-    /// The copy that the Grant which is first on its way to a client makes of the client's own.
-    pub(super) fn first_granted(&self, client: ClientId, own: CachedCopy) -> CachedCopy
+    /// The copy that the Grant which is first on its way to a client makes of the client's own, which its entry keeps.
+    pub(super) fn first_granted(&self, client: ClientId, held: Option<&Held>) -> CachedCopy
         requires { client < self.now.geometry.clients }
-        ensures { result ≡ first_granted (lane_at self.now client Channel.D).messages own }
+        ensures { result ≡ first_granted (lane_at self.now client Channel.D).messages (copy_in (option_copied held.entry)) }
     {
         match self.links.first(client, Channel::D) {
-            Some(message) => entry::granted_by(&message.body, own),
+            Some(message) => entry::granted_by(&message.body, held),
             None => CachedCopy::Absent,
         }
     }

@@ -3,10 +3,17 @@ use Rattle.std.specs.Option.{option_copied}
 use Rattle.tl_protocol.specs.Copy.{bytes_of}
 use Rattle.tl_bank_spec.specs.View.{View, client_at, perm_at}
 use Rattle.tl_bank_spec.specs.Tables.{has_entry}
-use Rattle.tl_bank_laws.specs.Entry.{perm_in, wait_in, bytes_in}
+use Rattle.tl_bank_laws.specs.Entry.{copy_in, perm_in, wait_in, bytes_in}
 use Rattle.tl_bank.specs.Shown.{shown, layers}
-use Rattle.tl_bank_laws.proofs.Entries.{perm-is, wait-is, bytes_in-entry, has_entry-is}
+use Rattle.tl_bank_laws.proofs.Entries.{copy-is, perm-is, wait-is, bytes_in-entry, has_entry-is}
 use Rattle.tl_bank.proofs.bank.Bank.entry.Goals as goal
+
+pub returns-clause-copy : goal.returns-clause-copy
+returns-clause-copy c =
+    let lt : c.args.client < (shown c.self.inside).geometry.clients = rw (← c.self.view_is) at c.requires.client in
+    let lb : c.args.block < (shown c.self.inside).geometry.memory_blocks = rw (← c.self.view_is) at c.requires.block in
+    subst (λ (v : View). copy_in (option_copied c.of.result) ≡ (client_at v c.args.client c.args.block).held) c.self.view_is
+    (ap copy_in c.of.ensures ∙ copy-is (shown c.self.inside) (layers c.self.inside) c.args.client c.args.block c.self.invariant lt lb)
 
 pub returns-clause-perm : goal.returns-clause-perm
 returns-clause-perm c =
