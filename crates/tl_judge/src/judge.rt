@@ -73,6 +73,13 @@ impl Judge {
         Ok(Judge { plain, order })
     }
 
+    /// The state where the entries so far lead.
+    pub fn plain(&self) -> &Plain
+        ensures { result.now ≡ self.now.plain }
+    {
+        &self.plain
+    }
+
     /// Whether the event takes no message, or its block's is the first on the channel.
     fn takes_first(&self, event: &Event) -> bool
         ensures { IsTrue result ↔ IsNextIn self.now.order (block_of self.now.plain.shape event.now) (take_of event.now) }

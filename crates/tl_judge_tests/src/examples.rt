@@ -3,6 +3,7 @@ use std::alloc::{AllocError, Global};
 use std::test::Fail;
 use tl_checker::{Outcome, check};
 use tl_judge::{Breach, Rule};
+use tl_record::Reason;
 
 /// Two clients take a block to write, one after the other; home has answered the Release that crossed the Probe of it.
 const CROSSED: &str = "# A Release crosses a Probe.
@@ -157,6 +158,29 @@ fn texts_from_their_first_line(rt: HostRuntime) -> Result<(), Fail> {
         ),
     ] {
         assert_eq!(rt; check(alloc, &mut &*text), Ok(want));
+    }
+    Ok(())
+}
+
+#[test]
+fn a_breach_prints_its_sentence_its_source_and_its_place(rt: HostRuntime) -> Result<(), Fail> {
+    let alloc = rt.alloc();
+    for (breach, text) in [
+        (
+            Breach::NotPermitted(Rule::ClientHasNoProbe),
+            "no earlier Probe of the block is unanswered at the client (TileLink 1.8), docs/PROTOCOL.md, Rules",
+        ),
+        (
+            Breach::NotPermitted(Rule::BlockIsThere),
+            "the block is one of the memory (this project's profile), docs/PROTOCOL.md, Events, state and runs",
+        ),
+        (
+            Breach::NotAsShown,
+            "what is shown is what the event sends (this project's profile), docs/RECORD.md, Verdict",
+        ),
+    ] {
+        let shown = format!(in alloc; "{}", Reason(breach))?;
+        assert_eq!(rt; shown.as_str(), text);
     }
     Ok(())
 }

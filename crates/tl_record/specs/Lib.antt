@@ -1,3 +1,4 @@
 pub mod Entry
 pub mod Header
+pub mod Reason
 pub mod Shown

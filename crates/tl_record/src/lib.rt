@@ -3,7 +3,9 @@
 
 mod entries;
 mod header;
+mod reason;
 mod shown;
 
 pub use entries::read_entry;
 pub use header::{is_blank, read_image, read_shape};
+pub use reason::{Place, Reason, Source};

@@ -65,6 +65,13 @@ impl BlockState {
         &self.clients[c.index()]
     }
 
+    /// What the memory has.
+    pub fn memory(&self) -> &BlockBytes
+        ensures { result.now ≡ self.now.memory }
+    {
+        &self.memory
+    }
+
     /// Home's copy.
     pub fn home(&self) -> Option<&Line>
         ensures { option_copied result ≡ self.now.home }

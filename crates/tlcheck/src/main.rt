@@ -1,13 +1,15 @@
 //! `tlcheck FILE`: whether a record of events is a lawful run. `-` stands for standard input.
 #![tactic(auto)]
 
+mod ending;
 mod verdict;
 
+use ending::{Ending, show};
 use std::fs::File;
 use std::io;
-use std::io::{BufReader, Read, Write};
+use std::io::{BufReader, Read};
 use std::process::ExitCode;
-use verdict::{FILE, MEMORY, answer};
+use verdict::answer;
 
 /// The words after the program's name.
 fn words(rt: &HostRuntime) -> io::Result<Vec<String>> {
@@ -20,25 +22,19 @@ fn words(rt: &HostRuntime) -> io::Result<Vec<String>> {
 
 /// Checks what a reader has.
 fn judge<R: Read + Drop>(rt: &HostRuntime, reader: R) -> u8 {
-    let mut output = rt.stdout();
-    let mut faults = rt.stderr();
     match BufReader::with_capacity(rt.alloc(), 65_536, reader) {
-        Ok(mut reader) => answer(rt.alloc(), &mut reader, &mut output, &mut faults),
-        Err(_) => {
-            let _ = faults.write_all(b"error 41 memory\n");
-            MEMORY
-        }
+        Ok(mut reader) => answer(rt.alloc(), &mut reader, &mut rt.stdout(), &mut rt.stderr()),
+        Err(_) => refuse(rt, Ending::Memory),
     }
 }
 
-fn refuse(rt: &HostRuntime, line: &str, status: u8) -> u8 {
-    let _ = rt.stderr().write_all(line.as_bytes());
-    status
+fn refuse(rt: &HostRuntime, ending: Ending) -> u8 {
+    show(&mut rt.stderr(), &ending)
 }
 
 fn status(rt: &HostRuntime) -> u8 {
     let Ok(words) = words(rt) else {
-        return refuse(rt, "error 41 memory\n", MEMORY);
+        return refuse(rt, Ending::Memory);
     };
     match words.as_slice() {
         [name] => {
@@ -47,10 +43,10 @@ fn status(rt: &HostRuntime) -> u8 {
             }
             match File::open(rt, name.as_str()) {
                 Ok(file) => judge(rt, file),
-                Err(_) => refuse(rt, "error file\n", FILE),
+                Err(_) => refuse(rt, Ending::File),
             }
         }
-        _ => refuse(rt, "error usage\n", 2),
+        _ => refuse(rt, Ending::Usage),
     }
 }
 

@@ -1,0 +1,67 @@
+-- What the program ends with, what it prints then, and its status (this project's own format).
+use Rattle.std.specs.Prelude.{◌≡◌, ◌≢◌, ◌<◌, ◌≤◌, ℕ, List, ◌++◌, Option, IfSome, codes, decimal}
+use Rattle.std.specs.Io.KnownBytes.{Appends}
+use Rattle.tl_checker.specs.Outcome.{IsOutcome}
+use Rattle.tl_checker.specs.declared.outcome.Outcome.{Outcome}
+use Rattle.tl_checker.specs.declared.outcome.Outcome.TheVariants.{Lawful, Broken, Unreadable, Empty}
+use Rattle.tl_record.specs.Reason.{reason_text}
+use Rattle.tlcheck.specs.declared.ending.Ending.{Ending}
+use Rattle.tlcheck.specs.declared.ending.Ending.TheVariants.{Usage, Judged, Memory, File}
+
+-- the status of what was said of a record: 0 lawful, 1 not lawful, 3 not readable as a record
+abbrev pub outcome_status : Outcome → ℕ
+outcome_status (Lawful count) = 0
+outcome_status (Broken line count breach) = 1
+outcome_status (Unreadable line) = 3
+outcome_status Empty = 3
+
+-- usage ends with 2, want of memory with 4, the file with 5
+abbrev pub status_of : Ending → ℕ
+status_of Usage = 2
+status_of (Judged outcome) = outcome_status outcome
+status_of Memory = 4
+status_of File = 5
+
+-- what was said of a record, in lines
+abbrev pub outcome_lines : Outcome → List ℕ
+outcome_lines (Lawful count) = codes "lawful: " ++ decimal count ++ codes " entries\n"
+outcome_lines (Broken line count breach) =
+    codes "not lawful: line " ++ decimal line ++ codes ", entry " ++ decimal count ++ codes ": " ++ reason_text breach ++ codes "\n"
+outcome_lines (Unreadable line) = codes "error 50 line " ++ decimal line ++ codes "\n"
+outcome_lines Empty = codes "error 51 empty\n"
+
+-- what the program ends with, in lines
+abbrev pub ending_lines : Ending → List ℕ
+ending_lines Usage = codes "error usage\n"
+ending_lines (Judged outcome) = outcome_lines outcome
+ending_lines Memory = codes "error 41 memory\n"
+ending_lines File = codes "error file\n"
+
+-- What a check of a record may end with: what is said holds of the record's bytes, where those are known.
+abbrev pub MayEnd : Option (List ℕ) → Ending → Type 0
+MayEnd known Usage = ⊥
+MayEnd known (Judged outcome) = IfSome known (λ text. IsOutcome text outcome)
+MayEnd known Memory = Unit {0}
+MayEnd known File = Unit {0}
+
+-- What was written is the text, or a beginning of it where the writer took no more.
+pub record AppendsBeginning (old new : Option (List ℕ)) (text : List ℕ) : Type 0 where
+  pub written : List ℕ
+  pub rest : List ℕ
+  pub split : text ≡ written ++ rest
+  pub appended : Appends old new written
+
+-- A verdict stands in the output, and nothing in the faults.
+pub record IsVerdict (ending : Ending) (output output_new faults faults_new : Option (List ℕ)) : Type 0 where
+  pub line : Appends output output_new (ending_lines ending)
+  pub quiet : faults_new ≡ faults
+
+-- A fault stands in the faults, as far as they take it, and nothing in the output, unless that could not be written.
+pub record IsFault (ending : Ending) (output output_new faults faults_new : Option (List ℕ)) : Type 0 where
+  pub line : AppendsBeginning faults faults_new (ending_lines ending)
+  pub nothing : status_of ending ≢ 5 → output_new ≡ output
+
+-- which of the two stands for a status
+pub record IsTold (status : ℕ) (ending : Ending) (output output_new faults faults_new : Option (List ℕ)) : Type 0 where
+  pub verdict : status ≤ 1 → IsVerdict ending output output_new faults faults_new
+  pub fault : 1 < status → IsFault ending output output_new faults faults_new
