@@ -4,7 +4,7 @@ use Rattle.tl_types.specs.Channel.{same_channel}
 use Rattle.tl_types.specs.Permission.{rank}
 use Rattle.tl_types.specs.declared.channel.Channel.{Channel}
 use Rattle.tl_types.specs.declared.message.Body.{Body}
-use Rattle.tl_types.specs.declared.message.Body.TheVariants.{AcquireBlock, ProbeBlock, Upward as b_Upward, Downward as b_Downward, GrantAck}
+use Rattle.tl_types.specs.declared.message.Body.TheVariants.{Upward as b_Upward, Downward as b_Downward}
 use Rattle.tl_types.specs.declared.message.Message.{Message}
 use Rattle.tl_types.specs.declared.message.Upward.{Upward}
 use Rattle.tl_types.specs.declared.message.Upward.TheVariants.{ProbeAck, Release}
@@ -111,11 +111,8 @@ any_body body = true
 
 -- the message is a ReleaseAck
 abbrev pub is_a_release_ack : Body → Bool
-is_a_release_ack (AcquireBlock grow) = false
-is_a_release_ack (ProbeBlock cap) = false
-is_a_release_ack (b_Upward message) = false
 is_a_release_ack (b_Downward message) = not (is_grant message)
-is_a_release_ack GrantAck = false
+is_a_release_ack body = false
 
 -- a message of C is a Release
 abbrev pub is_release : Upward → Bool
@@ -124,11 +121,8 @@ is_release (Release surrender) = true
 
 -- the message, of whichever channel, is a Release
 abbrev pub is_a_release : Body → Bool
-is_a_release (AcquireBlock grow) = false
-is_a_release (ProbeBlock cap) = false
 is_a_release (b_Upward message) = is_release message
-is_a_release (b_Downward message) = false
-is_a_release GrantAck = false
+is_a_release body = false
 
 -- the messages that wait on the channel of a ticket
 abbrev pub waiting_at : View → Ticket → Channel → List Message

@@ -76,10 +76,8 @@ action_of v (due_Drop block) = did_Drop
 -- the registers after an action of the register of `own`: a Probe is noted, a drop ends the victim
 abbrev pub registers_after : ℕ → Due → List Register → List Register
 registers_after own (due_Probe client block cap) registers = noted own client registers
-registers_after own (due_Grant client) registers = registers
-registers_after own due_Get registers = registers
-registers_after own (due_Put block) registers = registers
 registers_after own (due_Drop block) registers = ended block registers
+registers_after own due registers = registers
 
 -- one block lies in no way any more
 abbrev pub ways_without : ℕ → (ℕ → Option ℕ) → ℕ → Option ℕ
@@ -87,11 +85,9 @@ ways_without gone ways block = if block == gone then None else ways block
 
 -- the ways after an action: a block that is put or dropped has left its way
 abbrev pub ways_after : Due → (ℕ → Option ℕ) → ℕ → Option ℕ
-ways_after (due_Probe client block cap) ways = ways
-ways_after (due_Grant client) ways = ways
-ways_after due_Get ways = ways
 ways_after (due_Put block) ways = ways_without block ways
 ways_after (due_Drop block) ways = ways_without block ways
+ways_after due ways = ways
 
 -- The register of `own` did what it had to do next.
 pub record Advances (old new : View) (own : ℕ) (action : Action) : Type 0 where

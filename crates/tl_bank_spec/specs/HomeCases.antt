@@ -1,12 +1,12 @@
 -- The cases of refusals that only the calls of home and of the memory test (this project's own).
-use Rattle.std.specs.Prelude.{ℕ, ◌||◌, ◌&&◌, Bool, true, false, Option, Some, None, is_none}
+use Rattle.std.specs.Prelude.{ℕ, ◌||◌, ◌&&◌, Bool, true, false, Option, Some, is_none}
 use Rattle.tl_types.specs.declared.channel.Channel.TheVariants.{B, C, D}
 use Rattle.tl_types.specs.declared.ticket.Ticket.{Ticket}
 use Rattle.tl_map.specs.Places.{set_of}
 use Rattle.tl_protocol.specs.declared.home.Outward.{Outward}
-use Rattle.tl_protocol.specs.declared.home.Outward.TheVariants.{Quiet, Get, Data, Put, PutAck}
+use Rattle.tl_protocol.specs.declared.home.Outward.TheVariants.{Get, Data, Put, PutAck}
 use Rattle.tl_registers.specs.declared.due.Due.{Due}
-use Rattle.tl_registers.specs.declared.due.Due.TheVariants.{Probe as due_Probe, Grant as due_Grant, Get as due_Get, Put as due_Put, Drop as due_Drop}
+use Rattle.tl_registers.specs.declared.due.Due.TheVariants.{Probe as due_Probe, Grant as due_Grant}
 use Rattle.tl_registers.specs.Registers.{due_of, is_busy, register_of}
 use Rattle.tl_bank_spec.specs.Cases.{begins, is_a_release, link_full, waiting_at}
 use Rattle.tl_bank_spec.specs.View.{View, block_at, shape_of}
@@ -30,12 +30,9 @@ due_at v block = due_of (shape_of v.geometry) (block_at v) (register_of block v.
 
 -- 64 messages are on the channel that an action sends on
 abbrev pub due_full : View → Option Due → Bool
-due_full v None = false
 due_full v (Some (due_Probe client block cap)) = link_full v client B
 due_full v (Some (due_Grant client)) = link_full v client D
-due_full v (Some due_Get) = false
-due_full v (Some (due_Put block)) = false
-due_full v (Some (due_Drop block)) = false
+due_full v due = false
 
 -- a Release is taken, and 64 messages are on the channel of its ReleaseAck
 abbrev pub answer_full : View → Ticket → Bool
@@ -43,16 +40,12 @@ answer_full v ticket = begins is_a_release (waiting_at v ticket C) && link_full 
 
 -- a request that the memory may answer
 abbrev pub is_request : Outward → Bool
-is_request Quiet = false
 is_request Get = true
-is_request (Data bytes) = false
 is_request (Put bytes) = true
-is_request PutAck = false
+is_request outward = false
 
 -- an answer of the memory that home may take
 abbrev pub is_reply : Outward → Bool
-is_reply Quiet = false
-is_reply Get = false
 is_reply (Data bytes) = true
-is_reply (Put bytes) = false
 is_reply PutAck = true
+is_reply outward = false

@@ -13,7 +13,7 @@ use Rattle.tl_types.specs.declared.message.Upward.TheVariants.{ProbeAck, Release
 use Rattle.tl_types.specs.declared.message.Downward.TheVariants.{Grant, ReleaseAck}
 use Rattle.tl_protocol.specs.declared.client.Client.{Client}
 use Rattle.tl_protocol.specs.declared.event.Event.{Event}
-use Rattle.tl_protocol.specs.declared.event.Event.TheVariants.{Load, Store, SendAcquire, SendRelease, AnswerProbe, TakeGrant, TakeReleaseAck, AcceptAcquire, SendProbe, TakeC, SendGrant, TakeGrantAck, SendGet, Serve, TakeData, Drop, SendPut, TakePutAck}
+use Rattle.tl_protocol.specs.declared.event.Event.TheVariants.{SendAcquire, SendRelease, AnswerProbe, TakeGrant, TakeReleaseAck, AcceptAcquire, SendProbe, TakeC, SendGrant, TakeGrantAck}
 use Rattle.tl_protocol.specs.declared.home.Accepted.{Accepted}
 use Rattle.tl_protocol.specs.declared.shape.Shape.{Shape}
 use Rattle.tl_protocol.specs.Client.{grant_bytes}
@@ -58,46 +58,25 @@ grant_post shape s c (Some acquire) =
 
 -- what an event sends, where the block before it is s
 abbrev pub post_of : Shape → Block → Event → Option Post
-post_of shape s (Load access) = None
-post_of shape s (Store access) = None
 post_of shape s (SendAcquire c block grow) = Some (record { client = c; channel = A; body = AcquireBlock grow })
 post_of shape s (SendRelease c block prune) =
     Some (record { client = c; channel = C; body = b_Upward (Release (surrender prune (dirty_bytes (s.client c).held))) })
 post_of shape s (AnswerProbe c block) = answer_post c (s.client c) (s.client c).b
 post_of shape s (TakeGrant c block) = Some (record { client = c; channel = E; body = GrantAck })
-post_of shape s (TakeReleaseAck c block) = None
-post_of shape s (AcceptAcquire c block) = None
 post_of shape s (SendProbe c block cap) = Some (record { client = c; channel = B; body = ProbeBlock cap })
 post_of shape s (TakeC c block) = ack_post c (s.client c).c
 post_of shape s (SendGrant c block) = grant_post shape s c s.accepted
-post_of shape s (TakeGrantAck c block) = None
-post_of shape s (SendGet block) = None
-post_of shape s (Serve block) = None
-post_of shape s (TakeData block) = None
-post_of shape s (Drop block) = None
-post_of shape s (SendPut block) = None
-post_of shape s (TakePutAck block) = None
+post_of shape s event = None
 
 -- the channel of which an event takes the first message
 abbrev pub take_of : Event → Option Place
-take_of (Load access) = None
-take_of (Store access) = None
-take_of (SendAcquire c block grow) = None
-take_of (SendRelease c block prune) = None
 take_of (AnswerProbe c block) = Some (record { client = c; channel = B })
 take_of (TakeGrant c block) = Some (record { client = c; channel = D })
 take_of (TakeReleaseAck c block) = Some (record { client = c; channel = D })
 take_of (AcceptAcquire c block) = Some (record { client = c; channel = A })
-take_of (SendProbe c block cap) = None
 take_of (TakeC c block) = Some (record { client = c; channel = C })
-take_of (SendGrant c block) = None
 take_of (TakeGrantAck c block) = Some (record { client = c; channel = E })
-take_of (SendGet block) = None
-take_of (Serve block) = None
-take_of (TakeData block) = None
-take_of (Drop block) = None
-take_of (SendPut block) = None
-take_of (TakePutAck block) = None
+take_of event = None
 
 -- ## The lanes of a log
 
