@@ -155,10 +155,10 @@ impl Bank {
         if let Some(refusal) = self.release_refusal(client, block, prune, share) {
             return Err(refusal);
         }
-        let mut copy = self.copy(client, block);
-        let before = copy.perm();
-        let given = Surrender::of(prune, copy.dirty_bytes());
-        copy.reduce(prune.to());
+        let held = self.entry(client, block);
+        let before = entry::perm_in(held);
+        let given = Surrender::of(prune, entry::dirty_in(held));
+        let copy = entry::reduced_in(held, prune.to());
         let later = copy.perm();
         self.make_room()?;
         let body = Body::Upward(Upward::Release(given));
