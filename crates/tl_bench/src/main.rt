@@ -1,0 +1,347 @@
+//! Drives one bank in one thread and prints what an event costs: `tl_bench WORK CYCLES CLIENTS COPIES WAYS SETS REGISTERS
+//! BLOCK_BYTES MEMORY_BLOCKS HELD ROUNDS`. With no round it drives the bank once, and prints what happened without its time.
+#![tactic(auto)]
+
+use arrayvec::ArrayVec;
+use std::alloc::Global;
+use std::io;
+use std::time::Instant;
+use tl_bank::{Action, Bank, Share, When};
+use tl_map::{Geometry, GeometryNumbers};
+use tl_protocol::Event;
+use tl_types::{BankNo, BlockNo, ClientId, Grow, Prune};
+
+/// What is done in each cycle.
+#[derive(Clone, Copy, PartialEq, Eq)]
+enum Work {
+    /// A miss with a write-back, while the log grows.
+    Growing,
+    /// The same, with room in the log.
+    Misses,
+    /// Loads of copies that are held.
+    Loads,
+    /// Loads and stores in turn.
+    Mixed,
+    /// Clean blocks that come, are read, and leave.
+    Stream,
+    /// One client after the other takes a block and stores.
+    PingPong,
+    /// All clients read a block, and then one takes it.
+    Share,
+}
+
+/// The work of this name.
+fn work_of(word: &str) -> Option<Work> {
+    match word {
+        "growing" => Some(Work::Growing),
+        "misses" => Some(Work::Misses),
+        "loads" => Some(Work::Loads),
+        "mixed" => Some(Work::Mixed),
+        "stream" => Some(Work::Stream),
+        "ping-pong" => Some(Work::PingPong),
+        "share" => Some(Work::Share),
+        _ => None,
+    }
+}
+
+/// What is driven.
+#[derive(Drop)]
+struct Plan {
+    work: Work,
+    cycles: u32,
+    clients: u32,
+    copies: u32,
+    ways: u32,
+    sets: u32,
+    registers: u32,
+    block_bytes: u32,
+    memory_blocks: u32,
+    held: u32,
+    rounds: u32,
+}
+
+/// A bank with its shares and the clocks of its clients.
+#[derive(Drop)]
+struct Driven {
+    bank: Bank,
+    shares: ArrayVec<Share, 16>,
+    clocks: ArrayVec<u64, 16>,
+}
+
+/// What a client of the plan is called in cycle `i`.
+fn client_of(clients: u32, i: u32) -> ClientId {
+    ClientId::new(i.checked_rem(clients).unwrap_or(0))
+}
+
+/// The memory answers.
+fn served(bank: &mut Bank, block: BlockNo) -> Option<()> {
+    let _ = bank.serve_memory(block).ok()?;
+    bank.take_memory(block).ok()
+}
+
+/// A client gets a copy.
+fn fetch(driven: &mut Driven, client: ClientId, block: BlockNo, grow: Grow) -> Option<()> {
+    let asked = driven.bank.acquire(client, block, grow).ok()?;
+    driven.bank.accept(asked).ok()?;
+    for _ in 0..64 {
+        match driven.bank.advance(block).ok()? {
+            Action::Get => served(&mut driven.bank, block)?,
+            Action::Put(victim) => served(&mut driven.bank, victim)?,
+            Action::Drop => {}
+            Action::Probe(probe) => {
+                let other = driven.shares.as_mut_slice().get_mut(probe.client.index())?;
+                let answer = driven.bank.answer_probe(probe, other).ok()?;
+                let _ = driven.bank.take_c(answer).ok()?;
+            }
+            Action::Grant(grant) => {
+                let share = driven.shares.as_mut_slice().get_mut(client.index())?;
+                let acknowledged = driven.bank.take_grant(grant, share).ok()?;
+                return driven.bank.take_grant_ack(acknowledged).ok();
+            }
+        }
+    }
+    None
+}
+
+/// A client gives its copy up.
+fn give_up(driven: &mut Driven, client: ClientId, block: BlockNo, prune: Prune) -> Option<()> {
+    let share = driven.shares.as_mut_slice().get_mut(client.index())?;
+    let given = driven.bank.release(client, block, prune, share).ok()?;
+    let answer = driven.bank.take_c(given).ok()??;
+    driven.bank.take_release_ack(answer).ok()
+}
+
+/// A client loads four bytes at its own clock.
+fn load(driven: &mut Driven, client: ClientId, address: u32, index: u32) -> Option<()> {
+    let clock = driven.clocks.as_mut_slice().get_mut(client.index())?;
+    let when = When {
+        clock: *clock,
+        index,
+    };
+    let loaded = driven.bank.load(client, address, 4, when).ok()?;
+    *clock = loaded.stamp;
+    Some(())
+}
+
+/// A client stores four bytes at its own clock.
+fn store(driven: &mut Driven, client: ClientId, address: u32, index: u32, i: u32) -> Option<()> {
+    let clock = driven.clocks.as_mut_slice().get_mut(client.index())?;
+    let when = When {
+        clock: *clock,
+        index,
+    };
+    let value = i.to_le_bytes();
+    *clock = driven.bank.store(client, address, &value, when).ok()?;
+    Some(())
+}
+
+/// A miss with a write-back: a block comes, is read and written, and leaves.
+fn cycle(driven: &mut Driven, plan: &Plan, i: u32) -> Option<()> {
+    let client = client_of(plan.clients, i);
+    let number = (u64::from(i) * 37 % 256) as u32;
+    let address = number.checked_mul(plan.block_bytes)?;
+    let block = BlockNo::new(number);
+    fetch(driven, client, block, Grow::NtoT)?;
+    let index = i;
+    load(driven, client, address, index)?;
+    store(driven, client, address, index.wrapping_add(1), i)?;
+    load(driven, client, address, index.wrapping_add(1))?;
+    store(driven, client, address, index.wrapping_add(2), i)?;
+    give_up(driven, client, block, Prune::TtoN)
+}
+
+/// A clean block comes, is read, and leaves another time: a stream of drops.
+fn stream(driven: &mut Driven, plan: &Plan, i: u32) -> Option<()> {
+    let client = client_of(plan.clients, i);
+    let number = i.checked_rem(plan.memory_blocks)?;
+    let address = number.checked_mul(plan.block_bytes)?;
+    let block = BlockNo::new(number);
+    fetch(driven, client, block, Grow::NtoT)?;
+    load(driven, client, address, i)?;
+    give_up(driven, client, block, Prune::TtoN)
+}
+
+/// The clients take block 0 from one another, and store.
+fn ping_pong(driven: &mut Driven, plan: &Plan, i: u32) -> Option<()> {
+    let client = client_of(plan.clients, i);
+    let block = BlockNo::new(0);
+    fetch(driven, client, block, Grow::NtoT)?;
+    store(driven, client, 0, i, i)
+}
+
+/// All clients read block 0, and then one takes it from all.
+fn share_all(driven: &mut Driven, plan: &Plan, i: u32) -> Option<()> {
+    let block = BlockNo::new(0);
+    for number in 1..plan.clients {
+        fetch(driven, ClientId::new(number), block, Grow::NtoB)?;
+    }
+    fetch(driven, ClientId::new(0), block, Grow::NtoT)?;
+    store(driven, ClientId::new(0), 0, i, i)?;
+    give_up(driven, ClientId::new(0), block, Prune::TtoN)
+}
+
+/// Client 0 loads, or loads and stores, in one of its copies after the other.
+fn hit(driven: &mut Driven, plan: &Plan, i: u32, stores: bool) -> Option<()> {
+    let client = ClientId::new(0);
+    let number = i.checked_rem(plan.held)?;
+    let address = number.checked_mul(plan.block_bytes)?;
+    if stores && i & 1 == 1 {
+        store(driven, client, address, i, i)
+    } else {
+        load(driven, client, address, i)
+    }
+}
+
+/// One cycle.
+fn one(driven: &mut Driven, plan: &Plan, i: u32) -> Option<()> {
+    match plan.work {
+        Work::Growing | Work::Misses => cycle(driven, plan, i),
+        Work::Loads => hit(driven, plan, i, false),
+        Work::Mixed => hit(driven, plan, i, true),
+        Work::Stream => stream(driven, plan, i),
+        Work::PingPong => ping_pong(driven, plan, i),
+        Work::Share => share_all(driven, plan, i),
+    }
+}
+
+/// All cycles.
+fn drive(driven: &mut Driven, plan: &Plan) -> Option<()> {
+    for i in 0..plan.cycles {
+        one(driven, plan, i)?;
+    }
+    Some(())
+}
+
+/// A fresh bank with its shares and clocks.
+fn made(alloc: Global, plan: &Plan) -> Option<Driven> {
+    let geometry = Geometry::new(GeometryNumbers {
+        version: 2,
+        clients: i64::from(plan.clients),
+        banks: 1,
+        block_bytes: i64::from(plan.block_bytes),
+        sets: i64::from(plan.sets),
+        ways: i64::from(plan.ways),
+        registers: i64::from(plan.registers),
+        copies: i64::from(plan.copies),
+        memory_blocks: i64::from(plan.memory_blocks),
+    })
+    .ok()?;
+    if geometry.banks() == 0 {
+        return None;
+    }
+    let (bank, shares) = Bank::new(alloc, geometry, BankNo::new(0), &[]).ok()?;
+    let mut clocks = ArrayVec::new();
+    for _ in 0..16 {
+        let _ = clocks.try_push(0);
+    }
+    Some(Driven {
+        bank,
+        shares,
+        clocks,
+    })
+}
+
+/// What the log says, so that nothing of it can be left out.
+fn sum(events: &[Event]) -> u64 {
+    let mut sum: u64 = 0;
+    for event in events {
+        if let Event::Load(access) = event {
+            for byte in access.bytes.as_slice() {
+                sum = sum.wrapping_mul(31).wrapping_add(u64::from(*byte));
+            }
+            sum = sum.wrapping_add(access.stamp);
+        }
+    }
+    sum
+}
+
+/// A bank with what the plan wants before it is driven: copies that are held, and room for the events.
+fn prepared(alloc: Global, plan: &Plan) -> Option<Driven> {
+    let mut driven = made(alloc, plan)?;
+    if plan.work == Work::Loads || plan.work == Work::Mixed {
+        for number in 0..plan.held {
+            fetch(
+                &mut driven,
+                ClientId::new(0),
+                BlockNo::new(number),
+                Grow::NtoT,
+            )?;
+        }
+    }
+    if plan.work != Work::Growing {
+        let _ = driven.bank.reserve_steps(plan.cycles as usize * 20);
+    }
+    Some(driven)
+}
+
+/// What happened, without its time: the same on every machine.
+fn once(rt: &HostRuntime, plan: &Plan) -> io::Result<()> {
+    let Some(mut driven) = prepared(rt.alloc(), plan) else {
+        return println!(rt; "no bank");
+    };
+    let ok = drive(&mut driven, plan).is_some();
+    let events = driven.bank.log().len();
+    let check = sum(driven.bank.log());
+    println!(rt; "events {events} ok {ok} sum {check}")
+}
+
+/// Drives a bank, and prints what an event took.
+fn round(rt: &HostRuntime, plan: &Plan) -> io::Result<()> {
+    let Some(mut driven) = prepared(rt.alloc(), plan) else {
+        return println!(rt; "no bank");
+    };
+    let before = driven.bank.log().len();
+    let start = Instant::now(rt)?;
+    let done = drive(&mut driven, plan);
+    let nanos = start.elapsed(rt)?.as_nanos();
+    let events = driven.bank.log().len().saturating_sub(before);
+    let check = sum(driven.bank.log());
+    let hundredths = (nanos * 100).checked_div(events as u128).unwrap_or(0);
+    let (whole, rest) = (hundredths / 100, hundredths % 100);
+    let ok = done.is_some();
+    println!(rt; "ns/event {whole}.{rest:02} events {events} nanos {nanos} ok {ok} sum {check}")
+}
+
+/// The number at a place, 0 where there is none.
+fn number_of(words: &[String], place: usize) -> u32 {
+    match words.get(place) {
+        Some(word) => word.as_str().parse::<u32>().unwrap_or(0),
+        None => 0,
+    }
+}
+
+/// What the words ask for.
+fn plan_of(words: &[String]) -> Option<Plan> {
+    Some(Plan {
+        work: work_of(words.first()?.as_str())?,
+        cycles: number_of(words, 1),
+        clients: number_of(words, 2),
+        copies: number_of(words, 3),
+        ways: number_of(words, 4),
+        sets: number_of(words, 5),
+        registers: number_of(words, 6),
+        block_bytes: number_of(words, 7),
+        memory_blocks: number_of(words, 8),
+        held: number_of(words, 9),
+        rounds: number_of(words, 10),
+    })
+}
+
+fn main(rt: HostRuntime) -> io::Result<()> {
+    let mut words = Vec::new(rt.alloc());
+    for word in std::env::args(&rt)?.skip(1) {
+        words.push(word)?;
+    }
+    let Some(plan) = plan_of(&words) else {
+        return println!(rt;
+            "usage: tl_bench growing|misses|loads|mixed|stream|ping-pong|share CYCLES CLIENTS COPIES WAYS SETS REGISTERS BLOCK_BYTES MEMORY_BLOCKS HELD ROUNDS"
+        );
+    };
+    if plan.rounds == 0 {
+        return once(&rt, &plan);
+    }
+    for _ in 0..plan.rounds {
+        round(&rt, &plan)?;
+    }
+    Ok(())
+}
