@@ -52,6 +52,15 @@ def strange_scripts():
     yield "a number with a fraction", script(clients="1.0"), "error 31 missing clients"
     yield "a key in quotes", plain.replace("clients", '"clients"'), None
     yield "an unknown key", plain + "colour = 'red'\n", None
+    yield "a number with a sign", script(clients="+1"), None
+    yield "an inline table over lines, with a last comma", plain + "note = { a = 1,\n b = 2, }\n", None
+    yield "the escapes of TOML 1.1", plain + 'note = "\\x41\\e"\n', None
+    yield "a time without seconds", plain + "note = 07:32\n", None
+    for deep in (80, 81):
+        fault = None if deep <= 80 else "error 30 not toml"
+        yield f"arrays {deep} deep", plain + "deep = " + "[" * deep + "]" * deep + "\n", fault
+        yield f"tables {deep} deep", plain + "deep = " + "{a=" * deep + "1" + "}" * deep + "\n", fault
+        yield f"a dotted key of {deep} parts", plain + ".".join(["a"] * deep) + " = 1\n", fault
     yield "nesting ten thousand deep", plain + "deep = " + "[" * 10_000 + "]" * 10_000 + "\n", "error 30 not toml"
     yield "nesting of tables ten thousand deep", plain + "deep = " + "{a=" * 10_000 + "1" + "}" * 10_000 + "\n", "error 30 not toml"
     yield "an open array ten thousand deep", plain + "deep = " + "[" * 10_000, "error 30 not toml"
