@@ -39,6 +39,26 @@ def array(texts):
     return "[" + ", ".join(f'"{it}"' for it in texts) + "]"
 
 
+def wrong_report(run, banks, status, output, fault):
+    """What is wrong with the answer of a run, if anything is: its own `line` judges each line of a client."""
+    if status or fault:
+        return f"status {status}, {fault!r}"
+    lines = iter(output.decode().splitlines())
+    for client, commands in enumerate(run.commands):
+        if next(lines) != f"client {client}":
+            return f"no line of client {client}"
+        seen = {}
+        for index, command in enumerate(commands):
+            said = run.line(client, index, command, next(lines), seen)
+            if said:
+                return said
+    for bank in range(banks):
+        words = next(lines).split(" ")
+        if words[:3] != ["bank", str(bank), "held"] or words[4] != "recorded" or words[3] != words[5]:
+            return f"bank {bank}: {words}"
+    return None if list(lines) == ["ok"] else "no end"
+
+
 class Run:
     """A random script of commands, and the check of its report. Each byte has at most one writer: the client of its address's place."""
 
@@ -81,22 +101,7 @@ class Run:
 
     def wrong(self, status, output, fault):
         """What is wrong with an answer, if anything is."""
-        if status or fault:
-            return f"status {status}, {fault!r}"
-        lines = iter(output.decode().splitlines())
-        for client, commands in enumerate(self.commands):
-            if next(lines) != f"client {client}":
-                return f"no line of client {client}"
-            seen = {}
-            for index, command in enumerate(commands):
-                said = self.line(client, index, command, next(lines), seen)
-                if said:
-                    return said
-        for bank in range(self.numbers["banks"]):
-            words = next(lines).split(" ")
-            if words[:3] != ["bank", str(bank), "held"] or words[4] != "recorded" or words[3] != words[5]:
-                return f"bank {bank}: {words}"
-        return None if list(lines) == ["ok"] else "no end"
+        return wrong_report(self, self.numbers["banks"], status, output, fault)
 
     def line(self, client, index, command, line, seen):
         kind, at, it = command
@@ -270,22 +275,7 @@ class GivenRun:
 
     def wrong(self, status, output, fault):
         """What is wrong with an answer, if anything is."""
-        if status or fault:
-            return f"status {status}, {fault!r}"
-        lines = iter(output.decode().splitlines())
-        for client, commands in enumerate(self.commands):
-            if next(lines) != f"client {client}":
-                return f"no line of client {client}"
-            own = {}
-            for index, words in enumerate(commands):
-                said = self.line(client, index, words, next(lines), own)
-                if said:
-                    return said
-        for bank in range(self.banks):
-            words = next(lines).split(" ")
-            if words[:3] != ["bank", str(bank), "held"] or words[4] != "recorded" or words[3] != words[5]:
-                return f"bank {bank}: {words}"
-        return None if list(lines) == ["ok"] else "no end"
+        return wrong_report(self, self.banks, status, output, fault)
 
     def line(self, client, index, words, line, own):
         begin = " ".join([str(index), *words[:2]])
