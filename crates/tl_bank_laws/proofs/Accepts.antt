@@ -15,7 +15,7 @@ use Rattle.tl_protocol.specs.Protocol.{Block, accepted_from}
 use Rattle.tl_protocol.specs.declared.client.Client.{Client}
 use Rattle.tl_protocol.specs.declared.event.Event.{Event}
 use Rattle.tl_protocol.specs.declared.event.Event.TheVariants.{AcceptAcquire}
-use Rattle.tl_links.specs.Table.{Table, lane_in, SameSize as SameLinks}
+use Rattle.tl_links.specs.Table.{LinkTable, lane_in, SameSize as SameLinks}
 use Rattle.tl_registers.specs.Pending.{grant_pending}
 use Rattle.tl_registers.specs.Register.{acquire_task, opened}
 use Rattle.tl_registers.specs.Registers.{is_busy}
@@ -28,7 +28,7 @@ use Rattle.tl_bank_spec.specs.Refusal.{first_of}
 use Rattle.tl_bank_spec.specs.View.{View, block_at, client_at, shape_of}
 use Rattle.tl_bank_spec.specs.Own.{IsOwn, way_at}
 use Rattle.tl_bank_spec.specs.Channels.{lane_at}
-use Rattle.tl_bank_spec.specs.Ways.{IsWayFor, registers_full, slots_at, victim_in, way_in_set, ways_held}
+use Rattle.tl_bank_spec.specs.Ways.{IsWayFor, registers_full, slots_at, victim_of_way, way_in_set, ways_held}
 use Rattle.tl_home.specs.Homes.{order_at}
 use Rattle.tl_bank_laws.specs.Entry.{entry_of}
 use Rattle.tl_bank_laws.specs.Layers.{Layers}
@@ -157,7 +157,7 @@ next-leaves v c block b =
     ]
 
 -- what became of the layers, where the links lost the client's first message on A and the others are as they were
-accept-layers : (v : View) (h : Layers) (c block : ℕ) (links : Table) → Means v h → SameLinks h.links links
+accept-layers : (v : View) (h : Layers) (c block : ℕ) (links : LinkTable) → Means v h → SameLinks h.links links
     → ((x : ℕ) (l : Channel) → lane_in links x l
     ≡ (if is_here c A x l then without_first (lane_in h.links x l) else lane_in h.links x l))
     → NextLayers v (AcceptAcquire c block) h (record h { links = links })
@@ -196,7 +196,7 @@ pub record Accepting (v : View) (t : Ticket) (block : ℕ) (grow : Grow) (way : 
   pub asked : Asked v t
   pub grow_is : grow ≡ asked.grow
   pub way_is : IsWayFor v (set_of v.geometry block) (way_at v block) way
-  pub victim_is : victim ≡ victim_in v (set_of v.geometry block) (way_at v block) way
+  pub victim_is : victim ≡ victim_of_way v (set_of v.geometry block) (way_at v block) way
 
 -- a way that is held while no Grant is pending is so later, where none comes to be
 fills-on : (t old new : Bool) → (old ≡ false → new ≡ false) → (t && not old) ≡ true → (t && not new) ≡ true
@@ -245,19 +245,19 @@ accept-ways v h t block grow way victim room m may =
     (m.ways.orders s l))
 
 -- the bank is kept, told with the very block, grow and victim that the ticket's message and the way give
-accept-core : (v : View) (h : Layers) (t : Ticket) (way room : ℕ) (links : Table) → Means v h → first_of (accept_cases v t) ≡ None
+accept-core : (v : View) (h : Layers) (t : Ticket) (way room : ℕ) (links : LinkTable) → Means v h → first_of (accept_cases v t) ≡ None
     → (asked : Asked v t) → IsWayFor v (set_of v.geometry (block_named v t A)) (way_at v (block_named v t A)) way → SameLinks h.links links
     → ((x : ℕ) (l : Channel) → lane_in links x l
     ≡ (if is_here t.client A x l then without_first (lane_in h.links x l) else lane_in h.links x l))
     → Means (opened_view v (v.log ++ AcceptAcquire t.client (block_named v t A) ∷ []) room
     (accepting v t (block_named v t A) asked.grow way
-    (victim_in v (set_of v.geometry (block_named v t A)) (way_at v (block_named v t A)) way)))
+    (victim_of_way v (set_of v.geometry (block_named v t A)) (way_at v (block_named v t A)) way)))
     (record h { links = links })
 accept-core v h t way room links m none asked way_is same takes =
     let block : ℕ = block_named v t A in
     let set : ℕ = set_of v.geometry block in
     let grow : Grow = asked.grow in
-    let victim : Option ℕ = victim_in v set (way_at v block) way in
+    let victim : Option ℕ = victim_of_way v set (way_at v block) way in
     let e : Event = AcceptAcquire t.client block in
     let shape = shape_of v.geometry in
     let ok : AcceptAllowed v t = accept-allowed v t none in
@@ -274,7 +274,7 @@ accept-core v h t way room links m none asked way_is same takes =
     (accept-ways v h t block grow way victim room m may)
 
 -- the Acquire is gone from its channel, and a register is open for it
-pub accept-keeps : (v : View) (h : Layers) (t : Ticket) (block : ℕ) (grow : Grow) (way : ℕ) (victim : Option ℕ) (room : ℕ) (links : Table)
+pub accept-keeps : (v : View) (h : Layers) (t : Ticket) (block : ℕ) (grow : Grow) (way : ℕ) (victim : Option ℕ) (room : ℕ) (links : LinkTable)
     → Means v h → Accepting v t block grow way victim → SameLinks h.links links
     → ((x : ℕ) (l : Channel) → lane_in links x l
     ≡ (if is_here t.client t.channel x l then without_first (lane_in h.links x l) else lane_in h.links x l))
@@ -286,7 +286,7 @@ accept-keeps v h t block grow way victim room links m a same takes =
     let Way : ℕ → Type 0 = λ b. IsWayFor v (set_of v.geometry b) (way_at v b) way in
     let Result : ℕ → Grow → Option ℕ → Type 0 = λ b g x.
     Means (opened_view v (v.log ++ AcceptAcquire t.client b ∷ []) room (accepting v t b g way x)) (record h { links = links }) in
-    let VictimAt : ℕ → Option ℕ = λ b. victim_in v (set_of v.geometry b) (way_at v b) way in
+    let VictimAt : ℕ → Option ℕ = λ b. victim_of_way v (set_of v.geometry b) (way_at v b) way in
     let core : Result (block_named v t A) a.asked.grow (VictimAt (block_named v t A)) =
     accept-core v h t way room links m a.allowed a.asked (subst Way a.block_is a.way_is) same (subst Takes ok.head.channel takes) in
     let at_block : Result block a.asked.grow (VictimAt block) =

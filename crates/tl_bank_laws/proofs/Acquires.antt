@@ -10,7 +10,7 @@ use Rattle.tl_protocol.specs.Client.{sent_acquire}
 use Rattle.tl_protocol.specs.declared.client.Client.{Client}
 use Rattle.tl_protocol.specs.declared.copy.CachedCopy.{CachedCopy}
 use Rattle.tl_protocol.specs.declared.event.Event.TheVariants.{SendAcquire}
-use Rattle.tl_links.specs.Table.{Table, lane_in, SameSize as SameLinks}
+use Rattle.tl_links.specs.Table.{LinkTable, lane_in, SameSize as SameLinks}
 use Rattle.tl_copies.specs.Copies.{Tables, held_at, is_cell, SameSize as SameCopies}
 use Rattle.tl_bank_spec.specs.Calls.{acquire_cases}
 use Rattle.tl_bank_spec.specs.Refusal.{first_of}
@@ -36,7 +36,7 @@ pub record Asks (v : View) (c b : ℕ) (grow : Grow) (copy : CachedCopy) : Type 
   pub copy_is : copy ≡ (client_at v c b).held
 
 -- the bank is kept once the Acquire is on A, and the client's entry waits for the Grant
-pub acquire-keeps : (v : View) (h : Layers) (c b : ℕ) (grow : Grow) (copy : CachedCopy) (room : ℕ) (links : Table) (tables : Tables)
+pub acquire-keeps : (v : View) (h : Layers) (c b : ℕ) (grow : Grow) (copy : CachedCopy) (room : ℕ) (links : LinkTable) (tables : Tables)
     → Means v h → Asks v c b grow copy → SameLinks h.links links
     → ((x : ℕ) (l : Channel) → lane_in links x l
     ≡ (if is_here c A x l then with_message (lane_in h.links x l) (record { block = b; body = AcquireBlock grow })

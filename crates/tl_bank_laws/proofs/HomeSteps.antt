@@ -19,7 +19,7 @@ use Rattle.tl_bank_spec.specs.Clock.{IsLater, stamped}
 use Rattle.tl_home.specs.Homes.{HomeState, SameBank, line_in, recorded_in, outward_in, memory_in}
 use Rattle.tl_bank_laws.specs.Entry.{entry_of}
 use Rattle.tl_bank_laws.specs.Layers.{Layers}
-use Rattle.tl_bank_laws.specs.Means.{Means, IsHome}
+use Rattle.tl_bank_laws.specs.Means.{Means, IsHomeOf}
 use Rattle.tl_bank_laws.proofs.Next.{NextEvent, NextLayers, block_next}
 use Rattle.tl_bank_laws.proofs.Pointwise.{each-next, here, homes-next, left, quiet-next}
 
@@ -117,7 +117,7 @@ pub record SameAt (old new : HomeState) (b : ℕ) : Type 0 where
   pub memory : memory_in new b ≡ memory_in old b
 
 -- what home has of a block is what it had
-same-home : (old new : HomeState) (b : ℕ) (s : Block) → SameAt old new b → IsHome old b s → IsHome new b s
+same-home : (old new : HomeState) (b : ℕ) (s : Block) → SameAt old new b → IsHomeOf old b s → IsHomeOf new b s
 same-home old new b s same h = record {
   line = same.line ∙ h.line;
   recorded = λ c. same.recorded c ∙ h.recorded c;
@@ -128,7 +128,7 @@ same-home old new b s same h = record {
 -- What became of home: its part of the event's block follows, and it has of each other block what it had.
 pub record HomeFollows (v : View) (e : Event) (old new : HomeState) : Type 0 where
   pub bank : SameBank old new
-  pub at : IsHome new (here v e) (left v e)
+  pub at : IsHomeOf new (here v e) (left v e)
   pub others : (b : ℕ) → b ≢ here v e → SameAt old new b
 
 -- ## One more such event

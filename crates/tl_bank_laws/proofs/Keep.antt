@@ -22,7 +22,7 @@ use Rattle.tl_bank_spec.specs.Clock.{IsLater, stamped, clock_of}
 use Rattle.tl_bank_laws.specs.Entry.{entry_of}
 use Rattle.tl_home.specs.Homes.{HomeState, bank_in, geometry_in, way_in, free_at, order_at, outward_in}
 use Rattle.tl_bank_laws.specs.Layers.{Layers}
-use Rattle.tl_bank_laws.specs.Means.{Means, IsHome}
+use Rattle.tl_bank_laws.specs.Means.{Means, IsHomeOf}
 use Rattle.tl_bank_laws.proofs.Next.{next_view, block_next, blocks-next, NextLayers, means-next}
 use Rattle.tl_bank_laws.proofs.Orders.{GrantsNothing}
 use Rattle.tl_bank_laws.proofs.Pending.{HoldsOn}
@@ -63,8 +63,8 @@ if-entry true k old = refl
 if-entry false k old = refl
 
 -- home's part is the same, and so is the block's
-home-stays : (home : HomeState) (block : ℕ) (s t : Block) → IsHome home block s → SameHome s t
-    → ((c : ℕ) → (t.client c).recorded ≡ (s.client c).recorded) → IsHome home block t
+home-stays : (home : HomeState) (block : ℕ) (s t : Block) → IsHomeOf home block s → SameHome s t
+    → ((c : ℕ) → (t.client c).recorded ≡ (s.client c).recorded) → IsHomeOf home block t
 home-stays home block s t h same recorded = record {
   line = h.line ∙ sym same.home;
   recorded = λ c. h.recorded c ∙ sym (recorded c);
@@ -113,8 +113,8 @@ follow-next v old new e c k m step follow =
           ∙ ap entry_of (sym (client-append shape image log e c k step.client x y))
           ∙ ap (λ (t : ℕ → Block). entry_of ((t y).client x)) then;
       home = λ y o.
-          subst (λ (home : HomeState). IsHome home y (block_next v e y)) (sym follow.home)
-          (subst (λ (t : ℕ → Block). IsHome old.home y (t y)) then
+          subst (λ (home : HomeState). IsHomeOf home y (block_next v e y)) (sym follow.home)
+          (subst (λ (t : ℕ → Block). IsHomeOf old.home y (t y)) then
           (home-stays old.home y (end_of shape image log y) (end_of shape image (log ++ e ∷ []) y) (m.home y o) (same y)
           (λ x. field-append (λ (k : Client). k.recorded) shape image log e c k step.client step.recorded x y)));
       quiet = λ y no. ap (λ (home : HomeState). outward_in home y) follow.home;

@@ -29,7 +29,7 @@ use Rattle.tl_bank_spec.specs.View.{View, block_at, shape_of}
 use Rattle.tl_bank_spec.specs.Own.{IsOwn, way_at, ways_below}
 use Rattle.tl_bank_spec.specs.Ways.{lies_in, slot_at, slots_at}
 use Rattle.tl_bank_laws.specs.Layers.{Layers}
-use Rattle.tl_bank_laws.specs.Means.{HoldsWay, IsHome, Means, WaysFit, is_filling}
+use Rattle.tl_bank_laws.specs.Means.{HoldsWay, IsHomeOf, Means, WaysFit, is_filling}
 use Rattle.tl_bank_laws.proofs.Crossed.{crossings-few}
 use Rattle.tl_bank_laws.proofs.Dues.{Acts}
 use Rattle.tl_bank_laws.proofs.Moves.{at-block, at-other}
@@ -230,9 +230,9 @@ works-busy v own block r found on =
 
 -- what became of the layers where a block left home
 pub leaving-layers : (v : View) (h : Layers) (e : Event) (new : HomeState) → Means v h → IsOwn v.geometry v.number (here v e)
-    → GaveUp h.home new (here v e) → IsHome new (here v e) (left v e)
+    → GaveUp h.home new (here v e) → IsHomeOf new (here v e) (left v e)
     → ((b : ℕ) → b ≢ here v e → outward_in new b ≡ outward_in h.home b)
-    → (b : ℕ) → IsOwn v.geometry v.number b → IsHome new b (block_next v e b)
+    → (b : ℕ) → IsOwn v.geometry v.number b → IsHomeOf new b (block_next v e b)
 leaving-layers v h e new m own gave at outward =
     let block : ℕ = here v e in
     homes-next v h e new m at
@@ -257,7 +257,7 @@ put-keeps v h own block room ways home m acts gave outward shown =
     let s : Block = block_at v block in
     let steady = bank-steady v h m in
     let is_own : IsOwn v.geometry v.number block = (acts.may.0, acts.bank) in
-    let is : IsHome h.home block s = m.home block is_own in
+    let is : IsHomeOf h.home block s = m.home block is_own in
     let nobody = nobody-at shape s (steady.service block) acts.may.1.1 in
     let busy = works-busy v own block acts.register acts.found acts.works in
     let other : (b : ℕ) → b ≢ block → outward_in home b ≡ outward_in h.home b =
@@ -347,7 +347,7 @@ drop-keeps v h own block room ways home m acts gave outward shown =
     let s : Block = block_at v block in
     let steady = bank-steady v h m in
     let is_own : IsOwn v.geometry v.number block = (acts.may.0, acts.bank) in
-    let is : IsHome h.home block s = m.home block is_own in
+    let is : IsHomeOf h.home block s = m.home block is_own in
     let nobody = nobody-at shape s (steady.service block) acts.may.1.1 in
     let nowhere : slice_index_or ways block None ≡ None =
     shown block is_own.0 ∙ gave.ways block ∙ at-block block None (way_in h.home block) in

@@ -23,7 +23,7 @@ use Rattle.tl_bank_spec.specs.Clock.{IsLater, StampsRiseFrom, stamped, clock_fro
 use Rattle.tl_home.specs.Homes.{SameBank, outward_in}
 use Rattle.tl_bank_laws.specs.Entry.{entry_of}
 use Rattle.tl_bank_laws.specs.Layers.{Layers}
-use Rattle.tl_bank_laws.specs.Means.{Means, IsHome, RegistersFit, WaysFit}
+use Rattle.tl_bank_laws.specs.Means.{Means, IsHomeOf, RegistersFit, WaysFit}
 use Rattle.tl_bank_laws.proofs.Accepted.{accepted-by-agree}
 
 -- ## One more event
@@ -51,7 +51,7 @@ pub record NextLayers (v : View) (e : Event) (old new : Layers) : Type 0 where
   pub copies :
       (x y : ℕ) → x < v.geometry.clients → y < v.geometry.memory_blocks → held_at new.copies x y
       ≡ entry_of ((block_next v e y).client x)
-  pub home : (b : ℕ) → IsOwn v.geometry v.number b → IsHome new.home b (block_next v e b)
+  pub home : (b : ℕ) → IsOwn v.geometry v.number b → IsHomeOf new.home b (block_next v e b)
   pub quiet : (b : ℕ) → (IsOwn v.geometry v.number b → ⊥) → outward_in new.home b ≡ outward_in old.home b
   pub links_size : SameLinks old.links new.links
   pub copies_size : SameCopies old.copies new.copies
@@ -167,7 +167,7 @@ means-next v old new e room registers ways m next layers fit in_ways =
           layers.lanes x l h ∙ ap (λ (lane : Lane). lane_after shape s e x l lane) (m.lanes x l h)
           ∙ sym (lanes_grow_by_one shape image log e x l);
       copies = λ x y h l. layers.copies x y h l ∙ ap (λ (t : ℕ → Block). entry_of ((t y).client x)) (sym then);
-      home = λ y o. subst (λ (t : ℕ → Block). IsHome new.home y (t y)) (sym then) (layers.home y o);
+      home = λ y o. subst (λ (t : ℕ → Block). IsHomeOf new.home y (t y)) (sym then) (layers.home y o);
       quiet = λ y no. layers.quiet y no ∙ m.quiet y no;
       accepted = λ y. accepted-by-agree shape (block_at (next_view v e room registers ways)) registers fit.agree y;
       registers = fit;

@@ -21,7 +21,7 @@ use Rattle.tl_ways.specs.Orders.{chosen}
 use Rattle.tl_bank_spec.specs.HomeCases.{lacks}
 use Rattle.tl_bank_spec.specs.View.{View, block_at, shape_of}
 use Rattle.tl_bank_spec.specs.Own.{IsOwn, way_at}
-use Rattle.tl_bank_spec.specs.Ways.{IsWayFor, holds_way, slot_at, slots_at, victim_in, way_in_set, ways_held}
+use Rattle.tl_bank_spec.specs.Ways.{IsWayFor, holds_way, slot_at, slots_at, victim_of_way, way_in_set, ways_held}
 use Rattle.tl_home.specs.Homes.{HomeState, bank_in, free_at, geometry_in, order_at, way_in}
 use Rattle.tl_home.proofs.DirectoryLaws.{IsThere-of}
 use Rattle.tl_bank_laws.specs.Means.{HoldsWay, Means, WaysApart, WaysFit, is_filling}
@@ -92,7 +92,7 @@ pub record MayHold (v : View) (block way : ℕ) (victim : Option ℕ) : Type 0 w
 -- the way that the rules say is one
 pub may-hold : (v : View) (home : HomeState) (block way : ℕ) (lies : Option ℕ) → WaysFit v home → IsOwn v.geometry v.number block
     → is_busy block v.registers ≡ false → way_at v block ≡ lies → IsWayFor v (set_of v.geometry block) lies way
-    → MayHold v block way (victim_in v (set_of v.geometry block) lies way)
+    → MayHold v block way (victim_of_way v (set_of v.geometry block) lies way)
 may-hold v home block way (Some at) fit own free is way_is =
     let set : ℕ = set_of v.geometry block in
     let here : way_at v block ≡ Some way = is ∙ ap Some (sym way_is) in
@@ -293,10 +293,10 @@ pub victim-found : (v : View) (h : Layers) (block way : ℕ) (found : Option ℕ
     → IfSome found (λ b. b < (geometry_in h.home).memory_blocks)
     → IfSome found (λ b. set_of (geometry_in h.home) b ≡ set_of v.geometry block)
     → IfSome found (λ b. way_in h.home b ≡ Some way) → is_none found ≡ free_at h.home (set_of v.geometry block) way
-    → found ≡ victim_in v (set_of v.geometry block) (way_at v block) way
+    → found ≡ victim_of_way v (set_of v.geometry block) (way_at v block) way
 victim-found v h block way found m known l k away inside in_set lies free =
     let none : way_at v block ≡ None = m.ways.shown block known ∙ away in
-    subst (λ (o : Option ℕ). found ≡ victim_in v (set_of v.geometry block) o way) (sym none)
+    subst (λ (o : Option ℕ). found ≡ victim_of_way v (set_of v.geometry block) o way) (sym none)
     (slot-found v h (set_of v.geometry block) way found m l k inside in_set lies free)
 
 -- ## The way that home offers

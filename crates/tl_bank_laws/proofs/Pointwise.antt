@@ -9,7 +9,7 @@ use Rattle.tl_bank_spec.specs.View.{View, block_at, client_at, shape_of}
 use Rattle.tl_bank_spec.specs.Own.{IsOwn}
 use Rattle.tl_bank_laws.specs.Entry.{entry_of}
 use Rattle.tl_bank_laws.specs.Layers.{Layers}
-use Rattle.tl_bank_laws.specs.Means.{IsHome, Means}
+use Rattle.tl_bank_laws.specs.Means.{IsHomeOf, Means}
 use Rattle.tl_bank_laws.proofs.Next.{block_next}
 
 -- the block that an event is of
@@ -40,11 +40,11 @@ entries-next v h e m same x y lx ly =
     ∙ sym (each-next v e (λ b s. entry_of (s.client x) ≡ entry_of (client_at v x b)) (same x) (λ b ne. refl) y)
 
 -- home's part of each block then, where the event's own block is one of the bank
-pub homes-next : (v : View) (h : Layers) (e : Event) (new : HomeState) → Means v h → IsHome new (here v e) (left v e)
-    → ((b : ℕ) → b ≢ here v e → IsHome h.home b (block_at v b) → IsHome new b (block_at v b))
-    → (b : ℕ) → IsOwn v.geometry v.number b → IsHome new b (block_next v e b)
+pub homes-next : (v : View) (h : Layers) (e : Event) (new : HomeState) → Means v h → IsHomeOf new (here v e) (left v e)
+    → ((b : ℕ) → b ≢ here v e → IsHomeOf h.home b (block_at v b) → IsHomeOf new b (block_at v b))
+    → (b : ℕ) → IsOwn v.geometry v.number b → IsHomeOf new b (block_next v e b)
 homes-next v h e new m at other b own =
-    each-next v e (λ y s. IsOwn v.geometry v.number y → IsHome new y s) (λ own. at) (λ y ne own. other y ne (m.home y own)) b own
+    each-next v e (λ y s. IsOwn v.geometry v.number y → IsHomeOf new y s) (λ own. at) (λ y ne own. other y ne (m.home y own)) b own
 
 -- of no other bank's block does anything pass then, where the event changes this of its own block alone
 pub quiet-next : (v : View) (e : Event) (old new : HomeState) → IsOwn v.geometry v.number (here v e)

@@ -26,7 +26,7 @@ use Rattle.tl_protocol.specs.declared.copy.CachedCopy.{CachedCopy}
 use Rattle.tl_protocol.specs.declared.copy.CachedCopy.TheVariants.{Absent, Readable, Writable}
 use Rattle.tl_protocol.specs.declared.event.Event.TheVariants.{AnswerProbe}
 use Rattle.tl_lanes.specs.Lanes.{answer_post, sent_to}
-use Rattle.tl_links.specs.Table.{Table, lane_in, SameSize as SameLinks}
+use Rattle.tl_links.specs.Table.{LinkTable, lane_in, SameSize as SameLinks}
 use Rattle.tl_copies.specs.Copies.{Tables, held_at, is_cell, SameSize as SameCopies}
 use Rattle.tl_bank_spec.specs.Calls.{answer_probe_cases}
 use Rattle.tl_bank_spec.specs.Cases.{any_body, awaits_release_ack, bad_share, block_named, link_full, no_client, other_share}
@@ -141,7 +141,7 @@ pub probe-head : (v : View) (h : Layers) (t : Ticket) (share : Holding) → Mean
 probe-head v h t share m none = is-head v h t B any_body m (probe-allowed v t share none).head
 
 -- channel C has a place for the answer
-pub probe-room : (v : View) (h : Layers) (t : Ticket) (share : Holding) (between : Table) → Means v h
+pub probe-room : (v : View) (h : Layers) (t : Ticket) (share : Holding) (between : LinkTable) → Means v h
     → first_of (answer_probe_cases v t share) ≡ None → length v.log < 2 ^ 63 → SameLinks h.links between
     → ((x : ℕ) (l : Channel) → lane_in between x l
     ≡ (if is_here t.client t.channel x l then without_first (lane_in h.links x l) else lane_in h.links x l))
@@ -208,7 +208,7 @@ post-is v t share block cap copy wait before answer p answers =
 
 -- the bank is kept once the Probe is gone from B, its answer is on C, and the reduced copy is in the client's table
 pub probe-keeps : (v : View) (h : Layers) (t : Ticket) (share : Holding) (block : ℕ) (cap : ProbeCap) (copy : CachedCopy) (wait : Wait)
-    (before : Perm) (answer : ProbeAnswer) (room : ℕ) (between links : Table) (tables : Tables)
+    (before : Perm) (answer : ProbeAnswer) (room : ℕ) (between links : LinkTable) (tables : Tables)
     → Means v h → Answers v t share block cap copy wait before answer → SameLinks h.links between
     → ((x : ℕ) (l : Channel) → lane_in between x l
     ≡ (if is_here t.client t.channel x l then without_first (lane_in h.links x l) else lane_in h.links x l))

@@ -15,7 +15,7 @@ use Rattle.tl_protocol.specs.declared.client.Client.{Client}
 use Rattle.tl_protocol.specs.declared.copy.CachedCopy.{CachedCopy}
 use Rattle.tl_protocol.specs.declared.copy.CachedCopy.TheVariants.{Absent, Readable, Writable}
 use Rattle.tl_protocol.specs.declared.event.Event.TheVariants.{TakeReleaseAck}
-use Rattle.tl_links.specs.Table.{Table, lane_in, SameSize as SameLinks}
+use Rattle.tl_links.specs.Table.{LinkTable, lane_in, SameSize as SameLinks}
 use Rattle.tl_copies.specs.Copies.{Tables, held_at, is_cell, SameSize as SameCopies}
 use Rattle.tl_bank_spec.specs.Calls.{take_release_ack_cases}
 use Rattle.tl_bank_spec.specs.Cases.{block_named, is_a_release_ack}
@@ -91,7 +91,7 @@ ack-place v h t block copy m acks =
     (let P : CachedCopy → Type 0 = λ p. has_entry_for p Nothing ≡ true in subst P acks.copy_is need))
 
 -- the bank is kept, told with the very block that the ticket's message speaks of
-ack-core : (v : View) (h : Layers) (t : Ticket) (copy : CachedCopy) (room : ℕ) (links : Table) (tables : Tables)
+ack-core : (v : View) (h : Layers) (t : Ticket) (copy : CachedCopy) (room : ℕ) (links : LinkTable) (tables : Tables)
     → Means v h → first_of (take_release_ack_cases v t) ≡ None → copy ≡ (client_at v t.client (block_named v t D)).held
     → SameLinks h.links links
     → ((x : ℕ) (l : Channel) → lane_in links x l
@@ -128,7 +128,7 @@ ack-core v h t copy room links tables m none copy_is same_links takes same after
     })
 
 -- the bank is kept once the ReleaseAck is gone from D, and the client waits for nothing
-pub ack-keeps : (v : View) (h : Layers) (t : Ticket) (block : ℕ) (copy : CachedCopy) (room : ℕ) (links : Table) (tables : Tables)
+pub ack-keeps : (v : View) (h : Layers) (t : Ticket) (block : ℕ) (copy : CachedCopy) (room : ℕ) (links : LinkTable) (tables : Tables)
     → Means v h → Acks v t block copy → SameLinks h.links links
     → ((x : ℕ) (l : Channel) → lane_in links x l
     ≡ (if is_here t.client t.channel x l then without_first (lane_in h.links x l) else lane_in h.links x l))

@@ -20,7 +20,7 @@ use Rattle.tl_protocol.specs.Protocol.{is_none}
 use Rattle.tl_protocol.specs.declared.client.Client.{Client}
 use Rattle.tl_protocol.specs.declared.copy.CachedCopy.{CachedCopy}
 use Rattle.tl_protocol.specs.declared.event.Event.TheVariants.{SendRelease}
-use Rattle.tl_links.specs.Table.{Table, lane_in, SameSize as SameLinks}
+use Rattle.tl_links.specs.Table.{LinkTable, lane_in, SameSize as SameLinks}
 use Rattle.tl_copies.specs.Copies.{Tables, held_at, is_cell, SameSize as SameCopies}
 use Rattle.tl_bank_spec.specs.Calls.{release_cases}
 use Rattle.tl_bank_spec.specs.Refusal.{first_of}
@@ -65,7 +65,7 @@ pub record GivesUp (v : View) (c b : ℕ) (prune : Prune) (share : Holding) (cop
 
 -- the bank is kept once the Release is on C, and the reduced copy is in the client's table, waiting for the ReleaseAck
 pub release-keeps : (v : View) (h : Layers) (c b : ℕ) (prune : Prune) (share : Holding) (copy : CachedCopy) (given : Surrender)
-    (room : ℕ) (links : Table) (tables : Tables)
+    (room : ℕ) (links : LinkTable) (tables : Tables)
     → Means v h → GivesUp v c b prune share copy given → SameLinks h.links links
     → ((x : ℕ) (l : Channel) → lane_in links x l
     ≡ (if is_here c C x l then with_message (lane_in h.links x l) (record { block = b; body = b_Upward (Release given) })

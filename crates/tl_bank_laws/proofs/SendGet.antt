@@ -15,7 +15,7 @@ use Rattle.tl_registers.specs.declared.due.Due.TheVariants.{Get}
 use Rattle.tl_registers.proofs.Probing.{fetching-keeps-agreement}
 use Rattle.tl_bank_spec.specs.View.{View, block_at, shape_of}
 use Rattle.tl_bank_laws.specs.Layers.{Layers}
-use Rattle.tl_bank_laws.specs.Means.{IsHome, Means}
+use Rattle.tl_bank_laws.specs.Means.{IsHomeOf, Means}
 use Rattle.tl_bank_laws.proofs.Crossed.{crossings-few}
 use Rattle.tl_bank_laws.proofs.Dues.{Acts}
 use Rattle.tl_bank_laws.proofs.Next.{block_next, means-next, next_view, registers-next}
@@ -37,7 +37,7 @@ get-keeps v h own room ways home m acts bank same outward memory shown =
     let e = SendGet own in
     let s : Block = block_at v own in
     let steady = bank-steady v h m in
-    let is : IsHome h.home own s = m.home own acts.is_own in
+    let is : IsHomeOf h.home own s = m.home own acts.is_own in
     let found : register_of acts.register.own v.registers ≡ Some acts.register =
     subst (λ (n : ℕ). register_of n v.registers ≡ Some acts.register) (sym acts.here) acts.found in
     let agree : Agree shape (block_next v e) v.registers =

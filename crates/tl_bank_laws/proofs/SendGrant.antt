@@ -25,7 +25,7 @@ use Rattle.tl_protocol.specs.declared.home.Accepted.{Accepted}
 use Rattle.tl_protocol.specs.declared.home.Line.{Line}
 use Rattle.tl_protocol.specs.declared.shape.Shape.{Shape}
 use Rattle.tl_lanes.specs.Lanes.{Post, grant_post, sent_to}
-use Rattle.tl_links.specs.Table.{Table, lane_in, SameSize as SameLinks}
+use Rattle.tl_links.specs.Table.{LinkTable, lane_in, SameSize as SameLinks}
 use Rattle.tl_home.specs.Directories.{order_after}
 use Rattle.tl_home.specs.Homes.{HomeState, SameBank, SameMemory, SameOutward, free_at, geometry_in, line_in, order_at, recorded_in, way_in}
 use Rattle.tl_registers.specs.Agree.{Each}
@@ -42,7 +42,7 @@ use Rattle.tl_bank_spec.specs.Own.{IsOwn, way_at}
 use Rattle.tl_bank_spec.specs.Ways.{slot_at, slots_at}
 use Rattle.tl_bank_laws.specs.Entry.{entry_of}
 use Rattle.tl_bank_laws.specs.Layers.{Layers}
-use Rattle.tl_bank_laws.specs.Means.{HoldsWay, IsHome, Means, WaysFit, is_filling, is_filling_by}
+use Rattle.tl_bank_laws.specs.Means.{HoldsWay, IsHomeOf, Means, WaysFit, is_filling, is_filling_by}
 use Rattle.tl_bank_laws.proofs.Dues.{Acts}
 use Rattle.tl_bank_laws.proofs.Next.{block_next, blocks-next, means-next, next_view, registers-next}
 use Rattle.tl_bank_laws.proofs.Orders.{order-transfers}
@@ -155,7 +155,7 @@ post-is v own c acquire cap bytes gives =
 
 -- what is recorded of the block then
 recorded-then : (v : View) (h : Layers) (own c : ℕ) (cap : GrantCap) (bytes : List ℕ) (home : HomeState)
-    → Granted h.home home own c cap → IsHome h.home own (block_at v own) → (x : ℕ)
+    → Granted h.home home own c cap → IsHomeOf h.home own (block_at v own) → (x : ℕ)
     → recorded_in home x own ≡ ((with_client (block_at v own) c (sent_grant (client_at v c own) cap bytes)).client x).recorded
 recorded-then v h own c cap bytes home gave is x =
     let here : (own == own) ≡ true = eq-eqb own own refl in
@@ -329,7 +329,7 @@ grant-fits v h own c room w ways cap home m gave is_own at shown =
 
 -- the bank is kept once the Grant is on D, and home records it and touches the block's way
 pub grant-keeps : (v : View) (h : Layers) (own c : ℕ) (acquire : Accepted) (cap : GrantCap) (bytes : Option (List ℕ)) (room : ℕ)
-    (ways : List (Option ℕ)) (links : Table) (home : HomeState) → Means v h → Acts v own (Grant c) → Gives v own c acquire cap bytes
+    (ways : List (Option ℕ)) (links : LinkTable) (home : HomeState) → Means v h → Acts v own (Grant c) → Gives v own c acquire cap bytes
     → SameLinks h.links links
     → ((x : ℕ) (l : Channel) → lane_in links x l
     ≡ (if is_here c D x l then with_message (lane_in h.links x l) (record { block = own; body = b_Downward (d_Grant cap bytes) })
@@ -342,7 +342,7 @@ grant-keeps v h own c acquire cap bytes room ways links home m acts gives same_l
     let e = SendGrant c own in
     let s : Block = block_at v own in
     let k : Client = sent_grant (s.client c) cap (home_bytes s.home) in
-    let is : IsHome h.home own s = m.home own acts.is_own in
+    let is : IsHomeOf h.home own s = m.home own acts.is_own in
     let leaves : left v e ≡ with_client s c k = left-is v own c acquire cap bytes gives in
     let held : is_none s.home ≡ false = ap (λ (o : Option Line). is_none o) acts.may.1.1.1.1 in
     let at = some-is (way_at v own) (sym (m.ways.holds own acts.is_own) ∙ held) in
@@ -354,7 +354,7 @@ grant-keeps v h own c acquire cap bytes room ways links home m acts gives same_l
       copies = entries-next v h e m
           (λ x. ap (λ (b : Block). entry_of (b.client x)) leaves ∙ field-put entry_of s c k refl x);
       home = homes-next v h e home m
-          (subst (λ (b : Block). IsHome home own b) (sym leaves)
+          (subst (λ (b : Block). IsHomeOf home own b) (sym leaves)
           (record {
             line = gave.lines own ∙ is.line;
             recorded = recorded-then v h own c cap (home_bytes s.home) home gave is;

@@ -12,7 +12,7 @@ use Rattle.tl_protocol.specs.Client.{sent_probe}
 use Rattle.tl_protocol.specs.Protocol.{Block, with_client}
 use Rattle.tl_protocol.specs.declared.client.Client.{Client}
 use Rattle.tl_protocol.specs.declared.event.Event.TheVariants.{SendProbe}
-use Rattle.tl_links.specs.Table.{Table, lane_in, SameSize as SameLinks}
+use Rattle.tl_links.specs.Table.{LinkTable, lane_in, SameSize as SameLinks}
 use Rattle.tl_registers.specs.Agree.{Agree}
 use Rattle.tl_registers.specs.Registers.{noted, register_of, with_probe_of}
 use Rattle.tl_registers.specs.declared.due.Due.TheVariants.{Probe}
@@ -23,7 +23,7 @@ use Rattle.tl_bank_spec.specs.Channels.{lane_at}
 use Rattle.tl_bank_laws.specs.Entry.{entry_of}
 use Rattle.tl_bank_laws.specs.Layers.{Layers}
 use Rattle.tl_bank_laws.specs.Link.{HasRoom}
-use Rattle.tl_bank_laws.specs.Means.{IsHome, Means}
+use Rattle.tl_bank_laws.specs.Means.{IsHomeOf, Means}
 use Rattle.tl_bank_laws.proofs.Dues.{Acts}
 use Rattle.tl_bank_laws.proofs.Next.{block_next, means-next, next_view, registers-next}
 use Rattle.tl_bank_laws.proofs.Pointwise.{entries-next, homes-next}
@@ -55,7 +55,7 @@ field-put f s c k same x =
     ]
 
 -- a Probe that is due is sent: the bank holds what its log leaves
-pub probe-keeps : (v : View) (h : Layers) (own c block : ℕ) (cap : ProbeCap) (room : ℕ) (links : Table) → Means v h
+pub probe-keeps : (v : View) (h : Layers) (own c block : ℕ) (cap : ProbeCap) (room : ℕ) (links : LinkTable) → Means v h
     → Acts v own (Probe c block cap) → SameLinks h.links links
     → ((x : ℕ) (l : Channel) → lane_in links x l
     ≡ (if is_here c B x l then with_message (lane_in h.links x l) (record { block = block; body = ProbeBlock cap })
@@ -67,7 +67,7 @@ probe-keeps v h own c block cap room links m acts same sends =
     let s : Block = block_at v block in
     let k : Client = sent_probe (s.client c) cap in
     let steady = bank-steady v h m in
-    let is : IsHome h.home block s = m.home block (acts.may.0, acts.bank) in
+    let is : IsHomeOf h.home block s = m.home block (acts.may.0, acts.bank) in
     let found : register_of acts.register.own v.registers ≡ Some acts.register =
     subst (λ (n : ℕ). register_of n v.registers ≡ Some acts.register) (sym acts.here) acts.found in
     let agree : Agree shape (block_next v e) (noted own c v.registers) =

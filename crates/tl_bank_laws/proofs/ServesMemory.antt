@@ -16,8 +16,8 @@ use Rattle.tl_bank_spec.specs.Refusal.{first_of}
 use Rattle.tl_bank_spec.specs.View.{View, block_at, shape_of}
 use Rattle.tl_bank_spec.specs.Own.{IsOwn, ways_below}
 use Rattle.tl_bank_laws.specs.Layers.{Layers}
-use Rattle.tl_bank_laws.specs.Means.{IsHome, Means}
-use Rattle.tl_bank_laws.specs.Memory.{answered}
+use Rattle.tl_bank_laws.specs.Means.{IsHomeOf, Means}
+use Rattle.tl_bank_laws.specs.Memory.{memory_reply}
 use Rattle.tl_bank_laws.proofs.Allowed.{AllFalse, all-false, block-is, here-is}
 use Rattle.tl_bank_laws.proofs.HomeSteps.{SameAt, homes-event, homes-layers}
 use Rattle.tl_bank_laws.proofs.Moves.{at-block, at-other}
@@ -108,8 +108,8 @@ pub record Served (old new : HomeState) (block : ℕ) : Type 0 where
       ≡ (if b == block then served_memory (memory_in old block) (outward_in old block) else memory_in old b)
 
 -- home has of the block what the answer leaves
-serve-home : (old new : HomeState) (block : ℕ) (s : Block) → Served old new block → IsHome old block s
-    → IsHome new block (served s s.outward)
+serve-home : (old new : HomeState) (block : ℕ) (s : Block) → Served old new block → IsHomeOf old block s
+    → IsHomeOf new block (served s s.outward)
 serve-home old new block s did h = record {
   line = did.home.lines block ∙ h.line ∙ sym (served-home s s.outward);
   recorded = λ c. did.home.recorded c block ∙ h.recorded c ∙ sym (served-client s s.outward c);
@@ -155,16 +155,16 @@ serve-keeps v h home block room m none did =
 -- ## The reply
 
 -- what passes once a request was answered says the memory's reply
-reply-of : (s : Block) → IsRequest s.outward → MemoryReplies s (answered (served_outward s.memory s.outward))
+reply-of : (s : Block) → IsRequest s.outward → MemoryReplies s (memory_reply (served_outward s.memory s.outward))
 reply-of s h =
     elim h [
-      | inl get ↦ inl (get, ap (λ out. answered (served_outward s.memory out)) get)
-      | inr put ↦ inr (put.0, put.1, ap (λ out. answered (served_outward s.memory out)) put.1)
+      | inl get ↦ inl (get, ap (λ out. memory_reply (served_outward s.memory out)) get)
+      | inr put ↦ inr (put.0, put.1, ap (λ out. memory_reply (served_outward s.memory out)) put.1)
     ]
 
 -- What the memory answered is what it answers to the request.
 pub serve-reply : (v : View) (h : Layers) (home : HomeState) (block : ℕ) → Means v h → first_of (serve_memory_cases v block) ≡ None
-    → Served h.home home block → MemoryReplies (block_at v block) (answered (outward_in home block))
+    → Served h.home home block → MemoryReplies (block_at v block) (memory_reply (outward_in home block))
 serve-reply v h home block m none did =
     let ok = serve-allowed v block none in
     let part = m.home block ok.own in
@@ -173,4 +173,4 @@ serve-reply v h home block m none did =
     did.outward block ∙ at-block block (served_outward (memory_in h.home block) (outward_in h.home block)) (outward_in h.home block)
     ∙ ap (λ out. served_outward (memory_in h.home block) out) part.outward
     ∙ ap (λ bytes. served_outward bytes s.outward) part.memory in
-    subst (λ (out : Outward). MemoryReplies s (answered out)) (sym passes) (reply-of s ok.request)
+    subst (λ (out : Outward). MemoryReplies s (memory_reply out)) (sym passes) (reply-of s ok.request)

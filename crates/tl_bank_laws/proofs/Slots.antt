@@ -10,7 +10,7 @@ use Rattle.tl_map.specs.Places.{bank_of, set_of}
 use Rattle.tl_registers.specs.VictimWay.{block_in}
 use Rattle.tl_bank_spec.specs.View.{View}
 use Rattle.tl_bank_spec.specs.Own.{IsOwn, way_at, ways_below}
-use Rattle.tl_bank_spec.specs.Ways.{is_way, lies_in, slot_at, slots_below, slots_at}
+use Rattle.tl_bank_spec.specs.Ways.{is_in_way, lies_in, slot_at, slots_below, slots_at}
 
 -- ## Lists by number
 
@@ -59,7 +59,7 @@ some-is None h = cc
 some-is (Some x) h = (x, refl)
 
 -- where the test says that a block lies in this way, it does
-is_way-true : (way : ℕ) (o : Option ℕ) → is_way way o ≡ true → o ≡ Some way
+is_way-true : (way : ℕ) (o : Option ℕ) → is_in_way way o ≡ true → o ≡ Some way
 is_way-true way None h = cc
 is_way-true way (Some lies) h = ap Some (eqb-true lies way h)
 
@@ -68,7 +68,7 @@ pub lies-true : (v : View) (set way b : ℕ) → lies_in v set way b ≡ true
     → (bank_of v.geometry b ≡ v.number) × (set_of v.geometry b ≡ set) × (way_at v b ≡ Some way)
 lies-true v set way b h =
     let one = and_parts (bank_of v.geometry b == v.number) _ h in
-    let two = and_parts (set_of v.geometry b == set) (is_way way (way_at v b)) one.1 in
+    let two = and_parts (set_of v.geometry b == set) (is_in_way way (way_at v b)) one.1 in
     (eqb-true (bank_of v.geometry b) v.number one.0, eqb-true (set_of v.geometry b) set two.0, is_way-true way (way_at v b) two.1)
 
 -- and a block of the bank and of the set that has this way lies in it
@@ -77,7 +77,7 @@ pub true-lies : (v : View) (set way b : ℕ) → bank_of v.geometry b ≡ v.numb
 true-lies v set way b own in_set lies =
     let p : (bank_of v.geometry b == v.number) ≡ true = eq-eqb (bank_of v.geometry b) v.number own in
     let q : (set_of v.geometry b == set) ≡ true = eq-eqb (set_of v.geometry b) set in_set in
-    let r : is_way way (way_at v b) ≡ true = ap (is_way way) lies ∙ eq-eqb way way refl in
+    let r : is_in_way way (way_at v b) ≡ true = ap (is_in_way way) lies ∙ eq-eqb way way refl in
     rw (p, q, r) refl
 
 -- the block in a way lies there

@@ -31,7 +31,7 @@ use Rattle.tl_protocol.proofs.Blocks.{at_put}
 use Rattle.tl_protocol.proofs.Runs.{cond_at}
 use Rattle.tl_lanes.specs.Lanes.{ack_post, lane_after, sent_to}
 use Rattle.tl_lanes.proofs.First.{every_first_is_first}
-use Rattle.tl_links.specs.Table.{Table, lane_in, SameSize as SameLinks}
+use Rattle.tl_links.specs.Table.{LinkTable, lane_in, SameSize as SameLinks}
 use Rattle.tl_home.specs.Homes.{HomeState, SameBank, SameMemory, SameOutward, SameWays, line_in, recorded_in, way_in}
 use Rattle.tl_registers.specs.Pending.{has_first, is_probed}
 use Rattle.tl_registers.proofs.Blocks.{first-from}
@@ -44,7 +44,7 @@ use Rattle.tl_bank_spec.specs.Channels.{lane_at}
 use Rattle.tl_bank_laws.specs.Entry.{entry_of}
 use Rattle.tl_bank_laws.specs.Given.{left_by, brought_by}
 use Rattle.tl_bank_laws.specs.Layers.{Layers}
-use Rattle.tl_bank_laws.specs.Means.{Means, IsHome}
+use Rattle.tl_bank_laws.specs.Means.{Means, IsHomeOf}
 use Rattle.tl_bank_laws.proofs.Allowed.{AllFalse, all-false, client-is}
 use Rattle.tl_bank_laws.proofs.Heads.{HeadAllowed, head-allowed, head-first, head-list, head-own}
 use Rattle.tl_bank_laws.proofs.Next.{NextEvent, NextLayers, block_next, means-next, next_view}
@@ -185,9 +185,9 @@ recorded-of false to k later e = refl
 -- home has of the block what the message leaves
 home-here : (v : View) (h : Layers) (t : Ticket) (x : Message) (home : HomeState) → Means v h → Comes v t x
     → Received h.home home t.client x.block (left_by x.body) (brought_by x.body)
-    → IsHome home x.block (took_c (block_at v x.block) t.client)
+    → IsHomeOf home x.block (took_c (block_at v x.block) t.client)
 home-here v h t x home m comes received =
-    let was : IsHome h.home x.block (block_at v x.block) = m.home x.block comes.own in
+    let was : IsHomeOf h.home x.block (block_at v x.block) = m.home x.block comes.own in
     let k : Client = client_at v t.client x.block in
     let here : (x.block == x.block) ≡ true = eq-eqb x.block x.block refl in
     let bytes : brought_by x.body ≡ first_bytes k.c = ap brought_by comes.body ∙ sym (ap first_bytes comes.list) in
@@ -215,7 +215,7 @@ nobody false to p = refl
 
 -- and of every other block what it had
 home-elsewhere : (old home : HomeState) (c b y : ℕ) (to : Perm) (bytes : Option (List ℕ)) (s : Block) → (y == b) ≡ false
-    → Received old home c b to bytes → IsHome old y s → IsHome home y s
+    → Received old home c b to bytes → IsHomeOf old y s → IsHomeOf home y s
 home-elsewhere old home c b y to bytes s apart received was = record {
   line = received.lines y ∙ ap (λ u. cond u (home_after (line_in old b) bytes) (line_in old y)) apart ∙ was.line;
   recorded = λ x. received.recorded x y ∙ ap (λ u. cond ((x == c) && u) to (recorded_in old x y)) apart
@@ -227,16 +227,16 @@ home-elsewhere old home c b y to bytes s apart received was = record {
 -- home has of each block of the bank what the event leaves
 home-next : (v : View) (h : Layers) (t : Ticket) (x : Message) (home : HomeState) → Means v h → Comes v t x
     → Received h.home home t.client x.block (left_by x.body) (brought_by x.body) → (y : ℕ) → IsOwn v.geometry v.number y
-    → IsHome home y (block_next v (TakeC t.client x.block) y)
+    → IsHomeOf home y (block_next v (TakeC t.client x.block) y)
 home-next v h t x home m comes received y own =
-    cond_at (λ (s : Block). IsHome home y s) (y == x.block) (took_c (block_at v y) t.client) (block_at v y)
-    (λ q. subst (λ b. IsHome home b (took_c (block_at v b) t.client)) (sym (eqb-true y x.block q)) (home-here v h t x home m comes received))
+    cond_at (λ (s : Block). IsHomeOf home y s) (y == x.block) (took_c (block_at v y) t.client) (block_at v y)
+    (λ q. subst (λ b. IsHomeOf home b (took_c (block_at v b) t.client)) (sym (eqb-true y x.block q)) (home-here v h t x home m comes received))
     (λ q. home-elsewhere h.home home t.client x.block y (left_by x.body) (brought_by x.body) (block_at v y) q received (m.home y own))
 
 -- ## The links
 
 -- the links once the message was taken, and a Release answered
-pub record Passed (old between links : Table) (t : Ticket) (block : ℕ) (is_release : Bool) : Type 0 where
+pub record Passed (old between links : LinkTable) (t : Ticket) (block : ℕ) (is_release : Bool) : Type 0 where
   pub first : SameLinks old between
   pub took :
       (x : ℕ) (l : Channel) → lane_in between x l
@@ -248,7 +248,7 @@ pub record Passed (old between links : Table) (t : Ticket) (block : ℕ) (is_rel
       (with_message (lane_in between x l) (record { block = block; body = b_Downward ReleaseAck })) (lane_in between x l)
 
 -- channel D is as it was until then
-lane-between : (v : View) (h : Layers) (t : Ticket) (between : Table) → Means v h → first_of (take_c_cases v t) ≡ None
+lane-between : (v : View) (h : Layers) (t : Ticket) (between : LinkTable) → Means v h → first_of (take_c_cases v t) ≡ None
     → ((x : ℕ) (l : Channel) → lane_in between x l
     ≡ cond (is_here t.client t.channel x l) (without_first (lane_in h.links x l)) (lane_in h.links x l))
     → lane_in between t.client D ≡ lane_at v t.client D
@@ -275,7 +275,7 @@ answer-is c b x l (ProbeAck answer) more lane = refl
 answer-is c b x l (Release given) more lane = refl
 
 -- each channel has what the event leaves on it
-lanes-next : (v : View) (h : Layers) (t : Ticket) (x : Message) (between links : Table) → first_of (take_c_cases v t) ≡ None
+lanes-next : (v : View) (h : Layers) (t : Ticket) (x : Message) (between links : LinkTable) → first_of (take_c_cases v t) ≡ None
     → Comes v t x → Passed h.links between links t x.block (is_a_release x.body) → (y : ℕ) (l : Channel)
     → lane_in links y l ≡ lane_after (shape_of v.geometry) (block_at v x.block) (TakeC t.client x.block) y l (lane_in h.links y l)
 lanes-next v h t x between links none comes passed y l =
@@ -324,7 +324,7 @@ take_c-event v h t x m none comes =
     }
 
 -- what became of the layers: each holds what the event leaves
-take_c-layers : (v : View) (h : Layers) (t : Ticket) (x : Message) (between links : Table) (home : HomeState) → Means v h
+take_c-layers : (v : View) (h : Layers) (t : Ticket) (x : Message) (between links : LinkTable) (home : HomeState) → Means v h
     → first_of (take_c_cases v t) ≡ None → Comes v t x → Passed h.links between links t x.block (is_a_release x.body)
     → Received h.home home t.client x.block (left_by x.body) (brought_by x.body)
     → NextLayers v (TakeC t.client x.block) h (record h { links = links; home = home })
@@ -345,7 +345,7 @@ take_c-layers v h t x between links home m none comes passed received =
     }
 
 -- the bank is kept once home took the message
-pub take_c-keeps : (v : View) (h : Layers) (t : Ticket) (x : Message) (between links : Table) (home : HomeState) (room : ℕ)
+pub take_c-keeps : (v : View) (h : Layers) (t : Ticket) (x : Message) (between links : LinkTable) (home : HomeState) (room : ℕ)
     (ways : List (Option ℕ)) → Means v h → first_of (take_c_cases v t) ≡ None → Comes v t x
     → Passed h.links between links t x.block (is_a_release x.body)
     → Received h.home home t.client x.block (left_by x.body) (brought_by x.body)

@@ -27,7 +27,7 @@ use Rattle.tl_bank_spec.specs.View.{View, block_at, shape_of}
 use Rattle.tl_bank_spec.specs.Own.{IsOwn, way_at, ways_below}
 use Rattle.tl_bank_spec.specs.Ways.{slot_at, slots_at}
 use Rattle.tl_bank_laws.specs.Layers.{Layers}
-use Rattle.tl_bank_laws.specs.Means.{HoldsWay, IsHome, Means, WaysFit, is_filling, is_filling_by}
+use Rattle.tl_bank_laws.specs.Means.{HoldsWay, IsHomeOf, Means, WaysFit, is_filling, is_filling_by}
 use Rattle.tl_bank_laws.specs.Memory.{RegisterHolds}
 use Rattle.tl_bank_laws.proofs.Fetched.{DataComes, HoldsOther, any-found, data-comes, one-way, works-own}
 use Rattle.tl_bank_laws.proofs.HomeSteps.{SameAt, homes-event, homes-layers}
@@ -92,8 +92,8 @@ fetched-there s (Put bytes) h = let bad = h.1 in cc
 fetched-there s PutAck h = let bad = h.1 in cc
 
 -- home has of the block what taking the bytes leaves
-data-home : (old new : HomeState) (block way : ℕ) (s : Block) → IsData s.outward → TookData old new block way → IsHome old block s
-    → IsHome new block (took_data s s.outward)
+data-home : (old new : HomeState) (block way : ℕ) (s : Block) → IsData s.outward → TookData old new block way → IsHomeOf old block s
+    → IsHomeOf new block (took_data s s.outward)
 data-home old new block way s came did h = record {
   line =
       did.lines block ∙ at-block block (fetched (outward_in old block)) (line_in old block) ∙ ap fetched h.outward

@@ -30,7 +30,7 @@ use Rattle.tl_bank_spec.specs.View.{View, block_at, shape_of}
 use Rattle.tl_bank_spec.specs.Own.{IsOwn, way_at, ways_below}
 use Rattle.tl_bank_spec.specs.Ways.{lies_in, slot_at, slots_at}
 use Rattle.tl_bank_laws.specs.Layers.{Layers}
-use Rattle.tl_bank_laws.specs.Means.{HoldsWay, IsHome, Means, WaysApart, WaysFit, is_filling, is_filling_by}
+use Rattle.tl_bank_laws.specs.Means.{HoldsWay, IsHomeOf, Means, WaysApart, WaysFit, is_filling, is_filling_by}
 use Rattle.tl_bank_laws.proofs.Allowed.{AllFalse, all-false, block-is, here-is}
 use Rattle.tl_bank_laws.proofs.HomeSteps.{SameAt, homes-event, homes-layers}
 use Rattle.tl_bank_laws.proofs.Moves.{Lies, at-block, at-other, lies-of}
@@ -82,8 +82,8 @@ pub record TookPutAck (old new : HomeState) (block : ℕ) : Type 0 where
   pub memory : SameMemory old new
 
 -- home has of the block what taking the acknowledgement leaves
-put_ack-home : (old new : HomeState) (block : ℕ) (s : Block) → TookPutAck old new block → IsHome old block s
-    → IsHome new block (record s { outward = Quiet })
+put_ack-home : (old new : HomeState) (block : ℕ) (s : Block) → TookPutAck old new block → IsHomeOf old block s
+    → IsHomeOf new block (record s { outward = Quiet })
 put_ack-home old new block s did h = record {
   line = did.home.lines block ∙ h.line;
   recorded = λ c. did.home.recorded c block ∙ h.recorded c;

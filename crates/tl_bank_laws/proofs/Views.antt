@@ -6,7 +6,7 @@ use Rattle.std.proofs.lemmas.Option.{slice_get-get_or, same_Some}
 use Rattle.std.proofs.lemmas.Bool.{or_parts, or_from}
 use Rattle.tl_types.specs.Permission.{rank}
 use Rattle.tl_types.specs.declared.permission.Perm.TheVariants.{None as p_None, Tip}
-use Rattle.tl_map.specs.Places.{bank_of, block_at as block_of_address}
+use Rattle.tl_map.specs.Places.{bank_of, block_of_address}
 use Rattle.tl_protocol.specs.Coherent.{last, AreLast}
 use Rattle.tl_protocol.specs.Copy.{perm_of, bytes_of}
 use Rattle.tl_protocol.specs.declared.copy.CachedCopy.{CachedCopy}

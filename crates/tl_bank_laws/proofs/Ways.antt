@@ -20,7 +20,7 @@ use Rattle.tl_registers.proofs.Agreement.{events-leave-registers, every-run-is-s
 use Rattle.tl_home.specs.Homes.{HomeState, SameWays, order_at, way_in}
 use Rattle.tl_bank_spec.specs.View.{View, shape_of, block_at}
 use Rattle.tl_bank_spec.specs.Own.{way_at}
-use Rattle.tl_bank_spec.specs.Ways.{is_way, lies_in, slot_at, slots_at}
+use Rattle.tl_bank_spec.specs.Ways.{is_in_way, lies_in, slot_at, slots_at}
 use Rattle.tl_bank_laws.specs.Layers.{Layers}
 use Rattle.tl_bank_laws.specs.Means.{HoldsWay, Means, RegistersFit, WaysApart, WaysFit, is_filling, is_filling_by}
 use Rattle.tl_bank_laws.proofs.Next.{next_view, blocks-next, registers-next}
@@ -104,7 +104,7 @@ pub lies-stay : (v : View) (log : List Event) (room : ℕ) (registers : List Reg
     → (set way b : ℕ) → b < v.geometry.memory_blocks
     → lies_in (record v { log = log; room = room; registers = registers; ways = ways }) set way b ≡ lies_in v set way b
 lies-stay v log room registers ways same set way b l =
-    ap (λ (o : Option ℕ). (bank_of v.geometry b == v.number) && ((set_of v.geometry b == set) && is_way way o)) (same b l)
+    ap (λ (o : Option ℕ). (bank_of v.geometry b == v.number) && ((set_of v.geometry b == set) && is_in_way way o)) (same b l)
 
 -- so the same block is in a way of a set
 pub slot-stays : (v : View) (log : List Event) (room : ℕ) (registers : List Register) (ways : List (Option ℕ)) → SameLies v ways

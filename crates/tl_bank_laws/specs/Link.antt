@@ -3,16 +3,16 @@ use Rattle.std.specs.Prelude.{◌≡◌, ◌≢◌, ℕ, ◌-◌, ◌^◌, ◌<�
 use Rattle.tl_types.specs.Lane.{sent}
 use Rattle.tl_types.specs.declared.channel.Channel.{Channel}
 use Rattle.tl_types.specs.declared.ticket.Ticket.{Ticket}
-use Rattle.tl_links.specs.Table.{Table, lane_in}
+use Rattle.tl_links.specs.Table.{LinkTable, lane_in}
 
 -- a channel of a client that is there has a place for one more message
-pub record HasRoom (links : Table) (c : ℕ) (channel : Channel) : Type 0 where
+pub record HasRoom (links : LinkTable) (c : ℕ) (channel : Channel) : Type 0 where
   pub client : c < links.clients
   pub place : length (lane_in links c channel).messages < 64
   pub counted : sent (lane_in links c channel) < 2 ^ 64 - 1
 
 -- a ticket names the first message that waits on its channel
-pub record IsHead (links : Table) (ticket : Ticket) : Type 0 where
+pub record IsHead (links : LinkTable) (ticket : Ticket) : Type 0 where
   pub bank : ticket.bank ≡ links.bank
   pub client : ticket.client < links.clients
   pub waits : (lane_in links ticket.client ticket.channel).messages ≢ []

@@ -28,7 +28,7 @@ use Rattle.tl_bank_laws.specs.Layers.{Layers}
 -- ## Home
 
 -- home's part of a block is this
-pub record IsHome (home : HomeState) (block : ℕ) (s : Block) : Type 0 where
+pub record IsHomeOf (home : HomeState) (block : ℕ) (s : Block) : Type 0 where
   pub line : line_in home block ≡ s.home
   pub recorded : (c : ℕ) → recorded_in home c block ≡ (s.client c).recorded
   pub outward : outward_in home block ≡ s.outward
@@ -97,7 +97,7 @@ pub record Means (v : View) (layers : Layers) : Type 0 where
   pub lanes : (c : ℕ) (k : Channel) → c < v.geometry.clients → lane_in layers.links c k ≡ lane_at v c k
   pub copies :
       (c b : ℕ) → c < v.geometry.clients → b < v.geometry.memory_blocks → held_at layers.copies c b ≡ entry_of (client_at v c b)
-  pub home : (b : ℕ) → IsOwn v.geometry v.number b → IsHome layers.home b (block_at v b)
+  pub home : (b : ℕ) → IsOwn v.geometry v.number b → IsHomeOf layers.home b (block_at v b)
   -- of no other block does anything pass
   pub quiet : (b : ℕ) → (IsOwn v.geometry v.number b → ⊥) → outward_in layers.home b ≡ Quiet
   pub accepted : (b : ℕ) → (block_at v b).accepted ≡ accepted_by (register_of b v.registers)

@@ -9,12 +9,12 @@ use Rattle.tl_bank_spec.specs.declared.reply.Reply.{Reply}
 use Rattle.tl_bank_spec.specs.declared.reply.Reply.TheVariants.{AccessAckData, AccessAck}
 
 -- AccessAckData with the bytes that wait for home; anything else is read as AccessAck
-abbrev pub answered : Outward → Reply
-answered Quiet = AccessAck
-answered Get = AccessAck
-answered (Data bytes) = AccessAckData bytes
-answered (Put bytes) = AccessAck
-answered PutAck = AccessAck
+abbrev pub memory_reply : Outward → Reply
+memory_reply Quiet = AccessAck
+memory_reply Get = AccessAck
+memory_reply (Data bytes) = AccessAckData bytes
+memory_reply (Put bytes) = AccessAck
+memory_reply PutAck = AccessAck
 
 -- a block has a register, which holds this way
 abbrev pub RegisterHolds : View → ℕ → ℕ → Type 0

@@ -9,7 +9,7 @@ use Rattle.tl_types.specs.declared.message.Body.{Body}
 use Rattle.tl_types.specs.declared.permission.Grow.{Grow}
 use Rattle.tl_types.specs.declared.permission.Prune.{Prune}
 use Rattle.tl_types.specs.declared.ticket.Ticket.{Ticket}
-use Rattle.tl_map.specs.Places.{block_at as block_of_address}
+use Rattle.tl_map.specs.Places.{block_of_address}
 use Rattle.tl_bank_spec.specs.Share.{Holding}
 use Rattle.tl_bank_spec.specs.View.{View}
 use Rattle.tl_bank_spec.specs.Cases.{no_client, no_block, bad_access, elsewhere, bad_share, other_share, may_not_read, may_not_write, waits, other_perm, copies_full, release_pending, clock_full, link_full, is_empty, any_body, is_a_release_ack, waiting_at, block_named, other_channel, not_head}

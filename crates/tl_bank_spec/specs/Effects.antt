@@ -23,7 +23,7 @@ use Rattle.tl_bank_spec.specs.HomeCases.{due_at}
 use Rattle.tl_bank_spec.specs.View.{View, block_at}
 use Rattle.tl_bank_spec.specs.Channels.{next_ticket}
 use Rattle.tl_bank_spec.specs.Own.{way_at}
-use Rattle.tl_bank_spec.specs.Ways.{IsWayFor, victim_in, way_in_set}
+use Rattle.tl_bank_spec.specs.Ways.{IsWayFor, victim_of_way, way_in_set}
 use Rattle.tl_bank_spec.specs.declared.action.Action.{Action}
 use Rattle.tl_bank_spec.specs.declared.action.Action.TheVariants.{Probe as did_Probe, Grant as did_Grant, Get as did_Get, Put as did_Put, Drop as did_Drop}
 use Rattle.tl_bank_spec.specs.declared.reply.Reply.{Reply}
@@ -50,7 +50,7 @@ pub record Accepts (old new : View) (ticket : Ticket) (block set : ℕ) : Type 0
       Serves old new (AcceptAcquire ticket.client block)
       (old.registers ++ opened block (way_in_set set way)
       (acquire_task (record { client = ticket.client; grow = grow })
-      (victim_in old set (way_at old block) way)) ∷ []) (way_at old)
+      (victim_of_way old set (way_at old block) way)) ∷ []) (way_at old)
 
 -- ## evict
 

@@ -8,7 +8,7 @@ use Rattle.tl_types.specs.declared.permission.Perm.{Perm}
 use Rattle.tl_types.specs.declared.permission.Perm.TheVariants.{None as p_None, Tip}
 use Rattle.tl_types.specs.declared.ticket.Ticket.{Ticket}
 use Rattle.tl_types.specs.declared.wait.Wait.TheVariants.{Nothing}
-use Rattle.tl_map.specs.Places.{block_at as block_of_address, offset_of}
+use Rattle.tl_map.specs.Places.{block_of_address, offset_of}
 use Rattle.tl_protocol.specs.Copy.{bytes_of}
 use Rattle.tl_protocol.specs.Ledger.{count_pairs}
 use Rattle.tl_protocol.specs.declared.client.Client.{Client}

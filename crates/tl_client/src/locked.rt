@@ -1,7 +1,7 @@
 //! The banks, each behind a lock of its own.
 ghost use Rattle.std.specs.Prelude.{◌≡◌, ◌≢◌, [], true, length, slice_get, vec_len, IfOk, MatchOption, Some};
 ghost use Rattle.tl_client.specs.Locks.{numbers_of};
-ghost use Rattle.tl_map.specs.Places.{block_at, has_block, place_of};
+ghost use Rattle.tl_map.specs.Places.{block_of_address, has_block, place_of};
 
 use crate::bank_port::BankPort;
 use crate::client_port::ClientPort;
@@ -60,7 +60,7 @@ impl Locked {
 
     /// The bank of an address; bank 0 where the memory does not have it, which refuses it.
     pub(crate) fn bank_at(&self, address: u32) -> BankNo
-        ensures { has_block self.now.geometry (block_at self.now.geometry address) ≡ true → result ≡ (place_of self.now.geometry (block_at self.now.geometry address)).bank }
+        ensures { has_block self.now.geometry (block_of_address self.now.geometry address) ≡ true → result ≡ (place_of self.now.geometry (block_of_address self.now.geometry address)).bank }
     {
         self.bank_of(self.geometry.block_at(address))
     }

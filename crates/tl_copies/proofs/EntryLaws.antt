@@ -4,7 +4,7 @@ use Rattle.std.proofs.lemmas.Bool.Decides.{nat_tests}
 use Rattle.std.proofs.lemmas.List.{map-append}
 use Rattle.tl_copies.specs.declared.held.Held.{Held}
 use Rattle.tl_copies.specs.Held.{is_granted}
-use Rattle.tl_copies.specs.Entries.{Entry, found, without, replaced, kept, AreApart, IsTable}
+use Rattle.tl_copies.specs.Entries.{Entry, found, without_entry, replaced, kept, AreApart, IsTable}
 use Rattle.tl_copies.specs.Copies.{order_without, order_after}
 
 -- an entry of a block
@@ -51,26 +51,26 @@ AreApart-append n x (e ∷ rest) a f l =
 
 -- where a block's entry is taken out, the first or a later one, what the table has of another block stays
 out_other : (here : Bool) (block b : ℕ) (e : Entry) (rest : List Entry) → (e.block == block) ≡ here → (block == b) ≡ false
-    → found b (without block rest) ≡ found b rest
-    → found b (if here then rest else e ∷ without block rest) ≡ (if e.block == b then Some e.held else found b rest)
+    → found b (without_entry block rest) ≡ found b rest
+    → found b (if here then rest else e ∷ without_entry block rest) ≡ (if e.block == b then Some e.held else found b rest)
 out_other true block b e rest h o ih =
     let other : (e.block == b) ≡ false = rw (eqb-true e.block block h) o in
     rw other refl
 out_other false block b e rest h o ih = rw ih refl
 
 -- what the table has of another block stays where an entry is taken out
-pub found-without_other : (block b : ℕ) (es : List Entry) → (block == b) ≡ false → found b (without block es) ≡ found b es
+pub found-without_other : (block b : ℕ) (es : List Entry) → (block == b) ≡ false → found b (without_entry block es) ≡ found b es
 found-without_other block b [] o = refl
 found-without_other block b (e ∷ rest) o = out_other (e.block == block) block b e rest refl o (found-without_other block b rest o)
 
 -- a block without an entry has none either where one is taken out, the first or a later one
 out_none : (here : Bool) (block b : ℕ) (e : Entry) (rest : List Entry) → (e.block == b) ≡ false → found b rest ≡ None
-    → found b (without block rest) ≡ None → found b (if here then rest else e ∷ without block rest) ≡ None
+    → found b (without_entry block rest) ≡ None → found b (if here then rest else e ∷ without_entry block rest) ≡ None
 out_none true block b e rest o n ih = n
 out_none false block b e rest o n ih = rw o ih
 
 -- a block without an entry has none either after one is taken out
-pub found-without_none : (block b : ℕ) (es : List Entry) → found b es ≡ None → found b (without block es) ≡ None
+pub found-without_none : (block b : ℕ) (es : List Entry) → found b es ≡ None → found b (without_entry block es) ≡ None
 found-without_none block b [] n = refl
 found-without_none block b (e ∷ rest) n =
     let p = not_first (e.block == b) e.held (found b rest) n in
@@ -78,48 +78,48 @@ found-without_none block b (e ∷ rest) n =
 
 -- a block is not found any more where its entry is taken out, the first or a later one
 out_here : (here : Bool) (block : ℕ) (e : Entry) (rest : List Entry) → (e.block == block) ≡ here → found e.block rest ≡ None
-    → found block (without block rest) ≡ None → found block (if here then rest else e ∷ without block rest) ≡ None
+    → found block (without_entry block rest) ≡ None → found block (if here then rest else e ∷ without_entry block rest) ≡ None
 out_here true block e rest h n ih = subst (λ b. found b rest ≡ None) (eqb-true e.block block h) n
 out_here false block e rest h n ih = rw h ih
 
 -- what is taken out is gone
-pub found-without_here : (n block : ℕ) (es : List Entry) → AreApart n es → found block (without block es) ≡ None
+pub found-without_here : (n block : ℕ) (es : List Entry) → AreApart n es → found block (without_entry block es) ≡ None
 found-without_here n block [] a = refl
 found-without_here n block (e ∷ rest) a = out_here (e.block == block) block e rest refl a.1 (found-without_here n block rest a.2)
 
 -- the blocks stay apart where an entry is taken out, the first or a later one
-out_apart : (here : Bool) (n block : ℕ) (e : Entry) (rest : List Entry) → AreApart n (e ∷ rest) → AreApart n (without block rest)
-    → AreApart n (if here then rest else e ∷ without block rest)
+out_apart : (here : Bool) (n block : ℕ) (e : Entry) (rest : List Entry) → AreApart n (e ∷ rest) → AreApart n (without_entry block rest)
+    → AreApart n (if here then rest else e ∷ without_entry block rest)
 out_apart true n block e rest a ih = a.2
 out_apart false n block e rest a ih = (a.0, found-without_none block e.block rest a.1, ih)
 
 -- the blocks stay apart where an entry is taken out
-pub AreApart-without : (n block : ℕ) (es : List Entry) → AreApart n es → AreApart n (without block es)
+pub AreApart-without : (n block : ℕ) (es : List Entry) → AreApart n es → AreApart n (without_entry block es)
 AreApart-without n block [] a = tt
 AreApart-without n block (e ∷ rest) a = out_apart (e.block == block) n block e rest a (AreApart-without n block rest a.2)
 
 -- a table gets no longer where an entry is taken out, the first or a later one
-out_shorter : (here : Bool) (block : ℕ) (e : Entry) (rest : List Entry) → length (without block rest) ≤ length rest
-    → length (if here then rest else e ∷ without block rest) ≤ length (e ∷ rest)
+out_shorter : (here : Bool) (block : ℕ) (e : Entry) (rest : List Entry) → length (without_entry block rest) ≤ length rest
+    → length (if here then rest else e ∷ without_entry block rest) ≤ length (e ∷ rest)
 out_shorter true block e rest ih = omega arith
 out_shorter false block e rest ih = omega arith
 
 -- a table gets no longer where an entry is taken out
-pub length-without : (block : ℕ) (es : List Entry) → length (without block es) ≤ length es
+pub length-without : (block : ℕ) (es : List Entry) → length (without_entry block es) ≤ length es
 length-without block [] = omega arith
 length-without block (e ∷ rest) = out_shorter (e.block == block) block e rest (length-without block rest)
 
 -- where the block is found, taking its entry out, the first or a later one, leaves one entry less
 out_one : (here : Bool) (block : ℕ) (e : Entry) (rest : List Entry) (old : Held)
     → (if here then Some e.held else found block rest) ≡ Some old
-    → (found block rest ≡ Some old → length (without block rest) + 1 ≡ length rest)
-    → length (if here then rest else e ∷ without block rest) + 1 ≡ length (e ∷ rest)
+    → (found block rest ≡ Some old → length (without_entry block rest) + 1 ≡ length rest)
+    → length (if here then rest else e ∷ without_entry block rest) + 1 ≡ length (e ∷ rest)
 out_one true block e rest old f ih = omega arith
 out_one false block e rest old f ih = omega (arith, ih f)
 
 -- one entry less where there was one
 pub length-without_found : (block : ℕ) (es : List Entry) (old : Held) → found block es ≡ Some old
-    → length (without block es) + 1 ≡ length es
+    → length (without_entry block es) + 1 ≡ length es
 length-without_found block [] old f = cc
 length-without_found block (e ∷ rest) old f =
     out_one (e.block == block) block e rest old f (length-without_found block rest old)
@@ -208,9 +208,9 @@ length-replaced block held (e ∷ rest) = new_length (e.block == block) block he
 -- a kept copy, put last or in its entry's place, is what the table then has of its block
 kept_is : (granted : Bool) (n block b : ℕ) (held : Held) (es : List Entry) → is_granted (found block es) held ≡ granted
     → AreApart n es → (b == block) ≡ true
-    → found b (if granted then without block es ++ entry block held ∷ [] else replaced block held es) ≡ Some held
+    → found b (if granted then without_entry block es ++ entry block held ∷ [] else replaced block held es) ≡ Some held
 kept_is true n block b held es g a h =
-    rw (eqb-true b block h) (found-append_here (entry block held) (without block es) (found-without_here n block es a))
+    rw (eqb-true b block h) (found-append_here (entry block held) (without_entry block es) (found-without_here n block es a))
 kept_is false n block b held es g a h = rw (eqb-true b block h) (old_one (found block es) refl)
   where
     old_one : (old : Option Held) → found block es ≡ old → found block (replaced block held es) ≡ Some held
@@ -219,9 +219,9 @@ kept_is false n block b held es g a h = rw (eqb-true b block h) (old_one (found 
 
 -- a kept copy, put last or in its entry's place, leaves what the table has of another block
 kept_other : (granted : Bool) (block b : ℕ) (held : Held) (es : List Entry) → (b == block) ≡ false
-    → found b (if granted then without block es ++ entry block held ∷ [] else replaced block held es) ≡ found b es
+    → found b (if granted then without_entry block es ++ entry block held ∷ [] else replaced block held es) ≡ found b es
 kept_other true block b held es o =
-    found-append_other b (entry block held) (without block es) (flipped b block o) ∙ found-without_other block b es (flipped b block o)
+    found-append_other b (entry block held) (without_entry block es) (flipped b block o) ∙ found-without_other block b es (flipped b block o)
 kept_other false block b held es o = found-replaced_other block b held es (flipped b block o)
 
 -- a kept copy is the block's, and no other block's
@@ -235,20 +235,20 @@ found-kept n block held es a b = by_test (b == block) refl
 
 -- the blocks stay apart where a copy of a block of the memory is put last or in its entry's place
 kept_apart : (granted : Bool) (n block : ℕ) (held : Held) (es : List Entry) → AreApart n es → block < n
-    → AreApart n (if granted then without block es ++ entry block held ∷ [] else replaced block held es)
+    → AreApart n (if granted then without_entry block es ++ entry block held ∷ [] else replaced block held es)
 kept_apart true n block held es a l =
-    AreApart-append n (entry block held) (without block es) (AreApart-without n block es a) (found-without_here n block es a) l
+    AreApart-append n (entry block held) (without_entry block es) (AreApart-without n block es a) (found-without_here n block es a) l
 kept_apart false n block held es a l = AreApart-replaced n block held es a
 
 -- a table that has room for a new entry stays within its limit where a copy is put last or in its entry's place
 kept_length : (granted : Bool) (limit block : ℕ) (held : Held) (es : List Entry) (old : Option Held) → found block es ≡ old
     → length es ≤ limit
     → (old ≡ None → length es < limit)
-    → length (if granted then without block es ++ entry block held ∷ [] else replaced block held es) ≤ limit
+    → length (if granted then without_entry block es ++ entry block held ∷ [] else replaced block held es) ≤ limit
 kept_length true limit block held es None f l r =
-    omega (arith, length-append (without block es) (entry block held ∷ []), length-without block es, r refl)
+    omega (arith, length-append (without_entry block es) (entry block held ∷ []), length-without block es, r refl)
 kept_length true limit block held es (Some old) f l r =
-    omega (arith, length-append (without block es) (entry block held ∷ []), length-without_found block es old f)
+    omega (arith, length-append (without_entry block es) (entry block held ∷ []), length-without_found block es old f)
 kept_length false limit block held es old f l r = omega (arith, length-replaced block held es)
 
 -- a table stays one where it has room for a new entry
@@ -261,7 +261,7 @@ IsTable-kept limit n block held es t l r = record {
 }
 
 -- and it stays one where an entry is taken out
-pub IsTable-without : (limit n block : ℕ) (es : List Entry) → IsTable limit n es → IsTable limit n (without block es)
+pub IsTable-without : (limit n block : ℕ) (es : List Entry) → IsTable limit n es → IsTable limit n (without_entry block es)
 IsTable-without limit n block es t = record {
   short = omega (arith, t.short, length-without block es);
   apart = AreApart-without n block es t.apart;
@@ -269,10 +269,10 @@ IsTable-without limit n block es t = record {
 
 -- nothing else changes where an entry is taken out
 pub found-without : (n block : ℕ) (es : List Entry) → AreApart n es → (b : ℕ)
-    → found b (without block es) ≡ (if b == block then None else found b es)
+    → found b (without_entry block es) ≡ (if b == block then None else found b es)
 found-without n block es a b = by_test (b == block) refl
   where
-    by_test : (here : Bool) → (b == block) ≡ here → found b (without block es) ≡ (if here then None else found b es)
+    by_test : (here : Bool) → (b == block) ≡ here → found b (without_entry block es) ≡ (if here then None else found b es)
     by_test true h = rw (eqb-true b block h) (found-without_here n block es a)
     by_test false h = found-without_other block b es (flipped b block h)
 
@@ -284,13 +284,13 @@ blocks es = map (λ (e : Entry). e.block) es
 
 -- an entry taken out, the first or a later one, takes its block out of the order
 out_order : (here : Bool) (block : ℕ) (e : Entry) (rest : List Entry)
-    → blocks (without block rest) ≡ order_without block (blocks rest)
-    → blocks (if here then rest else e ∷ without block rest) ≡ (if here then blocks rest else e.block ∷ order_without block (blocks rest))
+    → blocks (without_entry block rest) ≡ order_without block (blocks rest)
+    → blocks (if here then rest else e ∷ without_entry block rest) ≡ (if here then blocks rest else e.block ∷ order_without block (blocks rest))
 out_order true block e rest ih = refl
 out_order false block e rest ih = rw ih refl
 
 -- an entry taken out takes its block out of the order
-pub order-without : (block : ℕ) (es : List Entry) → blocks (without block es) ≡ order_without block (blocks es)
+pub order-without : (block : ℕ) (es : List Entry) → blocks (without_entry block es) ≡ order_without block (blocks es)
 order-without block [] = refl
 order-without block (e ∷ rest) = out_order (e.block == block) block e rest (order-without block rest)
 
@@ -308,9 +308,9 @@ order-replaced block held (e ∷ rest) = new_order (e.block == block) block held
 
 -- a copy put last moves its block to the end of the order, and one put in its entry's place leaves the order
 kept_order : (granted : Bool) (block : ℕ) (held : Held) (es : List Entry)
-    → blocks (if granted then without block es ++ entry block held ∷ [] else replaced block held es) ≡ order_after granted block (blocks es)
+    → blocks (if granted then without_entry block es ++ entry block held ∷ [] else replaced block held es) ≡ order_after granted block (blocks es)
 kept_order true block held es =
-    map-append (λ (e : Entry). e.block) (without block es) (entry block held ∷ [])
+    map-append (λ (e : Entry). e.block) (without_entry block es) (entry block held ∷ [])
     ∙ ap (λ (xs : List ℕ). xs ++ block ∷ []) (order-without block es)
 kept_order false block held es = order-replaced block held es
 

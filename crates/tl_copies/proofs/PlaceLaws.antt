@@ -4,7 +4,7 @@ use Rattle.std.specs.Prelude.{remove}
 use Rattle.std.proofs.lemmas.Bool.{ne_eqb}
 use Rattle.tl_copies.specs.declared.held.Held.{Held}
 use Rattle.tl_copies.specs.Held.{is_granted, is_renewed}
-use Rattle.tl_copies.specs.Entries.{Entry, found, without, replaced, kept, IsPlace, AreApart}
+use Rattle.tl_copies.specs.Entries.{Entry, found, without_entry, replaced, kept, IsPlace, AreApart}
 use Rattle.tl_copies.proofs.EntryLaws.{entry}
 
 -- a place past the first is one less in the rest
@@ -49,7 +49,7 @@ place-once n block (e ∷ rest) (suc i) x a l h =
     }
 
 -- taking out the entry at the place
-pub remove-place : (block : ℕ) (es : List Entry) (place : ℕ) → IsPlace block es place → remove es place ≡ without block es
+pub remove-place : (block : ℕ) (es : List Entry) (place : ℕ) → IsPlace block es place → remove es place ≡ without_entry block es
 remove-place block [] place p = absurd (omega (arith, p.inside))
 remove-place block (e ∷ rest) zero p =
     let is : (e.block == block) ≡ true = eq-eqb e.block block (p.here e) in
@@ -68,13 +68,13 @@ set-place block held (e ∷ rest) (suc i) p =
     rw (head_differs block e rest i p) (ap (λ (es : List Entry). e ∷ es) (set-place block held rest i (tail_place block e rest i p)))
 
 -- a block that is not there is not taken out
-pub without-none : (block : ℕ) (es : List Entry) → found block es ≡ None → without block es ≡ es
+pub without-none : (block : ℕ) (es : List Entry) → found block es ≡ None → without_entry block es ≡ es
 without-none block [] n = refl
 without-none block (e ∷ rest) n = by_test (e.block == block) n (without-none block rest)
   where
     by_test : (here : Bool) → (if here then Some e.held else found block rest) ≡ None
-        → (found block rest ≡ None → without block rest ≡ rest)
-        → (if here then rest else e ∷ without block rest) ≡ e ∷ rest
+        → (found block rest ≡ None → without_entry block rest ≡ rest)
+        → (if here then rest else e ∷ without_entry block rest) ≡ e ∷ rest
     by_test true h ih = cc
     by_test false h ih = ap (λ (es : List Entry). e ∷ es) (ih h)
 

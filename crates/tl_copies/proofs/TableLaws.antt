@@ -7,7 +7,7 @@ use Rattle.std.proofs.lemmas.Bool.{cases_order}
 use Rattle.std.proofs.lemmas.List.{get_or_default, get_or-set_same, get_or-set_other}
 use Rattle.tl_copies.specs.declared.held.Held.{Held}
 use Rattle.tl_copies.specs.Held.{is_granted}
-use Rattle.tl_copies.specs.Entries.{Entry, found, without, replaced, kept, IsTable}
+use Rattle.tl_copies.specs.Entries.{Entry, found, without_entry, replaced, kept, IsTable}
 use Rattle.tl_copies.specs.Copies.{Tables, clients_of, held_at, order_in, is_cell, entries, order_without, order_after}
 use Rattle.tl_copies.proofs.EntryLaws.{blocks, flipped, found-replaced_here, found-replaced_other, AreApart-replaced, length-replaced, order-replaced, found-kept, found-without, order-kept, order-without, IsTable-kept, IsTable-without}
 use Rattle.tl_copies.proofs.CountLaws.{entries-table}
@@ -227,7 +227,7 @@ module _ {m : Tables} {bank limit n : ℕ} {tables : List (List Entry)} {at clie
 
   -- ## An entry taken out
 
-  pub held_at-without : (block : ℕ) (new : List Entry) → new ≡ without block old
+  pub held_at-without : (block : ℕ) (new : List Entry) → new ≡ without_entry block old
       → (x y : ℕ)
       → held_at (tables_of bank limit n (slice_set tables at new)) x y
       ≡ (if is_cell client block x y then None else held_at m x y)
@@ -236,7 +236,7 @@ module _ {m : Tables} {bank limit n : ℕ} {tables : List (List Entry)} {at clie
       (held_at-set bank limit n tables at block old new None at_inside table_is
       (λ b. rw e (found-without n block old table_sound.apart b)) x y)
 
-  pub order_in-without : (block : ℕ) (new : List Entry) → new ≡ without block old
+  pub order_in-without : (block : ℕ) (new : List Entry) → new ≡ without_entry block old
       → (x : ℕ)
       → order_in (tables_of bank limit n (slice_set tables at new)) x
       ≡ (if x == client then order_without block (order_in m x) else order_in m x)
@@ -244,7 +244,7 @@ module _ {m : Tables} {bank limit n : ℕ} {tables : List (List Entry)} {at clie
       rw (← r.view, ← r.at_client)
       (order_in-set bank limit n tables at old new (order_without block) at_inside table_is (rw e (order-without block old)) x)
 
-  pub sound-without : (block : ℕ) (new : List Entry) → new ≡ without block old
+  pub sound-without : (block : ℕ) (new : List Entry) → new ≡ without_entry block old
       → All (λ t. IsTable limit n t) (slice_set tables at new)
   sound-without block new e =
       All-set (λ t. IsTable limit n t) tables at new (rw e (IsTable-without limit n block old table_sound)) r.sound

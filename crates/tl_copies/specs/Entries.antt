@@ -14,9 +14,9 @@ found block [] = None
 found block (e ∷ rest) = if e.block == block then Some e.held else found block rest
 
 -- the table without its first entry of a block
-abbrev pub without : ℕ → List Entry → List Entry
-without block [] = []
-without block (e ∷ rest) = if e.block == block then rest else e ∷ without block rest
+abbrev pub without_entry : ℕ → List Entry → List Entry
+without_entry block [] = []
+without_entry block (e ∷ rest) = if e.block == block then rest else e ∷ without_entry block rest
 
 -- the table with another copy in its first entry of a block
 abbrev pub replaced : ℕ → Held → List Entry → List Entry
@@ -26,7 +26,7 @@ replaced block held (e ∷ rest) = if e.block == block then record { block = blo
 -- the table after a copy is kept: last if its entry is new or its Grant came, else in its entry's place
 abbrev pub kept : ℕ → Held → List Entry → List Entry
 kept block held es =
-    if is_granted (found block es) held then without block es ++ record { block = block; held = held } ∷ [] else replaced block held es
+    if is_granted (found block es) held then without_entry block es ++ record { block = block; held = held } ∷ [] else replaced block held es
 
 -- the first entry that is a copy
 abbrev pub oldest_in : List Entry → Option ℕ

@@ -66,7 +66,7 @@ impl Model for Table {
 
 impl Table {
     ghost use Rattle.tl_copies.specs.Held.{is_copy, waits, stored};
-    ghost use Rattle.tl_copies.specs.Entries.{Entry, found, without, replaced, kept, oldest_in, IsPlace, HasEachOnce};
+    ghost use Rattle.tl_copies.specs.Entries.{Entry, found, without_entry, replaced, kept, oldest_in, IsPlace, HasEachOnce};
 
     /// A table with no entry.
     pub(crate) fn new() -> Table
@@ -201,7 +201,7 @@ impl Table {
 
     /// Takes the entry of a block out, if there is one.
     pub(crate) fn clear(&mut self, block: BlockNo)
-        ensures { self.new ≡ without block self.old }
+        ensures { self.new ≡ without_entry block self.old }
     {
         if let Some(place) = self.place_of(block) {
             self.remove(place);

@@ -5,7 +5,7 @@ use Rattle.std.proofs.lemmas.Bool.{cases_eq, ne_eqb}
 use Rattle.tl_protocol.specs.declared.home.Outward.{Outward}
 use Rattle.tl_protocol.specs.declared.home.Outward.TheVariants.{Quiet}
 use Rattle.tl_home.specs.declared.crossings.Crossing.{Crossing}
-use Rattle.tl_home.specs.Crossings.{outward_of, AreApart, without, IsPlace}
+use Rattle.tl_home.specs.Crossings.{outward_of, AreApart, without_crossing, IsPlace}
 
 -- a block of which nothing passes is not the first's, and nothing of it passes in the rest
 quiet_first : (block : ℕ) (e : Crossing) (rest : List Crossing) → AreApart (e ∷ rest) → outward_of block (e ∷ rest) ≡ Quiet
@@ -48,7 +48,7 @@ AreApart-append x (e ∷ rest) apart quiet passes =
 
 -- what passes of a block is taken
 pub outward_of-without : (block : ℕ) (list : List Crossing) → AreApart list → (b : ℕ)
-    → outward_of b (without block list) ≡ (if b == block then Quiet else outward_of b list)
+    → outward_of b (without_crossing block list) ≡ (if b == block then Quiet else outward_of b list)
 outward_of-without block [] apart b = either (b == block)
   where
     either : (t : Bool) → Quiet ≡ (if t then Quiet else Quiet)
@@ -69,7 +69,7 @@ outward_of-without block (e ∷ rest) apart b =
     ]
 
 -- the blocks stay apart where what passes of one is taken
-pub AreApart-without : (block : ℕ) (list : List Crossing) → AreApart list → AreApart (without block list)
+pub AreApart-without : (block : ℕ) (list : List Crossing) → AreApart list → AreApart (without_crossing block list)
 AreApart-without block [] apart = tt
 AreApart-without block (e ∷ rest) apart =
     elim (cases_eq e.block block) [
@@ -93,7 +93,7 @@ outward_of-quiet block list quiet b =
     ]
 
 -- of one block fewer something passes, where anything did
-pub length-without : (block : ℕ) (list : List Crossing) → outward_of block list ≢ Quiet → length (without block list) + 1 ≡ length list
+pub length-without : (block : ℕ) (list : List Crossing) → outward_of block list ≢ Quiet → length (without_crossing block list) + 1 ≡ length list
 length-without block [] passes = absurd (passes refl)
 length-without block (e ∷ rest) passes =
     elim (cases_eq e.block block) [
@@ -131,7 +131,7 @@ passes-at block (e ∷ rest) zero p apart = rw (eq-eqb e.block block (p.here e))
 passes-at block (e ∷ rest) (suc i) p apart = rw (head_differs block e rest i p) (passes-at block rest i (tail_place block e rest i p) apart.2)
 
 -- taking it out
-pub remove-place : (block : ℕ) (list : List Crossing) (place : ℕ) → IsPlace block list place → remove list place ≡ without block list
+pub remove-place : (block : ℕ) (list : List Crossing) (place : ℕ) → IsPlace block list place → remove list place ≡ without_crossing block list
 remove-place block [] place p = absurd (omega (arith, p.inside))
 remove-place block (e ∷ rest) zero p = rw (eq-eqb e.block block (p.here e)) refl
 remove-place block (e ∷ rest) (suc i) p =
@@ -206,9 +206,9 @@ length-held holder (suc n) list apart inside own =
     elim (held_by holder n list apart) [
       | inl found ↦
           let less = length-without found.0 list found.1 in
-          let there : (b : ℕ) → outward_of b (without found.0 list) ≢ Quiet → (b ≢ found.0) × (outward_of b list ≢ Quiet) =
+          let there : (b : ℕ) → outward_of b (without_crossing found.0 list) ≢ Quiet → (b ≢ found.0) × (outward_of b list ≢ Quiet) =
           λ b passes. remaining found.0 list apart b passes in
-          let rest = length-held holder n (without found.0 list) (AreApart-without found.0 list apart)
+          let rest = length-held holder n (without_crossing found.0 list) (AreApart-without found.0 list apart)
           (λ b passes. below b n (inside b (there b passes).1) (λ is. (there b passes).0 (own b found.0 (there b passes).1 found.1 (is ∙ sym found.2))))
           (λ a b first second. own a b (there a first).1 (there b second).1) in
           omega (arith, less, rest)
@@ -220,7 +220,7 @@ length-held holder (suc n) list apart inside own =
     below : (b n : ℕ) → holder b < suc n → holder b ≢ n → holder b < n
     below b n less other = grind (arith, other)
 
-    remaining : (block : ℕ) (list : List Crossing) → AreApart list → (b : ℕ) → outward_of b (without block list) ≢ Quiet
+    remaining : (block : ℕ) (list : List Crossing) → AreApart list → (b : ℕ) → outward_of b (without_crossing block list) ≢ Quiet
         → (b ≢ block) × (outward_of b list ≢ Quiet)
     remaining block list apart b passes =
         elim (cases_eq b block) [

@@ -11,12 +11,12 @@ use Rattle.tl_map.specs.Numbers.{Numbers}
 use Rattle.tl_map.specs.Places.{bank_of, set_of, tag_of, place_of}
 use Rattle.tl_map.specs.declared.place.Place.{Place}
 use Rattle.tl_map.proofs.PlaceLaws.{place_of-alone}
-use Rattle.tl_ways.specs.Lines.{Line as Entry, perm_of}
+use Rattle.tl_ways.specs.Lines.{Line as Entry, line_perm}
 use Rattle.tl_ways.specs.Orders.{chosen, touched}
 use Rattle.tl_ways.specs.Rows.{tag_in_line}
-use Rattle.tl_ways.specs.Tables.{Table, IsSameSize, line_at, order_at, set_count, tag_at, chosen_at}
+use Rattle.tl_ways.specs.Tables.{WayTable, IsSameSize, line_at, order_at, set_count, tag_at, chosen_at}
 use Rattle.tl_ways.specs.Stores.{Store, bytes_at}
-use Rattle.tl_home.specs.Directories.{Directory, has_tag, way_by_tag, copy_at, perm_at, way_of, line_of, recorded_of, free_in, order_of, order_after, IsDirectory, IsHeld, IsPlaced}
+use Rattle.tl_home.specs.Directories.{Directory, has_tag, way_by_tag, copy_at, perm_in_way, way_of, line_of, recorded_of, free_in, order_of, order_after, IsDirectory, IsHeld, IsPlaced}
 
 -- a negation the other way round
 pub not_flip : (b : Bool) (negated : Bool) → not b ≡ negated → b ≡ not negated
@@ -110,7 +110,7 @@ line_of-held d block set way entry held = rw (held.lies, ← held.in_set, held.l
 
 -- what home records of it
 pub recorded_of-held : (d : Directory) (client block set way : ℕ) (entry : Entry) → IsHeld d block set way entry
-    → recorded_of d client block ≡ perm_of entry client
+    → recorded_of d client block ≡ line_perm entry client
 unfolding recorded_of
 recorded_of-held d client block set way entry held = rw (held.lies, ← held.in_set, held.line) refl
 
@@ -248,12 +248,12 @@ module _ {d after : Directory} {block set way : ℕ} {entry : Option Entry} (c :
   pub recorded_of-other : (client b : ℕ) → b ≢ block → recorded_of after client b ≡ recorded_of d client b
   unfolding recorded_of
   recorded_of-other client b apart =
-      ap (λ (g : Numbers). perm_at after (set_of g b) (way_of after b) client) c.geometry
-      ∙ ap (λ w. perm_at after (set_of d.geometry b) w client) (way_of-other b apart)
+      ap (λ (g : Numbers). perm_in_way after (set_of g b) (way_of after b) client) c.geometry
+      ∙ ap (λ w. perm_in_way after (set_of d.geometry b) w client) (way_of-other b apart)
       ∙ by_way (way_of d b) refl
     where
       by_way : (lies : Option ℕ) → way_of d b ≡ lies
-          → perm_at after (set_of d.geometry b) lies client ≡ perm_at d (set_of d.geometry b) lies client
+          → perm_in_way after (set_of d.geometry b) lies client ≡ perm_in_way d (set_of d.geometry b) lies client
       by_way None is = refl
       by_way (Some y) is = rw (line-same (set_of d.geometry b) y (not_here b y apart is (here (set_of d.geometry b) y) refl)) refl
 
@@ -373,13 +373,13 @@ module _ {d after : Directory} {block set way : ℕ} {old new : Entry} (r : Repl
           rw (is, eqb-true x set parts.0, eqb-true y way parts.1, r.held.line) refl
 
   -- one client's record is the new one
-  pub recorded-set : (client : ℕ) (perm : Perm) → ((x : ℕ) → perm_of new x ≡ (if x == client then perm else perm_of old x))
+  pub recorded-set : (client : ℕ) (perm : Perm) → ((x : ℕ) → line_perm new x ≡ (if x == client then perm else line_perm old x))
       → (x b : ℕ) → recorded_of after x b ≡ (if x == client && b == block then perm else recorded_of d x b)
   recorded-set client perm perms x b =
       elim (cases_eq b block) [
         | inl same ↦
             rw (same, recorded_of-held after x block set way new held_after, recorded_of-held d x block set way old r.held, perms x, eq-eqb block block refl)
-            (and_true (x == client) perm (perm_of old x))
+            (and_true (x == client) perm (line_perm old x))
         | inr apart ↦
             rw (recorded_of-other changes x b apart, ne_eqb b block apart) (and_false (x == client) perm (recorded_of d x b))
       ]
@@ -393,7 +393,7 @@ module _ {d after : Directory} {block set way : ℕ} {old new : Entry} (r : Repl
       and_false false p q = refl
 
   -- each record stays where the entry's do
-  pub recorded-kept : ((x : ℕ) → perm_of new x ≡ perm_of old x) → (x b : ℕ) → recorded_of after x b ≡ recorded_of d x b
+  pub recorded-kept : ((x : ℕ) → line_perm new x ≡ line_perm old x) → (x b : ℕ) → recorded_of after x b ≡ recorded_of d x b
   recorded-kept perms x b =
       elim (cases_eq b block) [
         | inl same ↦
@@ -404,11 +404,11 @@ module _ {d after : Directory} {block set way : ℕ} {old new : Entry} (r : Repl
 -- ## The directory as the code has it
 
 -- a directory by its parts
-abbrev pub dir : Numbers → ℕ → Table → Store → Directory
+abbrev pub dir : Numbers → ℕ → WayTable → Store → Directory
 dir g bank table store = record { geometry = g; bank = bank; table = table; store = store }
 
 -- an entry is replaced in the code's tables; m is what contracts see of them
-pub replaces : (m : Directory) (g : Numbers) (bank : ℕ) (t after : Table) (s store : Store) (block set way : ℕ) (old new : Entry)
+pub replaces : (m : Directory) (g : Numbers) (bank : ℕ) (t after : WayTable) (s store : Store) (block set way : ℕ) (old new : Entry)
     → dir g bank t s ≡ m → IsHeld m block set way old → new.tag ≡ old.tag → IsSameSize t after
     → ((x y : ℕ) → line_at after x y ≡ (if x == set && y == way then Some new else line_at t x y))
     → ((x y : ℕ) → y < t.ways → (x == set && y == way) ≡ false → bytes_at store x y ≡ bytes_at s x y)
@@ -427,14 +427,14 @@ replaces m g bank t after s store block set way old new view held tag size lines
     }) held
 
 -- what a write of bytes leaves elsewhere
-pub written_other : (g : Numbers) (bank : ℕ) (t : Table) (s store : Store) (set way : ℕ) (bytes : List ℕ) → IsDirectory (dir g bank t s)
+pub written_other : (g : Numbers) (bank : ℕ) (t : WayTable) (s store : Store) (set way : ℕ) (bytes : List ℕ) → IsDirectory (dir g bank t s)
     → ((x y : ℕ) → y < s.ways → bytes_at store x y ≡ (if x == set && y == way then bytes else bytes_at s x y))
     → (x y : ℕ) → y < t.ways → (x == set && y == way) ≡ false → bytes_at store x y ≡ bytes_at s x y
 written_other g bank t s store set way bytes sound written x y inside other =
     written x y (subst (λ n. y < n) (sym (sound.store_ways ∙ sym sound.ways)) inside) ∙ ap (λ there. if there then bytes else bytes_at s x y) other
 
 -- and in its place
-pub written_here : (m : Directory) (g : Numbers) (bank : ℕ) (t : Table) (s store : Store) (block set way : ℕ) (entry : Entry) (bytes : List ℕ)
+pub written_here : (m : Directory) (g : Numbers) (bank : ℕ) (t : WayTable) (s store : Store) (block set way : ℕ) (entry : Entry) (bytes : List ℕ)
     → dir g bank t s ≡ m → IsDirectory (dir g bank t s) → IsHeld m block set way entry
     → ((x y : ℕ) → y < s.ways → bytes_at store x y ≡ (if x == set && y == way then bytes else bytes_at s x y))
     → bytes_at store set way ≡ bytes
@@ -444,7 +444,7 @@ written_here m g bank t s store block set way entry bytes view sound held writte
     ∙ ap (λ there. if there then bytes else bytes_at s set way) (here_true set way)
 
 -- an entry is replaced by itself where the lines stay
-pub replaces-itself : (m : Directory) (g : Numbers) (bank : ℕ) (t after : Table) (s : Store) (block set way : ℕ) (old : Entry)
+pub replaces-itself : (m : Directory) (g : Numbers) (bank : ℕ) (t after : WayTable) (s : Store) (block set way : ℕ) (old : Entry)
     → dir g bank t s ≡ m → IsHeld m block set way old → IsSameSize t after → ((x y : ℕ) → line_at after x y ≡ line_at t x y)
     → Replaces m (dir g bank after s) block set way old old
 replaces-itself m g bank t after s block set way old view held size lines =
@@ -460,13 +460,13 @@ replaces-itself m g bank t after s block set way old view held size lines =
         rw (is, eqb-true x set parts.0, eqb-true y way parts.1, line) refl
 
 -- the orders stay where the code's do
-pub orders-kept : (m : Directory) (g : Numbers) (bank : ℕ) (t after : Table) (s store : Store) → dir g bank t s ≡ m
+pub orders-kept : (m : Directory) (g : Numbers) (bank : ℕ) (t after : WayTable) (s store : Store) → dir g bank t s ≡ m
     → ((x : ℕ) → order_at after x ≡ order_at t x) → (x : ℕ) → order_of (dir g bank after store) x ≡ order_of m x
 unfolding order_of
 orders-kept m g bank t after s store view same x = same x ∙ ap (λ (d : Directory). order_at d.table x) view
 
 -- the order of the block's set after its way is touched
-pub orders-touched : (m : Directory) (g : Numbers) (bank : ℕ) (t after : Table) (s store : Store) (block set way : ℕ) (entry : Entry)
+pub orders-touched : (m : Directory) (g : Numbers) (bank : ℕ) (t after : WayTable) (s store : Store) (block set way : ℕ) (entry : Entry)
     → dir g bank t s ≡ m → IsHeld m block set way entry
     → ((x : ℕ) → order_at after x ≡ (if x == set then touched way (order_at t set) else order_at t x))
     → (x : ℕ)
@@ -483,7 +483,7 @@ orders-touched m g bank t after s store block set way entry view held moved x =
     by_set true is = rw (is, eqb-true x set is) refl
 
 -- what a search of a set says of a block of the bank
-pub held-found : (m : Directory) (g : Numbers) (bank : ℕ) (t : Table) (s : Store) (block set tag way : ℕ) (entry : Entry)
+pub held-found : (m : Directory) (g : Numbers) (bank : ℕ) (t : WayTable) (s : Store) (block set tag way : ℕ) (entry : Entry)
     → dir g bank t s ≡ m → bank_of g block ≡ bank → set ≡ set_of g block → tag ≡ tag_of g block → set < set_count t
     → tag_at t set way ≡ Some tag → way < t.ways → ((other : ℕ) → tag_at t set other ≡ Some tag → other ≡ way)
     → line_at t set way ≡ Some entry → IsHeld m block set way entry
@@ -503,19 +503,19 @@ held-found m g bank t s block set tag way entry view own sets tags inside tagged
     })
 
 -- a block whose tag no way of its set has lies nowhere
-pub none-found : (m : Directory) (g : Numbers) (bank : ℕ) (t : Table) (s : Store) (block set tag : ℕ)
+pub none-found : (m : Directory) (g : Numbers) (bank : ℕ) (t : WayTable) (s : Store) (block set tag : ℕ)
     → dir g bank t s ≡ m → set ≡ set_of g block → tag ≡ tag_of g block → ((way : ℕ) → tag_at t set way ≢ Some tag) → way_of m block ≡ None
 none-found m g bank t s block set tag view sets tags none =
     subst (λ (d : Directory). way_of d block ≡ None) view (way_of-none (dir g bank t s) block (rw (← sets, ← tags) none))
 
 -- a block of another bank lies nowhere
-pub elsewhere : (m : Directory) (g : Numbers) (bank : ℕ) (t : Table) (s : Store) (block : ℕ) → dir g bank t s ≡ m → bank_of g block ≢ bank
+pub elsewhere : (m : Directory) (g : Numbers) (bank : ℕ) (t : WayTable) (s : Store) (block : ℕ) → dir g bank t s ≡ m → bank_of g block ≢ bank
     → way_of m block ≡ None
 elsewhere m g bank t s block view other =
     subst (λ (d : Directory). way_of d block ≡ None) view (way_of-elsewhere (dir g bank t s) block other)
 
 -- the choice of a way
-pub choice : (m : Directory) (g : Numbers) (bank : ℕ) (t : Table) (s : Store) (set : ℕ) (busy : List ℕ) → dir g bank t s ≡ m → t.ways ≡ g.ways
+pub choice : (m : Directory) (g : Numbers) (bank : ℕ) (t : WayTable) (s : Store) (set : ℕ) (busy : List ℕ) → dir g bank t s ≡ m → t.ways ≡ g.ways
     → chosen_at t set busy ≡ chosen (λ way. free_in m set way) m.geometry.ways (order_of m set) busy
 unfolding free_in order_of
 choice m g bank t s set busy view ways =
@@ -553,7 +553,7 @@ pub untagged : (d : Directory) (block way : ℕ) → IsDirectory d → bank_of d
 untagged d block way sound own none tagged = let lies = tag_lies d block way sound own tagged in cc
 
 -- after an entry is replaced the directory is sound
-pub IsDirectory-replaced : (g : Numbers) (bank : ℕ) (t after : Table) (s store : Store) (set way : ℕ) (old new : Entry)
+pub IsDirectory-replaced : (g : Numbers) (bank : ℕ) (t after : WayTable) (s store : Store) (set way : ℕ) (old new : Entry)
     → IsDirectory (dir g bank t s) → line_at t set way ≡ Some old → new.tag ≡ old.tag → IsSameSize t after
     → ((x y : ℕ) → line_at after x y ≡ (if x == set && y == way then Some new else line_at t x y))
     → store.sets ≡ s.sets → store.ways ≡ s.ways → IsDirectory (dir g bank after store)
@@ -597,7 +597,7 @@ IsDirectory-replaced g bank t after s store set way old new sound line tag size 
 -- ## Blocks by their ways
 
 -- the block whose place this is lies there
-pub block_lies : (m : Directory) (g : Numbers) (bank : ℕ) (t : Table) (s : Store) (set way block : ℕ) (entry : Entry)
+pub block_lies : (m : Directory) (g : Numbers) (bank : ℕ) (t : WayTable) (s : Store) (set way block : ℕ) (entry : Entry)
     → dir g bank t s ≡ m → IsDirectory (dir g bank t s) → line_at t set way ≡ Some entry
     → place_of g block ≡ record { bank = bank; set = set; tag = entry.tag } → (set_of m.geometry block ≡ set) × (way_of m block ≡ Some way)
 block_lies m g bank t s set way block entry view sound line place =
@@ -613,7 +613,7 @@ on_some None f p = p
 on_some (Some x) f p = f x p
 
 -- a way is free where it has no entry
-pub free-is : (m : Directory) (g : Numbers) (bank : ℕ) (t : Table) (s : Store) (set way : ℕ) → dir g bank t s ≡ m
+pub free-is : (m : Directory) (g : Numbers) (bank : ℕ) (t : WayTable) (s : Store) (set way : ℕ) → dir g bank t s ≡ m
     → free_in m set way ≡ is_none (line_at t set way)
 unfolding free_in
 free-is m g bank t s set way view = ap (λ (d : Directory). is_none (line_at d.table set way)) (sym view)
@@ -631,14 +631,14 @@ none_free None is = refl
 none_free (Some entry) is = absurd (cc)
 
 -- a free way has no entry
-pub free_line : (m : Directory) (g : Numbers) (bank : ℕ) (t : Table) (s : Store) (set way : ℕ) → dir g bank t s ≡ m
+pub free_line : (m : Directory) (g : Numbers) (bank : ℕ) (t : WayTable) (s : Store) (set way : ℕ) → dir g bank t s ≡ m
     → free_in m set way ≡ true → line_at t set way ≡ None
 free_line m g bank t s set way view free = none_free (line_at t set way) (sym (free-is m g bank t s set way view) ∙ free)
 
 -- ## A directory that is made
 
 -- where no way has an entry, no block lies in any
-pub ways-fresh : (g : Numbers) (bank : ℕ) (t : Table) (s : Store) → ((set way : ℕ) → line_at t set way ≡ None) → (b : ℕ)
+pub ways-fresh : (g : Numbers) (bank : ℕ) (t : WayTable) (s : Store) → ((set way : ℕ) → line_at t set way ≡ None) → (b : ℕ)
     → way_of (dir g bank t s) b ≡ None
 ways-fresh g bank t s free b =
     way_of-none (dir g bank t s) b (λ way tagged. let none : None ≡ Some (tag_of g b) = sym (ap tag_in_line (free (set_of g b) way)) ∙ tagged in cc)

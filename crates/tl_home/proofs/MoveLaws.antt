@@ -5,9 +5,9 @@ use Rattle.std.proofs.lemmas.Bool.{cases_eq, and_parts}
 use Rattle.tl_types.specs.declared.permission.Perm.TheVariants.{None as NoAccess}
 use Rattle.tl_map.specs.Numbers.{Numbers}
 use Rattle.tl_map.specs.Places.{bank_of, set_of, tag_of, place_of}
-use Rattle.tl_ways.specs.Lines.{Line as Entry, perm_of}
+use Rattle.tl_ways.specs.Lines.{Line as Entry, line_perm}
 use Rattle.tl_ways.specs.Rows.{tag_in_line}
-use Rattle.tl_ways.specs.Tables.{Table, IsSameSize, line_at, set_count, tag_at}
+use Rattle.tl_ways.specs.Tables.{WayTable, IsSameSize, line_at, set_count, tag_at}
 use Rattle.tl_ways.specs.Stores.{Store, bytes_at}
 use Rattle.tl_home.specs.Directories.{Directory, way_of, line_of, recorded_of, free_in, is_way, IsDirectory, IsHeld, IsPlaced}
 use Rattle.tl_home.proofs.DirectoryLaws.{Changes, way_of-other, line_of-other, recorded_of-other, way_of-found, way_of-none, line_of-held, line_of-none, recorded_of-held, recorded_of-none, by_block, here_true, at_way, dir, untagged, free_line}
@@ -29,7 +29,7 @@ pub record Clears (d after : Directory) (block set way : ℕ) (entry : Entry) : 
   pub bytes : (x y : ℕ) → bytes_at after.store x y ≡ bytes_at d.store x y
 
 -- a way is freed in the code's tables
-pub clears : (m : Directory) (g : Numbers) (bank : ℕ) (t after : Table) (s : Store) (block set way : ℕ) (entry : Entry)
+pub clears : (m : Directory) (g : Numbers) (bank : ℕ) (t after : WayTable) (s : Store) (block set way : ℕ) (entry : Entry)
     → dir g bank t s ≡ m → IsHeld m block set way entry → IsSameSize t after
     → ((x y : ℕ) → line_at after x y ≡ (if x == set && y == way then None else line_at t x y))
     → Clears m (dir g bank after s) block set way entry
@@ -97,7 +97,7 @@ pub record Fills (d after : Directory) (block set way : ℕ) (entry : Entry) (by
   pub inside : way < d.table.ways
   pub free : line_at d.table set way ≡ None
   pub tag : entry.tag ≡ tag_of d.geometry block
-  pub nobody : (client : ℕ) → perm_of entry client ≡ NoAccess
+  pub nobody : (client : ℕ) → line_perm entry client ≡ NoAccess
   pub clean : entry.dirty ≡ false
   pub geometry : after.geometry ≡ d.geometry
   pub bank : after.bank ≡ d.bank
@@ -175,10 +175,10 @@ module _ {d after : Directory} {block set way : ℕ} {entry : Entry} {bytes : Li
       rw (← r.in_set) (ap is_none (r.lines x y) ∙ free_by (x == set && y == way) (Some entry) (line_at d.table x y))
 
 -- a free way takes a block in the code's tables
-pub fills : (m : Directory) (g : Numbers) (bank : ℕ) (t after : Table) (s store : Store) (block set way : ℕ) (entry : Entry) (bytes : List ℕ)
+pub fills : (m : Directory) (g : Numbers) (bank : ℕ) (t after : WayTable) (s store : Store) (block set way : ℕ) (entry : Entry) (bytes : List ℕ)
     → dir g bank t s ≡ m → IsDirectory (dir g bank t s) → bank_of m.geometry block ≡ m.bank → set ≡ set_of g block
     → entry.tag ≡ tag_of g block → way_of m block ≡ None → way < m.geometry.ways → free_in m (set_of m.geometry block) way ≡ true
-    → ((client : ℕ) → perm_of entry client ≡ NoAccess) → entry.dirty ≡ false → IsSameSize t after → set < g.sets
+    → ((client : ℕ) → line_perm entry client ≡ NoAccess) → entry.dirty ≡ false → IsSameSize t after → set < g.sets
     → ((x y : ℕ) → line_at after x y ≡ (if x == set && y == way then Some entry else line_at t x y))
     → ((x y : ℕ) → y < s.ways → bytes_at store x y ≡ (if x == set && y == way then bytes else bytes_at s x y))
     → Fills m (dir g bank after store) block set way entry bytes
@@ -213,7 +213,7 @@ fills m g bank t after s store block set way entry bytes view sound own sets tag
     }) away
 
 -- no other way has the tag of a block that comes
-pub tag_is_new : (m : Directory) (g : Numbers) (bank : ℕ) (t : Table) (s : Store) (block set tag other : ℕ) → dir g bank t s ≡ m
+pub tag_is_new : (m : Directory) (g : Numbers) (bank : ℕ) (t : WayTable) (s : Store) (block set tag other : ℕ) → dir g bank t s ≡ m
     → IsDirectory (dir g bank t s) → bank_of m.geometry block ≡ m.bank → set ≡ set_of g block → tag ≡ tag_of g block → way_of m block ≡ None
     → tag_at t set other ≢ Some tag
 tag_is_new m g bank t s block set tag other view sound own sets tags away =
@@ -223,7 +223,7 @@ tag_is_new m g bank t s block set tag other view sound own sets tags away =
     (subst (λ (x : Directory). way_of x block ≡ None) (sym view) away))
 
 -- after a block comes the directory is sound
-pub IsDirectory-filled : (g : Numbers) (bank : ℕ) (t after : Table) (s store : Store) (block set way : ℕ) (entry : Entry)
+pub IsDirectory-filled : (g : Numbers) (bank : ℕ) (t after : WayTable) (s store : Store) (block set way : ℕ) (entry : Entry)
     → IsDirectory (dir g bank t s) → block < g.memory_blocks → place_of g block ≡ record { bank = bank; set = set; tag = entry.tag }
     → way < t.ways → ((other : ℕ) → tag_at t set other ≢ Some entry.tag) → IsSameSize t after
     → ((x y : ℕ) → line_at after x y ≡ (if x == set && y == way then Some entry else line_at t x y))
@@ -282,7 +282,7 @@ IsDirectory-filled g bank t after s store block set way entry sound inside place
         record { block = block; inside = inside; place = here }
 
 -- the place of a block of the bank
-pub own_place : (m : Directory) (g : Numbers) (bank : ℕ) (t : Table) (s : Store) (block set tag : ℕ) → dir g bank t s ≡ m
+pub own_place : (m : Directory) (g : Numbers) (bank : ℕ) (t : WayTable) (s : Store) (block set tag : ℕ) → dir g bank t s ≡ m
     → bank_of m.geometry block ≡ m.bank → set ≡ set_of g block → tag ≡ tag_of g block
     → place_of g block ≡ record { bank = bank; set = set; tag = tag }
 own_place m g bank t s block set tag view own sets tags =

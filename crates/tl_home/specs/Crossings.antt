@@ -21,9 +21,9 @@ pub record AreCrossings (list : List Crossing) : Type 0 where
   pub few : length list ≤ 8
 
 -- the list without the first that is of a block
-abbrev pub without : ℕ → List Crossing → List Crossing
-without block [] = []
-without block (first ∷ rest) = if first.block == block then rest else first ∷ without block rest
+abbrev pub without_crossing : ℕ → List Crossing → List Crossing
+without_crossing block [] = []
+without_crossing block (first ∷ rest) = if first.block == block then rest else first ∷ without_crossing block rest
 
 -- a place is that of the first of a block
 pub record IsPlace (block : ℕ) (list : List Crossing) (place : ℕ) : Type 0 where

@@ -7,16 +7,16 @@ use Rattle.tl_types.specs.declared.permission.Perm.TheVariants.{None as NoAccess
 use Rattle.tl_map.specs.Numbers.{Numbers}
 use Rattle.tl_map.specs.Places.{bank_of, set_of, tag_of, place_of}
 use Rattle.tl_protocol.specs.declared.home.Line.{Line}
-use Rattle.tl_ways.specs.Lines.{Line as Entry, perm_of}
+use Rattle.tl_ways.specs.Lines.{Line as Entry, line_perm}
 use Rattle.tl_ways.specs.Orders.{touched}
-use Rattle.tl_ways.specs.Tables.{Table, line_at, order_at, set_count, tag_at}
+use Rattle.tl_ways.specs.Tables.{WayTable, line_at, order_at, set_count, tag_at}
 use Rattle.tl_ways.specs.Stores.{Store, bytes_at}
 
 -- the directory of one bank, and the bytes of each way
 pub record Directory : Type 0 where
   pub geometry : Numbers
   pub bank : ℕ
-  pub table : Table
+  pub table : WayTable
   pub store : Store
 
 -- ## A way
@@ -27,7 +27,7 @@ has_tag None tag = false
 has_tag (Some other) tag = other == tag
 
 -- the way of a set in which the block with a tag lies
-abbrev pub way_by_tag : Table → ℕ → ℕ → Option ℕ
+abbrev pub way_by_tag : WayTable → ℕ → ℕ → Option ℕ
 way_by_tag table set tag = lowest (λ way. has_tag (tag_at table set way) tag) table.ways
 
 -- the entry of a way says that its block is dirty
@@ -38,16 +38,16 @@ dirty_in (Some entry) = entry.dirty
 -- the permission that an entry records for a client
 abbrev pub perm_in : Option Entry → ℕ → Perm
 perm_in None client = NoAccess
-perm_in (Some entry) client = perm_of entry client
+perm_in (Some entry) client = line_perm entry client
 
 -- the copy in a way of a set
 abbrev pub copy_at : Directory → ℕ → ℕ → Line
 copy_at d set way = record { bytes = bytes_at d.store set way; dirty = dirty_in (line_at d.table set way) }
 
 -- the permission recorded in a way of a set, where there is one
-abbrev pub perm_at : Directory → ℕ → Option ℕ → ℕ → Perm
-perm_at d set None client = NoAccess
-perm_at d set (Some way) client = perm_in (line_at d.table set way) client
+abbrev pub perm_in_way : Directory → ℕ → Option ℕ → ℕ → Perm
+perm_in_way d set None client = NoAccess
+perm_in_way d set (Some way) client = perm_in (line_at d.table set way) client
 
 -- ## A block
 
@@ -62,7 +62,7 @@ line_of d block = option_map (copy_at d (set_of d.geometry block)) (way_of d blo
 
 -- the permission that home records for a client of a block
 unfoldable pub recorded_of : Directory → ℕ → ℕ → Perm
-recorded_of d client block = perm_at d (set_of d.geometry block) (way_of d block) client
+recorded_of d client block = perm_in_way d (set_of d.geometry block) (way_of d block) client
 
 -- no block lies in a way of a set
 unfoldable pub free_in : Directory → ℕ → ℕ → Bool

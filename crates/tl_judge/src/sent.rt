@@ -4,7 +4,7 @@ ghost use Rattle.std.specs.Option.{option_map};
 ghost use Rattle.tl_types.specs.Bodies.{body_kind, body_bytes};
 ghost use Rattle.tl_protocol.specs.Protocol.{MayOn, MaySendGrant};
 ghost use Rattle.tl_lanes.specs.Lanes.{ack_post, answer_post, grant_post, post_of, take_of};
-ghost use Rattle.tl_rules.specs.Plain.{block_state, client_at};
+ghost use Rattle.tl_rules.specs.Plain.{block_state, plain_client};
 ghost use Rattle.tl_judge.specs.Judged.{IsShown};
 ghost use Rattle.tl_judge.specs.Order.{place_at, post_at};
 ghost use Rattle.tl_judge.specs.Rules.{client_of};

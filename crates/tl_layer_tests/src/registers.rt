@@ -5,7 +5,7 @@ ghost use Rattle.tl_types.specs.declared.permission.Perm.TheVariants.{None as No
 ghost use Rattle.tl_types.specs.declared.permission.ProbeCap.{ProbeCap};
 ghost use Rattle.tl_protocol.specs.declared.home.Outward.{Outward};
 ghost use Rattle.tl_protocol.specs.Client.{fresh_client};
-ghost use Rattle.tl_ways.specs.Lines.{perm_of};
+ghost use Rattle.tl_ways.specs.Lines.{line_perm};
 ghost use Rattle.tl_registers.specs.declared.register.Task.{Task};
 ghost use Rattle.tl_registers.specs.Register.{opened};
 
@@ -61,7 +61,7 @@ impl Protocol for Scene {
       outward = (if sight.quiet then Outward.Quiet else Outward.PutAck);
       client = λ c. let seat = (if c == 0 then sight.zero else (if c == 1 then sight.one else sight.two)) in
           record fresh_client {
-            recorded = unwrap_or (option_map (λ entry. perm_of entry c) sight.entry) NoAccess;
+            recorded = unwrap_or (option_map (λ entry. line_perm entry c) sight.entry) NoAccess;
             b = (if seat.probed then ProbeCap.ToN ∷ [] else []);
             e = (if seat.granted then 1 else 0);
           };
@@ -110,7 +110,7 @@ fn idle() -> Seat {
 
 /// An entry that records nobody.
 fn nobody(dirty: bool) -> Entry
-    ensures { (other : ℕ) → perm_of result other ≡ NoAccess }
+    ensures { (other : ℕ) → line_perm result other ≡ NoAccess }
 {
     Entry::new(Tag::new(0), dirty)
 }
@@ -118,8 +118,8 @@ fn nobody(dirty: bool) -> Entry
 /// The entry where one more client may read.
 fn with_reader(entry: Entry, number: u32) -> Entry
     requires known { number < 16 }
-    requires read { (other : ℕ) → perm_of entry other ≢ Tip }
-    ensures { (other : ℕ) → perm_of result other ≢ Tip }
+    requires read { (other : ℕ) → line_perm entry other ≢ Tip }
+    ensures { (other : ℕ) → line_perm result other ≢ Tip }
 {
     let mut entry = entry;
     entry.set(client(number), Perm::Branch);
@@ -130,7 +130,7 @@ fn with_reader(entry: Entry, number: u32) -> Entry
 fn readers(first: u32, second: u32) -> Entry
     requires first { first < 16 }
     requires second { second < 16 }
-    ensures { (other : ℕ) → perm_of result other ≢ Tip }
+    ensures { (other : ℕ) → line_perm result other ≢ Tip }
 {
     with_reader(with_reader(nobody(false), first), second)
 }

@@ -11,7 +11,7 @@ use Rattle.tl_types.specs.declared.channel.Channel.{Channel}
 use Rattle.tl_types.specs.declared.channel.Channel.TheVariants.{A, B, C, D, E}
 use Rattle.tl_types.specs.declared.message.Message.{Message}
 use Rattle.tl_links.specs.declared.wanted.Wanted.{Wanted}
-use Rattle.tl_links.specs.Table.{Table, lane_in, some_has, waiting_below, IsCounted}
+use Rattle.tl_links.specs.Table.{LinkTable, lane_in, some_has, waiting_below, IsCounted}
 use Rattle.tl_links.specs.Wanted.{is_wanted}
 
 -- there are five channels
@@ -23,20 +23,20 @@ place-few D = omega arith
 place-few E = omega arith
 
 -- how many messages wait on a channel of a client
-abbrev pub waits_at : Table → ℕ → Channel → ℕ
+abbrev pub waits_at : LinkTable → ℕ → Channel → ℕ
 waits_at t x l = length (lane_in t x l).messages
 
 -- the table with another lane as one channel of a client
-abbrev pub placed : Table → ℕ → Channel → Lane → Table
+abbrev pub placed : LinkTable → ℕ → Channel → Lane → LinkTable
 placed t c k lane = record { bank = t.bank; clients = t.clients; lanes = slice_set t.lanes (c * 5 + place_of k) lane }
 
 -- where only empty channels stand, none waits
-waiting-none : (t : Table) (l : Channel) → ((x : ℕ) (k : Channel) → lane_in t x k ≡ empty_lane) → (n : ℕ) → waiting_below t l n ≡ 0
+waiting-none : (t : LinkTable) (l : Channel) → ((x : ℕ) (k : Channel) → lane_in t x k ≡ empty_lane) → (n : ℕ) → waiting_below t l n ≡ 0
 waiting-none t l e zero = refl
 waiting-none t l e (suc n) = rw (waiting-none t l e n, e n l) refl
 
 -- at one client at most as many wait as at all
-waiting-some : (t : Table) (l : Channel) (n x : ℕ) → x < n → waits_at t x l ≤ waiting_below t l n
+waiting-some : (t : LinkTable) (l : Channel) (n x : ℕ) → x < n → waits_at t x l ≤ waiting_below t l n
 waiting-some t l zero x h = absurd (omega arith)
 waiting-some t l (suc n) x h =
     elim (cases_eq x n) [
@@ -45,7 +45,7 @@ waiting-some t l (suc n) x h =
     ]
 
 -- no more than 64 wait at each client
-waiting-most : (t : Table) (l : Channel) → ((x : ℕ) (k : Channel) → waits_at t x k ≤ 64) → (n : ℕ) → waiting_below t l n ≤ 64 * n
+waiting-most : (t : LinkTable) (l : Channel) → ((x : ℕ) (k : Channel) → waits_at t x k ≤ 64) → (n : ℕ) → waiting_below t l n ≤ 64 * n
 waiting-most t l m zero = omega arith
 waiting-most t l m (suc n) = let before = waiting-most t l m n in let here : waits_at t n l ≤ 64 = m n l in omega arith
 
@@ -54,7 +54,7 @@ none-found : (messages : List Message) (block : ℕ) (wanted : Wanted) → lengt
     → list_any (is_wanted wanted) (bodies_of block messages) ≡ false
 none-found messages block wanted h = rw (nil_from_length messages h) refl
 
-none-below : (t : Table) (l : Channel) (block : ℕ) (wanted : Wanted) (n : ℕ) → waiting_below t l n ≡ 0
+none-below : (t : LinkTable) (l : Channel) (block : ℕ) (wanted : Wanted) (n : ℕ) → waiting_below t l n ≡ 0
     → some_has t l block wanted n ≡ false
 none-below t l block wanted zero h = refl
 none-below t l block wanted (suc n) h =
@@ -63,7 +63,7 @@ none-below t l block wanted (suc n) h =
     rw (before, none-found (lane_in t n l).messages block wanted here) refl
 
 -- where one client below n has a message that is looked for, some has
-pub some-has : (t : Table) (l : Channel) (block : ℕ) (wanted : Wanted) (n x : ℕ) → x < n
+pub some-has : (t : LinkTable) (l : Channel) (block : ℕ) (wanted : Wanted) (n x : ℕ) → x < n
     → list_any (is_wanted wanted) (bodies_of block (lane_in t x l).messages) ≡ true → some_has t l block wanted n ≡ true
 some-has t l block wanted zero x h has = absurd (omega arith)
 some-has t l block wanted (suc n) x h has =
@@ -85,7 +85,7 @@ length-without : (taken : ℕ) (messages : List Message) → messages ≢ [] →
 length-without taken [] h = absurd (h refl)
 length-without taken (x ∷ rest) h = omega arith
 
-module _ (t : Table) (c : ℕ) (k : Channel) (lane : Lane) where
+module _ (t : LinkTable) (c : ℕ) (k : Channel) (lane : Lane) where
   at-here : c * 5 + place_of k < length t.lanes → (l : Channel) → place_of l ≡ place_of k → lane_in (placed t c k lane) c l ≡ lane
   unfolding lane_in
   at-here inside l e = rw e (get_or-set_same t.lanes (c * 5 + place_of k) lane empty_lane inside)
@@ -157,7 +157,7 @@ module _ (t : Table) (c : ℕ) (k : Channel) (lane : Lane) where
       ]
 
 -- A table with its numbers.
-module _ {t : Table} {numbers : List ℕ} (counted : IsCounted t numbers) where
+module _ {t : LinkTable} {numbers : List ℕ} (counted : IsCounted t numbers) where
   -- a client's channel is one of the lanes
   inside-lanes : (c : ℕ) (k : Channel) → c < t.clients → c * 5 + place_of k < length t.lanes
   inside-lanes c k h = let few = place-few k in omega (arith, counted.all)
@@ -235,7 +235,7 @@ module _ {t : Table} {numbers : List ℕ} (counted : IsCounted t numbers) where
       IsCounted-placed c k new (slice_index numbers (place_of k) - 1) h (omega arith) (omega arith)
 
 -- the numbers at the start
-pub IsCounted-empty : (t : Table) → length t.lanes ≡ t.clients * 5 → t.clients ≤ 16
+pub IsCounted-empty : (t : LinkTable) → length t.lanes ≡ t.clients * 5 → t.clients ≤ 16
     → ((x : ℕ) (k : Channel) → lane_in t x k ≡ empty_lane) → IsCounted t (0 ∷ 0 ∷ 0 ∷ 0 ∷ 0 ∷ [])
 IsCounted-empty t all few e =
     record {

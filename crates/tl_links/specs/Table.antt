@@ -10,17 +10,17 @@ use Rattle.tl_links.specs.declared.wanted.Wanted.{Wanted}
 use Rattle.tl_links.specs.Wanted.{is_wanted}
 
 -- the bank, how many clients it has, and their channels
-pub record Table : Type 0 where
+pub record LinkTable : Type 0 where
   pub bank : ℕ
   pub clients : ℕ
   pub lanes : List Lane
 
 -- a client's channel
-unfoldable pub lane_in : Table → ℕ → Channel → Lane
+unfoldable pub lane_in : LinkTable → ℕ → Channel → Lane
 lane_in table client channel = slice_index_or table.lanes (client * 5 + place_of channel) empty_lane
 
 -- the bank and the clients stay
-pub record SameSize (old new : Table) : Type 0 where
+pub record SameSize (old new : LinkTable) : Type 0 where
   pub bank : new.bank ≡ old.bank
   pub clients : new.clients ≡ old.clients
 
@@ -30,19 +30,19 @@ IsNotHead lane serial NothingThere = lane.messages ≡ []
 IsNotHead lane serial NotHead = (lane.messages ≢ []) × (serial ≢ lane.taken)
 
 -- some client below n has, among a block's messages on a channel, one that is looked for
-abbrev pub some_has : Table → Channel → ℕ → Wanted → ℕ → Bool
+abbrev pub some_has : LinkTable → Channel → ℕ → Wanted → ℕ → Bool
 some_has table channel block wanted zero = false
 some_has table channel block wanted (suc n) =
     some_has table channel block wanted n || list_any (is_wanted wanted) (bodies_of block (lane_in table n channel).messages)
 
 -- how many messages wait on a channel of the clients below n
-abbrev pub waiting_below : Table → Channel → ℕ → ℕ
+abbrev pub waiting_below : LinkTable → Channel → ℕ → ℕ
 waiting_below table channel zero = 0
 waiting_below table channel (suc n) = waiting_below table channel n + length (lane_in table n channel).messages
 
 -- Each client has its five channels, with 64 messages at most on each; and by channel, the numbers are those of the messages
 -- that wait on it.
-pub record IsCounted (table : Table) (numbers : List ℕ) : Type 0 where
+pub record IsCounted (table : LinkTable) (numbers : List ℕ) : Type 0 where
   pub all : length table.lanes ≡ table.clients * 5
   pub few : table.clients ≤ 16
   pub most : (client : ℕ) (channel : Channel) → length (lane_in table client channel).messages ≤ 64

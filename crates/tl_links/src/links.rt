@@ -26,9 +26,9 @@ pub struct Links {
 }
 
 impl Model for Links {
-    ghost use Rattle.tl_links.specs.Table.{Table, IsCounted};
+    ghost use Rattle.tl_links.specs.Table.{LinkTable, IsCounted};
 
-    ghost Value = { Table };
+    ghost Value = { LinkTable };
 
     ghost view = { λ l. record { bank = l.bank; clients = l.clients; lanes = l.queues.items } };
 

@@ -1,7 +1,7 @@
 //! A lawful geometry, and the place of each block and each address in it.
 ghost use Rattle.std.specs.Prelude.{◌≡◌, ◌≢◌, ℕ, ◌*◌, ◌^◌, ◌<◌, ◌≤◌, IfErr, IfNone, IfOk, IfSome, None, Some};
 ghost use Rattle.tl_map.specs.Limits.{most_clients, most_copies, IsLawful};
-ghost use Rattle.tl_map.specs.Places.{xor_of_groups, bank_of, slot_of, slot_count, place_of, has_block, block_at, offset_of, has_bytes};
+ghost use Rattle.tl_map.specs.Places.{xor_of_groups, bank_of, slot_of, slot_count, place_of, has_block, block_of_address, offset_of, has_bytes};
 ghost use Rattle.tl_map.specs.Refusals.{refusal_of, numbers_of};
 
 use crate::numbers::{GeometryError, GeometryNumbers, one_of, within};
@@ -254,7 +254,7 @@ impl Geometry {
 
     /// The block of an address.
     pub fn block_at(self, address: u32) -> BlockNo
-        ensures { result ≡ block_at self address }
+        ensures { result ≡ block_of_address self address }
     {
         BlockNo::new(address >> self.block_bits())
     }

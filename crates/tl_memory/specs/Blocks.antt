@@ -2,7 +2,7 @@
 use Rattle.std.specs.Prelude.{◌≡◌, ℕ, ◌-◌, ◌*◌, ◌%◌, ◌^◌, ◌<◌, ◌==◌, Bool, true, IsTrue, Option, None, Some, List, [], ◌++◌, length, replicate, if◌then◌else◌}
 use Rattle.std.specs.Fork.{slice_chunk}
 use Rattle.tl_map.specs.Numbers.{Numbers}
-use Rattle.tl_map.specs.Places.{block_at, bank_of, slot_of, slot_count}
+use Rattle.tl_map.specs.Places.{block_of_address, bank_of, slot_of, slot_count}
 use Rattle.tl_memory.specs.declared.request.Request.{Request}
 use Rattle.tl_memory.specs.declared.request.Request.TheVariants.{Get, Put}
 use Rattle.tl_memory.specs.declared.request.Reply.{Reply}
@@ -49,7 +49,7 @@ pub record IsAddress (g : Numbers) (address : ℕ) : Type 0 where
 pub record IsOfBlock (m : Contents) (logarithm from : ℕ) : Type 0 where
   pub size : 2 ^ logarithm ≡ m.geometry.block_bytes
   pub address : IsAddress m.geometry from
-  pub kept : IsTrue (is_kept m.geometry m.bank (block_at m.geometry from))
+  pub kept : IsTrue (is_kept m.geometry m.bank (block_of_address m.geometry from))
 
 -- a request for a whole block that is kept; a Put brings all its bytes
 abbrev pub IsServable : Contents → Request → Type 0
@@ -57,11 +57,11 @@ IsServable m (Get size address) = IsOfBlock m size address
 IsServable m (Put size address burst) = IsOfBlock m size address × (length burst ≡ m.geometry.block_bytes)
 
 -- the answer to a request
-abbrev pub reply_to : Contents → Request → Reply
-reply_to m (Get size address) = AccessAckData size (block_in m (block_at m.geometry address))
-reply_to m (Put size address burst) = AccessAck size
+abbrev pub reply_of_memory : Contents → Request → Reply
+reply_of_memory m (Get size address) = AccessAckData size (block_in m (block_of_address m.geometry address))
+reply_of_memory m (Put size address burst) = AccessAck size
 
 -- the bytes of a block after a request: those of a Put to it, else as before
 abbrev pub block_after : Contents → Request → ℕ → List ℕ
 block_after m (Get size address) block = block_in m block
-block_after m (Put size address burst) block = if block == block_at m.geometry address then burst else block_in m block
+block_after m (Put size address burst) block = if block == block_of_address m.geometry address then burst else block_in m block

@@ -1,8 +1,8 @@
 //! The bytes of all blocks.
 ghost use Rattle.std.specs.Prelude.{◌≡◌, ℕ, ◌+◌, ◌*◌, ◌%◌, ◌^◌, ◌<◌, ◌≤◌, ◌==◌, ◌↔◌, length, replicate, vec_capacity, IsTrue, IfOk, None, Some, if◌then◌else◌};
-ghost use Rattle.tl_map.specs.Places.{block_at, bank_of, slot_count};
+ghost use Rattle.tl_map.specs.Places.{block_of_address, bank_of, slot_count};
 ghost use Rattle.tl_types.specs.Bytes.{image_bytes};
-ghost use Rattle.tl_memory.specs.Blocks.{block_in, block_after, filled_up, is_kept, place_in, reply_to, IsOfBlock, IsServable};
+ghost use Rattle.tl_memory.specs.Blocks.{block_in, block_after, filled_up, is_kept, place_in, reply_of_memory, IsOfBlock, IsServable};
 
 use crate::burst::Burst;
 use crate::request::{Reply, Request};
@@ -146,7 +146,7 @@ impl Memory {
         ensures geometry { self.new.geometry ≡ self.old.geometry }
         ensures bank { self.new.bank ≡ self.old.bank }
         ensures room { self.new.room ≡ self.old.room }
-        ensures reply { result ≡ reply_to self.old request }
+        ensures reply { result ≡ reply_of_memory self.old request }
         ensures blocks { (b : ℕ) → block_in self.new b ≡ block_after self.old request b }
     {
         match request {

@@ -7,35 +7,35 @@ use Rattle.tl_bank_spec.specs.Coherent.{IsCoherent}
 use Rattle.tl_bank_spec.specs.View.{View}
 use Rattle.tl_bank_spec.specs.Views.{dirty_at, is_at_home, passing_below}
 use Rattle.tl_player.specs.Closing.{Close, Closes, LineState, line_if, lines_below}
-use Rattle.tl_player.specs.Stage.{AreCoherent, SiteState}
+use Rattle.tl_player.specs.NetworkState.{AreCoherent, SharedBankState}
 
 -- the closings of some banks, and that of one more, are the closings of all of them
-pub Close-push : (sites : List SiteState) (closings : List BankClosing) (site : SiteState) (closing : BankClosing)
-    → Close sites closings → Closes site.bank closing → Close (sites ++ site ∷ []) (closings ++ closing ∷ [])
-Close-push [] [] site closing h last = (last, tt)
-Close-push [] (x ∷ closings) site closing h last = absurd h
-Close-push (x ∷ sites) [] site closing h last = absurd h
-Close-push (x ∷ sites) (y ∷ closings) site closing h last = (h.0, Close-push sites closings site closing h.1 last)
+pub Close-push : (shared_banks : List SharedBankState) (closings : List BankClosing) (shared_bank : SharedBankState) (closing : BankClosing)
+    → Close shared_banks closings → Closes shared_bank.bank closing → Close (shared_banks ++ shared_bank ∷ []) (closings ++ closing ∷ [])
+Close-push [] [] shared_bank closing h last = (last, tt)
+Close-push [] (x ∷ closings) shared_bank closing h last = absurd h
+Close-push (x ∷ shared_banks) [] shared_bank closing h last = absurd h
+Close-push (x ∷ shared_banks) (y ∷ closings) shared_bank closing h last = (h.0, Close-push shared_banks closings shared_bank closing h.1 last)
 
 -- the closings of one more of these banks
-pub Close-more : (sites : List SiteState) (i : ℕ) (site : SiteState) (closings more : List BankClosing) (closing : BankClosing)
-    → i < length sites → site ≡ get_or sites i site → Close (take i sites) closings → Closes site.bank closing
-    → more ≡ closings ++ closing ∷ [] → Close (take (i + 1) sites) more
-Close-more sites i site closings more closing lt at h last is =
-    let t : take (i + 1) sites ≡ take i sites ++ site ∷ [] =
-    take_more sites i site lt ∙ ap (λ (x : SiteState). take i sites ++ x ∷ []) (sym at) in
-    subst (λ (xs : List SiteState). Close xs more) (sym t)
-    (subst (λ (ys : List BankClosing). Close (take i sites ++ site ∷ []) ys) (sym is)
-    (Close-push (take i sites) closings site closing h last))
+pub Close-more : (shared_banks : List SharedBankState) (i : ℕ) (shared_bank : SharedBankState) (closings more : List BankClosing) (closing : BankClosing)
+    → i < length shared_banks → shared_bank ≡ get_or shared_banks i shared_bank → Close (take i shared_banks) closings → Closes shared_bank.bank closing
+    → more ≡ closings ++ closing ∷ [] → Close (take (i + 1) shared_banks) more
+Close-more shared_banks i shared_bank closings more closing lt at h last is =
+    let t : take (i + 1) shared_banks ≡ take i shared_banks ++ shared_bank ∷ [] =
+    take_more shared_banks i shared_bank lt ∙ ap (λ (x : SharedBankState). take i shared_banks ++ x ∷ []) (sym at) in
+    subst (λ (xs : List SharedBankState). Close xs more) (sym t)
+    (subst (λ (ys : List BankClosing). Close (take i shared_banks ++ shared_bank ∷ []) ys) (sym is)
+    (Close-push (take i shared_banks) closings shared_bank closing h last))
 
 -- one more of these banks is coherent
-pub coherent-more : (sites : List SiteState) (i : ℕ) (site : SiteState) → i < length sites → site ≡ get_or sites i site
-    → AreCoherent (take i sites) → IsCoherent site.bank → AreCoherent (take (i + 1) sites)
-coherent-more sites i site lt at all one =
-    let t : take (i + 1) sites ≡ take i sites ++ site ∷ [] =
-    take_more sites i site lt ∙ ap (λ (x : SiteState). take i sites ++ x ∷ []) (sym at) in
-    subst (λ (xs : List SiteState). AreCoherent xs) (sym t)
-    (All-push (λ (x : SiteState). IsCoherent x.bank) (take i sites) site all one)
+pub coherent-more : (shared_banks : List SharedBankState) (i : ℕ) (shared_bank : SharedBankState) → i < length shared_banks → shared_bank ≡ get_or shared_banks i shared_bank
+    → AreCoherent (take i shared_banks) → IsCoherent shared_bank.bank → AreCoherent (take (i + 1) shared_banks)
+coherent-more shared_banks i shared_bank lt at all one =
+    let t : take (i + 1) shared_banks ≡ take i shared_banks ++ shared_bank ∷ [] =
+    take_more shared_banks i shared_bank lt ∙ ap (λ (x : SharedBankState). take i shared_banks ++ x ∷ []) (sym at) in
+    subst (λ (xs : List SharedBankState). AreCoherent xs) (sym t)
+    (All-push (λ (x : SharedBankState). IsCoherent x.bank) (take i shared_banks) shared_bank all one)
 
 -- ## The lines of a bank
 

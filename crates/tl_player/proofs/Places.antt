@@ -6,21 +6,21 @@ use Rattle.std.proofs.lemmas.Option.{slice_get-get_or}
 use Rattle.tl_words.specs.declared.step.Step.{Step}
 use Rattle.tl_bank_spec.specs.Share.{Holding}
 use Rattle.tl_trace.specs.declared.answer.Answer.{Answer}
-use Rattle.tl_player.specs.Acts.{Acts}
-use Rattle.tl_player.specs.Plays.{ActsAt, Plays}
-use Rattle.tl_player.specs.Stage.{SiteState, Stage, bank_asked, client_named, share_place}
+use Rattle.tl_player.specs.Steps.{IsStep}
+use Rattle.tl_player.specs.NetworkSteps.{IsStepAt, IsNetworkStep}
+use Rattle.tl_player.specs.NetworkState.{SharedBankState, NetworkState, bank_asked, client_named, share_place}
 
 -- a list of the same length takes the other's place
 refill-whole : {X : Type 0} (xs ws : List X) → length ws ≡ length xs → refill (length xs) xs ws ≡ ws
 refill-whole xs ws same = grind (arith, common_steps)
 
 -- a share that was handed to the bank, and written back
-pub asked-at : (index : ℕ) (step : Step) (old new : SiteState) (before after place : ℕ) (shown : List Holding) (other left : Holding)
+pub asked-at : (index : ℕ) (step : Step) (old new : SharedBankState) (before after place : ℕ) (shown : List Holding) (other left : Holding)
     (answer : Answer) → place ≡ share_place old.shares (client_named step) → place < length old.shares → shown ≡ old.shares
     → new.shares ≡ refill (length old.shares) old.shares (set shown place left)
-    → Acts index step (record { bank = old.bank; share = get_or shown place other; clock = before })
+    → IsStep index step (record { bank = old.bank; share = get_or shown place other; clock = before })
     (record { bank = new.bank; share = left; clock = after }) answer
-    → ActsAt index step old new before after answer
+    → IsStepAt index step old new before after answer
 asked-at index step old new before after place shown other left answer at inside is shares acts =
     let written : refill (length old.shares) old.shares (set shown place left) ≡ set old.shares place left =
     ap (λ (xs : List Holding). refill (length old.shares) old.shares (set xs place left)) is
@@ -37,22 +37,22 @@ asked-at index step old new before after place shown other left answer at inside
     }
 
 -- a bank that was asked, and a clock that was set
-pub played : (index : ℕ) (step : Step) (old new : Stage) (place client clock : ℕ) (site other left : SiteState) (answer : Answer)
-    → place ≡ bank_asked old.geometry step → client ≡ client_named step → place < length old.sites
-    → site ≡ get_or old.sites place other
-    → ActsAt index step site left (slice_index old.clocks client) clock answer
-    → new ≡ record old { sites = slice_set old.sites place left; clocks = slice_set old.clocks client clock }
-    → Plays index step old new answer
-played index step old new place client clock site other left answer at of inside is acts after = record {
-  site = site;
+pub played : (index : ℕ) (step : Step) (old new : NetworkState) (place client clock : ℕ) (shared_bank other left : SharedBankState) (answer : Answer)
+    → place ≡ bank_asked old.geometry step → client ≡ client_named step → place < length old.shared_banks
+    → shared_bank ≡ get_or old.shared_banks place other
+    → IsStepAt index step shared_bank left (slice_index old.clocks client) clock answer
+    → new ≡ record old { shared_banks = slice_set old.shared_banks place left; clocks = slice_set old.clocks client clock }
+    → IsNetworkStep index step old new answer
+played index step old new place client clock shared_bank other left answer at of inside is acts after = record {
+  shared_bank = shared_bank;
   left = left;
   clock = clock;
   is_site =
-      subst (λ (n : ℕ). slice_get old.sites n ≡ Some site) at
-      (slice_get-get_or old.sites place other inside ∙ ap (λ (s : SiteState). Some s) (sym is));
-  acts = subst (λ (n : ℕ). ActsAt index step site left (slice_index old.clocks n) clock answer) of acts;
+      subst (λ (n : ℕ). slice_get old.shared_banks n ≡ Some shared_bank) at
+      (slice_get-get_or old.shared_banks place other inside ∙ ap (λ (s : SharedBankState). Some s) (sym is));
+  acts = subst (λ (n : ℕ). IsStepAt index step shared_bank left (slice_index old.clocks n) clock answer) of acts;
   is =
       after
-      ∙ (ap (λ (n : ℕ). record old { sites = slice_set old.sites n left; clocks = slice_set old.clocks client clock }) at
-      ∙ ap (λ (n : ℕ). record old { sites = slice_set old.sites (bank_asked old.geometry step) left; clocks = slice_set old.clocks n clock }) of);
+      ∙ (ap (λ (n : ℕ). record old { shared_banks = slice_set old.shared_banks n left; clocks = slice_set old.clocks client clock }) at
+      ∙ ap (λ (n : ℕ). record old { shared_banks = slice_set old.shared_banks (bank_asked old.geometry step) left; clocks = slice_set old.clocks n clock }) of);
 }

@@ -2,31 +2,31 @@
 use Rattle.std.proofs.Common.{◌≡◌, ℕ, zero, suc, ◌+◌, ◌<◌, List, [], ◌∷◌, ◌++◌, length, length-append, refl, sym, subst, arith}
 use Rattle.tl_bank_spec.specs.Share.{Holding, first_shares}
 use Rattle.tl_map.specs.Numbers.{Numbers}
-use Rattle.tl_player.specs.Stage.{AreFresh, IsFresh, SiteState}
+use Rattle.tl_player.specs.NetworkState.{AreFresh, IsFresh, SharedBankState}
 
 -- banks at reset, and one more with the next number, are all at reset
-pub AreFresh-push : (g : Numbers) (image : List ℕ) (number : ℕ) (sites : List SiteState) (site : SiteState)
-    → AreFresh g image number sites → IsFresh g image (number + length sites) site
-    → AreFresh g image number (sites ++ site ∷ [])
-AreFresh-push g image number [] site h fresh =
-    let at : number + 0 ≡ number = omega arith in (subst (λ (n : ℕ). IsFresh g image n site) at fresh, tt)
-AreFresh-push g image number (first ∷ sites) site h fresh =
-    let at : number + suc (length sites) ≡ suc number + length sites = omega arith in
-    (h.0, AreFresh-push g image (suc number) sites site h.1 (subst (λ (n : ℕ). IsFresh g image n site) at fresh))
+pub AreFresh-push : (g : Numbers) (image : List ℕ) (number : ℕ) (shared_banks : List SharedBankState) (shared_bank : SharedBankState)
+    → AreFresh g image number shared_banks → IsFresh g image (number + length shared_banks) shared_bank
+    → AreFresh g image number (shared_banks ++ shared_bank ∷ [])
+AreFresh-push g image number [] shared_bank h fresh =
+    let at : number + 0 ≡ number = omega arith in (subst (λ (n : ℕ). IsFresh g image n shared_bank) at fresh, tt)
+AreFresh-push g image number (first ∷ shared_banks) shared_bank h fresh =
+    let at : number + suc (length shared_banks) ≡ suc number + length shared_banks = omega arith in
+    (h.0, AreFresh-push g image (suc number) shared_banks shared_bank h.1 (subst (λ (n : ℕ). IsFresh g image n shared_bank) at fresh))
 
 -- a bank more, and how many there are then
-pub fresh-more : (g : Numbers) (image : List ℕ) (sites more : List SiteState) (site : SiteState) (number n : ℕ)
-    → AreFresh g image 0 sites → length sites ≡ n → number ≡ n → IsFresh g image number site → more ≡ sites ++ site ∷ []
+pub fresh-more : (g : Numbers) (image : List ℕ) (shared_banks more : List SharedBankState) (shared_bank : SharedBankState) (number n : ℕ)
+    → AreFresh g image 0 shared_banks → length shared_banks ≡ n → number ≡ n → IsFresh g image number shared_bank → more ≡ shared_banks ++ shared_bank ∷ []
     → AreFresh g image 0 more
-fresh-more g image sites more site number n h count is fresh after =
-    let at : number ≡ 0 + length sites = omega arith in
-    subst (λ (xs : List SiteState). AreFresh g image 0 xs) (sym after)
-    (AreFresh-push g image 0 sites site h (subst (λ (k : ℕ). IsFresh g image k site) at fresh))
+fresh-more g image shared_banks more shared_bank number n h count is fresh after =
+    let at : number ≡ 0 + length shared_banks = omega arith in
+    subst (λ (xs : List SharedBankState). AreFresh g image 0 xs) (sym after)
+    (AreFresh-push g image 0 shared_banks shared_bank h (subst (λ (k : ℕ). IsFresh g image k shared_bank) at fresh))
 
 -- with one more bank there is one more than there were
-pub count-more : (sites more : List SiteState) (site : SiteState) (n : ℕ) → length sites ≡ n → more ≡ sites ++ site ∷ []
+pub count-more : (shared_banks more : List SharedBankState) (shared_bank : SharedBankState) (n : ℕ) → length shared_banks ≡ n → more ≡ shared_banks ++ shared_bank ∷ []
     → length more ≡ n + 1
-count-more sites more site n count after = rw after (omega (arith, length-append sites (site ∷ [])))
+count-more shared_banks more shared_bank n count after = rw after (omega (arith, length-append shared_banks (shared_bank ∷ [])))
 
 -- a share for each client
 length-first_shares : (bank n : ℕ) → length (first_shares bank n) ≡ n

@@ -6,7 +6,7 @@ use Rattle.tl_bank_spec.specs.Views.{copy_perm_at, dirty_at, pairs_at, recorded_
 use Rattle.tl_trace.specs.declared.closing.BankClosing.{BankClosing}
 use Rattle.tl_trace.specs.declared.closing.BlockLine.{BlockLine}
 use Rattle.tl_trace.specs.declared.closing.Standing.{Standing}
-use Rattle.tl_player.specs.Stage.{SiteState}
+use Rattle.tl_player.specs.NetworkState.{SharedBankState}
 
 -- ## A block
 
@@ -48,8 +48,8 @@ pub record Closes (v : View) (closing : BankClosing) : Type 0 where
   pub events : closing.events ≡ length v.log
 
 -- each bank's closing, in order
-abbrev pub Close : List SiteState → List BankClosing → Type 0
+abbrev pub Close : List SharedBankState → List BankClosing → Type 0
 Close [] [] = Unit {0}
 Close [] (closing ∷ closings) = ⊥
-Close (site ∷ sites) [] = ⊥
-Close (site ∷ sites) (closing ∷ closings) = Closes site.bank closing × Close sites closings
+Close (shared_bank ∷ shared_banks) [] = ⊥
+Close (shared_bank ∷ shared_banks) (closing ∷ closings) = Closes shared_bank.bank closing × Close shared_banks closings

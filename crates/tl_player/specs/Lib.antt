@@ -1,6 +1,6 @@
-pub mod Acts
+pub mod Steps
 pub mod Answers
 pub mod Closing
-pub mod Plays
+pub mod NetworkSteps
 pub mod Ready
-pub mod Stage
+pub mod NetworkState

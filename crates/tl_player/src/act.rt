@@ -2,7 +2,7 @@
 ghost use Rattle.std.specs.Prelude.{◌≡◌, IfOk};
 ghost use Rattle.tl_bank_spec.specs.Refusal.{first_of};
 ghost use Rattle.tl_player.specs.Answers.{Answers};
-ghost use Rattle.tl_player.specs.Acts.{Acts, BlockDoes, TicketDoes, block_cases_of, ticket_cases_of};
+ghost use Rattle.tl_player.specs.Steps.{IsStep, BlockDoes, TicketDoes, block_cases_of, ticket_cases_of};
 
 use crate::client_steps::{
     acquire, answer_probe, load, release, store, take_grant, take_release_ack,
@@ -26,7 +26,7 @@ pub(crate) fn act(
     step: &Step,
 ) -> Result<Answer, AllocError>
     ensures { IfOk result
-        (Acts index step.now (record { bank = bank.old; share = share.old; clock = clock.old })
+        (IsStep index step.now (record { bank = bank.old; share = share.old; clock = clock.old })
         (record { bank = bank.new; share = share.new; clock = clock.new })) }
 {
     match step {

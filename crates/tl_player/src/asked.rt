@@ -1,7 +1,7 @@
 //! What a step is asked of.
 ghost use Rattle.std.specs.Prelude.{◌≡◌, ◌<◌, if◌then◌else◌, nat_lt};
-ghost use Rattle.tl_map.specs.Places.{block_at as block_of_address};
-ghost use Rattle.tl_player.specs.Stage.{bank_asked, bank_of_block, client_named};
+ghost use Rattle.tl_map.specs.Places.{block_of_address};
+ghost use Rattle.tl_player.specs.NetworkState.{bank_asked, bank_of_block, client_named};
 
 use tl_map::Geometry;
 use tl_types::{BankNo, BlockNo, ClientId};

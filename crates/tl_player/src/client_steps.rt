@@ -7,7 +7,7 @@ ghost use Rattle.tl_bank_spec.specs.Cases.{block_named};
 ghost use Rattle.tl_bank_spec.specs.Refusal.{first_of};
 ghost use Rattle.tl_bank_spec.specs.Channels.{next_ticket};
 ghost use Rattle.tl_player.specs.Answers.{Answers};
-ghost use Rattle.tl_player.specs.Acts.{Loads, Logs, Posts, Recounts, Stores};
+ghost use Rattle.tl_player.specs.Steps.{Loads, Logs, Posts, Recounts, Stores};
 
 use crate::answers::{refused, sent};
 use std::alloc::AllocError;

@@ -4,7 +4,7 @@ ghost use Rattle.tl_bank_spec.specs.HomeCalls.{accept_cases, advance_cases, evic
 ghost use Rattle.tl_bank_spec.specs.Refusal.{first_of};
 ghost use Rattle.tl_player.specs.Answers.{Answers, ShowsAction};
 ghost use Rattle.tl_player.specs.Ready.{IsDone};
-ghost use Rattle.tl_player.specs.Acts.{GoesOn, Opens, Replies, SendsAway, TakesC, TakesGrantAck, TakesReply};
+ghost use Rattle.tl_player.specs.Steps.{GoesOn, Opens, Replies, SendsAway, TakesC, TakesGrantAck, TakesReply};
 
 use crate::answers::{get, put, refused, reply, sent};
 use std::alloc::AllocError;

@@ -7,8 +7,8 @@ mod asked;
 mod client_steps;
 mod closing;
 mod home_steps;
-mod player;
-mod site;
+mod network;
+mod shared_bank;
 mod trace;
 
 pub use trace::play;

@@ -1,8 +1,8 @@
 //! A whole trace.
 ghost use Rattle.std.specs.Prelude.{◌≤◌, ◌*◌, IfOk, length};
-ghost use Rattle.tl_player.specs.Plays.{Traces};
+ghost use Rattle.tl_player.specs.NetworkSteps.{IsTrace};
 
-use crate::player::Player;
+use crate::network::Network;
 use std::alloc::{AllocError, Global};
 use tl_map::Geometry;
 use tl_trace::Trace;
@@ -19,10 +19,10 @@ pub fn play(
 ) -> Result<Trace, AllocError>
     requires image { length image.now ≤ geometry.memory_blocks * geometry.block_bytes }
     requires few { length steps.now ≤ 4096 }
-    ensures { IfOk result (Traces geometry image.now steps.now) }
+    ensures { IfOk result (IsTrace geometry image.now steps.now) }
 {
-    let mut player = Player::new(alloc, geometry, image)?;
-    let answers = player.steps(alloc, steps)?;
-    let banks = player.closings(alloc)?;
+    let mut network = Network::new(alloc, geometry, image)?;
+    let answers = network.steps(alloc, steps)?;
+    let banks = network.closings(alloc)?;
     Ok(Trace { answers, banks })
 }

@@ -4,7 +4,7 @@ use Rattle.std.proofs.Math.Bool.{or-true}
 use Rattle.std.specs.Prelude.{◌⊎◌}
 use Rattle.std.proofs.lemmas.Bool.{cases_eq, cases_Bool, eqb-false, ne_eqb}
 use Rattle.tl_ways.proofs.OrderLaws.{among-end, among-front, among-either, among-without, without-among}
-use Rattle.tl_ways.specs.Orders.{IsAmong, without}
+use Rattle.tl_ways.specs.Orders.{IsAmong, without_way}
 use Rattle.tl_protocol.specs.declared.event.Event.{Event}
 use Rattle.tl_protocol.specs.declared.event.Event.TheVariants.{SendGrant}
 use Rattle.tl_registers.specs.VictimWay.{grants_block, last_grant_from, last_grant, block_in, first_not_held, IsNoLater, EachBefore, FirstInOrderIsOldest, FreeSetIsInOrder, GrantKeepsOrder, OtherEventsKeepOrder, PlacingKeepsOrder, ClearingKeepsOrder}
@@ -52,13 +52,13 @@ last_grant-same block log e n = last_grant-append block log e ∙ rw n refl
 -- ## What is among the ways
 
 -- what stays beside a way that leaves was there, and is another
-stays-apart : (w v : ℕ) (order : List ℕ) → IsAmong v (without w order) → v ≢ w
+stays-apart : (w v : ℕ) (order : List ℕ) → IsAmong v (without_way w order) → v ≢ w
 stays-apart w v [] m = absurd m
 stays-apart w v (x ∷ rest) m =
     elim (cases_Bool (x == w)) [
-      | inl e ↦ let m2 : IsAmong v (without w rest) = (rw e at m) in stays-apart w v rest m2
+      | inl e ↦ let m2 : IsAmong v (without_way w rest) = (rw e at m) in stays-apart w v rest m2
       | inr e ↦
-          let m2 : IsAmong v (x ∷ without w rest) = (rw e at m) in
+          let m2 : IsAmong v (x ∷ without_way w rest) = (rw e at m) in
           elim m2 [
             | inl q ↦ λ z. eqb-false x w e (sym q ∙ z)
             | inr q ↦ stays-apart w v rest q
@@ -77,7 +77,7 @@ before-follows R Q (x ∷ rest) f h = (
 )
 
 -- each still stands in the relation to all that come after it where a way is taken out
-before-without : (R : ℕ → ℕ → Type 0) (w : ℕ) (xs : List ℕ) → EachBefore R xs → EachBefore R (without w xs)
+before-without : (R : ℕ → ℕ → Type 0) (w : ℕ) (xs : List ℕ) → EachBefore R xs → EachBefore R (without_way w xs)
 before-without R w [] h = tt
 before-without R w (x ∷ rest) h =
     elim (cases_Bool (x == w)) [
@@ -181,8 +181,8 @@ grant-keeps-order slots filling log order w block c ordered l is once =
     let t : (block == block) ≡ true = eq-eqb block block refl in last_grant-append block log e ∙ rw t refl in
     record {
       rises =
-          before-end after w (without w order)
-          (before-follows before after (without w order)
+          before-end after w (without_way w order)
+          (before-follows before after (without_way w order)
           (λ u v m n r b d f g here there.
           let mu = stays-apart w u order m in
           let nv = stays-apart w v order n in
@@ -199,10 +199,10 @@ grant-keeps-order slots filling log order w block c ordered l is once =
           let q : last_grant d (log ++ e ∷ []) ≡ last_grant block (log ++ e ∷ []) = ap (λ y. last_grant y (log ++ e ∷ [])) (sym same) in
           omega (arith, p, q, in_log, granted));
       all = λ v m. elim (cases_eq v w) [
-        | inl q ↦ subst (λ (y : ℕ). IsAmong y (without w order ++ w ∷ [])) (sym q) (among-end w (without w order))
-        | inr q ↦ among-front v w (without w order) (among-without w v order q (ordered.all v m))
+        | inl q ↦ subst (λ (y : ℕ). IsAmong y (without_way w order ++ w ∷ [])) (sym q) (among-end w (without_way w order))
+        | inr q ↦ among-front v w (without_way w order) (among-without w v order q (ordered.all v m))
       ];
-      only = λ v m. elim (among-either v w (without w order) m) [
+      only = λ v m. elim (among-either v w (without_way w order) m) [
         | inr q ↦ ordered.only v (without-among w v order q)
         | inl q ↦ omega (arith, q)
       ];

@@ -25,7 +25,7 @@ use Rattle.tl_registers.specs.declared.register.Register.{Register}
 use Rattle.tl_registers.specs.declared.register.Task.{Task}
 use Rattle.tl_registers.specs.declared.register.Task.TheVariants.{Acquire, Replace, Evict}
 use Rattle.tl_registers.specs.Fit.{event_of, ProbesFit, Leaves, IsServed, TaskFits, EveryActionIsPermitted}
-use Rattle.tl_registers.specs.NextAction.{Case, passes, waits, acts, first, probes, probe_victim, await_probes, give_up, await_put, probes_before, fetch, probe_others, grant, serve, cases}
+use Rattle.tl_registers.specs.NextAction.{ActionCase, passes, waits, acts, first, probes, probe_victim, await_probes, give_up, await_put, probes_before, fetch, probe_others, grant, serve, cases}
 use Rattle.tl_registers.specs.Pending.{is_probed, probe_pending, grant_pending, is_quiet}
 use Rattle.tl_registers.specs.Register.{has_probed, is_above, is_other, must_probe, victim_in, IsBelow}
 use Rattle.tl_registers.proofs.Pending.{any_below-false, probe-free, no-probe, no-grant, grant-none, some-granted, quiet-is}
@@ -92,12 +92,12 @@ may-probe shape s r asking cap c fits h free =
 -- ## The first case that applies
 
 -- a Probe where there is one to send, nothing while Probes are pending, and else what the later cases say
-abbrev pub ProbesOr : Option ℕ → ℕ → ProbeCap → Bool → List Case → Due → Type 0
+abbrev pub ProbesOr : Option ℕ → ℕ → ProbeCap → Bool → List ActionCase → Due → Type 0
 ProbesOr to block cap pending later due =
     ((c : ℕ) × (to ≡ Some c) × (due ≡ Probe c block cap)) ⊎ ((to ≡ None) × (pending ≡ false) × (first later ≡ Some due))
 
 -- where the cases of the Probes come first, what is due is so
-pub probes-first : (to : Option ℕ) (block : ℕ) (cap : ProbeCap) (pending : Bool) (later : List Case) (due : Due)
+pub probes-first : (to : Option ℕ) (block : ℕ) (cap : ProbeCap) (pending : Bool) (later : List ActionCase) (due : Due)
     → first (probes block cap to ∷ (if pending then waits else passes) ∷ later) ≡ Some due
     → ProbesOr to block cap pending later due
 probes-first (Some c) block cap pending later due h = inl (c, refl, cc)
@@ -217,7 +217,7 @@ no-room-to-probe shape s acquire x kept is pending other above =
     cc
 
 -- where a Get or waiting comes first, what is due is the Get, and its test passes
-pub fetched : (t : Bool) (later : List Case) (due : Due)
+pub fetched : (t : Bool) (later : List ActionCase) (due : Due)
     → first ((if t then acts Get else waits) ∷ later) ≡ Some due → (t ≡ true) × (Get ≡ due)
 fetched true later due h = (refl, cc)
 fetched false later due h = cc
@@ -260,7 +260,7 @@ serve-may shape s r acquire (Some line) due is kept fits h =
 -- ## The register
 
 -- while the victim has not left, its cases alone say what comes next
-pub away-first : (a b c d : Case) (later : List Case) → d ≡ waits → first (a ∷ b ∷ c ∷ d ∷ later) ≡ first (a ∷ b ∷ c ∷ d ∷ [])
+pub away-first : (a b c d : ActionCase) (later : List ActionCase) → d ≡ waits → first (a ∷ b ∷ c ∷ d ∷ later) ≡ first (a ∷ b ∷ c ∷ d ∷ [])
 away-first passes passes passes d later e = rw e refl
 away-first passes passes waits d later e = refl
 away-first passes passes (acts due) d later e = refl

@@ -12,7 +12,7 @@ use Rattle.tl_registers.specs.NextAction.{next_due}
 use Rattle.tl_registers.specs.Register.{works_on, with_probed}
 
 -- The open registers, oldest first, and how many there may be.
-pub record Table : Type 0 where
+pub record RegisterTable : Type 0 where
   pub limit : ℕ
   pub open_registers : List Register
 

@@ -23,9 +23,9 @@ pub struct Registers {
 
 impl Model for Registers {
     ghost use Rattle.std.specs.Prelude.{◌≤◌, length};
-    ghost use Rattle.tl_registers.specs.Registers.{Table};
+    ghost use Rattle.tl_registers.specs.Registers.{RegisterTable};
 
-    ghost Value = { Table };
+    ghost Value = { RegisterTable };
 
     ghost view = { λ r. record { limit = r.limit; open_registers = r.registers.items } };
 

@@ -11,13 +11,13 @@ use Rattle.tl_protocol.specs.declared.event.Event.{Event}
 use Rattle.tl_protocol.specs.declared.home.Outward.TheVariants.{Quiet}
 
 -- the client with a number; past the last one, one that holds nothing
-abbrev pub client_at : PlainBlock → ℕ → Client
-client_at p c = slice_index_or p.clients c fresh_client
+abbrev pub plain_client : PlainBlock → ℕ → Client
+plain_client p c = slice_index_or p.clients c fresh_client
 
 -- the block with its clients as a function of their numbers
 abbrev pub block_state : PlainBlock → Block
 block_state p =
-    record { memory = p.memory; home = p.home; accepted = p.accepted; outward = p.outward; client = client_at p }
+    record { memory = p.memory; home = p.home; accepted = p.accepted; outward = p.outward; client = plain_client p }
 
 -- a block with no bytes and no clients, which home does not hold and of which nothing is under way
 abbrev pub empty_block : PlainBlock

@@ -4,7 +4,7 @@ ghost use Rattle.tl_protocol.specs.Ledger.{count_clients, has_copy, is_recorded}
 ghost use Rattle.tl_protocol.specs.Copy.{perm_of, bytes_of, CanRead};
 ghost use Rattle.tl_protocol.specs.Client.{MayTakeA, MayTakeC, took_grant_ack};
 ghost use Rattle.tl_protocol.specs.declared.home.Outward.TheVariants.{Put};
-ghost use Rattle.tl_rules.specs.Plain.{block_state, client_at};
+ghost use Rattle.tl_rules.specs.Plain.{block_state, plain_client};
 ghost use Rattle.tl_protocol.specs.Protocol.{reset, after, MayOn, MayTakeData, accepted_from, took_c, with_client, served, took_data, home_bytes, is_alone, granted_cap, MaySendProbe, MaySendGrant, MaySendGet, MayGiveUp, grants, RoomFor, Idle, NoGrant, NoProbe, NobodyRecorded};
 
 use std::alloc::{AllocError, Global};
@@ -60,7 +60,7 @@ impl BlockState {
     /// A client by its number, which is there.
     pub fn the_client(&self, c: ClientId) -> &Client
         requires { c < length self.now.clients }
-        ensures { result.now ≡ client_at self.now c }
+        ensures { result.now ≡ plain_client self.now c }
     {
         &self.clients[c.index()]
     }
@@ -95,7 +95,7 @@ impl BlockState {
 
     /// What the client may do.
     pub fn perm(&self, c: ClientId) -> Perm
-        ensures { result ≡ perm_of (client_at self.now c).held }
+        ensures { result ≡ perm_of (plain_client self.now c).held }
     {
         match self.clients.get(c.index()) {
             Some(client) => client.held.perm(),
@@ -105,8 +105,8 @@ impl BlockState {
 
     /// The bytes of the client's copy at a place, where it has them.
     pub fn read(&self, c: ClientId, offset: u32, len: u32) -> Option<AccessBytes>
-        ensures some { IsSome result ↔ CanRead (client_at self.now c).held offset len }
-        ensures bytes { IfSome result (λ word. (word ≡ slice_range (bytes_of (client_at self.now c).held) offset (offset + len)) × (length word ≡ len)) }
+        ensures some { IsSome result ↔ CanRead (plain_client self.now c).held offset len }
+        ensures bytes { IfSome result (λ word. (word ≡ slice_range (bytes_of (plain_client self.now c).held) offset (offset + len)) × (length word ≡ len)) }
     {
         match &self.clients.get(c.index())?.held {
             CachedCopy::Absent => None,
@@ -118,7 +118,7 @@ impl BlockState {
 
     /// How many clients have a copy.
     pub fn held(&self) -> usize
-        ensures { result ≡ count_clients has_copy (length self.now.clients) (client_at self.now) }
+        ensures { result ≡ count_clients has_copy (length self.now.clients) (plain_client self.now) }
     {
         let mut count = 0;
         for i in 0..self.clients.len() {
@@ -131,7 +131,7 @@ impl BlockState {
 
     /// For how many clients home records a permission.
     pub fn recorded(&self) -> usize
-        ensures { result ≡ count_clients is_recorded (length self.now.clients) (client_at self.now) }
+        ensures { result ≡ count_clients is_recorded (length self.now.clients) (plain_client self.now) }
     {
         let mut count = 0;
         for i in 0..self.clients.len() {
@@ -152,8 +152,8 @@ impl BlockState {
     /// Home takes the first Acquire of a client.
     fn accept_acquire(&mut self, c: ClientId)
         requires client { c < length self.old.clients }
-        requires first { MayTakeA (client_at self.old c) }
-        ensures after { block_state self.new ≡ accepted_from (block_state self.old) c (client_at self.old c).a }
+        requires first { MayTakeA (plain_client self.old c) }
+        ensures after { block_state self.new ≡ accepted_from (block_state self.old) c (plain_client self.old c).a }
         ensures clients { length self.new.clients ≡ length self.old.clients }
     {
         if let Some(grow) = self.clients[c.index()].a.pop_front() {
@@ -164,7 +164,7 @@ impl BlockState {
     /// Home takes the first message of C of a client.
     fn take_c(&mut self, c: ClientId) -> Result<(), AllocError>
         requires client { c < length self.old.clients }
-        requires first { MayTakeC (client_at self.old c) }
+        requires first { MayTakeC (plain_client self.old c) }
         ensures ok { OnOk result (block_state self.new ≡ took_c (block_state self.old) c) }
         ensures err { OnErr result (self.new ≡ self.old) }
         ensures clients { length self.new.clients ≡ length self.old.clients }
@@ -177,7 +177,7 @@ impl BlockState {
 
     fn take_grant_ack(&mut self, c: ClientId)
         requires client { c < length self.old.clients }
-        ensures after { block_state self.new ≡ with_client (record (block_state self.old) { accepted = None }) c (took_grant_ack (client_at self.old c)) }
+        ensures after { block_state self.new ≡ with_client (record (block_state self.old) { accepted = None }) c (took_grant_ack (plain_client self.old c)) }
         ensures clients { length self.new.clients ≡ length self.old.clients }
     {
         self.clients[c.index()].take_grant_ack();
@@ -224,7 +224,7 @@ impl BlockState {
 
     /// Whether no client but `c` is recorded above None.
     fn is_alone(&self, c: ClientId) -> bool
-        ensures { result ≡ is_alone (length self.now.clients) c (client_at self.now) }
+        ensures { result ≡ is_alone (length self.now.clients) c (plain_client self.now) }
     {
         let mut alone = true;
         for i in 0..self.clients.len() {
@@ -235,7 +235,7 @@ impl BlockState {
 
     /// The permission that a Grant for `acquire` gives now.
     pub fn granted(&self, acquire: Accepted) -> GrantCap
-        ensures { result ≡ granted_cap acquire.grow (is_alone (length self.now.clients) acquire.client (client_at self.now)) }
+        ensures { result ≡ granted_cap acquire.grow (is_alone (length self.now.clients) acquire.client (plain_client self.now)) }
     {
         match acquire.grow {
             Grow::NtoB if !self.is_alone(acquire.client) => GrantCap::ToB,

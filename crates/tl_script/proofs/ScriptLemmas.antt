@@ -19,7 +19,7 @@ use Rattle.tl_script.specs.Key.{name_of}
 use Rattle.tl_script.specs.Each.{◌>>=◌, each}
 use Rattle.tl_script.specs.Numbers.{unsigned_of, unless_refused, geometry_of}
 use Rattle.tl_script.specs.Image.{bytes_in, image_in, image_of}
-use Rattle.tl_script.specs.Commands.{fits, all_fit, if_fits, is_long, command_at, client_at, commands, commands_of}
+use Rattle.tl_script.specs.Commands.{fits, all_fit, if_fits, is_long, command_at, commands_of_client, commands, commands_of}
 use Rattle.tl_script.specs.Steps.{step_at, steps_of}
 use Rattle.tl_script.specs.Script.{are_too_many, counted_of}
 use Rattle.tl_words.specs.declared.step.Step.{Step}
@@ -106,7 +106,7 @@ unfolding counted_of commands_of
 each_client_of g lists steps cs h =
     let p = counted (are_too_many g.clients lists steps) (commands_of g lists) cs error.TooMany h in
     let few = ltb-false g.clients (length lists) (first_false _ _ _ p.0) in
-    padded g.clients (length lists) (each (client_at g) 0 lists) cs (λ ys e. one_each (client_at g) 0 lists ys e) few p.1
+    padded g.clients (length lists) (each (commands_of_client g) 0 lists) cs (λ ys e. one_each (commands_of_client g) 0 lists ys e) few p.1
 
 -- ## What fits
 
@@ -146,8 +146,8 @@ each_has p f holds i [] ys h =
 each_has p f holds i (x ∷ xs) ys h = taken p (f i x) (each f (i + 1) xs) ys h (λ y e. holds i x y e) (λ rest e. each_has p f holds (i + 1) xs rest e)
 
 -- all commands that are read of a client fit
-client_fits : (g : Numbers) (client : ℕ) (texts : List (List ℕ)) (cs : List Command) → client_at g client texts ≡ Ok cs → list_all (fits g) cs ≡ true
-unfolding client_at
+client_fits : (g : Numbers) (client : ℕ) (texts : List (List ℕ)) (cs : List Command) → commands_of_client g client texts ≡ Ok cs → list_all (fits g) cs ≡ true
+unfolding commands_of_client
 client_fits g client texts cs h = each_has (fits g) (command_at g client) (λ i text c e. command_fits g client i text c e) 0 texts cs h
 
 -- clients without commands have none that does not fit
@@ -168,7 +168,7 @@ all_fit_of : (g : Numbers) (lists : List (List (List ℕ))) (steps : List (List 
 unfolding counted_of commands_of
 all_fit_of g lists steps cs h =
     let p = counted (are_too_many g.clients lists steps) (commands_of g lists) cs error.TooMany h in
-    padded_fit g (λ ys. g.clients - length ys) (each (client_at g) 0 lists) cs (λ ys e. each_has (λ commands. list_all (fits g) commands) (client_at g) (λ client texts c e. client_fits g client texts c e) 0 lists ys e) p.1
+    padded_fit g (λ ys. g.clients - length ys) (each (commands_of_client g) 0 lists) cs (λ ys e. each_has (λ commands. list_all (fits g) commands) (commands_of_client g) (λ client texts c e. client_fits g client texts c e) 0 lists ys e) p.1
 
 -- ## The steps
 

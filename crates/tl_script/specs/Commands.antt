@@ -64,11 +64,11 @@ unfoldable pub command_at : Numbers → ℕ → ℕ → List ℕ → Result Comm
 command_at geometry client index text = if_fits geometry client index (command_of text)
 
 -- the commands of a client
-unfoldable pub client_at : Numbers → ℕ → List (List ℕ) → Result (List Command) ScriptError
-client_at geometry client texts = each (command_at geometry client) 0 texts
+unfoldable pub commands_of_client : Numbers → ℕ → List (List ℕ) → Result (List Command) ScriptError
+commands_of_client geometry client texts = each (command_at geometry client) 0 texts
 
 -- a list for each client, empty where the document has none
 unfoldable pub commands_of : Numbers → List (List (List ℕ)) → Result (List (List Command)) ScriptError
 commands_of geometry lists = do
-  given ← each (client_at geometry) 0 lists
+  given ← each (commands_of_client geometry) 0 lists
   Ok (given ++ replicate (geometry.clients - length given) [])

@@ -6,7 +6,7 @@ ghost use Rattle.toml.specs.View.{view, table_view};
 ghost use Rattle.tl_words.specs.Words.{texts};
 ghost use Rattle.tl_script.specs.Each.{Gives, each};
 ghost use Rattle.tl_script.specs.Document.{texts_in};
-ghost use Rattle.tl_script.specs.Commands.{lists_in, command_texts_of, is_long, fits, command_at, client_at, commands_of, lists, commands};
+ghost use Rattle.tl_script.specs.Commands.{lists_in, command_texts_of, is_long, fits, command_at, commands_of_client, commands_of, lists, commands};
 
 use crate::document::{texts_in, value_at};
 use crate::error::ScriptError;
@@ -72,7 +72,7 @@ fn given_commands(
     geometry: Geometry,
     all: &[Vec<&str>],
 ) -> Result<Vec<Vec<Command>>, ScriptError>
-    ensures { Gives (λ v. commands v.items) result (each (client_at geometry) 0 (lists all.now)) }
+    ensures { Gives (λ v. commands v.items) result (each (commands_of_client geometry) 0 (lists all.now)) }
 {
     let mut commands = Vec::new(alloc);
     for (client, texts) in all.iter().enumerate() {
@@ -81,14 +81,14 @@ fn given_commands(
     Ok(commands)
 }
 
-#[tactic(auto, unfolding(crate::specs::Commands::client_at))]
+#[tactic(auto, unfolding(crate::specs::Commands::commands_of_client))]
 fn client_commands(
     alloc: Global,
     geometry: Geometry,
     client: usize,
     all: &[&str],
 ) -> Result<Vec<Command>, ScriptError>
-    ensures { Gives (λ v. v.items) result (client_at geometry client (texts all.now)) }
+    ensures { Gives (λ v. v.items) result (commands_of_client geometry client (texts all.now)) }
 {
     let mut commands = Vec::new(alloc);
     for (index, text) in all.iter().enumerate() {

@@ -10,7 +10,7 @@ use Rattle.std.proofs.lemmas.Nat.Bits.{bit_at-zero, bit_at-trailing_zeros, shr_a
 use Rattle.tl_types.specs.Permission.{rank}
 use Rattle.tl_types.specs.declared.permission.Perm.{Perm}
 use Rattle.tl_types.specs.declared.permission.Perm.TheVariants.{None as NoAccess, Branch, Tip}
-use Rattle.tl_ways.specs.Lines.{Line, IsDirectory, is_owner, perm_by, perm_of}
+use Rattle.tl_ways.specs.Lines.{Line, IsDirectory, is_owner, perm_by, line_perm}
 
 -- the owner passes the test, and no other does
 is_owner-same : (client : ℕ) → is_owner (Some client) client ≡ true
@@ -28,37 +28,37 @@ is_owner-none (Some owner) client other =
 
 -- with no permission recorded no client has one
 pub perm_of-new : (tag : ℕ) (dirty : Bool) (client : ℕ)
-    → perm_of (record { tag = tag; dirty = dirty; owner = None; branches = 0 }) client ≡ NoAccess
-unfolding perm_of
+    → line_perm (record { tag = tag; dirty = dirty; owner = None; branches = 0 }) client ≡ NoAccess
+unfolding line_perm
 perm_of-new tag dirty client = rw (bit_at-zero client) refl
 
 -- whether home's copy is dirty says nothing of permissions
-pub perm_of-dirty : (line : Line) (dirty : Bool) (client : ℕ) → perm_of (record line { dirty = dirty }) client ≡ perm_of line client
-unfolding perm_of
+pub perm_of-dirty : (line : Line) (dirty : Bool) (client : ℕ) → line_perm (record line { dirty = dirty }) client ≡ line_perm line client
+unfolding line_perm
 perm_of-dirty line dirty client = refl
 
 -- the owner has Tip
-pub perm_of-owner : (line : Line) (client : ℕ) → line.owner ≡ Some client → perm_of line client ≡ Tip
-unfolding perm_of
+pub perm_of-owner : (line : Line) (client : ℕ) → line.owner ≡ Some client → line_perm line client ≡ Tip
+unfolding line_perm
 perm_of-owner line client owner = rw (owner, is_owner-same client) refl
 
 -- beside an owner no other has a permission
 pub perm_of-beside : (line : Line) (owner client : ℕ) → IsDirectory line → line.owner ≡ Some owner → client ≢ owner
-    → perm_of line client ≡ NoAccess
-unfolding perm_of
+    → line_perm line client ≡ NoAccess
+unfolding line_perm
 perm_of-beside line owner client kept is other =
     let none : line.branches ≡ 0 = rw is at kept.alone in
     rw (is, is_owner-other owner client other, none, bit_at-zero client) refl
 
 -- a client that is not the owner has Branch or nothing
 pub perm_of-bit : (line : Line) (client : ℕ) → (line.owner ≡ Some client → ⊥)
-    → perm_of line client ≡ perm_by false (bit_at line.branches client)
-unfolding perm_of
+    → line_perm line client ≡ perm_by false (bit_at line.branches client)
+unfolding line_perm
 perm_of-bit line client other = ap (λ owns. perm_by owns (bit_at line.branches client)) (is_owner-none line.owner client other)
 
 -- where there is no owner and no bit is set, no client has a permission
-pub nobody-recorded : (line : Line) → line.owner ≡ None → line.branches ≡ 0 → (client : ℕ) → perm_of line client ≡ NoAccess
-unfolding perm_of
+pub nobody-recorded : (line : Line) → line.owner ≡ None → line.branches ≡ 0 → (client : ℕ) → line_perm line client ≡ NoAccess
+unfolding line_perm
 nobody-recorded line owner branches client = rw (owner, branches, bit_at-zero client) refl
 
 -- an owner that is not there
@@ -75,14 +75,14 @@ bit-unset bit few nothing =
     ]
 
 -- and then there is none
-pub no-owner : (line : Line) → ((client : ℕ) → perm_of line client ≡ NoAccess) → line.owner ≡ None
+pub no-owner : (line : Line) → ((client : ℕ) → line_perm line client ≡ NoAccess) → line.owner ≡ None
 no-owner line nobody =
     elim line.owner as (λ owner. line.owner ≡ owner → owner ≡ None) [
       | None ↦ λ is. refl
       | Some owner ↦ λ is. let bad : Tip ≡ NoAccess = sym (perm_of-owner line owner is) ∙ nobody owner in cc
     ] refl
 
-pub no-branches : (line : Line) → line.owner ≡ None → ((client : ℕ) → perm_of line client ≡ NoAccess) → line.branches ≡ 0
+pub no-branches : (line : Line) → line.owner ≡ None → ((client : ℕ) → line_perm line client ≡ NoAccess) → line.branches ≡ 0
 no-branches line none nobody =
     same_from_bits line.branches 0
     (λ client.
@@ -92,7 +92,7 @@ no-branches line none nobody =
 
 -- where there is no owner, nobody is recorded just where no bit is set
 pub unshared : (line : Line) → is_some line.owner ≡ false
-    → IsTrue (line.branches == 0) ↔ ((client : ℕ) → perm_of line client ≡ NoAccess)
+    → IsTrue (line.branches == 0) ↔ ((client : ℕ) → line_perm line client ≡ NoAccess)
 unshared line h =
     let none : line.owner ≡ None = not-some line.owner h in (
       λ zero. nobody-recorded line none (eqb-true line.branches 0 zero),
@@ -101,7 +101,7 @@ unshared line h =
 
 -- and where there is one, he is recorded
 pub shared : (line : Line) (test : Bool) → is_some line.owner ≡ true → test ≡ false
-    → IsTrue test ↔ ((client : ℕ) → perm_of line client ≡ NoAccess)
+    → IsTrue test ↔ ((client : ℕ) → line_perm line client ≡ NoAccess)
 shared line test h fails = (
   λ passes. let bad : false ≡ true = sym fails ∙ passes in cc,
   λ nobody. let bad : false ≡ true = ap is_some (sym (no-owner line nobody)) ∙ h in cc,
@@ -109,7 +109,7 @@ shared line test h fails = (
 
 -- a client past the mask has nothing
 pub perm_of-past : (line : Line) (client : ℕ) → IsDirectory line → 16 ≤ client → (line.owner ≡ Some client → ⊥)
-    → perm_of line client ≡ NoAccess
+    → line_perm line client ≡ NoAccess
 perm_of-past line client kept past other =
     perm_of-bit line client other ∙ ap (perm_by false) (bit_at_above line.branches 16 client kept.branches past)
 
@@ -160,29 +160,29 @@ rank-bit false = omega arith
 
 -- the owner is the lowest, as nobody else has a permission
 pub above-owner : (line : Line) (owner : ℕ) (perm : Perm) → IsDirectory line → line.owner ≡ Some owner → (perm ≡ Tip → ⊥)
-    → (rank perm < rank (perm_of line owner)) × ((client : ℕ) → client < owner → rank (perm_of line client) ≤ rank perm)
+    → (rank perm < rank (line_perm line owner)) × ((client : ℕ) → client < owner → rank (line_perm line client) ≤ rank perm)
 above-owner line owner perm kept is other =
-    let tip : rank (perm_of line owner) ≡ 2 = ap rank (perm_of-owner line owner is) in
+    let tip : rank (line_perm line owner) ≡ 2 = ap rank (perm_of-owner line owner is) in
     let under : rank perm < 2 = below-tip perm other in (
       omega (arith, tip, under),
       λ client below.
-          let none : rank (perm_of line client) ≡ 0 = ap rank (perm_of-beside line owner client kept is (λ same. omega (arith, same, below))) in
+          let none : rank (line_perm line client) ≡ 0 = ap rank (perm_of-beside line owner client kept is (λ same. omega (arith, same, below))) in
           omega (arith, none),
     )
 
 -- where there is no owner, nobody has more than Branch
 pub above-branches : (line : Line) (perm : Perm) → line.owner ≡ None → (perm ≡ NoAccess → ⊥)
-    → (client : ℕ) → rank (perm_of line client) ≤ rank perm
+    → (client : ℕ) → rank (line_perm line client) ≤ rank perm
 above-branches line perm none other client =
     let nobody : line.owner ≡ Some client → ⊥ = λ is. let bad : None ≡ Some client = sym none ∙ is in cc in
-    let is : rank (perm_of line client) ≡ rank (perm_by false (bit_at line.branches client)) = ap rank (perm_of-bit line client nobody) in
+    let is : rank (line_perm line client) ≡ rank (perm_by false (bit_at line.branches client)) = ap rank (perm_of-bit line client nobody) in
     let few : rank (perm_by false (bit_at line.branches client)) ≤ 1 = rank-bit (bit_at line.branches client == 1) in
     let more : 1 ≤ rank perm = above-none perm other in
     omega (arith, is, few, more)
 
 -- and by whether his bit is set, each has Branch or nothing
 rank-set : (line : Line) (client bit : ℕ) → line.owner ≡ None → bit_at line.branches client ≡ bit
-    → rank (perm_of line client) ≡ rank (perm_by false bit)
+    → rank (line_perm line client) ≡ rank (perm_by false bit)
 rank-set line client bit none is =
     let nobody : line.owner ≡ Some client → ⊥ = λ some. let bad : None ≡ Some client = sym none ∙ some in cc in
     ap rank (perm_of-bit line client nobody ∙ ap (perm_by false) is)
@@ -191,17 +191,17 @@ rank-set line client bit none is =
 pub above-nothing : (line : Line) (perm : Perm) (found : Option ℕ) → line.owner ≡ None → perm ≡ NoAccess
     → MatchOption found (line.branches ≡ 0)
     (λ first. (bit_at line.branches first ≡ 1) × ((client : ℕ) → client < first → bit_at line.branches client ≡ 0))
-    → MatchOption found ((client : ℕ) → rank (perm_of line client) ≤ rank perm)
-    (λ first. (rank perm < rank (perm_of line first)) × ((client : ℕ) → client < first → rank (perm_of line client) ≤ rank perm))
+    → MatchOption found ((client : ℕ) → rank (line_perm line client) ≤ rank perm)
+    (λ first. (rank perm < rank (line_perm line first)) × ((client : ℕ) → client < first → rank (line_perm line client) ≤ rank perm))
 above-nothing line perm None none is zero = λ client.
-    let rest : rank (perm_of line client) ≡ 0 = ap rank (nobody-recorded line none zero client) in
+    let rest : rank (line_perm line client) ≡ 0 = ap rank (nobody-recorded line none zero client) in
     omega (arith, rest)
 above-nothing line perm (Some first) none is lowest =
     let least : rank perm ≡ 0 = ap rank is in
-    let here : rank (perm_of line first) ≡ 1 = rank-set line first 1 none lowest.0 in (
+    let here : rank (line_perm line first) ≡ 1 = rank-set line first 1 none lowest.0 in (
       omega (arith, least, here),
       λ client below.
-          let rest : rank (perm_of line client) ≡ 0 = rank-set line client 0 none (lowest.1 client below) in
+          let rest : rank (line_perm line client) ≡ 0 = rank-set line client 0 none (lowest.1 client below) in
           omega (arith, rest),
     )
 
@@ -219,9 +219,9 @@ cleared branches client other small known apart =
     ]
 
 -- what is recorded for a client and for the others
-answer : (perm : Perm) (line line' : Line) (client : ℕ) → perm_of line' client ≡ perm
-    → ((other : ℕ) → other ≢ client → perm_of line' other ≡ perm_of line other)
-    → (other : ℕ) → perm_of line' other ≡ (if other == client then perm else perm_of line other)
+answer : (perm : Perm) (line line' : Line) (client : ℕ) → line_perm line' client ≡ perm
+    → ((other : ℕ) → other ≢ client → line_perm line' other ≡ line_perm line other)
+    → (other : ℕ) → line_perm line' other ≡ (if other == client then perm else line_perm line other)
 answer perm line line' client own others other =
     elim (cases_eq other client) [
       | inl same ↦
@@ -234,21 +234,21 @@ answer perm line line' client own others other =
 
 -- beside a new owner no other has a permission
 beside : (line : Line) (client other : ℕ) → other ≢ client
-    → perm_of (record line { owner = Some client; branches = 0 }) other ≡ NoAccess
-unfolding perm_of
+    → line_perm (record line { owner = Some client; branches = 0 }) other ≡ NoAccess
+unfolding line_perm
 beside line client other apart = rw (is_owner-other client other apart, bit_at-zero other) refl
 
 -- Tip for a client beside which none has a permission
-pub perm_of-tip : (line : Line) (client : ℕ) → ((other : ℕ) → other ≢ client → perm_of line other ≡ NoAccess) → (other : ℕ)
-    → perm_of (record line { owner = Some client; branches = 0 }) other ≡ (if other == client then Tip else perm_of line other)
+pub perm_of-tip : (line : Line) (client : ℕ) → ((other : ℕ) → other ≢ client → line_perm line other ≡ NoAccess) → (other : ℕ)
+    → line_perm (record line { owner = Some client; branches = 0 }) other ≡ (if other == client then Tip else line_perm line other)
 perm_of-tip line client none =
     answer Tip line (record line { owner = Some client; branches = 0 }) client (perm_of-owner _ client refl)
     (λ other apart. beside line client other apart ∙ sym (none other apart))
 
 -- Branch for a client beside which none has Tip
-pub perm_of-branch : (line : Line) (client : ℕ) → client < 16 → ((other : ℕ) → other ≢ client → perm_of line other ≢ Tip) → (other : ℕ)
-    → perm_of (record line { owner = None; branches = bit_or line.branches (1 * 2 ^ client % 2 ^ bits w16) }) other
-    ≡ (if other == client then Branch else perm_of line other)
+pub perm_of-branch : (line : Line) (client : ℕ) → client < 16 → ((other : ℕ) → other ≢ client → line_perm line other ≢ Tip) → (other : ℕ)
+    → line_perm (record line { owner = None; branches = bit_or line.branches (1 * 2 ^ client % 2 ^ bits w16) }) other
+    ≡ (if other == client then Branch else line_perm line other)
 perm_of-branch line client known none =
     answer Branch line _ client (perm_of-bit _ client (λ no. cc) ∙ ap (perm_by false) (bit_at_set_same w16 line.branches client known))
     (λ other apart.
@@ -258,8 +258,8 @@ perm_of-branch line client known none =
 
 -- no permission for the owner
 pub perm_of-ended : (line : Line) (client : ℕ) → IsDirectory line → client < 16 → line.owner ≡ Some client → (other : ℕ)
-    → perm_of (record line { owner = None; branches = bit_and line.branches (bit_not w16 (1 * 2 ^ client % 2 ^ bits w16)) }) other
-    ≡ (if other == client then NoAccess else perm_of line other)
+    → line_perm (record line { owner = None; branches = bit_and line.branches (bit_not w16 (1 * 2 ^ client % 2 ^ bits w16)) }) other
+    ≡ (if other == client then NoAccess else line_perm line other)
 perm_of-ended line client kept known owner =
     answer NoAccess line _ client (perm_of-bit _ client (λ no. cc) ∙ ap (perm_by false) (bit_at_clear_same w16 line.branches client known))
     (λ other apart.
@@ -271,14 +271,14 @@ perm_of-ended line client kept known owner =
 
 -- an entry with another mask of the same bit
 same_bit : (line : Line) (branches client : ℕ) → bit_at branches client ≡ bit_at line.branches client
-    → perm_of (record line { branches = branches }) client ≡ perm_of line client
-unfolding perm_of
+    → line_perm (record line { branches = branches }) client ≡ line_perm line client
+unfolding line_perm
 same_bit line branches client bit = ap (perm_by (is_owner line.owner client)) bit
 
 -- no permission for another client
 pub perm_of-cleared : (line : Line) (client : ℕ) → IsDirectory line → client < 16 → (line.owner ≡ Some client → ⊥) → (other : ℕ)
-    → perm_of (record line { branches = bit_and line.branches (bit_not w16 (1 * 2 ^ client % 2 ^ bits w16)) }) other
-    ≡ (if other == client then NoAccess else perm_of line other)
+    → line_perm (record line { branches = bit_and line.branches (bit_not w16 (1 * 2 ^ client % 2 ^ bits w16)) }) other
+    ≡ (if other == client then NoAccess else line_perm line other)
 perm_of-cleared line client kept known no_owner =
     answer NoAccess line _ client (perm_of-bit _ client no_owner ∙ ap (perm_by false) (bit_at_clear_same w16 line.branches client known))
     (λ other apart. same_bit line _ other (cleared line.branches client other kept.branches known apart))

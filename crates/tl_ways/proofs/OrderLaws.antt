@@ -4,7 +4,7 @@ use Rattle.std.specs.Prelude.{Option, None, Some, ◌==◌, find, ◌⊎◌, if�
 use Rattle.std.proofs.lemmas.Bool.{cases_eq}
 use Rattle.std.proofs.lemmas.Bool.Decides.{nat_tests}
 use Rattle.std.proofs.lemmas.Grind.{common_steps, take_at_read}
-use Rattle.tl_ways.specs.Orders.{IsAmong, rising, without, touched}
+use Rattle.tl_ways.specs.Orders.{IsAmong, rising, without_way, touched}
 
 -- ## Membership
 
@@ -53,32 +53,32 @@ length-rising (suc n) = let rest = length-rising n in grind (arith, common_steps
 -- ## What a touch does
 
 -- the head is kept or left out
-pub without-same : (way first : ℕ) (rest : List ℕ) → first ≡ way → without way (first ∷ rest) ≡ without way rest
+pub without-same : (way first : ℕ) (rest : List ℕ) → first ≡ way → without_way way (first ∷ rest) ≡ without_way way rest
 without-same way first rest same =
     let test : (first == way) ≡ true = grind (arith, nat_tests) in
     rw test refl
 
 -- the head is kept where it is another way
-pub without-other : (way first : ℕ) (rest : List ℕ) → (first ≡ way → ⊥) → without way (first ∷ rest) ≡ first ∷ without way rest
+pub without-other : (way first : ℕ) (rest : List ℕ) → (first ≡ way → ⊥) → without_way way (first ∷ rest) ≡ first ∷ without_way way rest
 without-other way first rest other =
     let test : (first == way) ≡ false = grind (arith, nat_tests, other) in
     rw test refl
 
 -- one way more is passed
-pub without-append : (way : ℕ) (xs ys : List ℕ) → without way (xs ++ ys) ≡ without way xs ++ without way ys
+pub without-append : (way : ℕ) (xs ys : List ℕ) → without_way way (xs ++ ys) ≡ without_way way xs ++ without_way way ys
 without-append way [] ys = refl
 without-append way (x ∷ xs) ys =
     elim (cases_eq x way) [
       | inl same ↦
           without-same way x (xs ++ ys) same ∙ without-append way xs ys
-          ∙ ap (λ (zs : List ℕ). zs ++ without way ys) (sym (without-same way x xs same))
+          ∙ ap (λ (zs : List ℕ). zs ++ without_way way ys) (sym (without-same way x xs same))
       | inr other ↦
           without-other way x (xs ++ ys) other ∙ ap (λ (zs : List ℕ). x ∷ zs) (without-append way xs ys)
-          ∙ ap (λ (zs : List ℕ). zs ++ without way ys) (sym (without-other way x xs other))
+          ∙ ap (λ (zs : List ℕ). zs ++ without_way way ys) (sym (without-other way x xs other))
     ]
 
 -- no longer than before
-pub length-without : (way : ℕ) (xs : List ℕ) → length (without way xs) ≤ length xs
+pub length-without : (way : ℕ) (xs : List ℕ) → length (without_way way xs) ≤ length xs
 length-without way [] = omega arith
 length-without way (x ∷ xs) =
     let rest = length-without way xs in
@@ -88,7 +88,7 @@ length-without way (x ∷ xs) =
     ]
 
 -- shorter where the way was there
-pub length-without-among : (way : ℕ) (xs : List ℕ) → IsAmong way xs → length (without way xs) < length xs
+pub length-without-among : (way : ℕ) (xs : List ℕ) → IsAmong way xs → length (without_way way xs) < length xs
 length-without-among way [] none = absurd none
 length-without-among way (x ∷ xs) (inl same) =
     let rest = length-without way xs in
@@ -101,7 +101,7 @@ length-without-among way (x ∷ xs) (inr among) =
     ]
 
 -- another way stays
-pub among-without : (way other : ℕ) (xs : List ℕ) → (other ≡ way → ⊥) → IsAmong other xs → IsAmong other (without way xs)
+pub among-without : (way other : ℕ) (xs : List ℕ) → (other ≡ way → ⊥) → IsAmong other xs → IsAmong other (without_way way xs)
 among-without way other [] apart none = absurd none
 among-without way other (x ∷ xs) apart (inl same) =
     rw (without-other way x xs (λ is. apart (same ∙ is))) (inl same)
@@ -112,13 +112,13 @@ among-without way other (x ∷ xs) apart (inr among) =
     ]
 
 -- behind a head that stays, what is there after a way leaves was there before
-kept : (way other x : ℕ) (xs : List ℕ) → ((among : IsAmong other (without way xs)) → IsAmong other xs)
-    → IsAmong other (x ∷ without way xs) → IsAmong other (x ∷ xs)
+kept : (way other x : ℕ) (xs : List ℕ) → ((among : IsAmong other (without_way way xs)) → IsAmong other xs)
+    → IsAmong other (x ∷ without_way way xs) → IsAmong other (x ∷ xs)
 kept way other x xs rest (inl same) = inl same
 kept way other x xs rest (inr among) = inr (rest among)
 
 -- and none comes
-pub without-among : (way other : ℕ) (xs : List ℕ) → IsAmong other (without way xs) → IsAmong other xs
+pub without-among : (way other : ℕ) (xs : List ℕ) → IsAmong other (without_way way xs) → IsAmong other xs
 without-among way other [] none = none
 without-among way other (x ∷ xs) among =
     elim (cases_eq x way) [
@@ -130,14 +130,14 @@ without-among way other (x ∷ xs) among =
 pub among-touched : (way other : ℕ) (order : List ℕ) → IsAmong other order → IsAmong other (touched way order)
 among-touched way other order among =
     elim (cases_eq other way) [
-      | inl same ↦ rw same (among-end way (without way order))
-      | inr apart ↦ among-front other way (without way order) (among-without way other order apart among)
+      | inl same ↦ rw same (among-end way (without_way way order))
+      | inr apart ↦ among-front other way (without_way way order) (among-without way other order apart among)
     ]
 
 -- and no other
 pub touched-only : (way other : ℕ) (order : List ℕ) → IsAmong way order → IsAmong other (touched way order) → IsAmong other order
 touched-only way other order there among =
-    elim (among-either other way (without way order) among) [
+    elim (among-either other way (without_way way order) among) [
       | inl same ↦ rw same there
       | inr rest ↦ without-among way other order rest
     ]
@@ -191,8 +191,8 @@ among-at (y ∷ ys) zero x inside is = inl is
 among-at (y ∷ ys) (suc i) x inside is = inr (among-at ys i x (omega arith) is)
 
 -- a step of a touch
-pub touch_step : (way x i : ℕ) (xs order : List ℕ) → i < length xs → x ≡ get_or xs i x → order ≡ without way (take i xs)
-    → without way (take (i + 1) xs) ≡ order ++ without way (x ∷ [])
+pub touch_step : (way x i : ℕ) (xs order : List ℕ) → i < length xs → x ≡ get_or xs i x → order ≡ without_way way (take i xs)
+    → without_way way (take (i + 1) xs) ≡ order ++ without_way way (x ∷ [])
 touch_step way x i xs order inside is so_far =
     let longer : take (i + 1) xs ≡ take i xs ++ x ∷ [] = rw is ((take_at_read xs i x inside).1) in
     rw (longer, without-append way (take i xs) (x ∷ []), so_far) refl

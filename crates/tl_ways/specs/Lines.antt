@@ -22,8 +22,8 @@ abbrev pub perm_by : Bool → ℕ → Perm
 perm_by owns bit = if owns then Tip else if bit == 1 then Branch else NoAccess
 
 -- the permission that home records for a client
-unfoldable pub perm_of : Line → ℕ → Perm
-perm_of line client = perm_by (is_owner line.owner client) (bit_at line.branches client)
+unfoldable pub line_perm : Line → ℕ → Perm
+line_perm line client = perm_by (is_owner line.owner client) (bit_at line.branches client)
 
 -- an owner is alone, and only the clients below 16 have a permission
 pub record IsDirectory (line : Line) : Type 0 where

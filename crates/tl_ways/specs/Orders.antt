@@ -14,13 +14,13 @@ IsAmong way [] = ⊥
 IsAmong way (first ∷ rest) = (way ≡ first) ⊎ IsAmong way rest
 
 -- the others of an order
-abbrev pub without : ℕ → List ℕ → List ℕ
-without way [] = []
-without way (first ∷ rest) = if first == way then without way rest else first ∷ without way rest
+abbrev pub without_way : ℕ → List ℕ → List ℕ
+without_way way [] = []
+without_way way (first ∷ rest) = if first == way then without_way way rest else first ∷ without_way way rest
 
 -- the order once a way is touched: that way last
 abbrev pub touched : ℕ → List ℕ → List ℕ
-touched way order = without way order ++ way ∷ []
+touched way order = without_way way order ++ way ∷ []
 
 -- a way is busy
 abbrev pub is_busy : List ℕ → ℕ → Bool

@@ -3,7 +3,7 @@ ghost use Rattle.std.specs.Prelude.{◌≡◌, ◌≢◌, ◌↔◌, ℕ, ◌<�
 ghost use Rattle.std.specs.Int.{bit_at};
 ghost use Rattle.tl_types.specs.Permission.{rank};
 ghost use Rattle.tl_types.specs.declared.permission.Perm.TheVariants.{None as NoAccess, Branch, Tip};
-ghost use Rattle.tl_ways.specs.Lines.{perm_of};
+ghost use Rattle.tl_ways.specs.Lines.{line_perm};
 
 use std::marker::Model;
 use tl_map::Tag;
@@ -40,7 +40,7 @@ impl Entry {
     pub fn new(tag: Tag, dirty: bool) -> Entry
         ensures tag { result.tag ≡ tag }
         ensures dirty { result.dirty ≡ dirty }
-        ensures perms { (client : ℕ) → perm_of result client ≡ NoAccess }
+        ensures perms { (client : ℕ) → line_perm result client ≡ NoAccess }
     {
         Entry {
             tag,
@@ -67,15 +67,15 @@ impl Entry {
     /// Makes home's copy dirty or clean.
     pub fn set_dirty(&mut self, dirty: bool)
         ensures dirty { self.new ≡ record self.old { dirty = dirty } }
-        ensures perms { (client : ℕ) → perm_of self.new client ≡ perm_of self.old client }
+        ensures perms { (client : ℕ) → line_perm self.new client ≡ line_perm self.old client }
     {
         self.dirty = dirty;
     }
 
     /// The permission that home records for a client. Where one has Tip, no other has any.
     pub fn perm(self, client: ClientId) -> Perm
-        ensures is { result ≡ perm_of self client }
-        ensures alone { result ≡ Tip → (other : ℕ) → other ≢ client → perm_of self other ≡ NoAccess }
+        ensures is { result ≡ line_perm self client }
+        ensures alone { result ≡ Tip → (other : ℕ) → other ≢ client → line_perm self other ≡ NoAccess }
     {
         let number = client.number();
         if self.owner == Some(client) {
@@ -93,15 +93,15 @@ impl Entry {
 
     /// Whether it records no permission for any client.
     pub fn is_unshared(self) -> bool
-        ensures { IsTrue result ↔ ((client : ℕ) → perm_of self client ≡ NoAccess) }
+        ensures { IsTrue result ↔ ((client : ℕ) → line_perm self client ≡ NoAccess) }
     {
         self.owner.is_none() && self.branches == 0
     }
 
     /// The lowest client for which it records more than a permission.
     pub fn first_above(self, perm: Perm) -> Option<ClientId>
-        ensures { MatchOption result ((client : ℕ) → rank (perm_of self client) ≤ rank perm)
-            (λ first. (rank perm < rank (perm_of self first)) × ((client : ℕ) → client < first → rank (perm_of self client) ≤ rank perm)) }
+        ensures { MatchOption result ((client : ℕ) → rank (line_perm self client) ≤ rank perm)
+            (λ first. (rank perm < rank (line_perm self first)) × ((client : ℕ) → client < first → rank (line_perm self client) ≤ rank perm)) }
     {
         match (self.owner, perm) {
             (Some(_), Perm::Tip) => None,
@@ -125,11 +125,11 @@ impl Entry {
     /// Records a permission for a client. Beside Tip no other client may have any permission.
     pub fn set(&mut self, client: ClientId, perm: Perm)
         requires known { client < 16 }
-        requires tip { perm ≡ Tip → (other : ℕ) → other ≢ client → perm_of self.old other ≡ NoAccess }
-        requires branch { perm ≡ Branch → (other : ℕ) → other ≢ client → perm_of self.old other ≢ Tip }
+        requires tip { perm ≡ Tip → (other : ℕ) → other ≢ client → line_perm self.old other ≡ NoAccess }
+        requires branch { perm ≡ Branch → (other : ℕ) → other ≢ client → line_perm self.old other ≢ Tip }
         ensures tag { self.new.tag ≡ self.old.tag }
         ensures dirty { self.new.dirty ≡ self.old.dirty }
-        ensures perms { (other : ℕ) → perm_of self.new other ≡ (if other == client then perm else perm_of self.old other) }
+        ensures perms { (other : ℕ) → line_perm self.new other ≡ (if other == client then perm else line_perm self.old other) }
     {
         let bit = 1u16 << client.number();
         match perm {

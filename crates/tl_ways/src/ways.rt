@@ -19,9 +19,9 @@ pub struct Ways {
 }
 
 impl Model for Ways {
-    ghost use Rattle.tl_ways.specs.Tables.{Table, IsTable};
+    ghost use Rattle.tl_ways.specs.Tables.{WayTable, IsTable};
 
-    ghost Value = { Table };
+    ghost Value = { WayTable };
 
     ghost view = { λ w. record { ways = w.ways; rows = w.rows.items } };
 

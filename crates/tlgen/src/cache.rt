@@ -1,7 +1,7 @@
 //! The banks of a cache, and the next step that they accept.
 use crate::any::push_step;
 use crate::dice::Dice;
-use crate::site::{Answer, Site};
+use crate::shared_bank::{Answer, SharedBank};
 use crate::spots::Spots;
 use std::alloc::{AllocError, Global};
 use tl_bank::Refusal;
@@ -19,7 +19,7 @@ const REFUSED: u32 = 8;
 #[derive(Drop)]
 pub(crate) struct Cache {
     geometry: Geometry,
-    sites: Vec<Site>,
+    shared_banks: Vec<SharedBank>,
     sent: Vec<Ticket>,
 }
 
@@ -33,13 +33,13 @@ pub(crate) struct Chosen {
 impl Cache {
     /// All banks at reset. Their memory has no image, since what a bank accepts depends on no byte.
     pub(crate) fn new(alloc: Global, geometry: Geometry) -> Result<Cache, AllocError> {
-        let mut sites = Vec::new(alloc);
+        let mut shared_banks = Vec::new(alloc);
         for number in 0..geometry.banks() {
-            sites.push(Site::new(alloc, geometry, BankNo::new(number))?)?;
+            shared_banks.push(SharedBank::new(alloc, geometry, BankNo::new(number))?)?;
         }
         Ok(Cache {
             geometry,
-            sites,
+            shared_banks,
             sent: Vec::new(alloc),
         })
     }
@@ -91,8 +91,8 @@ impl Cache {
     /// A step, asked of the bank that it names.
     fn ask(&mut self, step: &Step, index: u32) -> Answer {
         let bank = self.bank_asked(step);
-        match self.sites.as_mut_slice().get_mut(bank.index()) {
-            Some(site) => site.ask(step, index),
+        match self.shared_banks.as_mut_slice().get_mut(bank.index()) {
+            Some(shared_bank) => shared_bank.ask(step, index),
             None => Err(Refusal::OutOfRange),
         }
     }

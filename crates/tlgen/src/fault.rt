@@ -17,7 +17,7 @@ pub(crate) enum Fault {
     Memory,
     /// What is asked for makes no script.
     Script(ScriptError),
-    /// The player refused another number of steps than the banks of the generator.
+    /// The banks of the trace refused another number of steps than the banks of the generator.
     Refusals,
 }
 

@@ -10,7 +10,7 @@ mod fault;
 mod geometry;
 mod request;
 mod script;
-mod site;
+mod shared_bank;
 mod spots;
 
 use answer::answer;

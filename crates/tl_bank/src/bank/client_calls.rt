@@ -1,7 +1,7 @@
 //! The calls of clients.
 ghost use Rattle.std.specs.Prelude.{◌≡◌, ◌≢◌, ◌+◌, ℕ, None, false, IfErr, IfOk, OnErr, OnOk, length, slice_range};
 ghost use Rattle.tl_types.specs.declared.channel.Channel.{Channel};
-ghost use Rattle.tl_map.specs.Places.{block_at as block_of_address, offset_of};
+ghost use Rattle.tl_map.specs.Places.{block_of_address, offset_of};
 ghost use Rattle.tl_protocol.specs.Coherent.{AreLast};
 ghost use Rattle.tl_protocol.specs.Copy.{bytes_of};
 ghost use Rattle.tl_protocol.specs.declared.event.Event.{Event};

@@ -1,6 +1,6 @@
 //! What passes between home and the memory: the memory answers a request, and home takes the answer.
 ghost use Rattle.std.specs.Prelude.{◌≡◌, None, IfErr, IfOk, OnErr, OnOk};
-ghost use Rattle.tl_bank_laws.specs.Memory.{RegisterHolds, answered};
+ghost use Rattle.tl_bank_laws.specs.Memory.{RegisterHolds, memory_reply};
 ghost use Rattle.tl_bank_spec.specs.Effects.{MemoryReplies, Serves, TakesData, TakesMemory, TakesPutAck};
 ghost use Rattle.tl_bank_spec.specs.HomeCalls.{serve_memory_cases, take_memory_cases};
 ghost use Rattle.tl_bank_spec.specs.Refusal.{IsRefused, first_of};

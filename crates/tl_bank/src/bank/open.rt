@@ -13,7 +13,7 @@ ghost use Rattle.tl_bank_spec.specs.HomeCases.{lacks, no_register};
 ghost use Rattle.tl_bank_spec.specs.Refusal.{IsRefused, first_of};
 ghost use Rattle.tl_bank_spec.specs.Own.{IsOwn, way_at};
 ghost use Rattle.tl_bank_spec.specs.Channels.{lane_at};
-ghost use Rattle.tl_bank_spec.specs.Ways.{IsWayFor, registers_full, victim_in, way_in_set, ways_held};
+ghost use Rattle.tl_bank_spec.specs.Ways.{IsWayFor, registers_full, victim_of_way, way_in_set, ways_held};
 
 use crate::bank::Bank;
 use crate::link;
@@ -94,7 +94,7 @@ impl Bank {
         ensures set { IfOk result (λ a. a.opening.way.set ≡ set_of self.now.geometry a.block) }
         ensures way { IfOk result (λ a. IsWayFor self.now (set_of self.now.geometry a.block) (way_at self.now a.block) a.opening.way.way) }
         ensures victim { IfOk result
-            (λ a. a.opening.victim ≡ victim_in self.now (set_of self.now.geometry a.block) (way_at self.now a.block) a.opening.way.way) }
+            (λ a. a.opening.victim ≡ victim_of_way self.now (set_of self.now.geometry a.block) (way_at self.now a.block) a.opening.way.way) }
     {
         if ticket.client.number() >= self.geometry.clients() {
             return Err(Refusal::OutOfRange);
@@ -171,7 +171,7 @@ impl Bank {
         ensures set { IfSome result (λ o. o.way.set ≡ set_of self.now.geometry block) }
         ensures way { IfSome result (λ o. IsWayFor self.now (set_of self.now.geometry block) (way_at self.now block) o.way.way) }
         ensures victim { IfSome result
-            (λ o. o.victim ≡ victim_in self.now (set_of self.now.geometry block) (way_at self.now block) o.way.way) }
+            (λ o. o.victim ≡ victim_of_way self.now (set_of self.now.geometry block) (way_at self.now block) o.way.way) }
         ensures none { is_none result ≡ (lacks self.now block && ways_held self.now (set_of self.now.geometry block)) }
     {
         let set = self.geometry.place(block).set;
@@ -221,7 +221,7 @@ impl Bank {
         requires small { set < self.now.geometry.sets }
         requires away { way_at self.now block ≡ None }
         requires inside { way < self.now.geometry.ways }
-        ensures { result ≡ victim_in self.now (set_of self.now.geometry block) (way_at self.now block) way }
+        ensures { result ≡ victim_of_way self.now (set_of self.now.geometry block) (way_at self.now block) way }
     {
         let _ = block;
         self.home.block_at(set, way)

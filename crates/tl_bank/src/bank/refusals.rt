@@ -1,7 +1,7 @@
 //! Why the calls of clients are refused, and what these tests look at.
 ghost use Rattle.std.specs.Prelude.{◌≡◌, ◌<◌, ◌+◌, ◌||◌, None, Some, IfErr, IfOk, OnOk, is_some, nat_le, option_copied, slice_range};
 ghost use Rattle.tl_types.specs.declared.channel.Channel.{Channel};
-ghost use Rattle.tl_map.specs.Places.{block_at as block_of_address, offset_of};
+ghost use Rattle.tl_map.specs.Places.{block_of_address, offset_of};
 ghost use Rattle.tl_protocol.specs.Copy.{bytes_of};
 ghost use Rattle.tl_bank_laws.specs.Entry.{bytes_in, copy_in, perm_in, wait_in};
 ghost use Rattle.tl_bank_laws.specs.Head.{first_cap, first_granted};

@@ -4,7 +4,7 @@ ghost use Rattle.std.specs.List.{All};
 ghost use Rattle.std.specs.List.Sorted.{IsNonDecreasing, IsPermutation};
 ghost use Rattle.tl_types.specs.Permission.{rank};
 ghost use Rattle.tl_types.specs.declared.permission.Perm.{Perm};
-ghost use Rattle.tl_map.specs.Places.{block_at as block_of_address};
+ghost use Rattle.tl_map.specs.Places.{block_of_address};
 ghost use Rattle.tl_protocol.specs.Coherent.{last};
 ghost use Rattle.tl_protocol.specs.Ledger.{count_clients, has_copy, is_recorded, is_under_way};
 ghost use Rattle.tl_bank_spec.specs.Kept.{LiesAlone, ServesByRegisters};

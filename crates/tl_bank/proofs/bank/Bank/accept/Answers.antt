@@ -12,7 +12,7 @@ use Rattle.tl_bank_spec.specs.HomeCalls.{accept_cases}
 use Rattle.tl_bank_spec.specs.Refusal.{first_of}
 use Rattle.tl_bank_spec.specs.View.{View}
 use Rattle.tl_bank_spec.specs.Own.{IsOwn, way_at}
-use Rattle.tl_bank_spec.specs.Ways.{victim_in, way_in_set}
+use Rattle.tl_bank_spec.specs.Ways.{victim_of_way, way_in_set}
 use Rattle.tl_bank_laws.specs.Layers.{Layers}
 use Rattle.tl_bank_laws.specs.Means.{Means}
 use Rattle.tl_bank_laws.proofs.Accepts.{Accepting, Asked, accept-asked, accept-head, accept-keeps, accepting}
@@ -88,7 +88,7 @@ returns-clause-accepts c =
     let held : c.in_ok-asked.asked.opening.way ≡ way_in_set (set_of old.geometry c.in_ok-asked.asked.block) way =
     ap (λ (set : ℕ). way_in_set set way) c.in_ok-asked.ensures.set in
     let way_is = c.in_ok-asked.ensures.way in
-    let opens : Register = accepting old t block grow way (victim_in old (set_of old.geometry block) (way_at old block) way) in
+    let opens : Register = accepting old t block grow way (victim_of_way old (set_of old.geometry block) (way_at old block) way) in
     let left : c.append.new.self.room + 1 ≡ c.self.inside.log.room = c.append.ensures.room in
     let was : c.self.inside.log.room ≡ c.make_room.new.self.room = ap (λ (w : View). w.room) made in
     record {

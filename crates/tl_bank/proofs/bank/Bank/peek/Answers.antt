@@ -1,5 +1,5 @@
 use Rattle.std.proofs.Common.{◌≡◌, false, ◌∙◌, sym, ap, subst}
-use Rattle.tl_map.specs.Places.{block_at as block_of_address}
+use Rattle.tl_map.specs.Places.{block_of_address}
 use Rattle.tl_bank_spec.specs.View.{View}
 use Rattle.tl_bank_spec.specs.Views.{no_part, peeked}
 use Rattle.tl_bank_laws.specs.Means.{Means}

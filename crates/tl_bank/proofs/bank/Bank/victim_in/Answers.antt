@@ -2,7 +2,7 @@ use Rattle.std.proofs.Common.{◌≡◌, ◌<◌, None, sym, ◌∙◌, subst}
 use Rattle.tl_map.specs.Places.{set_of}
 use Rattle.tl_bank_spec.specs.View.{View}
 use Rattle.tl_bank_spec.specs.Own.{IsOwn, way_at}
-use Rattle.tl_bank_spec.specs.Ways.{victim_in}
+use Rattle.tl_bank_spec.specs.Ways.{victim_of_way}
 use Rattle.tl_bank_laws.proofs.Opens.{victim-found}
 use Rattle.tl_bank.specs.Shown.{shown, layers}
 use Rattle.tl_bank.proofs.bank.Bank.victim_in.Goals as goal
@@ -14,7 +14,7 @@ returns c =
     let found = c.block_at.result in
     let Victim : View → Type 0 = λ v. IsOwn v.geometry v.number block → c.args.set ≡ set_of v.geometry block
     → way_at v block ≡ None → c.args.set < v.geometry.sets → way < v.geometry.ways
-    → found ≡ victim_in v (set_of v.geometry block) (way_at v block) way in
+    → found ≡ victim_of_way v (set_of v.geometry block) (way_at v block) way in
     subst Victim c.self.view_is
     (λ own place away small inside.
     victim-found (shown c.self.inside) (layers c.self.inside) block way found c.self.invariant own.0

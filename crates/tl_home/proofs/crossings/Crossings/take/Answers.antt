@@ -1,12 +1,12 @@
 use Rattle.std.proofs.Common.{◌≡◌, ◌∙◌, ◌+◌, ◌≤◌, List, length, ap, sym, subst, arith}
 use Rattle.std.specs.Prelude.{remove}
 use Rattle.tl_home.specs.declared.crossings.Crossing.{Crossing}
-use Rattle.tl_home.specs.Crossings.{AreApart, outward_of, without, IsPlace}
+use Rattle.tl_home.specs.Crossings.{AreApart, outward_of, without_crossing, IsPlace}
 use Rattle.tl_home.proofs.CrossingLaws.{passes-at, AreApart-removed, remove-place, outward_of-place, outward_of-without, outward_of-quiet, length-without}
 use Rattle.tl_home.proofs.crossings.Crossings.take.Goals as goal
 
 -- what is left
-rest : (c : goal.After-remove-outward) → c.remove-outward.new.self.items ≡ without c.args.block c.args.self.now
+rest : (c : goal.After-remove-outward) → c.remove-outward.new.self.items ≡ without_crossing c.args.block c.args.self.now
 rest c =
     c.remove-outward.ensures.items
     ∙ ap (λ (list : List Crossing). remove list c.in-Some.place) c.self.view_is

@@ -1,6 +1,6 @@
 use Rattle.std.proofs.Common.{◌≡◌, ◌≢◌, ◌<◌, ◌∙◌, length, ap, sym, arith}
 use Rattle.tl_types.specs.Lane.{Lane, with_message}
-use Rattle.tl_links.specs.Table.{Table, lane_in}
+use Rattle.tl_links.specs.Table.{LinkTable, lane_in}
 use Rattle.tl_links.proofs.Counts.{IsCounted-sent, lane-read, number-most}
 use Rattle.tl_links.proofs.links.Links.send.Goals as goal
 
@@ -11,12 +11,12 @@ pub invariant_of-self : goal.invariant_of-self
 invariant_of-self c =
     let x = c.args.client in
     let k = c.args.channel in
-    let t : Table = record { bank = c.self.inside.bank; clients = c.self.inside.clients; lanes = c.self.inside.queues.items } in
+    let t : LinkTable = record { bank = c.self.inside.bank; clients = c.self.inside.clients; lanes = c.self.inside.queues.items } in
     let known : x < c.self.inside.clients = rw (← c.self.view_is) at c.requires.here in
     let lane : c.index_mut.result.now ≡ lane_in t x k =
     lane-read c.self.invariant x k c.place.result c.index_mut.result.now known c.place.ensures c.index_mut.ensures.value in
     let seen : c.queue-queue.result.now ≡ lane_in t x k =
-    c.queue-queue.ensures ∙ ap (λ (w : Table). lane_in w x k) (sym c.self.view_is) in
+    c.queue-queue.ensures ∙ ap (λ (w : LinkTable). lane_in w x k) (sym c.self.view_is) in
     let room : length (lane_in t x k).messages ≢ 64 =
     λ full. c.if-waiting-eq-PLACES.false (c.waiting.ensures.value ∙ ap (λ (l : Lane). length l.messages) seen ∙ full) in
     rw (c.place.ensures, c.index.ensures.value)

@@ -1,6 +1,6 @@
 use Rattle.std.proofs.Common.{rules, ◌≡◌, ◌<◌, [], length, sym, subst, lit<, arith}
 use Rattle.std.proofs.lemmas.Grind.{common_steps}
-use Rattle.tl_ways.specs.Orders.{without}
+use Rattle.tl_ways.specs.Orders.{without_way}
 use Rattle.tl_ways.specs.Rows.{Row}
 use Rattle.tl_ways.proofs.OrderLaws.{touch_step, without-same, without-other, length-without-among, take-all}
 use Rattle.tl_ways.proofs.RowLaws.{IsRow-touched}
@@ -29,7 +29,7 @@ loop-other-preserved c =
 pub push-requires-2 : goal.push-requires-2
 push-requires-2 c =
     let whole = take-all c.as_slice-other-items.result.now c.loop-other.other-index c.loop-other-test.false in
-    let others : c.loop-other.order.items ≡ without c.args.way c.self.inside.order.items =
+    let others : c.loop-other.order.items ≡ without_way c.args.way c.self.inside.order.items =
     rw (whole, c.as_slice-other-items.ensures.value) at c.loop-other.invariant.so_far in
     let inside : c.args.way < length c.self.inside.entries.items =
     subst (λ (r : Row). c.args.way < length r.lines) (sym c.self.view_is) c.requires in
@@ -40,7 +40,7 @@ push-requires-2 c =
 pub invariant_of-self : goal.invariant_of-self
 invariant_of-self c =
     let whole = take-all c.as_slice-other-items.result.now c.loop-other.other-index c.loop-other-test.false in
-    let others : c.loop-other.order.items ≡ without c.args.way c.self.inside.order.items =
+    let others : c.loop-other.order.items ≡ without_way c.args.way c.self.inside.order.items =
     rw (whole, c.as_slice-other-items.ensures.value) at c.loop-other.invariant.so_far in
     let inside : c.args.way < length c.self.inside.entries.items =
     subst (λ (r : Row). c.args.way < length r.lines) (sym c.self.view_is) c.requires in

@@ -2,7 +2,7 @@ use Rattle.std.proofs.Common.{◌≡◌, ℕ, zero, suc, ◌<◌, List, [], ◌�
 use Rattle.std.specs.Prelude.{IfNone, IsTrue}
 use Rattle.tl_ways.specs.Orders.{is_busy}
 use Rattle.tl_ways.specs.Rows.{Row}
-use Rattle.tl_ways.specs.Tables.{Table, set_count, no_row}
+use Rattle.tl_ways.specs.Tables.{WayTable, set_count, no_row}
 use Rattle.tl_ways.proofs.ways.Ways.choose.Goals as goal
 
 -- a row that is there needs no default
@@ -15,9 +15,9 @@ pub returns-clause-none : goal.returns-clause-none
 unfolding set_count
 returns-clause-none c =
     let set_in : c.args.set < length c.self.inside.rows.items =
-    subst (λ (t : Table). c.args.set < set_count t) (sym c.self.view_is) c.requires in
+    subst (λ (t : WayTable). c.args.set < set_count t) (sym c.self.view_is) c.requires in
     let row : c.index-row.result.now ≡ get_or c.self.inside.rows.items c.args.set no_row =
     rw c.index.ensures at c.index-row.ensures ∙ row_there c.self.inside.rows.items c.args.set _ no_row set_in in
     let same : length c.index-row.result.now.lines ≡ c.args.self.now.ways =
-    ap (λ (r : Row). length r.lines) row ∙ c.self.invariant.same c.args.set set_in ∙ ap (λ (t : Table). t.ways) c.self.view_is in
+    ap (λ (r : Row). length r.lines) row ∙ c.self.invariant.same c.args.set set_in ∙ ap (λ (t : WayTable). t.ways) c.self.view_is in
     subst (λ (ways : ℕ). IfNone c.choose.result ((way : ℕ) → way < ways → IsTrue (is_busy c.args.busy.now way))) same c.choose.ensures.none

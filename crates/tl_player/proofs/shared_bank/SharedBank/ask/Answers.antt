@@ -1,27 +1,27 @@
 use Rattle.std.proofs.Common.{◌≡◌, ◌<◌, IfOk, length, set, sym, ◌∙◌, ap, subst, refl}
 use Rattle.std.specs.List.{refill}
-use Rattle.tl_player.specs.Plays.{ActsAt}
-use Rattle.tl_player.specs.Stage.{SiteState, client_named, share_place}
+use Rattle.tl_player.specs.NetworkSteps.{IsStepAt}
+use Rattle.tl_player.specs.NetworkState.{SharedBankState, client_named, share_place}
 use Rattle.tl_player.proofs.Answered.{if-answered}
 use Rattle.tl_player.proofs.Places.{asked-at}
-use Rattle.tl_player.proofs.site.Site.ask.Goals as goal
+use Rattle.tl_player.proofs.shared_bank.SharedBank.ask.Goals as goal
 
 -- the share that was used is back in its place
 pub returns : goal.returns
 returns c =
-    let old : SiteState = record { bank = c.self.inside.bank; shares = c.self.inside.shares.items } in
+    let old : SharedBankState = record { bank = c.self.inside.bank; shares = c.self.inside.shares.items } in
     let view : old ≡ c.args.self.now = c.self.view_is in
     let place = c.share_place-place.result in
     let at : place ≡ share_place old.shares (client_named c.args.step.now) =
-    subst (λ (s : SiteState). place ≡ share_place s.shares (client_named c.args.step.now)) (sym view)
+    subst (λ (s : SharedBankState). place ≡ share_place s.shares (client_named c.args.step.now)) (sym view)
     (c.share_place-place.ensures.is ∙ ap (λ n. share_place c.args.self.now.shares n) c.client_named.ensures) in
     let inside : place < length old.shares =
-    subst (λ (s : SiteState). place < length s.shares) (sym view) c.share_place-place.ensures.inside in
-    let new : SiteState = record {
+    subst (λ (s : SharedBankState). place < length s.shares) (sym view) c.share_place-place.ensures.inside in
+    let new : SharedBankState = record {
       bank = c.act.new.bank;
       shares = refill (length old.shares) old.shares (set c.deref_mut.result.now place c.act.new.share);
     } in
-    subst (λ (s : SiteState). IfOk c.act.result (ActsAt c.args.index c.args.step.now s new c.args.clock.now c.act.new.clock)) view
+    subst (λ (s : SharedBankState). IfOk c.act.result (IsStepAt c.args.index c.args.step.now s new c.args.clock.now c.act.new.clock)) view
     (if-answered c.act.result _ _
     (λ answer acts.
     asked-at c.args.index c.args.step.now old new c.args.clock.now c.act.new.clock place c.deref_mut.result.now _ c.act.new.share

@@ -1,5 +1,5 @@
 use Rattle.tl_player.proofs.Resets.{some-shares}
-use Rattle.tl_player.proofs.site.Site.new.Goals as goal
+use Rattle.tl_player.proofs.shared_bank.SharedBank.new.Goals as goal
 
 -- there is a client, and so a share
 pub invariant_of-result : goal.invariant_of-result

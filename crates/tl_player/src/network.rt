@@ -1,12 +1,12 @@
 //! All banks, and the steps that are asked of them.
 ghost use Rattle.std.specs.Prelude.{◌≡◌, ◌<◌, ◌≤◌, ◌*◌, IfOk, OnOk, length, slice_index, slice_set};
 ghost use Rattle.tl_player.specs.Closing.{Close};
-ghost use Rattle.tl_player.specs.Plays.{Performs, Plays};
-ghost use Rattle.tl_player.specs.Stage.{AreCoherent, AreFresh, IsReset};
+ghost use Rattle.tl_player.specs.NetworkSteps.{AreNetworkSteps, IsNetworkStep};
+ghost use Rattle.tl_player.specs.NetworkState.{AreCoherent, AreFresh, IsReset};
 
 use crate::asked::{bank_asked, client_named};
 use crate::closing::closing;
-use crate::site::Site;
+use crate::shared_bank::SharedBank;
 use std::alloc::{AllocError, Global};
 use std::marker::Model;
 use tl_map::Geometry;
@@ -16,45 +16,45 @@ use tl_words::Step;
 
 /// Every bank with its clients' shares, by number, and the clock of each client.
 #[derive(Drop)]
-pub(crate) struct Player {
+pub(crate) struct Network {
     geometry: Geometry,
-    sites: Vec<Site>,
+    shared_banks: Vec<SharedBank>,
     clocks: Vec<u64>,
 }
 
-impl Model for Player {
+impl Model for Network {
     ghost use Rattle.std.specs.Prelude.{◌≡◌, length};
-    ghost use Rattle.tl_player.specs.Stage.{Stage};
+    ghost use Rattle.tl_player.specs.NetworkState.{NetworkState};
 
-    ghost Value = { Stage };
+    ghost Value = { NetworkState };
 
-    ghost view = { λ p. record { geometry = p.geometry; sites = p.sites.items; clocks = p.clocks.items } };
+    ghost view = { λ p. record { geometry = p.geometry; shared_banks = p.shared_banks.items; clocks = p.clocks.items } };
 
-    ghost invariant = { λ p. length p.sites.items ≡ p.geometry.banks };
+    ghost invariant = { λ p. length p.shared_banks.items ≡ p.geometry.banks };
 }
 
-impl Player {
+impl Network {
     /// All banks at reset over an image that is no longer than the memory.
-    pub(crate) fn new(alloc: Global, geometry: Geometry, image: &[u8]) -> Result<Player, AllocError>
+    pub(crate) fn new(alloc: Global, geometry: Geometry, image: &[u8]) -> Result<Network, AllocError>
         requires { length image.now ≤ geometry.memory_blocks * geometry.block_bytes }
         ensures { IfOk result (IsReset geometry image.now) }
     {
-        Ok(Player {
+        Ok(Network {
             geometry,
-            sites: sites(alloc, geometry, image)?,
+            shared_banks: shared_banks(alloc, geometry, image)?,
             clocks: vec![in alloc; 0; geometry.clients() as usize]?,
         })
     }
 
     /// One step, and its answer. An error is a request for memory that was refused.
     fn step(&mut self, index: u32, step: &Step) -> Result<Answer, AllocError>
-        ensures { IfOk result (Plays index step.now self.old self.new) }
+        ensures { IfOk result (IsNetworkStep index step.now self.old self.new) }
     {
         let place = bank_asked(self.geometry, step);
         let client = client_named(step);
         let mut clock = self.clock(client);
-        let site = &mut self.sites[place];
-        let answer = site.ask(&mut clock, index, step)?;
+        let shared_bank = &mut self.shared_banks[place];
+        let answer = shared_bank.ask(&mut clock, index, step)?;
         self.set_clock(client, clock);
         Ok(answer)
     }
@@ -78,7 +78,7 @@ impl Player {
     /// All steps, and the answer to each. An error is a request for memory that was refused.
     pub(crate) fn steps(&mut self, alloc: Global, steps: &[Step]) -> Result<Vec<Answer>, AllocError>
         requires { length steps.now ≤ 4096 }
-        ensures { IfOk result (λ answers. Performs 0 steps.now self.old answers.items self.new) }
+        ensures { IfOk result (λ answers. AreNetworkSteps 0 steps.now self.old answers.items self.new) }
     {
         let mut answers = Vec::new(alloc);
         for (index, step) in steps.iter().enumerate() {
@@ -89,34 +89,34 @@ impl Player {
 
     /// What each bank shows.
     pub(crate) fn closings(&self, alloc: Global) -> Result<Vec<BankClosing>, AllocError>
-        ensures closes { IfOk result (λ closings. Close self.now.sites closings.items) }
-        ensures coherent { OnOk result (AreCoherent self.now.sites) }
+        ensures closes { IfOk result (λ closings. Close self.now.shared_banks closings.items) }
+        ensures coherent { OnOk result (AreCoherent self.now.shared_banks) }
     {
-        closings(alloc, &self.sites)
+        closings(alloc, &self.shared_banks)
     }
 }
 
 /// All banks, by number, each at reset over an image that is no longer than the memory.
-fn sites(alloc: Global, geometry: Geometry, image: &[u8]) -> Result<Vec<Site>, AllocError>
+fn shared_banks(alloc: Global, geometry: Geometry, image: &[u8]) -> Result<Vec<SharedBank>, AllocError>
     requires { length image.now ≤ geometry.memory_blocks * geometry.block_bytes }
-    ensures count { IfOk result (λ sites. length sites.items ≡ geometry.banks) }
-    ensures fresh { IfOk result (λ sites. AreFresh geometry image.now 0 sites.items) }
+    ensures count { IfOk result (λ shared_banks. length shared_banks.items ≡ geometry.banks) }
+    ensures fresh { IfOk result (λ shared_banks. AreFresh geometry image.now 0 shared_banks.items) }
 {
-    let mut sites = Vec::new(alloc);
+    let mut shared_banks = Vec::new(alloc);
     for number in 0..geometry.banks() {
-        sites.push(Site::new(alloc, geometry, BankNo::new(number), image)?)?;
+        shared_banks.push(SharedBank::new(alloc, geometry, BankNo::new(number), image)?)?;
     }
-    Ok(sites)
+    Ok(shared_banks)
 }
 
 /// What each bank shows.
-fn closings(alloc: Global, sites: &[Site]) -> Result<Vec<BankClosing>, AllocError>
-    ensures closes { IfOk result (λ closings. Close sites.now closings.items) }
-    ensures coherent { OnOk result (AreCoherent sites.now) }
+fn closings(alloc: Global, shared_banks: &[SharedBank]) -> Result<Vec<BankClosing>, AllocError>
+    ensures closes { IfOk result (λ closings. Close shared_banks.now closings.items) }
+    ensures coherent { OnOk result (AreCoherent shared_banks.now) }
 {
     let mut closings = Vec::new(alloc);
-    for site in sites {
-        closings.push(closing(alloc, site.bank())?)?;
+    for shared_bank in shared_banks {
+        closings.push(closing(alloc, shared_bank.bank())?)?;
     }
     Ok(closings)
 }

@@ -1,7 +1,7 @@
 //! A bank with its clients' shares.
 ghost use Rattle.std.specs.Prelude.{◌≡◌, ◌<◌, ◌≤◌, ◌*◌, IfOk, length};
-ghost use Rattle.tl_player.specs.Plays.{ActsAt};
-ghost use Rattle.tl_player.specs.Stage.{IsFresh, share_place};
+ghost use Rattle.tl_player.specs.NetworkSteps.{IsStepAt};
+ghost use Rattle.tl_player.specs.NetworkState.{IsFresh, share_place};
 
 use crate::act::act;
 use crate::asked::client_named;
@@ -16,37 +16,37 @@ use tl_words::Step;
 
 /// A bank, and the share of each client in it.
 #[derive(Drop)]
-pub(crate) struct Site {
+pub(crate) struct SharedBank {
     bank: Bank,
     shares: ArrayVec<Share, 16>,
 }
 
-impl Model for Site {
+impl Model for SharedBank {
     ghost use Rattle.std.specs.Prelude.{◌<◌, length};
-    ghost use Rattle.tl_player.specs.Stage.{SiteState};
+    ghost use Rattle.tl_player.specs.NetworkState.{SharedBankState};
 
-    ghost Value = { SiteState };
+    ghost Value = { SharedBankState };
 
     ghost view = { λ s. record { bank = s.bank; shares = s.shares.items } };
 
     ghost invariant = { λ s. 0 < length s.shares.items };
 }
 
-impl Site {
+impl SharedBank {
     /// A bank at reset over an image that is no longer than the memory.
     pub(crate) fn new(
         alloc: Global,
         geometry: Geometry,
         number: BankNo,
         image: &[u8],
-    ) -> Result<Site, AllocError>
+    ) -> Result<SharedBank, AllocError>
         requires number { number < geometry.banks }
         requires image { length image.now ≤ geometry.memory_blocks * geometry.block_bytes }
         ensures { IfOk result (IsFresh geometry image.now number) }
     {
         let _clients = geometry.clients();
         let (bank, shares) = Bank::new(alloc, geometry, number, image)?;
-        Ok(Site { bank, shares })
+        Ok(SharedBank { bank, shares })
     }
 
     /// The bank.
@@ -63,7 +63,7 @@ impl Site {
         index: u32,
         step: &Step,
     ) -> Result<Answer, AllocError>
-        ensures { IfOk result (ActsAt index step.now self.old self.new clock.old clock.new) }
+        ensures { IfOk result (IsStepAt index step.now self.old self.new clock.old clock.new) }
     {
         let place = self.share_place(client_named(step));
         let share = &mut self.shares[place];

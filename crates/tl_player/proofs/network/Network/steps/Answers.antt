@@ -1,5 +1,5 @@
 use Rattle.tl_player.proofs.Chain.{performs-more}
-use Rattle.tl_player.proofs.player.Player.steps.Goals as goal
+use Rattle.tl_player.proofs.network.Network.steps.Goals as goal
 
 -- one more step was played
 pub loop-index-preserved : goal.loop-index-preserved

@@ -2,7 +2,7 @@
 use Rattle.std.specs.Prelude.{◌≡◌, ℕ, ◌+◌, Bool, List, length, slice_range}
 use Rattle.tl_types.specs.declared.channel.Channel.TheVariants.{A, B, C, D, E}
 use Rattle.tl_types.specs.declared.ticket.Ticket.{Ticket}
-use Rattle.tl_map.specs.Places.{block_at as block_of_address, offset_of, set_of}
+use Rattle.tl_map.specs.Places.{block_of_address, offset_of, set_of}
 use Rattle.tl_protocol.specs.Copy.{bytes_of}
 use Rattle.tl_protocol.specs.declared.event.Event.{Event}
 use Rattle.tl_protocol.specs.declared.event.Event.TheVariants as event
@@ -193,5 +193,5 @@ Does index (step.Block call block) old new answer = BlockDoes call block old.ban
 
 -- A step is refused by the first of its refusals whose case holds, and then nothing changes; where there is none it does what it
 -- names.
-abbrev pub Acts : ℕ → Step → Scene → Scene → Answer → Type 0
-Acts index step old new answer = Answers (first_of (cases_of old step)) (new ≡ old) (Does index step old new answer) answer
+abbrev pub IsStep : ℕ → Step → Scene → Scene → Answer → Type 0
+IsStep index step old new answer = Answers (first_of (cases_of old step)) (new ≡ old) (Does index step old new answer) answer

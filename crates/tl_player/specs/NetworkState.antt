@@ -2,7 +2,7 @@
 use Rattle.std.specs.Prelude.{◌≡◌, ℕ, suc, List, [], ◌∷◌, length, nat_lt, replicate, None, if◌then◌else◌}
 use Rattle.std.specs.List.{All}
 use Rattle.tl_map.specs.Numbers.{Numbers}
-use Rattle.tl_map.specs.Places.{bank_of, block_at as block_of_address, has_block}
+use Rattle.tl_map.specs.Places.{bank_of, block_of_address, has_block}
 use Rattle.tl_words.specs.declared.step.Step.{Step}
 use Rattle.tl_words.specs.declared.step.Step.TheVariants.{Load, Store, Acquire, Release, Ticket, Block}
 use Rattle.tl_bank_spec.specs.Coherent.{IsCoherent}
@@ -11,51 +11,51 @@ use Rattle.tl_bank_spec.specs.View.{View}
 use Rattle.tl_bank_spec.specs.Own.{way_at}
 
 -- a bank, and the share of each client in it
-pub record SiteState : Type 0 where
+pub record SharedBankState : Type 0 where
   pub bank : View
   pub shares : List Holding
 
 -- all banks, by number, and the clock of each client
-pub record Stage : Type 0 where
+pub record NetworkState : Type 0 where
   pub geometry : Numbers
-  pub sites : List SiteState
+  pub shared_banks : List SharedBankState
   pub clocks : List ℕ
 
 -- ## Reset
 
 -- A bank at reset over an image, and shares of nothing.
-pub record IsFresh (g : Numbers) (image : List ℕ) (number : ℕ) (site : SiteState) : Type 0 where
+pub record IsFresh (g : Numbers) (image : List ℕ) (number : ℕ) (shared_bank : SharedBankState) : Type 0 where
   pub bank :
-      site.bank
+      shared_bank.bank
       ≡ record {
         geometry = g;
         number = number;
         image = image;
         log = [];
-        room = site.bank.room;
+        room = shared_bank.bank.room;
         registers = [];
-        ways = site.bank.ways;
+        ways = shared_bank.bank.ways;
       }
-  pub empty : (block : ℕ) → way_at site.bank block ≡ None
-  pub shares : site.shares ≡ first_shares number g.clients
+  pub empty : (block : ℕ) → way_at shared_bank.bank block ≡ None
+  pub shares : shared_bank.shares ≡ first_shares number g.clients
 
 -- these are banks at reset, with numbers from one on
-abbrev pub AreFresh : Numbers → List ℕ → ℕ → List SiteState → Type 0
+abbrev pub AreFresh : Numbers → List ℕ → ℕ → List SharedBankState → Type 0
 AreFresh g image number [] = Unit {0}
-AreFresh g image number (site ∷ rest) = IsFresh g image number site × AreFresh g image (suc number) rest
+AreFresh g image number (shared_bank ∷ rest) = IsFresh g image number shared_bank × AreFresh g image (suc number) rest
 
 -- Every bank is at reset over the image, and every clock stands at 0.
-pub record IsReset (g : Numbers) (image : List ℕ) (stage : Stage) : Type 0 where
-  pub geometry : stage.geometry ≡ g
-  pub count : length stage.sites ≡ g.banks
-  pub fresh : AreFresh g image 0 stage.sites
-  pub clocks : stage.clocks ≡ replicate g.clients 0
+pub record IsReset (g : Numbers) (image : List ℕ) (network : NetworkState) : Type 0 where
+  pub geometry : network.geometry ≡ g
+  pub count : length network.shared_banks ≡ g.banks
+  pub fresh : AreFresh g image 0 network.shared_banks
+  pub clocks : network.clocks ≡ replicate g.clients 0
 
 -- ## Whenever
 
 -- each of these banks is coherent
-abbrev pub AreCoherent : List SiteState → Type 0
-AreCoherent sites = All (λ (site : SiteState). IsCoherent site.bank) sites
+abbrev pub AreCoherent : List SharedBankState → Type 0
+AreCoherent shared_banks = All (λ (shared_bank : SharedBankState). IsCoherent shared_bank.bank) shared_banks
 
 -- ## What a step is asked of
 

@@ -13,18 +13,18 @@ pub(crate) type Answer = Result<Option<Ticket>, Refusal>;
 
 /// A bank, and the share of each client in it.
 #[derive(Drop)]
-pub(crate) struct Site {
+pub(crate) struct SharedBank {
     bank: Bank,
     shares: ArrayVec<Share, 16>,
 }
 
-impl Site {
+impl SharedBank {
     /// A bank at reset over a memory of zeros.
-    pub(crate) fn new(alloc: Global, geometry: Geometry, number: BankNo) -> Result<Site, AllocError>
+    pub(crate) fn new(alloc: Global, geometry: Geometry, number: BankNo) -> Result<SharedBank, AllocError>
         requires { number < geometry.banks }
     {
         let (bank, shares) = Bank::new(alloc, geometry, number, &[])?;
-        Ok(Site { bank, shares })
+        Ok(SharedBank { bank, shares })
     }
 
     /// Asks a step. The clocks of the clients stand still: only the order of the bank's own accesses is wanted here.
