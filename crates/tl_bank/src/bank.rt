@@ -23,10 +23,10 @@ use tl_bank_spec::Refusal;
 use tl_copies::Copies;
 use tl_home::Home;
 use tl_links::Links;
+use tl_log::Log;
 use tl_map::Geometry;
 use tl_protocol::Event;
 use tl_registers::Registers;
-use tl_rules::Log;
 use tl_types::{BankNo, BlockNo, ClientId, Perm};
 
 mod advance;

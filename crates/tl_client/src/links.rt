@@ -18,12 +18,12 @@ impl Links {
     {
         match self {
             Links::OfClient(client, banks) => {
-                ticket.client.number() == client.number()
+                ticket.client == client
                     && ticket.bank.index() < *banks
                     && is_to_client(ticket.channel)
             }
             Links::OfBank(bank, clients) => {
-                ticket.bank.number() == bank.number()
+                ticket.bank == bank
                     && ticket.client.index() < *clients
                     && !is_to_client(ticket.channel)
             }

@@ -81,7 +81,7 @@ impl Locked {
         ensures { MatchOption result (slice_get self.now.numbers number ≢ Some number) (λ bank. bank.now.number ≡ number) }
     {
         let bank = self.banks.get(number.index())?;
-        if bank.number.number() == number.number() {
+        if bank.number == number {
             Some(bank)
         } else {
             None

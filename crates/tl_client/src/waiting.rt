@@ -35,7 +35,7 @@ fn is_same_lane(one: &Ticket, other: &Ticket) -> bool
 {
     one.bank == other.bank
         && one.client == other.client
-        && one.channel.index() == other.channel.index()
+        && one.channel == other.channel
 }
 
 impl Waiting {
@@ -81,7 +81,7 @@ impl Waiting {
         ensures room { (self.new.room ≡ self.old.room) × (length self.new.rest ≤ length self.old.rest + length tickets.now) }
     {
         for ticket in tickets {
-            if ticket.channel.index() == channel.index() {
+            if ticket.channel == channel {
                 self.rest.push_back_reserved(*ticket);
             }
         }

@@ -9,7 +9,6 @@ use Rattle.tl_map.specs.Places.{bank_of}
 use Rattle.tl_protocol.specs.declared.event.Event.{Event}
 use Rattle.tl_report.specs.declared.report.Answered.{Answered}
 use Rattle.tl_script.specs.Commands.{commands as commands_in}
-use Rattle.tl_script.specs.Numbers.{unsigned_of}
 use Rattle.tl_script.specs.declared.script.Script.{Script}
 use Rattle.tl_bank_spec.specs.View.{View, shape_of}
 use Rattle.tl_rules.specs.Ordered.{EveryCertifiedOrderIsOneMemory}
@@ -41,7 +40,7 @@ pub one_memory : EveryCertifiedOrderIsOneMemory → (script : Script) (banks : L
     → AreMatched script banks → ShowsAll (commands_in script.commands.items) (logs_in banks) clients (length script.commands.items)
     → All HasRun banks → IsOneMemory script banks clients
 one_memory law script banks clients matched shows has =
-    let g : Numbers = unsigned_of script.numbers in
+    let g : Numbers = script.geometry in
     let logs = logs_in banks in
     let commands = commands_in script.commands.items in
     let many : length clients ≡ length script.commands.items = shows.as_many in

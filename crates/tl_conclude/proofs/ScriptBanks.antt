@@ -7,7 +7,6 @@ use Rattle.tl_map.specs.Places.{bank_of}
 use Rattle.tl_protocol.specs.declared.event.Event.{Event}
 use Rattle.tl_protocol.specs.Protocol.{block_of}
 use Rattle.tl_protocol.specs.Runs.{IsRun}
-use Rattle.tl_script.specs.Numbers.{unsigned_of}
 use Rattle.tl_script.specs.declared.script.Script.{Script}
 use Rattle.tl_bank_spec.specs.View.{View, shape_of}
 use Rattle.tl_rules.specs.Certified.{events_of}
@@ -55,15 +54,15 @@ bank_at (v ∷ vs) (suc i) lt =
 
 -- the runs of the script's banks are on its shape and image
 pub runs_of_script : (script : Script) (banks : List View) → AreBanksOf script banks → All HasRun banks
-    → AreRuns (shape_of (unsigned_of script.numbers)) script.image.items (bank_of (unsigned_of script.numbers)) (logs_in banks)
+    → AreRuns (shape_of script.geometry) script.image.items (bank_of script.geometry) (logs_in banks)
 runs_of_script script banks are runs i lt =
     let there : BankAt banks i = bank_at banks i (let long = length_banks banks in omega arith) in
     let v : View = there.bank in
     let known : i < length banks = (let long = length_banks banks in omega arith) in
     let of : IsBankOf script i v = subst (IsBankOf script i) (there.is v) (are.each i v known) in
     let run : HasRun v = subst HasRun (there.is v) (runs i v known) in
-    let g : Numbers = unsigned_of script.numbers in
-    let same : v.geometry ≡ g = ap unsigned_of of.0 in
+    let g : Numbers = script.geometry in
+    let same : v.geometry ≡ g = of.0 in
     let is_run : IsRun (shape_of g) script.image.items v.log =
     subst (λ (image : List ℕ). IsRun (shape_of g) image v.log) of.2
     (subst (λ (n : Numbers). IsRun (shape_of n) v.image v.log) same run.0) in

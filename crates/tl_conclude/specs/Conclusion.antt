@@ -10,7 +10,6 @@ use Rattle.tl_protocol.specs.Ledger.{has_copy, is_recorded}
 use Rattle.tl_words.specs.declared.command.Command.{Command}
 use Rattle.tl_words.specs.declared.command.Command.TheVariants.{Drop}
 use Rattle.tl_script.specs.Commands.{commands as commands_in}
-use Rattle.tl_script.specs.Numbers.{unsigned_of}
 use Rattle.tl_script.specs.declared.script.Script.{Script}
 use Rattle.tl_report.specs.declared.report.Answered.{Answered}
 use Rattle.tl_report.specs.declared.report.BankLine.{BankLine}
@@ -45,7 +44,7 @@ pub record IsOneMemory (script : Script) (banks : List View) (clients : List (Ve
   pub runs : All HasRun banks
   pub ordered : List Event
   pub in_order :
-      AreInOrder (shape_of (unsigned_of script.numbers)) (bank_of (unsigned_of script.numbers)) (logs_in banks) ordered
+      AreInOrder (shape_of script.geometry) (bank_of script.geometry) (logs_in banks) ordered
   pub answered : (client : ℕ) → AllZip Answers (filter is_line (lines_of clients client)) (filter (is_by client) ordered)
   pub one_memory : LoadsLast script.image.items ordered
 

@@ -8,6 +8,7 @@ use tl_bank::Bank;
 use tl_map::GeometryNumbers;
 use tl_protocol::Event;
 use tl_script::Script;
+use tl_types::BANKS;
 
 /// Whether two geometries have the same numbers.
 fn same_numbers(one: GeometryNumbers, other: GeometryNumbers) -> bool
@@ -27,7 +28,7 @@ fn same_bytes(one: &[u8], other: &[u8]) -> bool
 pub fn is_bank_of(script: &Script, number: usize, bank: &Bank) -> bool
     ensures { IsTrue result ↔ IsBankOf script.now number bank.now }
 {
-    if !same_numbers(bank.geometry().numbers(), script.numbers) {
+    if !same_numbers(bank.geometry().numbers(), script.geometry.numbers()) {
         return false;
     }
     if bank.number().number() as usize != number {
@@ -52,8 +53,8 @@ pub(crate) fn are_banks_of(script: &Script, banks: &[Bank]) -> bool
 }
 
 /// The logs of at most 8 banks. Each is a run on the bank's own blocks.
-pub(crate) fn logs_of(banks: &[Bank]) -> ArrayVec<&[Event], 8>
-    requires { length banks.now ≤ 8 }
+pub(crate) fn logs_of(banks: &[Bank]) -> ArrayVec<&[Event], BANKS>
+    requires { length banks.now ≤ BANKS }
     ensures logs { events_of result.items ≡ logs_in banks.now }
     ensures runs { All HasRun banks.now }
 {

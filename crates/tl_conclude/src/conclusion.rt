@@ -24,11 +24,12 @@ use tl_rules::{certify_events, every_order};
 use tl_script::Script;
 use tl_tickets::gather;
 use tl_words::Command;
+use tl_types::{BANKS, CLIENTS};
 
 /// What is held of each of the first 8 banks, by its shares. None where not each bank's shares were given back.
-fn gathered(banks: &[Bank], shares: &[Vec<Share>]) -> Option<ArrayVec<u64, 8>>
+fn gathered(banks: &[Bank], shares: &[Vec<Share>]) -> Option<ArrayVec<u64, BANKS>>
     ensures some { IsSome result ↔ AreAllShares banks.now shares.now }
-    ensures held { IfSome result (λ held. held.items ≡ map (pairs_at has_copy) (take 8 banks.now)) }
+    ensures held { IfSome result (λ held. held.items ≡ map (pairs_at has_copy) (take BANKS banks.now)) }
 {
     if banks.len() != shares.len() {
         return None;
@@ -38,7 +39,7 @@ fn gathered(banks: &[Bank], shares: &[Vec<Share>]) -> Option<ArrayVec<u64, 8>>
         let Ok(sum) = gather(bank, shares[place].as_slice()) else {
             return None;
         };
-        if place < 8 {
+        if place < BANKS {
             held.push(sum);
         }
     }
@@ -63,7 +64,7 @@ fn all_lines(
     commands: &[Vec<Command>],
     logs: &[&[Event]],
 ) -> Result<Option<Vec<Vec<Answered>>>, AllocError>
-    requires few { length commands.now ≤ 16 }
+    requires few { length commands.now ≤ CLIENTS }
     requires distinct { Pairwise AreDistinct (all_accesses (events_of logs.now)) }
     ensures none { IfOk result (λ found. IfNone found (AreCarriedOut (commands_in commands.now) (events_of logs.now) → ⊥)) }
     ensures some { IfOk result (λ found. IfSome found (λ all. AreCarriedOut (commands_in commands.now) (events_of logs.now)
@@ -105,7 +106,7 @@ fn bank_lines(alloc: Global, banks: &[Bank], held: &[u64]) -> Result<Vec<BankLin
 /// The commands of a script, of at most 16 clients.
 fn commands_of(script: &Script) -> &[Vec<Command>]
     ensures is { result.now ≡ script.now.commands.items }
-    ensures few { length result.now ≤ 16 }
+    ensures few { length result.now ≤ CLIENTS }
 {
     // For the proof alone: there is a list for each client, and a geometry has at most 16.
     let _clients = script.geometry().clients();
@@ -128,7 +129,7 @@ pub fn conclude(
     let Some(held) = gathered(banks, shares) else {
         return Err(RunError::Shares);
     };
-    if banks.len() > 8 {
+    if banks.len() > BANKS {
         return Err(RunError::NotOrdered);
     }
     let lists = logs_of(banks);

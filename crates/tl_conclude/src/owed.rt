@@ -4,6 +4,7 @@ ghost use Rattle.tl_script.specs.Commands.{commands as commands_in};
 ghost use Rattle.tl_conclude.specs.Carried.{makes_access, commands_of};
 
 use tl_words::Command;
+use tl_types::CLIENTS;
 
 /// Whether a command is a load or a store.
 fn makes_access(command: &Command) -> bool
@@ -26,11 +27,11 @@ fn count_accesses(commands: &[Command]) -> usize
 }
 
 /// How many accesses each client owes before any was read: its loads and stores. 0 for clients that are not there.
-pub(crate) fn all_owed(commands: &[Vec<Command>]) -> [usize; 16]
-    requires { length commands.now ≤ 16 }
+pub(crate) fn all_owed(commands: &[Vec<Command>]) -> [usize; CLIENTS]
+    requires { length commands.now ≤ CLIENTS }
     ensures { (client : ℕ) → slice_index result client ≡ count_by makes_access (commands_of (commands_in commands.now) client) }
 {
-    let mut owed = [0; 16];
+    let mut owed = [0; CLIENTS];
     for (client, list) in commands.iter().enumerate() {
         owed[client] = count_accesses(list);
     }
@@ -38,7 +39,7 @@ pub(crate) fn all_owed(commands: &[Vec<Command>]) -> [usize; 16]
 }
 
 /// Whether no client owes an access.
-pub(crate) fn is_nothing(owed: &[usize; 16]) -> bool
+pub(crate) fn is_nothing(owed: &[usize; CLIENTS]) -> bool
     ensures { IsTrue result ↔ All (λ count. count ≡ 0) owed.now }
 {
     owed.iter().all(|count| *count == 0)

@@ -13,16 +13,17 @@ use crate::owed::{all_owed, is_nothing};
 use tl_protocol::Event;
 use tl_report::Answered;
 use tl_words::Command;
+use tl_types::CLIENTS;
 
 /// Reads an event: an access is compared with its command, its client owes one less, and its bytes are written onto its line,
 /// where there is one. False, with nothing known of the rest, where it does not carry out its command or is not owed.
 fn read_event(
     commands: &[Vec<Command>],
     event: &Event,
-    owed: &mut [usize; 16],
+    owed: &mut [usize; CLIENTS],
     all: &mut Vec<Vec<Answered>>,
 ) -> bool
-    requires { length commands.now ≤ 16 }
+    requires { length commands.now ≤ CLIENTS }
     ensures exact { IsTrue result ↔ (HasCommand (commands_in commands.now) event.now (access_of event.now) × IsOwed owed.old (access_of event.now)) }
     ensures counted { result ≡ true → AreCounted owed.old owed.new (cons_option (access_of event.now) []) }
     ensures commands { result ≡ true → commands_on all.new.items ≡ commands_on all.old.items }
@@ -47,10 +48,10 @@ fn read_event(
 fn read_log(
     commands: &[Vec<Command>],
     log: &[Event],
-    owed: &mut [usize; 16],
+    owed: &mut [usize; CLIENTS],
     all: &mut Vec<Vec<Answered>>,
 ) -> bool
-    requires { length commands.now ≤ 16 }
+    requires { length commands.now ≤ CLIENTS }
     ensures exact { IsTrue result
         ↔ (All (λ e. HasCommand (commands_in commands.now) e (access_of e)) log.now × AreOwed (length commands.now) owed.old (accesses_of log.now)) }
     ensures counted { result ≡ true → AreCounted owed.old owed.new (accesses_of log.now) }
@@ -72,7 +73,7 @@ pub(crate) fn read_logs(
     logs: &[&[Event]],
     all: &mut Vec<Vec<Answered>>,
 ) -> bool
-    requires { length commands.now ≤ 16 }
+    requires { length commands.now ≤ CLIENTS }
     ensures exact { IsTrue result ↔ AreCarriedOut (commands_in commands.now) (events_of logs.now) }
     ensures commands { result ≡ true → commands_on all.new.items ≡ commands_on all.old.items }
     ensures bytes { result ≡ true → bytes_on all.new.items ≡ with_accesses (bytes_on all.old.items) (all_accesses (events_of logs.now)) }

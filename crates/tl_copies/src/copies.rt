@@ -10,7 +10,7 @@ use crate::table::{Full, Table};
 use std::alloc::{AllocError, Global};
 use std::marker::Model;
 use tl_map::Geometry;
-use tl_types::{AccessBytes, BankNo, BlockNo, ClientId};
+use tl_types::{AccessBytes, BLOCK_BYTES, BankNo, BlockNo, COPIES, ClientId};
 
 /// The copies of one bank's blocks. Each client has at most as many entries as the geometry says.
 #[derive(Drop)]
@@ -185,7 +185,7 @@ impl Copies {
         access: &AccessBytes,
     )
         requires client { client < clients_of self.old }
-        requires room { offset + length access.now ≤ 64 }
+        requires room { offset + length access.now ≤ BLOCK_BYTES }
         ensures same { SameSize self.old self.new }
         ensures after { (x y : ℕ)
             → held_at self.new x y
@@ -214,7 +214,7 @@ impl Copies {
         ensures held { (block : ℕ) → held_at self.now client block ≡ found block result.now }
         ensures order { order_in self.now client ≡ map (λ (e : Entry). e.block) result.now }
         ensures sound { IsTable self.now.limit self.now.blocks result.now }
-        ensures few { self.now.limit ≤ 64 }
+        ensures few { self.now.limit ≤ COPIES }
     {
         &self.tables[client.index()]
     }

@@ -2,7 +2,7 @@
 ghost use Rattle.std.specs.Prelude.{◌≡◌, ◌≤◌, ◌+◌, length, if◌then◌else◌};
 ghost use Rattle.tl_copies.specs.Held.{is_copy, is_renewed, stored, waits};
 
-use tl_types::{AccessBytes, BlockBytes, Perm, Wait};
+use tl_types::{AccessBytes, BLOCK_BYTES, BlockBytes, Perm, Wait};
 
 /// What a client holds of a block: its permission, whether it stored into it, the bytes, and the answer that it waits for.
 #[derive(Debug, Drop)]
@@ -61,7 +61,7 @@ impl Held {
 
     /// Writes the bytes of a store from `offset` on, which makes it dirty.
     pub(crate) fn store(&mut self, offset: usize, access: &AccessBytes)
-        requires { offset + length access.now ≤ 64 }
+        requires { offset + length access.now ≤ BLOCK_BYTES }
         ensures { self.new ≡ stored offset access.now self.old }
     {
         self.bytes.overwrite(offset, access);

@@ -7,7 +7,7 @@ use crate::held::Held;
 use arrayvec::ArrayVec;
 use std::default::Default;
 use std::marker::Model;
-use tl_types::{AccessBytes, BlockBytes, BlockNo, Perm, Wait};
+use tl_types::{AccessBytes, BLOCK_BYTES, BlockBytes, BlockNo, COPIES, Perm, Wait};
 
 /// The block of an entry, and the slot of what the client holds of it.
 #[derive(Debug, Drop)]
@@ -83,7 +83,7 @@ impl Table {
     /// How many entries there are.
     pub(crate) fn len(&self) -> usize
         ensures value { result ≡ length self.now }
-        ensures few { result ≤ 64 }
+        ensures few { result ≤ COPIES }
     {
         self.keys.len()
     }
@@ -178,7 +178,7 @@ impl Table {
 
     /// Puts a copy into the block's entry, or into a new one where there are fewer than `limit`.
     pub(crate) fn keep(&mut self, limit: usize, block: BlockNo, held: Held) -> Result<(), Full>
-        requires { limit ≤ 64 }
+        requires { limit ≤ COPIES }
         ensures after { OnOk result (self.new ≡ kept block held self.old) }
         ensures full { IsErr result ↔ ((found block self.old ≡ None) × (limit ≤ length self.old)) }
         ensures held { IfErr result (λ full. full.held ≡ held) }
@@ -217,7 +217,7 @@ impl Table {
         access: &AccessBytes,
     )
         requires once { HasEachOnce self.old }
-        requires room { offset + length access.now ≤ 64 }
+        requires room { offset + length access.now ≤ BLOCK_BYTES }
         ensures { MatchOption (found block self.old) (self.new ≡ self.old)
             (λ held. self.new ≡ replaced block (stored offset access.now held) self.old) }
     {
@@ -228,7 +228,7 @@ impl Table {
 
     /// Puts a new entry last.
     fn add(&mut self, block: BlockNo, held: Held)
-        requires { length self.old < 64 }
+        requires { length self.old < COPIES }
         ensures { self.new ≡ self.old ++ record { block = block; held = held } ∷ [] }
     {
         self.copies += held.copies();
@@ -256,7 +256,7 @@ impl Table {
     /// Writes the bytes of a store over those of the entry at a place.
     fn store_at(&mut self, place: usize, offset: usize, access: &AccessBytes)
         requires place { place < length self.old }
-        requires room { offset + length access.now ≤ 64 }
+        requires room { offset + length access.now ≤ BLOCK_BYTES }
         ensures { (e : Entry)
             → self.new
             ≡ slice_set self.old place (record {

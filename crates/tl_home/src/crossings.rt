@@ -75,7 +75,7 @@ impl Crossings {
         ensures { MatchOption result (outward_of block self.now ≡ Quiet) (λ outward. outward_of block self.now ≡ outward.now) }
     {
         for crossing in self.list.as_slice() {
-            if crossing.block.number() == block.number() {
+            if crossing.block == block {
                 return Some(&crossing.outward);
             }
         }
@@ -167,7 +167,7 @@ impl Crossings {
         ensures { MatchOption result (outward_of block self.now ≡ Quiet) (λ place. IsPlace block self.now place) }
     {
         for (place, crossing) in self.list.as_slice().iter().enumerate() {
-            if crossing.block.number() == block.number() {
+            if crossing.block == block {
                 return Some(place);
             }
         }

@@ -11,7 +11,7 @@ ghost use Rattle.tl_home.specs.Directories.{way_of, line_of, recorded_of, free_i
 use std::alloc::{AllocError, Global};
 use std::marker::Model;
 use tl_map::{Geometry, Place, Set};
-use tl_types::{BankNo, BlockBytes, BlockNo, ClientId, Perm};
+use tl_types::{BankNo, BlockBytes, BlockNo, CLIENTS, ClientId, Perm};
 use tl_ways::{BankedStore, Entry, Way, Ways};
 
 /// The entries of one bank's sets, and beside each way the bytes of the block that lies there.
@@ -140,7 +140,7 @@ impl Directory {
     pub fn record(&mut self, client: ClientId, block: BlockNo, perm: Perm)
         requires block { block < self.old.geometry.memory_blocks }
         requires held { IsSome (line_of self.old block) }
-        requires known { client < 16 }
+        requires known { client < CLIENTS }
         requires tip { perm ≡ Tip → (other : ℕ) → other ≢ client → recorded_of self.old other block ≡ NoAccess }
         requires branch { perm ≡ Branch → (other : ℕ) → other ≢ client → recorded_of self.old other block ≢ Tip }
         ensures same { SameBank self.old self.new }

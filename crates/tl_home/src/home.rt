@@ -20,7 +20,7 @@ use std::marker::Model;
 use tl_map::{Geometry, Set};
 use tl_memory::Memory;
 use tl_protocol::Outward;
-use tl_types::{BankNo, BlockBytes, BlockNo, ClientId, Perm};
+use tl_types::{BankNo, BlockBytes, BlockNo, CLIENTS, ClientId, Perm};
 use tl_ways::{Entry, Way};
 
 /// Home's part of the blocks of one bank, and the memory's.
@@ -171,7 +171,7 @@ impl Home {
     /// Of how many blocks something passes between home and the memory.
     pub fn crossings(&self) -> usize
         ensures is { result ≡ crossing_count self.now }
-        ensures few { result ≤ 8 }
+        ensures few { result ≤ Home::MOST_CROSSINGS }
         ensures each { (n : ℕ) (holder : ℕ → ℕ) → EachHasHolder self.now n holder → result ≤ n }
     {
         self.crossings.len()
@@ -220,7 +220,7 @@ impl Home {
     pub fn receive(&mut self, client: ClientId, block: BlockNo, to: Perm, bytes: Option<BlockBytes>)
         requires block { block < (geometry_in self.old).memory_blocks }
         requires held { IsSome (line_in self.old block) }
-        requires known { client < 16 }
+        requires known { client < CLIENTS }
         requires tip { to ≡ Tip → (other : ℕ) → other ≢ client → recorded_in self.old other block ≡ NoAccess }
         requires branch { to ≡ Branch → (other : ℕ) → other ≢ client → recorded_in self.old other block ≢ Tip }
         ensures bank { SameBank self.old self.new }
@@ -241,7 +241,7 @@ impl Home {
     pub fn grant(&mut self, client: ClientId, block: BlockNo, perm: Perm)
         requires block { block < (geometry_in self.old).memory_blocks }
         requires held { IsSome (line_in self.old block) }
-        requires known { client < 16 }
+        requires known { client < CLIENTS }
         requires tip { perm ≡ Tip → (other : ℕ) → other ≢ client → recorded_in self.old other block ≡ NoAccess }
         requires branch { perm ≡ Branch → (other : ℕ) → other ≢ client → recorded_in self.old other block ≢ Tip }
         ensures bank { SameBank self.old self.new }
@@ -263,7 +263,7 @@ impl Home {
     /// Home asks the memory for a block of which nothing passes.
     pub fn send_get(&mut self, block: BlockNo)
         requires quiet { outward_in self.old block ≡ Quiet }
-        requires room { crossing_count self.old < 8 }
+        requires room { crossing_count self.old < Home::MOST_CROSSINGS }
         ensures bank { SameBank self.old self.new }
         ensures home { SameHome self.old self.new }
         ensures outward { (b : ℕ) → outward_in self.new b ≡ (if b == block then Get else outward_in self.old b) }
@@ -296,7 +296,7 @@ impl Home {
         requires block { block < (geometry_in self.old).memory_blocks }
         requires held { IsSome (line_in self.old block) }
         requires quiet { outward_in self.old block ≡ Quiet }
-        requires room { crossing_count self.old < 8 }
+        requires room { crossing_count self.old < Home::MOST_CROSSINGS }
         ensures bank { SameBank self.old self.new }
         ensures lines { (b : ℕ) → line_in self.new b ≡ (if b == block then None else line_in self.old b) }
         ensures recorded { (c b : ℕ) → recorded_in self.new c b ≡ (if b == block then NoAccess else recorded_in self.old c b) }

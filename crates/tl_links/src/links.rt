@@ -8,12 +8,12 @@ ghost use Rattle.tl_types.specs.declared.message.Message.{Message};
 ghost use Rattle.tl_links.specs.Table.{lane_in, some_has, IsNotHead, SameSize};
 ghost use Rattle.tl_links.specs.Wanted.{is_wanted};
 
-use crate::queue::{PLACES, Queue};
+use crate::queue::Queue;
 use crate::ticket_error::TicketError;
 use crate::wanted::Wanted;
 use std::alloc::{AllocError, Global};
 use std::marker::Model;
-use tl_types::{BankNo, BlockNo, Channel, ClientId, Message, Ticket};
+use tl_types::{BankNo, BlockNo, CLIENTS, Channel, ClientId, MESSAGES, Message, Ticket};
 
 /// The channels between a bank and its clients. Each keeps its messages in order, at most 64 at a time.
 #[derive(Drop)]
@@ -45,7 +45,7 @@ impl Links {
     /// The links of a bank to so many clients, with no message on them. All memory that they ever use is taken here.
     #[tactic(auto, unfolding(crate::specs::Table::lane_in))]
     pub fn new(alloc: Global, bank: BankNo, clients: u32) -> Result<Links, AllocError>
-        requires { clients ≤ 16 }
+        requires { clients ≤ CLIENTS }
         ensures bank { IfOk result (λ l. l.bank ≡ bank) }
         ensures clients { IfOk result (λ l. l.clients ≡ clients) }
         ensures empty { IfOk result (λ l. (x : ℕ) (k : Channel) → lane_in l x k ≡ empty_lane) }
@@ -72,7 +72,7 @@ impl Links {
     /// How many clients there are.
     pub fn clients(&self) -> u32
         ensures value { result ≡ self.now.clients }
-        ensures few { result ≤ 16 }
+        ensures few { result ≤ CLIENTS }
     {
         self.clients
     }
@@ -97,7 +97,7 @@ impl Links {
     pub fn waiting(&self, client: ClientId, channel: Channel) -> usize
         requires { client < self.now.clients }
         ensures value { result ≡ length (lane_in self.now client channel).messages }
-        ensures few { result ≤ 64 }
+        ensures few { result ≤ MESSAGES }
     {
         self.queue(client, channel).waiting()
     }
@@ -164,12 +164,12 @@ impl Links {
             → lane_in self.new x k
             ≡ (if is_here client channel x k then with_message (lane_in self.old x k) message else lane_in self.old x k)) }
 
-        ensures full { IsErr result ↔ (length (lane_in self.old client channel).messages ≡ 64) }
+        ensures full { IsErr result ↔ (length (lane_in self.old client channel).messages ≡ MESSAGES) }
         ensures message { IfErr result (λ full. full.message ≡ message) }
         ensures unchanged { OnErr result (self.new ≡ self.old) }
     {
         let queue = self.queue(client, channel);
-        if queue.waiting() == PLACES {
+        if queue.waiting() == MESSAGES {
             return Err(Full { message });
         }
         let serial = queue.sent();

@@ -12,10 +12,7 @@ use slab::Slab;
 use std::alloc::{AllocError, Global};
 use std::collections::VecDeque;
 use std::marker::Model;
-use tl_types::{BlockNo, Message};
-
-/// How many messages may wait on a channel.
-pub(crate) const PLACES: usize = 64;
+use tl_types::{BlockNo, MESSAGES, Message};
 
 /// The messages that wait on one channel, in 64 places that are taken when this is made.
 #[derive(Drop)]
@@ -44,8 +41,8 @@ impl Queue {
     {
         Ok(Queue {
             taken: 0,
-            messages: Slab::with_capacity(alloc, PLACES)?,
-            order: VecDeque::with_capacity(alloc, PLACES)?,
+            messages: Slab::with_capacity(alloc, MESSAGES)?,
+            order: VecDeque::with_capacity(alloc, MESSAGES)?,
         })
     }
 
@@ -59,7 +56,7 @@ impl Queue {
     /// How many messages wait.
     pub(crate) fn waiting(&self) -> usize
         ensures value { result ≡ length self.now.messages }
-        ensures few { result ≤ 64 }
+        ensures few { result ≤ MESSAGES }
     {
         self.order.len()
     }
@@ -105,7 +102,7 @@ impl Queue {
 
     /// Puts a message behind those that wait.
     pub(crate) fn push(&mut self, message: Message)
-        requires room { length self.old.messages < 64 }
+        requires room { length self.old.messages < MESSAGES }
         requires counted { sent self.old < 2 ^ 64 - 1 }
         ensures { self.new ≡ with_message self.old message }
     {
@@ -129,7 +126,7 @@ impl Queue {
     {
         for key in &self.order {
             if let Some(message) = self.messages.get(*key) {
-                if message.block.number() == block.number() && wanted.fits(&message.body) {
+                if message.block == block && wanted.fits(&message.body) {
                     return true;
                 }
             }

@@ -90,6 +90,7 @@ fn ends_of<'x>(
     requires { Fits senders mailbox.now keys }
     ensures { IfOk result (λ made. vec_len made.1 ≡ senders) }
 {
+    // For the prover: the clauses alone name it.
     let _ = senders;
     let Keys {
         receiver,
@@ -150,6 +151,7 @@ fn one_of_each<'x>(
     requires each { All (λ ways. vec_len ways ≡ left) sending.items }
     ensures rest { IfOk result (λ made. All (λ ways. vec_len ways + 1 ≡ left) made.1.items) }
 {
+    // For the prover: the clauses alone name it.
     let _ = left;
     let mut taken = Vec::with_capacity(alloc, sending.len())?;
     let mut rest = Vec::with_capacity(alloc, sending.len())?;

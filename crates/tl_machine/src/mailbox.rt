@@ -7,6 +7,7 @@ ghost use Rattle.tl_machine.specs.Keys.{Fits, FitEach};
 
 use std::alloc::{AllocError, Global};
 use tl_tickets::{Bell, Inbox, Pass, Seat};
+use tl_types::CLIENTS;
 
 /// A receiver's inbox, and the bell that its senders ring.
 #[derive(Drop)]
@@ -58,7 +59,7 @@ fn open_mailbox(
     senders: usize,
 ) -> Result<(Mailbox, Keys), AllocError>
     requires capacity { (0 < capacity) × (capacity ≤ 4096) }
-    requires senders { (0 < senders) × (senders ≤ 16) }
+    requires senders { (0 < senders) × (senders ≤ CLIENTS) }
     ensures { IfOk result (λ made. Fits senders made.0 made.1) }
 {
     let (inbox, receiver, passes) = open_inbox(alloc, capacity, senders)?;
@@ -82,7 +83,7 @@ pub(crate) fn open_mailboxes(
     senders: u32,
 ) -> Result<(Vec<Mailbox>, Vec<Keys>), AllocError>
     requires capacity { (0 < capacity) × (capacity ≤ 4096) }
-    requires senders { (0 < senders) × (senders ≤ 16) }
+    requires senders { (0 < senders) × (senders ≤ CLIENTS) }
     ensures each { IfOk result (λ made. FitEach senders made.0.items made.1.items) }
     ensures count { IfOk result (λ made. vec_len made.1 ≡ count) }
 {

@@ -18,7 +18,7 @@ use tl_conclude::{RunError, conclude};
 use tl_map::Geometry;
 use tl_report::Report;
 use tl_script::Script;
-use tl_types::{BankNo, ClientId};
+use tl_types::{BANKS, BankNo, CLIENTS, ClientId};
 
 /// How many tickets an inbox of `run` holds.
 pub const CAPACITY: usize = 512;
@@ -118,7 +118,7 @@ fn client_workers<'s, 'x, 'y, G: Gate>(
 ) -> Result<Vec<ClientWorker<'s, 'x, 'y, G>>, AllocError>
     requires shares { vec_len shares ≡ length commands.now }
     requires posts { vec_len posts ≡ length commands.now }
-    requires few { length commands.now ≤ 16 }
+    requires few { length commands.now ≤ CLIENTS }
 {
     let alloc = shared.alloc;
     let mut workers = Vec::with_capacity(alloc, shares.len())?;
@@ -146,7 +146,7 @@ fn home_workers<'x, 'y, G: Gate>(
     shared: &'y Shared<'y, G>,
     posts: Vec<Post<'x>>,
 ) -> Result<Vec<HomeWorker<'x, 'y, G>>, AllocError>
-    requires { vec_len posts ≤ 8 }
+    requires { vec_len posts ≤ BANKS }
 {
     let alloc = shared.alloc;
     let mut workers = Vec::with_capacity(alloc, posts.len())?;

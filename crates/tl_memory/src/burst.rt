@@ -4,7 +4,7 @@ ghost use Rattle.std.specs.Fork.{slice_chunk};
 
 use arrayvec::ArrayVec;
 use std::marker::Model;
-use tl_types::BlockBytes;
+use tl_types::{BLOCK_BYTES, BlockBytes};
 
 /// The bytes of a beat.
 const BEAT: usize = 8;
@@ -71,7 +71,7 @@ impl Burst {
 
     /// Puts a beat behind the others, of which there are fewer than eight.
     pub fn push_beat(&mut self, beat: [u8; 8])
-        requires { length self.old < 64 }
+        requires { length self.old < BLOCK_BYTES }
         ensures { self.new ≡ self.old ++ beat }
     {
         self.beats.push(beat);

@@ -183,7 +183,7 @@ impl Memory {
         ensures { result ≡ is_kept self.now.geometry self.now.bank block }
     {
         match self.bank {
-            Some(bank) => self.geometry.bank(block).number() == bank.number(),
+            Some(bank) => self.geometry.bank(block) == bank,
             None => true,
         }
     }

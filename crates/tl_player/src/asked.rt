@@ -43,6 +43,7 @@ fn bank_of_block(geometry: Geometry, block: BlockNo) -> usize
     ensures is { result ≡ bank_of_block geometry block }
     ensures inside { result < geometry.banks }
 {
+    // For the prover: a geometry has a bank.
     let _banks = geometry.banks();
     if geometry.has(block) {
         geometry.place(block).bank.index()

@@ -12,7 +12,7 @@ use std::marker::Model;
 use tl_map::Geometry;
 use tl_trace::{Answer, BankClosing};
 use tl_types::{BankNo, ClientId};
-use tl_words::Step;
+use tl_words::{STEPS, Step};
 
 /// Every bank with its clients' shares, by number, and the clock of each client.
 #[derive(Drop)]
@@ -77,7 +77,7 @@ impl Network {
 
     /// All steps, and the answer to each. An error is a request for memory that was refused.
     pub(crate) fn steps(&mut self, alloc: Global, steps: &[Step]) -> Result<Vec<Answer>, AllocError>
-        requires { length steps.now ≤ 4096 }
+        requires { length steps.now ≤ STEPS }
         ensures { IfOk result (λ answers. AreNetworkSteps 0 steps.now self.old answers.items self.new) }
     {
         let mut answers = Vec::new(alloc);

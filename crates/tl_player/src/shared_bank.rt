@@ -44,6 +44,7 @@ impl SharedBank {
         requires image { length image.now ≤ geometry.memory_blocks * geometry.block_bytes }
         ensures { IfOk result (IsFresh geometry image.now number) }
     {
+        // For the prover: a geometry has a client.
         let _clients = geometry.clients();
         let (bank, shares) = Bank::new(alloc, geometry, number, image)?;
         Ok(SharedBank { bank, shares })

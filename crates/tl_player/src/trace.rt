@@ -6,9 +6,9 @@ use crate::network::Network;
 use std::alloc::{AllocError, Global};
 use tl_map::Geometry;
 use tl_trace::Trace;
-use tl_words::Step;
+use tl_words::{STEPS, Step};
 
-/// Plays steps, at most 4,096, over all banks of a geometry at reset over an image that is no longer than the memory: what each
+/// Plays steps, at most `STEPS`, over all banks of a geometry at reset over an image that is no longer than the memory: what each
 /// step answers, with its index as the index of its access, and what each bank shows at the end. A refused step is answered with
 /// its refusal. An error is a request for memory that was refused, also in a step.
 pub fn play(
@@ -18,7 +18,7 @@ pub fn play(
     steps: &[Step],
 ) -> Result<Trace, AllocError>
     requires image { length image.now ≤ geometry.memory_blocks * geometry.block_bytes }
-    requires few { length steps.now ≤ 4096 }
+    requires few { length steps.now ≤ STEPS }
     ensures { IfOk result (IsTrace geometry image.now steps.now) }
 {
     let mut network = Network::new(alloc, geometry, image)?;

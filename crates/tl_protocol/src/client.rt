@@ -11,10 +11,7 @@ use crate::queue::{AckCount, Queue};
 use crate::shape::Shape;
 use std::alloc::{AllocError, Global};
 use std::mem;
-use tl_types::{
-    AccessBytes, BlockBytes, Downward, GrantCap, Grow, Perm, ProbeAnswer, ProbeCap, Prune,
-    Surrender, Upward, Wait,
-};
+use tl_types::{AccessBytes, BLOCK_BYTES, BlockBytes, Downward, GrantCap, Grow, Perm, ProbeAnswer, ProbeCap, Prune, Surrender, Upward, Wait};
 
 /// A client, the permission that home records for it, and the messages between them, oldest first.
 #[derive(Drop)]
@@ -56,7 +53,7 @@ impl Client {
 
     /// Whether it may load these bytes: it has a copy with them, and they lie in one block.
     pub fn may_load(&self, shape: Shape, access: &Access) -> bool
-        requires { (0 < shape.block_bytes) × (shape.block_bytes ≤ 64) }
+        requires { (0 < shape.block_bytes) × (shape.block_bytes ≤ BLOCK_BYTES) }
         ensures { IsTrue result ↔ MayLoad shape self.now access.now }
     {
         access.fits_block(shape)
@@ -67,7 +64,7 @@ impl Client {
 
     /// Whether it may store: its copy is at Tip, and the bytes lie in one block.
     pub fn may_store(&self, shape: Shape, access: &Access) -> bool
-        requires { (0 < shape.block_bytes) × (shape.block_bytes ≤ 64) }
+        requires { (0 < shape.block_bytes) × (shape.block_bytes ≤ BLOCK_BYTES) }
         ensures { IsTrue result ↔ MayStore shape self.now access.now }
     {
         access.fits_block(shape) && self.held.perm() == Perm::Tip
@@ -162,7 +159,7 @@ impl Client {
 
     /// Writes the bytes of a store over its copy, from `offset` of the block on.
     pub fn store(&mut self, offset: usize, access: &AccessBytes)
-        requires { offset + length access.now ≤ 64 }
+        requires { offset + length access.now ≤ BLOCK_BYTES }
         ensures { self.new ≡ stored self.old offset access.now }
     {
         self.held.store(offset, access);

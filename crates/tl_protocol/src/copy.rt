@@ -4,7 +4,7 @@ ghost use Rattle.tl_protocol.specs.Access.{ReadsAs};
 ghost use Rattle.tl_protocol.specs.Copy.{perm_of, bytes_of, dirty_bytes, clean_copy, reduced, stored_in};
 
 use std::mem;
-use tl_types::{AccessBytes, BlockBytes, Perm};
+use tl_types::{AccessBytes, BLOCK_BYTES, BlockBytes, Perm};
 
 /// A client's copy of a block.
 #[derive(Debug, Drop)]
@@ -43,7 +43,7 @@ impl CachedCopy {
     /// Whether it can be read and its bytes from `offset` on are those of `access`.
     pub fn reads_as(&self, offset: u32, access: &AccessBytes) -> bool
         requires nonempty { 0 < length access.now }
-        requires inside { offset ≤ 64 }
+        requires inside { offset ≤ BLOCK_BYTES }
         ensures { IsTrue result ↔ ((perm_of self.now ≢ Perm.None) × ReadsAs (bytes_of self.now) offset access.now) }
     {
         match self {
@@ -88,7 +88,7 @@ impl CachedCopy {
 
     /// Writes the bytes of a store from `offset` on, which makes it dirty.
     pub fn store(&mut self, offset: usize, access: &AccessBytes)
-        requires { offset + length access.now ≤ 64 }
+        requires { offset + length access.now ≤ BLOCK_BYTES }
         ensures { self.new ≡ stored_in offset access.now self.old }
     {
         let mut bytes = mem::replace(self, CachedCopy::Absent).into_bytes();

@@ -6,7 +6,7 @@ ghost use Rattle.tl_protocol.specs.OneMemory.{access_of};
 ghost use Rattle.tl_protocol.specs.Protocol.{block_of};
 
 use crate::shape::Shape;
-use tl_types::{AccessBytes, BlockNo, ClientId, Grow, ProbeCap, Prune};
+use tl_types::{ACCESS_BYTES, AccessBytes, BlockNo, ClientId, Grow, ProbeCap, Prune};
 
 /// A load or a store of a client.
 #[derive(Drop)]
@@ -31,7 +31,7 @@ impl Access {
     {
         let len = self.bytes.as_slice().len();
         let offset = (self.address % shape.block_bytes) as usize;
-        len > 0 && len <= 8 && offset + len <= shape.block_bytes as usize
+        len > 0 && len <= ACCESS_BYTES && offset + len <= shape.block_bytes as usize
     }
 }
 

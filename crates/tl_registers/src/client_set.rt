@@ -2,12 +2,12 @@
 ghost use Rattle.std.specs.Prelude.{◌≡◌, ◌<◌, false, true, replicate, slice_index_or, slice_set};
 
 use std::marker::Model;
-use tl_types::ClientId;
+use tl_types::{CLIENTS, ClientId};
 
 /// A set of the clients with numbers below 16. Contracts see for each number whether the set has that client.
 #[derive(Clone, Debug, PartialEq, Eq)]
 pub struct ClientSet {
-    members: [bool; 16],
+    members: [bool; CLIENTS],
 }
 
 impl Model for ClientSet {
@@ -25,16 +25,16 @@ impl Copy for ClientSet {}
 impl ClientSet {
     /// The set of no client.
     pub fn new() -> ClientSet
-        ensures { result ≡ replicate 16 false }
+        ensures { result ≡ replicate CLIENTS false }
     {
         ClientSet {
-            members: [false; 16],
+            members: [false; CLIENTS],
         }
     }
 
     /// Whether it has a client.
     pub fn contains(&self, client: ClientId) -> bool
-        requires { client < 16 }
+        requires { client < CLIENTS }
         ensures { result ≡ slice_index_or self.now client false }
     {
         let index = client.index();
@@ -43,7 +43,7 @@ impl ClientSet {
 
     /// A client joins it.
     pub fn insert(&mut self, client: ClientId)
-        requires { client < 16 }
+        requires { client < CLIENTS }
         ensures { self.new ≡ slice_set self.old client true }
     {
         self.members[client.index()] = true;

@@ -12,7 +12,7 @@ use crate::way_of_set::WayOfSet;
 use arrayvec::ArrayVec;
 use std::marker::Model;
 use tl_protocol::Accepted;
-use tl_types::{BlockNo, ClientId};
+use tl_types::{BlockNo, CLIENTS, ClientId, REGISTERS};
 
 /// The open registers, oldest first: at most as many as the geometry gives a bank.
 #[derive(Drop)]
@@ -35,7 +35,7 @@ impl Model for Registers {
 impl Registers {
     /// No open register, and room for `limit`.
     pub fn new(limit: usize) -> Registers
-        requires { limit ≤ 8 }
+        requires { limit ≤ REGISTERS }
         ensures { result ≡ record { limit = limit; open_registers = [] } }
     {
         Registers {
@@ -47,7 +47,7 @@ impl Registers {
     /// The open registers.
     pub fn as_slice(&self) -> &[Register]
         ensures is { result.now ≡ self.now.open_registers }
-        ensures few { length result.now ≤ 8 }
+        ensures few { length result.now ≤ REGISTERS }
     {
         self.registers.as_slice()
     }
@@ -107,12 +107,12 @@ impl Registers {
     {
         self.as_slice()
             .iter()
-            .find(|register| register.own.number() == block.number())
+            .find(|register| register.own == block)
     }
 
     /// What the register of a block does next: None where it waits, and where the block has none.
     pub fn next_action<V: Protocol>(&self, block: BlockNo, view: &V) -> Option<Due>
-        requires few { (V.shape view.now).clients ≤ 16 }
+        requires few { (V.shape view.now).clients ≤ CLIENTS }
         requires known { IfSome (register_of block self.now.open_registers) (IsKnown (V.shape view.now).blocks) }
         ensures { result ≡ due_of (V.shape view.now) (V.state view.now) (register_of block self.now.open_registers) }
     {
@@ -151,7 +151,7 @@ impl Registers {
 
     /// The register of a block has sent a client a Probe.
     pub fn note_probe(&mut self, block: BlockNo, client: ClientId)
-        requires { client < 16 }
+        requires { client < CLIENTS }
         ensures { self.new ≡ record self.old { open_registers = noted block client self.old.open_registers } }
     {
         note(self.registers.as_mut_slice(), block, client);
@@ -177,12 +177,12 @@ impl Registers {
         ensures { self.new ≡ record self.old { open_registers = closed block self.old.open_registers } }
     {
         self.registers
-            .retain(|register| register.own.number() != block.number());
+            .retain(|register| register.own != block);
     }
 }
 
 fn note(registers: &mut [Register], block: BlockNo, client: ClientId)
-    requires { client < 16 }
+    requires { client < CLIENTS }
     ensures { registers.new ≡ noted block client registers.old }
 {
     for register in registers.iter_mut() {

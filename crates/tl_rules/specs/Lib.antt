@@ -1,5 +1,4 @@
 pub mod Certified
-pub mod Journal
 pub mod Left
 pub mod Ordered
 pub mod Plain

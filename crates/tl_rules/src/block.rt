@@ -11,7 +11,7 @@ use std::alloc::{AllocError, Global};
 use std::marker::Model;
 use std::mem;
 use tl_protocol::{Accepted, CachedCopy, Client, Event, Line, Outward, Shape};
-use tl_types::{AccessBytes, BlockBytes, ClientId, GrantCap, Grow, Perm, ProbeCap};
+use tl_types::{AccessBytes, BLOCK_BYTES, BlockBytes, ClientId, GrantCap, Grow, Perm, ProbeCap};
 
 /// One block, with each of its clients.
 #[derive(Drop)]
@@ -371,7 +371,7 @@ impl BlockState {
     /// Whether an event of this block may come next.
     pub fn may_follow(&self, shape: Shape, event: &Event) -> bool
         requires size { length self.now.clients ≡ shape.clients }
-        requires bytes { (0 < shape.block_bytes) × (shape.block_bytes ≤ 64) }
+        requires bytes { (0 < shape.block_bytes) × (shape.block_bytes ≤ BLOCK_BYTES) }
         ensures { IsTrue result ↔ MayOn shape (block_state self.now) event.now }
     {
         match event {
@@ -430,7 +430,7 @@ impl BlockState {
     /// Carries out an event that may come next. For want of memory nothing changes.
     pub fn apply(&mut self, shape: Shape, event: &Event) -> Result<(), AllocError>
         requires size { length self.old.clients ≡ shape.clients }
-        requires bytes { (0 < shape.block_bytes) × (shape.block_bytes ≤ 64) }
+        requires bytes { (0 < shape.block_bytes) × (shape.block_bytes ≤ BLOCK_BYTES) }
         requires may { MayOn shape (block_state self.old) event.now }
         ensures ok { OnOk result (block_state self.new ≡ after shape (block_state self.old) event.now) }
         ensures err { OnErr result (self.new ≡ self.old) }

@@ -3,13 +3,11 @@
 #![tactic(auto)]
 
 mod block;
-mod log;
 mod merge;
 mod plain;
 mod theorem;
 
 pub use block::BlockState;
-pub use log::Log;
 pub use merge::{certify, certify_events};
 pub use plain::{ApplyError, Plain, may_follow};
 pub use theorem::every_order;

@@ -6,18 +6,19 @@ ghost use Rattle.tl_rules.specs.Left.{Pairwise};
 ghost use Rattle.tl_rules.specs.Left.{left, stamp_in, AreOrdered, FollowsMark, IsNext, earlier};
 ghost use Rattle.std.specs.Option.{option_copied};
 
-use crate::log::Log;
 use arrayvec::ArrayVec;
+use tl_log::Log;
 use tl_protocol::{Access, Event};
+use tl_types::{BANKS, CLIENTS};
 
 /// Whether the clients of a log are known, and its stamps rise.
 fn is_lawful(log: &[Event]) -> bool
-    ensures { IsTrue result ↔ ((All (λ a. a.client < 16) (accesses_of log.now)) × Pairwise IsEarlier (accesses_of log.now)) }
+    ensures { IsTrue result ↔ ((All (λ a. a.client < CLIENTS) (accesses_of log.now)) × Pairwise IsEarlier (accesses_of log.now)) }
 {
     let mut last = None;
     for event in log {
         if let Some(access) = event.access() {
-            if access.client.number() >= 16 {
+            if access.client.index() >= CLIENTS {
                 return false;
             }
             if let Some(stamp) = last {
@@ -66,8 +67,8 @@ pub(crate) struct Next {
 }
 
 /// The log whose next event has the least stamp; an event that is no access counts as one of stamp 0. None where no event is left.
-fn next_log(logs: &[&[Event]], cursors: &[usize; 8]) -> Option<usize>
-    requires few { length logs.now ≤ 8 }
+fn next_log(logs: &[&[Event]], cursors: &[usize; BANKS]) -> Option<usize>
+    requires few { length logs.now ≤ BANKS }
     requires rising { All (λ log. Pairwise IsEarlier (accesses_of log)) (events_of logs.now) }
     ensures none { IfNone result (all_accesses (left (events_of logs.now) cursors.now) ≡ []) }
     ensures some { IfSome result (IsNext (events_of logs.now) cursors.now) }
@@ -108,7 +109,7 @@ fn event_at(log: &[Event], cursor: usize) -> &Event
 /// Whether the clients of all logs are known, and the stamps of each log rise.
 fn are_lawful(logs: &[&[Event]]) -> bool
     ensures { IsTrue result
-        ↔ ((All (λ a. a.client < 16) (all_accesses (events_of logs.now)))
+        ↔ ((All (λ a. a.client < CLIENTS) (all_accesses (events_of logs.now)))
         × (All (λ log. Pairwise IsEarlier (accesses_of log)) (events_of logs.now))) }
 {
     for log in logs {
@@ -124,14 +125,14 @@ fn are_lawful(logs: &[&[Event]]) -> bool
 pub fn certify_events(logs: &[&[Event]]) -> bool
     ensures { IsTrue result ↔ IsCertified (events_of logs.now) }
 {
-    if logs.len() > 8 {
+    if logs.len() > BANKS {
         return false;
     }
     if !are_lawful(logs) {
         return false;
     }
-    let mut cursors = [0; 8];
-    let mut last = [None; 16];
+    let mut cursors = [0; BANKS];
+    let mut last = [None; CLIENTS];
     while let Some(place) = next_log(logs, &cursors) {
         let cursor = cursors[place];
         let log = logs[place];
@@ -156,10 +157,10 @@ pub fn certify_events(logs: &[&[Event]]) -> bool
 pub fn certify(logs: &[&Log]) -> bool
     ensures { IsTrue result ↔ IsCertified (logs_of logs.now) }
 {
-    if logs.len() > 8 {
+    if logs.len() > BANKS {
         return false;
     }
-    let mut events: ArrayVec<&[Event], 8> = ArrayVec::new();
+    let mut events: ArrayVec<&[Event], BANKS> = ArrayVec::new();
     for log in logs {
         events.push(log.events());
     }

@@ -10,7 +10,7 @@ use crate::block::BlockState;
 use std::alloc::{AllocError, Global};
 use std::marker::Model;
 use tl_protocol::{Event, Shape};
-use tl_types::{AccessBytes, BlockBytes, BlockNo, ClientId, Perm};
+use tl_types::{AccessBytes, BLOCKS, BLOCK_BYTES, BlockBytes, BlockNo, ClientId, Perm};
 
 /// Why an event was not carried out.
 #[derive(Clone, Copy, Debug, PartialEq, Eq)]
@@ -41,8 +41,8 @@ impl Model for Plain {
 impl Plain {
     /// The map at reset, with the image as the first bytes of the memory, 0 past its end. Err is a refused request for memory.
     pub fn new(alloc: Global, shape: Shape, image: &[u8]) -> Result<Plain, AllocError>
-        requires bytes { (0 < shape.block_bytes) × (shape.block_bytes ≤ 64) }
-        requires blocks { shape.blocks ≤ 65536 }
+        requires bytes { (0 < shape.block_bytes) × (shape.block_bytes ≤ BLOCK_BYTES) }
+        requires blocks { shape.blocks ≤ BLOCKS }
         ensures { IfOk result (IsReset shape image.now) }
     {
         let mut blocks = Vec::new(alloc);
@@ -59,7 +59,7 @@ impl Plain {
     pub fn shape(&self) -> Shape
         ensures value { result ≡ self.now.shape }
         ensures nonempty { 0 < result.block_bytes }
-        ensures at_most { result.block_bytes ≤ 64 }
+        ensures at_most { result.block_bytes ≤ BLOCK_BYTES }
     {
         self.shape
     }

@@ -1,6 +1,5 @@
 -- What a trace of a script prints (this project's own).
 use Rattle.std.specs.Prelude.{◌≡◌, ℕ, List}
-use Rattle.tl_script.specs.Numbers.{unsigned_of}
 use Rattle.tl_script.specs.declared.script.Script.{Script}
 use Rattle.tl_trace.specs.Trace.{trace_text}
 use Rattle.tl_trace.specs.declared.trace.Trace.{Trace}
@@ -9,5 +8,5 @@ use Rattle.tl_player.specs.NetworkSteps.{IsTrace}
 -- The text of a trace of the script's steps, over banks of its numbers and its image.
 abbrev pub IsTraceOf : Script → List ℕ → Type 0
 IsTraceOf script text =
-    (trace : Trace) × IsTrace (unsigned_of script.numbers) script.image.items script.steps.items trace
+    (trace : Trace) × IsTrace script.geometry script.image.items script.steps.items trace
     × (text ≡ trace_text trace)

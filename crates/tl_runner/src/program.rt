@@ -101,6 +101,7 @@ fn show<E: Write>(faults: &mut E, fault: &Fault) -> u8
     ensures status { result ≡ status_of fault.now }
     ensures line { AppendsBeginning (E.contents faults.old) (E.contents faults.new) (fault_line fault.now) }
 {
+    // A line that cannot be written has nowhere else to go; the status tells.
     let _ = tell(faults, fault);
     fault.status()
 }

@@ -24,18 +24,6 @@ use Rattle.tl_script.specs.Steps.{step_at, steps_of}
 use Rattle.tl_script.specs.Script.{are_too_many, counted_of}
 use Rattle.tl_words.specs.declared.step.Step.{Step}
 
--- ## The geometry
-
--- numbers that make a geometry are not refused, and it has them
-not_refused : (o : Option GeometryError) (u g : Numbers) → unless_refused o u ≡ Ok g → (o ≡ None) × (u ≡ g)
-not_refused None u g e = (refl, cc)
-not_refused (Some cause) u g e = cc
-
--- numbers that make a geometry are not refused, and it has them without their signs
-pub made_of : (n : GeometryNumbers) (g : Numbers) → geometry_of n ≡ Ok g → (refusal_of n ≡ None) × (unsigned_of n ≡ g)
-unfolding geometry_of
-made_of n g e = not_refused (refusal_of n) (unsigned_of n) g e
-
 -- ## The image
 
 -- an image that is taken is not too long, and is the bytes that were read
@@ -58,7 +46,7 @@ inside_in g None image h =
 inside_in g (Some value) image h = kept (g.memory_blocks * g.block_bytes) (bytes_in value) image (error.Missing key.Image) h
 
 -- an image is no longer than the memory
-inside_of : (g : Numbers) (document : Members) (image : List ℕ) → image_of g document ≡ Ok image → length image ≤ g.memory_blocks * g.block_bytes
+pub inside_of : (g : Numbers) (document : Members) (image : List ℕ) → image_of g document ≡ Ok image → length image ≤ g.memory_blocks * g.block_bytes
 unfolding image_of
 inside_of g document image h = inside_in g (get_member (name_of key.Image) document) image h
 
@@ -164,7 +152,7 @@ padded_fit g n (Ok ys) cs h done =
     rw (← whole, list_all-append) (and_from _ _ (h ys refl) (empty_fit g (n ys)))
 
 -- all commands that are read of all clients fit
-all_fit_of : (g : Numbers) (lists : List (List (List ℕ))) (steps : List (List ℕ)) (cs : List (List Command)) → counted_of g lists steps ≡ Ok cs → all_fit g cs ≡ true
+pub all_fit_of : (g : Numbers) (lists : List (List (List ℕ))) (steps : List (List ℕ)) (cs : List (List Command)) → counted_of g lists steps ≡ Ok cs → all_fit g cs ≡ true
 unfolding counted_of commands_of
 all_fit_of g lists steps cs h =
     let p = counted (are_too_many g.clients lists steps) (commands_of g lists) cs error.TooMany h in
@@ -191,23 +179,10 @@ unfolding steps_of
 few g lists texts cs steps counted read =
     omega (arith, few_texts g lists texts cs counted, one_each step_at 0 texts steps read)
 
--- ## By the numbers of the script
-
--- an image that is read is no longer than the memory
-pub inside : (n : GeometryNumbers) (g : Numbers) (document : Members) (image : List ℕ) → geometry_of n ≡ Ok g → image_of g document ≡ Ok image → length image ≤ unsigned_abs n.memory_blocks * unsigned_abs n.block_bytes
-inside n g document image made read =
-    let P : Numbers → Type 0 = λ m. length image ≤ m.memory_blocks * m.block_bytes in
-    subst P (sym (made_of n g made).1) (inside_of g document image read)
+-- ## As a vector
 
 -- commands that are read have a list for each client
-pub each_client : (n : GeometryNumbers) (g : Numbers) (lists : List (List (List ℕ))) (steps : List (List ℕ)) (vs : List (Vec Command Global)) → geometry_of n ≡ Ok g → counted_of g lists steps ≡ Ok (commands vs) → length vs ≡ unsigned_abs n.clients
-each_client n g lists steps vs made read =
-    let P : Numbers → Type 0 = λ m. length vs ≡ m.clients in
+pub each_client : (g : Numbers) (lists : List (List (List ℕ))) (steps : List (List ℕ)) (vs : List (Vec Command Global)) → counted_of g lists steps ≡ Ok (commands vs) → length vs ≡ g.clients
+each_client g lists steps vs read =
     let same : length (commands vs) ≡ length vs = simp length-map in
-    subst P (sym (made_of n g made).1) (sym same ∙ each_client_of g lists steps (commands vs) read)
-
--- commands that are read fit
-pub placed : (n : GeometryNumbers) (g : Numbers) (lists : List (List (List ℕ))) (steps : List (List ℕ)) (vs : List (Vec Command Global)) → geometry_of n ≡ Ok g → counted_of g lists steps ≡ Ok (commands vs) → all_fit (unsigned_of n) (map (λ v. v.items) vs) ≡ true
-placed n g lists steps vs made read =
-    let P : Numbers → Type 0 = λ m. all_fit m (commands vs) ≡ true in
-    subst P (sym (made_of n g made).1) (all_fit_of g lists steps (commands vs) read)
+    sym same ∙ each_client_of g lists steps (commands vs) read

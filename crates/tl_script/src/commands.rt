@@ -13,7 +13,7 @@ use crate::error::ScriptError;
 use crate::key::Key;
 use std::alloc::Global;
 use tl_map::Geometry;
-use tl_words::{Command, ParseError};
+use tl_words::{COMMANDS, Command, ParseError};
 use toml::{Table, Value};
 
 /// The texts of each client's commands.
@@ -51,7 +51,7 @@ fn lists(alloc: Global, items: &[Value]) -> Result<Vec<Vec<&str>>, ScriptError>
 pub fn is_any_long(commands: &[Vec<&str>]) -> bool
     ensures { result ≡ list_any is_long (lists commands.now) }
 {
-    commands.iter().any(|texts| texts.len() > 4096)
+    commands.iter().any(|texts| texts.len() > COMMANDS)
 }
 
 /// The commands of all clients, in the grammar and in the memory.

@@ -16,7 +16,7 @@ use crate::script::Script;
 use crate::steps::{step_texts, steps};
 use std::alloc::Global;
 use tl_map::Geometry;
-use tl_words::Command;
+use tl_words::{Command, STEPS};
 use toml::Table;
 
 /// The script that the bytes write, or the first thing that is wrong with them. Memory only where a request for memory
@@ -42,7 +42,7 @@ fn script(alloc: Global, table: &Table) -> Result<Script, ScriptError>
     let commands = counted(alloc, geometry, &texts, &step_texts)?;
     let steps = steps(alloc, &step_texts)?;
     Ok(Script {
-        numbers,
+        geometry,
         turns,
         image,
         commands,
@@ -69,5 +69,5 @@ fn counted(
 fn are_too_many(clients: usize, commands: &[Vec<&str>], steps: &[&str]) -> bool
     ensures { result ≡ are_too_many clients (lists commands.now) (texts steps.now) }
 {
-    commands.len() > clients || is_any_long(commands) || steps.len() > 4096
+    commands.len() > clients || is_any_long(commands) || steps.len() > STEPS
 }

@@ -208,7 +208,7 @@ fn reads_a_script(rt: HostRuntime) -> Result<(), Fail> {
     let text =
         "copies = 16\nclients = 2\nversion = 1\nbanks = 8\nblock_bytes = 64\nsets = 64\nways = 8\nregisters = 8\nmemory_blocks = 65536\nturns = 7\nimage = \"0a0b\"\ncommands = [[\"store 0x3ffff8 0011223344556677\", \"drop 0x0\"]]\nsteps = [\"load 9 0xffffffff 8\"]\nunknown = 1\n";
     let script = read_script(rt.alloc(), text.as_bytes())?;
-    assert_eq!(rt; script.numbers.clients, 2);
+    assert_eq!(rt; script.geometry.clients(), 2);
     assert_eq!(rt; script.geometry().memory_bytes(), 4_194_304);
     assert_eq!(rt; script.turns, 7);
     assert_eq!(rt; script.image.as_slice(), [0x0a, 0x0b].as_slice());

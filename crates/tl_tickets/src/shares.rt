@@ -7,7 +7,7 @@ ghost use Rattle.tl_tickets.specs.Shares.{AreShares, sum_of, copies_below};
 use crate::error::Missing;
 use tl_bank::{Bank, Share};
 use tl_protocol::every_run;
-use tl_types::{BankNo, ClientId};
+use tl_types::{BankNo, CLIENTS, ClientId};
 
 /// Whether a share is of a client and a bank, with a count.
 fn is_share(share: &Share, client: ClientId, bank: BankNo, count: u64) -> bool
@@ -41,7 +41,7 @@ fn held_by_client(bank: &Bank)
 
 /// The sum of at most 16 shares.
 fn sum(shares: &[Share]) -> u64
-    requires { length shares.now ≤ 16 }
+    requires { length shares.now ≤ CLIENTS }
     ensures { result ≡ sum_of shares.now }
 {
     let mut sum = 0;

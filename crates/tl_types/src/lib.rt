@@ -4,6 +4,7 @@
 mod bytes;
 mod channel;
 mod kind;
+mod limits;
 mod message;
 mod names;
 mod permission;
@@ -13,6 +14,7 @@ mod wait;
 pub use bytes::{AccessBytes, BlockBytes};
 pub use channel::Channel;
 pub use kind::{Kind, code, decode};
+pub use limits::{ACCESS_BYTES, BANKS, BLOCK_BYTES, BLOCKS, CLIENTS, COPIES, MESSAGES, REGISTERS, WAYS};
 pub use message::{Body, Downward, Message, ProbeAnswer, Surrender, Upward};
 pub use names::{BankNo, BlockNo, ClientId};
 pub use permission::{Cap, DirtyPrune, GrantCap, Grow, Perm, ProbeCap, ProbeReport, Prune, Report};

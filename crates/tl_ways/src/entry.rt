@@ -7,7 +7,7 @@ ghost use Rattle.tl_ways.specs.Lines.{line_perm};
 
 use std::marker::Model;
 use tl_map::Tag;
-use tl_types::{ClientId, Perm};
+use tl_types::{CLIENTS, ClientId, Perm};
 
 /// What home records of one block: its tag, whether home's copy is dirty, and a permission for each client.
 #[derive(Clone, Debug)]
@@ -124,7 +124,7 @@ impl Entry {
 
     /// Records a permission for a client. Beside Tip no other client may have any permission.
     pub fn set(&mut self, client: ClientId, perm: Perm)
-        requires known { client < 16 }
+        requires known { client < CLIENTS }
         requires tip { perm ≡ Tip → (other : ℕ) → other ≢ client → line_perm self.old other ≡ NoAccess }
         requires branch { perm ≡ Branch → (other : ℕ) → other ≢ client → line_perm self.old other ≢ Tip }
         ensures tag { self.new.tag ≡ self.old.tag }

@@ -9,6 +9,7 @@ use crate::way::Way;
 use arrayvec::ArrayVec;
 use std::marker::Model;
 use tl_map::Tag;
+use tl_types::WAYS;
 
 /// The ways of one set: the entry of each, and their order.
 #[derive(Drop)]
@@ -30,7 +31,7 @@ impl Model for Row {
 impl Row {
     /// As many ways, free and in rising order.
     pub fn new(ways: u32) -> Row
-        requires { ways ≤ 8 }
+        requires { ways ≤ WAYS }
         ensures empty { IsEmpty ways result }
         ensures order { result.order ≡ rising ways }
     {
@@ -46,7 +47,7 @@ impl Row {
     /// How many ways there are.
     pub fn ways(&self) -> u32
         ensures is { result ≡ length self.now.lines }
-        ensures few { result ≤ 8 }
+        ensures few { result ≤ WAYS }
     {
         self.entries.len() as u32
     }
@@ -68,6 +69,7 @@ impl Row {
         ensures alone { IfSome result (λ way. (other : ℕ) → tag_in self.now other ≡ Some tag → other ≡ way) }
         ensures none { IfNone result ((way : ℕ) → tag_in self.now way ≢ Some tag) }
     {
+        // For the prover: what the row keeps of its entries.
         let _ = &self.entries;
         for number in 0..self.ways() {
             let way = Way::new(number);
@@ -104,7 +106,7 @@ impl Row {
     {
         let mut order = ArrayVec::new();
         for other in self.order.as_slice() {
-            if other.number() != way.number() {
+            if *other != way {
                 order.push(*other);
             }
         }
@@ -158,5 +160,5 @@ impl Row {
 fn is_busy(busy: &[Way], way: Way) -> bool
     ensures { result ≡ is_busy busy.now way }
 {
-    busy.iter().any(|held| held.number() == way.number())
+    busy.iter().any(|held| *held == way)
 }

@@ -5,6 +5,7 @@ mod command;
 mod error;
 mod hex;
 mod laws;
+mod limits;
 mod step;
 mod ticket;
 mod words;
@@ -15,6 +16,7 @@ pub use hex::{Address, Hex, push_address, push_hex};
 pub use laws::{
     addresses_are_read_back, bytes_are_read_back, numbers_are_printed, tickets_are_read_back,
 };
+pub use limits::{COMMANDS, STEPS};
 pub use step::{BlockCall, Step, TicketCall};
 pub use ticket::{parse_grow, parse_prune};
 pub use words::{parse_access, parse_address, parse_bytes, parse_number, split_words};

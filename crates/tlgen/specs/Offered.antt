@@ -1,7 +1,6 @@
 -- What the generator prints (this project's own).
 use Rattle.std.specs.Prelude.{◌≡◌, ◌++◌, ℕ, Bool, true, false, List, Ok, codes, count_by, decimal, length}
 use Rattle.tl_player.specs.NetworkSteps.{IsTrace}
-use Rattle.tl_script.specs.Numbers.{unsigned_of}
 use Rattle.tl_script.specs.Script.{read_of, value_of}
 use Rattle.tl_script.specs.declared.script.Script.{Script}
 use Rattle.tl_trace.specs.declared.answer.Answer.{Answer}
@@ -23,7 +22,7 @@ head_line steps refused = codes "# " ++ decimal steps ++ codes " steps, " ++ dec
 
 -- a trace of the script's steps, over banks of its numbers and its image
 abbrev pub IsPlayed : Script → Trace → Type 0
-IsPlayed script trace = IsTrace (unsigned_of script.numbers) script.image.items script.steps.items trace
+IsPlayed script trace = IsTrace script.geometry script.image.items script.steps.items trace
 
 -- The format reads a text as a script; its steps, played over banks at reset, are as many as its first line says, and as many of them
 -- are refused.

@@ -1,7 +1,6 @@
-use Rattle.std.proofs.Common.{ℕ, List, ap, subst}
+use Rattle.std.proofs.Common.{ℕ, List, subst}
 use Rattle.tl_map.specs.Numbers.{Numbers}
 use Rattle.tl_words.specs.declared.step.Step.{Step}
-use Rattle.tl_script.specs.Numbers.{unsigned_of}
 use Rattle.tl_player.specs.NetworkSteps.{IsTrace}
 use Rattle.tl_runner.proofs.step_trace.trace.Goals as goal
 
@@ -13,7 +12,7 @@ returns c =
     record {
       text = (
         played,
-        subst (λ (g : Numbers). IsTrace g script.image.items script.steps.items played) (ap unsigned_of c.geometry.ensures.numbers)
+        subst (λ (g : Numbers). IsTrace g script.image.items script.steps.items played) c.geometry.ensures.is
             (subst (λ (image : List ℕ). IsTrace c.geometry.result image script.steps.items played) c.deref.ensures.value
             (subst (λ (steps : List Step). IsTrace c.geometry.result c.deref.result.now steps played) c.deref-2.ensures.value
             c.in_ok-played.ensures)),

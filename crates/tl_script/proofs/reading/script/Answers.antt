@@ -1,15 +1,15 @@
 use Rattle.std.proofs.Common.{ap, sym, ◌∙◌}
 use Rattle.tl_words.specs.Words.{texts}
 use Rattle.tl_script.specs.Steps.{steps_of}
-use Rattle.tl_script.proofs.ScriptLemmas.{made_of, inside, each_client, placed, few}
+use Rattle.tl_script.specs.Commands.{commands}
+use Rattle.tl_script.proofs.ScriptLemmas.{inside_of, each_client, all_fit_of, few}
 use Rattle.tl_script.proofs.reading.script.Goals as goal
 
 pub invariant_of-result : goal.invariant_of-result
 invariant_of-result c = record {
-  lawful = (made_of c.in_ok-numbers.numbers c.in_ok-geometry.geometry c.in_ok-geometry.ensures).0;
-  inside = inside c.in_ok-numbers.numbers c.in_ok-geometry.geometry _ c.in_ok-image.image.items c.in_ok-geometry.ensures c.in_ok-image.ensures;
-  each_client = each_client c.in_ok-numbers.numbers c.in_ok-geometry.geometry _ _ c.in_ok-commands.commands.items c.in_ok-geometry.ensures c.in_ok-commands.ensures;
-  placed = placed c.in_ok-numbers.numbers c.in_ok-geometry.geometry _ _ c.in_ok-commands.commands.items c.in_ok-geometry.ensures c.in_ok-commands.ensures;
+  inside = inside_of c.in_ok-geometry.geometry _ c.in_ok-image.image.items c.in_ok-image.ensures;
+  each_client = each_client c.in_ok-geometry.geometry _ _ c.in_ok-commands.commands.items c.in_ok-commands.ensures;
+  placed = all_fit_of c.in_ok-geometry.geometry _ _ (commands c.in_ok-commands.commands.items) c.in_ok-commands.ensures;
   few = few c.in_ok-geometry.geometry _ _ _ c.in_ok-steps.steps.items c.in_ok-commands.ensures
       (ap (λ all. steps_of (texts all)) (c.deref-2.ensures.value ∙ sym c.deref-3.ensures.value) ∙ c.in_ok-steps.ensures);
 }

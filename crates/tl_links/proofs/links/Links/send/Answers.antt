@@ -18,7 +18,7 @@ invariant_of-self c =
     let seen : c.queue-queue.result.now ≡ lane_in t x k =
     c.queue-queue.ensures ∙ ap (λ (w : LinkTable). lane_in w x k) (sym c.self.view_is) in
     let room : length (lane_in t x k).messages ≢ 64 =
-    λ full. c.if-waiting-eq-PLACES.false (c.waiting.ensures.value ∙ ap (λ (l : Lane). length l.messages) seen ∙ full) in
+    λ full. c.if-waiting-eq-MESSAGES.false (c.waiting.ensures.value ∙ ap (λ (l : Lane). length l.messages) seen ∙ full) in
     rw (c.place.ensures, c.index.ensures.value)
     (IsCounted-sent c.self.invariant x k c.args.message c.push.new.self known
     (c.push.ensures ∙ ap (λ (l : Lane). with_message l c.args.message) lane) room)

@@ -1,5 +1,6 @@
+//! The log of a bank.
 ghost use Rattle.std.specs.Prelude.{◌≡◌, ◌≤◌, ◌<◌, ◌+◌, ◌^◌, ◌∷◌, ◌++◌, ℕ, List, [], length, IsOk, OnOk, OnErr};
-ghost use Rattle.tl_rules.specs.Journal.{Journal};
+ghost use Rattle.tl_log.specs.Journal.{Journal};
 
 use std::alloc::{AllocError, Global};
 use std::marker::Model;
@@ -12,8 +13,9 @@ pub struct Log {
 }
 
 impl Model for Log {
-    ghost use Rattle.std.specs.Prelude.{◌-◌, vec_len, vec_capacity};
-    ghost use Rattle.tl_rules.specs.Journal.{Journal};
+    //! The log of a bank.
+ghost use Rattle.std.specs.Prelude.{◌-◌, vec_len, vec_capacity};
+    ghost use Rattle.tl_log.specs.Journal.{Journal};
 
     ghost Value = { Journal };
 
