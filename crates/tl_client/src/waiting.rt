@@ -33,9 +33,7 @@ impl Model for Waiting {
 fn is_same_lane(one: &Ticket, other: &Ticket) -> bool
     ensures { result ≡ is_same_lane one.now other.now }
 {
-    one.bank == other.bank
-        && one.client == other.client
-        && one.channel == other.channel
+    one.bank == other.bank && one.client == other.client && one.channel == other.channel
 }
 
 impl Waiting {

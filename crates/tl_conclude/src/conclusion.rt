@@ -23,8 +23,8 @@ use tl_report::{Answered, BankLine, Report};
 use tl_rules::{certify_events, every_order};
 use tl_script::Script;
 use tl_tickets::gather;
-use tl_words::Command;
 use tl_types::{BANKS, CLIENTS};
+use tl_words::Command;
 
 /// What is held of each of the first 8 banks, by its shares. None where not each bank's shares were given back.
 fn gathered(banks: &[Bank], shares: &[Vec<Share>]) -> Option<ArrayVec<u64, BANKS>>

@@ -3,8 +3,8 @@ ghost use Rattle.std.specs.Prelude.{◌≡◌, ◌↔◌, ◌≤◌, ℕ, All, I
 ghost use Rattle.tl_script.specs.Commands.{commands as commands_in};
 ghost use Rattle.tl_conclude.specs.Carried.{makes_access, commands_of};
 
-use tl_words::Command;
 use tl_types::CLIENTS;
+use tl_words::Command;
 
 /// Whether a command is a load or a store.
 fn makes_access(command: &Command) -> bool

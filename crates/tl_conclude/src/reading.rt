@@ -12,8 +12,8 @@ use crate::lines::answer;
 use crate::owed::{all_owed, is_nothing};
 use tl_protocol::Event;
 use tl_report::Answered;
-use tl_words::Command;
 use tl_types::CLIENTS;
+use tl_words::Command;
 
 /// Reads an event: an access is compared with its command, its client owes one less, and its bytes are written onto its line,
 /// where there is one. False, with nothing known of the rest, where it does not carry out its command or is not owed.

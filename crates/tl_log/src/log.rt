@@ -14,7 +14,7 @@ pub struct Log {
 
 impl Model for Log {
     //! The log of a bank.
-ghost use Rattle.std.specs.Prelude.{◌-◌, vec_len, vec_capacity};
+    ghost use Rattle.std.specs.Prelude.{◌-◌, vec_len, vec_capacity};
     ghost use Rattle.tl_log.specs.Journal.{Journal};
 
     ghost Value = { Journal };

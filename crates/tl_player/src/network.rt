@@ -35,7 +35,11 @@ impl Model for Network {
 
 impl Network {
     /// All banks at reset over an image that is no longer than the memory.
-    pub(crate) fn new(alloc: Global, geometry: Geometry, image: &[u8]) -> Result<Network, AllocError>
+    pub(crate) fn new(
+        alloc: Global,
+        geometry: Geometry,
+        image: &[u8],
+    ) -> Result<Network, AllocError>
         requires { length image.now ≤ geometry.memory_blocks * geometry.block_bytes }
         ensures { IfOk result (IsReset geometry image.now) }
     {
@@ -97,7 +101,11 @@ impl Network {
 }
 
 /// All banks, by number, each at reset over an image that is no longer than the memory.
-fn shared_banks(alloc: Global, geometry: Geometry, image: &[u8]) -> Result<Vec<SharedBank>, AllocError>
+fn shared_banks(
+    alloc: Global,
+    geometry: Geometry,
+    image: &[u8],
+) -> Result<Vec<SharedBank>, AllocError>
     requires { length image.now ≤ geometry.memory_blocks * geometry.block_bytes }
     ensures count { IfOk result (λ shared_banks. length shared_banks.items ≡ geometry.banks) }
     ensures fresh { IfOk result (λ shared_banks. AreFresh geometry image.now 0 shared_banks.items) }

@@ -11,7 +11,10 @@ use crate::queue::{AckCount, Queue};
 use crate::shape::Shape;
 use std::alloc::{AllocError, Global};
 use std::mem;
-use tl_types::{AccessBytes, BLOCK_BYTES, BlockBytes, Downward, GrantCap, Grow, Perm, ProbeAnswer, ProbeCap, Prune, Surrender, Upward, Wait};
+use tl_types::{
+    AccessBytes, BLOCK_BYTES, BlockBytes, Downward, GrantCap, Grow, Perm, ProbeAnswer, ProbeCap,
+    Prune, Surrender, Upward, Wait,
+};
 
 /// A client, the permission that home records for it, and the messages between them, oldest first.
 #[derive(Drop)]

@@ -176,8 +176,7 @@ impl Registers {
     pub fn close(&mut self, block: BlockNo)
         ensures { self.new ≡ record self.old { open_registers = closed block self.old.open_registers } }
     {
-        self.registers
-            .retain(|register| register.own != block);
+        self.registers.retain(|register| register.own != block);
     }
 }
 

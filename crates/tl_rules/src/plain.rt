@@ -10,7 +10,7 @@ use crate::block::BlockState;
 use std::alloc::{AllocError, Global};
 use std::marker::Model;
 use tl_protocol::{Event, Shape};
-use tl_types::{AccessBytes, BLOCKS, BLOCK_BYTES, BlockBytes, BlockNo, ClientId, Perm};
+use tl_types::{AccessBytes, BLOCK_BYTES, BLOCKS, BlockBytes, BlockNo, ClientId, Perm};
 
 /// Why an event was not carried out.
 #[derive(Clone, Copy, Debug, PartialEq, Eq)]

@@ -14,7 +14,9 @@ mod wait;
 pub use bytes::{AccessBytes, BlockBytes};
 pub use channel::Channel;
 pub use kind::{Kind, code, decode};
-pub use limits::{ACCESS_BYTES, BANKS, BLOCK_BYTES, BLOCKS, CLIENTS, COPIES, MESSAGES, REGISTERS, WAYS};
+pub use limits::{
+    ACCESS_BYTES, BANKS, BLOCK_BYTES, BLOCKS, CLIENTS, COPIES, MESSAGES, REGISTERS, WAYS,
+};
 pub use message::{Body, Downward, Message, ProbeAnswer, Surrender, Upward};
 pub use names::{BankNo, BlockNo, ClientId};
 pub use permission::{Cap, DirtyPrune, GrantCap, Grow, Perm, ProbeCap, ProbeReport, Prune, Report};

@@ -20,7 +20,11 @@ pub(crate) struct SharedBank {
 
 impl SharedBank {
     /// A bank at reset over a memory of zeros.
-    pub(crate) fn new(alloc: Global, geometry: Geometry, number: BankNo) -> Result<SharedBank, AllocError>
+    pub(crate) fn new(
+        alloc: Global,
+        geometry: Geometry,
+        number: BankNo,
+    ) -> Result<SharedBank, AllocError>
         requires { number < geometry.banks }
     {
         let (bank, shares) = Bank::new(alloc, geometry, number, &[])?;
