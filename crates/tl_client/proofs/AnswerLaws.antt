@@ -2,7 +2,7 @@
 use Rattle.std.proofs.Common.{List, [], ◌∷◌, ◌++◌}
 use Rattle.std.specs.List.{All}
 use Rattle.std.proofs.lemmas.List.Elements.{All-push}
-use Rattle.tl_report.specs.declared.report.Answered.{Answered}
+use Rattle.tl_text.specs.declared.report.Answered.{Answered}
 use Rattle.tl_client.specs.Answers.{HasItsBytes, IsAnswer}
 
 -- each answer has its bytes, the last one too

@@ -4,7 +4,7 @@ use Rattle.std.specs.List.{All}
 use Rattle.tl_bank_spec.specs.declared.when.When.{When}
 use Rattle.tl_words.specs.declared.command.Command.{Command}
 use Rattle.tl_words.specs.declared.command.Command.TheVariants.{Load, Store, Drop}
-use Rattle.tl_report.specs.declared.report.Answered.{Answered}
+use Rattle.tl_text.specs.declared.report.Answered.{Answered}
 use Rattle.tl_client.specs.declared.port.Success.{Success}
 use Rattle.tl_client.specs.declared.port.Success.TheVariants.{Loaded, Stored}
 

@@ -16,7 +16,7 @@ use std::sync::Wait;
 use std::time::Clock;
 use tl_bank::{Refusal, Share, When};
 use tl_map::Geometry;
-use tl_report::Answered;
+use tl_text::Answered;
 use tl_types::ClientId;
 use tl_words::Command;
 

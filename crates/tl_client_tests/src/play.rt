@@ -9,7 +9,7 @@ use std::time::Clock;
 use tl_bank::{Bank, Share};
 use tl_client::{Agent, Command, Home, Locked, Mail, Turn};
 use tl_map::{Geometry, GeometryNumbers};
-use tl_report::Answered;
+use tl_text::Answered;
 use tl_tickets::{Receiver, Ringer, Sender};
 use tl_types::{AccessBytes, BankNo, BlockNo, ClientId, Perm};
 

@@ -11,7 +11,7 @@ use Rattle.tl_protocol.specs.declared.event.Event.TheVariants.{Load as Loaded, S
 use Rattle.tl_words.specs.declared.command.Command.{Command}
 use Rattle.tl_words.specs.declared.command.Command.TheVariants.{Load, Store, Drop}
 use Rattle.tl_protocol.specs.OneMemory.{access_of, accesses, is_access}
-use Rattle.tl_report.specs.declared.report.Answered.{Answered}
+use Rattle.tl_text.specs.declared.report.Answered.{Answered}
 use Rattle.tl_rules.specs.Certified.{accesses_of, all_accesses}
 use Rattle.tl_rules.specs.Left.{Pairwise}
 use Rattle.tl_rules.specs.Ordered.{joined, IndexRises}

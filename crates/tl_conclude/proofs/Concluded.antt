@@ -4,8 +4,8 @@ use Rattle.std.specs.Borrow.{Bor}
 use Rattle.std.specs.declared.alloc.Global.{Global}
 use Rattle.tl_protocol.specs.declared.event.Event.{Event}
 use Rattle.tl_words.specs.declared.command.Command.{Command}
-use Rattle.tl_report.specs.declared.report.Answered.{Answered}
-use Rattle.tl_report.specs.declared.report.Report.{Report}
+use Rattle.tl_text.specs.declared.report.Answered.{Answered}
+use Rattle.tl_text.specs.declared.report.Report.{Report}
 use Rattle.tl_script.specs.Commands.{commands as commands_in}
 use Rattle.tl_script.specs.declared.script.Script.{Script}
 use Rattle.tl_bank_spec.specs.Share.{Holding}

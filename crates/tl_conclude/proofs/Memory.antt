@@ -7,7 +7,7 @@ use Rattle.std.proofs.lemmas.List.{get_or_past}
 use Rattle.tl_map.specs.Numbers.{Numbers}
 use Rattle.tl_map.specs.Places.{bank_of}
 use Rattle.tl_protocol.specs.declared.event.Event.{Event}
-use Rattle.tl_report.specs.declared.report.Answered.{Answered}
+use Rattle.tl_text.specs.declared.report.Answered.{Answered}
 use Rattle.tl_script.specs.Commands.{commands as commands_in}
 use Rattle.tl_script.specs.declared.script.Script.{Script}
 use Rattle.tl_bank_spec.specs.View.{View, shape_of}

@@ -11,9 +11,9 @@ use Rattle.tl_words.specs.declared.command.Command.{Command}
 use Rattle.tl_words.specs.declared.command.Command.TheVariants.{Drop}
 use Rattle.tl_script.specs.Commands.{commands as commands_in}
 use Rattle.tl_script.specs.declared.script.Script.{Script}
-use Rattle.tl_report.specs.declared.report.Answered.{Answered}
-use Rattle.tl_report.specs.declared.report.BankLine.{BankLine}
-use Rattle.tl_report.specs.declared.report.Report.{Report}
+use Rattle.tl_text.specs.declared.report.Answered.{Answered}
+use Rattle.tl_text.specs.declared.report.BankLine.{BankLine}
+use Rattle.tl_text.specs.declared.report.Report.{Report}
 use Rattle.tl_bank_spec.specs.Share.{Holding}
 use Rattle.tl_bank_spec.specs.View.{View, shape_of}
 use Rattle.tl_bank_spec.specs.Views.{pairs_at}

@@ -3,7 +3,7 @@ use Rattle.std.specs.Prelude.{◌≡◌, ◌≢◌, ◌<◌, ◌≤◌, ◌+◌,
 use Rattle.std.specs.declared.alloc.Global.{Global}
 use Rattle.tl_protocol.specs.declared.event.Access.{Access}
 use Rattle.tl_protocol.specs.declared.event.Event.{Event}
-use Rattle.tl_report.specs.declared.report.Answered.{Answered}
+use Rattle.tl_text.specs.declared.report.Answered.{Answered}
 use Rattle.tl_words.specs.declared.command.Command.{Command}
 use Rattle.tl_conclude.specs.Carried.{makes_access, EachHasCommand, AreAsMany}
 

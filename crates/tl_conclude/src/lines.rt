@@ -1,13 +1,13 @@
 //! The lines of a report, which the accesses' bytes are written onto.
 ghost use Rattle.std.specs.Prelude.{◌≡◌, IfOk, List, [], length, map, replicate, slice_set};
 ghost use Rattle.tl_words.specs.declared.command.Command.{Command};
-ghost use Rattle.tl_report.specs.declared.report.Answered.{Answered};
+ghost use Rattle.tl_text.specs.declared.report.Answered.{Answered};
 ghost use Rattle.tl_script.specs.Commands.{commands as commands_in};
 ghost use Rattle.tl_conclude.specs.Loops.{bytes_on, commands_on, with_access};
 
 use std::alloc::{AllocError, Global};
 use tl_protocol::Access;
-use tl_report::Answered;
+use tl_text::Answered;
 use tl_types::AccessBytes;
 use tl_words::Command;
 

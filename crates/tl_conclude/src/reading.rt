@@ -11,7 +11,7 @@ use crate::compare::has_command;
 use crate::lines::answer;
 use crate::owed::{all_owed, is_nothing};
 use tl_protocol::Event;
-use tl_report::Answered;
+use tl_text::Answered;
 use tl_types::CLIENTS;
 use tl_words::Command;
 

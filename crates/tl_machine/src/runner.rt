@@ -16,8 +16,8 @@ use tl_bank::{Bank, Share};
 use tl_client::{Agent, Command, Gate, Home, Locked};
 use tl_conclude::{RunError, conclude};
 use tl_map::Geometry;
-use tl_report::Report;
 use tl_script::Script;
+use tl_text::Report;
 use tl_types::{BANKS, BankNo, CLIENTS, ClientId};
 
 /// How many tickets an inbox of `run` holds.

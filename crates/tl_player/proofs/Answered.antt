@@ -3,8 +3,8 @@ use Rattle.std.proofs.Common.{◌≡◌, ◌≢◌, ℕ, Option, Some, None, Res
 use Rattle.tl_bank_spec.specs.Refusal.{IsRefused}
 use Rattle.tl_bank_spec.specs.declared.refusal.Refusal.{Refusal}
 use Rattle.tl_bank_spec.specs.declared.refusal.Refusal.TheVariants.{Memory}
-use Rattle.tl_trace.specs.declared.answer.Answer.{Answer}
-use Rattle.tl_trace.specs.declared.answer.Answer.TheVariants.{Refused}
+use Rattle.tl_text.specs.declared.answer.Answer.{Answer}
+use Rattle.tl_text.specs.declared.answer.Answer.TheVariants.{Refused}
 use Rattle.tl_player.specs.Answers.{Answers}
 
 -- a call that was refused, for another cause than memory

@@ -2,7 +2,7 @@
 use Rattle.std.proofs.Common.{◌≡◌, ℕ, suc, ◌+◌, ◌<◌, List, [], ◌∷◌, ◌++◌, length, take, get_or, refl, sym, ap, ◌∙◌, subst, arith}
 use Rattle.std.proofs.lemmas.List.{take_more, length-take-le}
 use Rattle.tl_words.specs.declared.step.Step.{Step}
-use Rattle.tl_trace.specs.declared.answer.Answer.{Answer}
+use Rattle.tl_text.specs.declared.answer.Answer.{Answer}
 use Rattle.tl_player.specs.NetworkSteps.{AreNetworkSteps, IsNetworkStep}
 use Rattle.tl_player.specs.NetworkState.{NetworkState}
 

@@ -2,7 +2,7 @@
 use Rattle.std.proofs.Common.{◌≡◌, ℕ, zero, suc, Bool, if◌then◌else◌, Option, Some, None, is_some, append_assoc, refl, List, [], ◌∷◌, ◌++◌, length, take, get_or, ◌+◌, ◌<◌, sym, ap, ◌∙◌, subst}
 use Rattle.std.proofs.lemmas.List.{append-nil, take_more}
 use Rattle.std.proofs.lemmas.List.Elements.{All-push}
-use Rattle.tl_trace.specs.declared.closing.BankClosing.{BankClosing}
+use Rattle.tl_text.specs.declared.closing.BankClosing.{BankClosing}
 use Rattle.tl_bank_spec.specs.Coherent.{IsCoherent}
 use Rattle.tl_bank_spec.specs.View.{View}
 use Rattle.tl_bank_spec.specs.Views.{dirty_at, is_at_home, passing_below}

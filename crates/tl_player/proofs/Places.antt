@@ -5,7 +5,7 @@ use Rattle.std.proofs.lemmas.Grind.{common_steps}
 use Rattle.std.proofs.lemmas.Option.{slice_get-get_or}
 use Rattle.tl_words.specs.declared.step.Step.{Step}
 use Rattle.tl_bank_spec.specs.Share.{Holding}
-use Rattle.tl_trace.specs.declared.answer.Answer.{Answer}
+use Rattle.tl_text.specs.declared.answer.Answer.{Answer}
 use Rattle.tl_player.specs.Steps.{IsStep}
 use Rattle.tl_player.specs.NetworkSteps.{IsStepAt, IsNetworkStep}
 use Rattle.tl_player.specs.NetworkState.{SharedBankState, NetworkState, bank_asked, client_named, share_place}

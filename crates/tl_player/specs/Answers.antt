@@ -10,12 +10,12 @@ use Rattle.tl_bank_spec.specs.declared.action.Action.TheVariants.{Probe as did_P
 use Rattle.tl_bank_spec.specs.declared.refusal.Refusal.{Refusal}
 use Rattle.tl_bank_spec.specs.declared.reply.Reply.{Reply}
 use Rattle.tl_bank_spec.specs.declared.reply.Reply.TheVariants as reply
-use Rattle.tl_trace.specs.Memory.{bytes_of_size}
-use Rattle.tl_trace.specs.declared.answer.Answer.{Answer}
-use Rattle.tl_trace.specs.declared.answer.Answer.TheVariants.{Sent, Memory, Dropped, Done, Refused}
-use Rattle.tl_trace.specs.declared.memory.BlockSize.{BlockSize}
-use Rattle.tl_trace.specs.declared.memory.MemoryMessage.{MemoryMessage}
-use Rattle.tl_trace.specs.declared.memory.MemoryMessage.TheVariants.{Get, PutFullData, AccessAckData, AccessAck}
+use Rattle.tl_text.specs.Memory.{bytes_of_size}
+use Rattle.tl_text.specs.declared.answer.Answer.{Answer}
+use Rattle.tl_text.specs.declared.answer.Answer.TheVariants.{Sent, Memory, Dropped, Done, Refused}
+use Rattle.tl_text.specs.declared.memory.BlockSize.{BlockSize}
+use Rattle.tl_text.specs.declared.memory.MemoryMessage.{MemoryMessage}
+use Rattle.tl_text.specs.declared.memory.MemoryMessage.TheVariants.{Get, PutFullData, AccessAckData, AccessAck}
 
 -- ## Messages
 

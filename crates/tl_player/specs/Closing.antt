@@ -3,9 +3,9 @@ use Rattle.std.specs.Prelude.{◌≡◌, ℕ, zero, suc, Bool, List, [], ◌∷�
 use Rattle.tl_protocol.specs.Ledger.{has_copy, is_recorded}
 use Rattle.tl_bank_spec.specs.View.{View}
 use Rattle.tl_bank_spec.specs.Views.{copy_perm_at, dirty_at, pairs_at, recorded_at}
-use Rattle.tl_trace.specs.declared.closing.BankClosing.{BankClosing}
-use Rattle.tl_trace.specs.declared.closing.BlockLine.{BlockLine}
-use Rattle.tl_trace.specs.declared.closing.Standing.{Standing}
+use Rattle.tl_text.specs.declared.closing.BankClosing.{BankClosing}
+use Rattle.tl_text.specs.declared.closing.BlockLine.{BlockLine}
+use Rattle.tl_text.specs.declared.closing.Standing.{Standing}
 use Rattle.tl_player.specs.NetworkState.{SharedBankState}
 
 -- ## A block

@@ -3,8 +3,8 @@ use Rattle.std.specs.Prelude.{◌≡◌, ℕ, suc, List, [], ◌∷◌, slice_ge
 use Rattle.tl_map.specs.Numbers.{Numbers}
 use Rattle.tl_words.specs.declared.step.Step.{Step}
 use Rattle.tl_bank_spec.specs.Share.{Holding}
-use Rattle.tl_trace.specs.declared.answer.Answer.{Answer}
-use Rattle.tl_trace.specs.declared.trace.Trace.{Trace}
+use Rattle.tl_text.specs.declared.answer.Answer.{Answer}
+use Rattle.tl_text.specs.declared.trace.Trace.{Trace}
 use Rattle.tl_player.specs.Steps.{IsStep}
 use Rattle.tl_player.specs.Closing.{Close}
 use Rattle.tl_player.specs.NetworkState.{SharedBankState, NetworkState, AreCoherent, IsReset, bank_asked, client_named, share_place}

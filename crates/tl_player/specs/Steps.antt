@@ -28,8 +28,8 @@ use Rattle.tl_bank_spec.specs.Own.{way_at}
 use Rattle.tl_bank_spec.specs.declared.action.Action.{Action}
 use Rattle.tl_bank_spec.specs.declared.refusal.Refusal.{Refusal}
 use Rattle.tl_bank_spec.specs.declared.reply.Reply.{Reply}
-use Rattle.tl_trace.specs.declared.answer.Answer.{Answer}
-use Rattle.tl_trace.specs.declared.answer.Answer.TheVariants.{Loaded, Done}
+use Rattle.tl_text.specs.declared.answer.Answer.{Answer}
+use Rattle.tl_text.specs.declared.answer.Answer.TheVariants.{Loaded, Done}
 use Rattle.tl_player.specs.Answers.{Answers, Shows, ShowsAction, ShowsIfSent, ShowsMemory, message_in}
 
 -- What a step is asked of: a bank, and a share and the clock of the client that it names.

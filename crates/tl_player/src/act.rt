@@ -12,7 +12,7 @@ use crate::home_steps::{
 };
 use std::alloc::AllocError;
 use tl_bank::{Bank, Share};
-use tl_trace::Answer;
+use tl_text::Answer;
 use tl_types::{BlockNo, Ticket};
 use tl_words::{BlockCall, Step, TicketCall};
 

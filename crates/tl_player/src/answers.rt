@@ -6,7 +6,7 @@ ghost use Rattle.tl_player.specs.Ready.{IsThere, IsWritten};
 use std::alloc::AllocError;
 use tl_bank::{Bank, Refusal, Reply};
 use tl_protocol::Outward;
-use tl_trace::{Answer, BlockSize, MemoryMessage};
+use tl_text::{Answer, BlockSize, MemoryMessage};
 use tl_types::{BlockNo, Message, Ticket};
 
 /// A refusal as an answer; want of memory is none.

@@ -12,7 +12,7 @@ ghost use Rattle.tl_player.specs.Steps.{Loads, Logs, Posts, Recounts, Stores};
 use crate::answers::{refused, sent};
 use std::alloc::AllocError;
 use tl_bank::{Bank, Share, When};
-use tl_trace::Answer;
+use tl_text::Answer;
 use tl_types::{AccessBytes, BlockNo, ClientId, Grow, Prune, Ticket};
 
 /// A client reads. Its clock becomes the stamp of the access.

@@ -6,7 +6,7 @@ ghost use Rattle.tl_player.specs.Closing.{Closes, line_state, lines_below, stand
 use arrayvec::ArrayVec;
 use std::alloc::{AllocError, Global};
 use tl_bank::Bank;
-use tl_trace::{BankClosing, BlockLine, Standing};
+use tl_text::{BankClosing, BlockLine, Standing};
 use tl_types::{BlockNo, ClientId};
 
 /// The blocks that home holds, by rising number, and the bank's counts.

@@ -9,7 +9,7 @@ ghost use Rattle.tl_player.specs.Steps.{GoesOn, Opens, Replies, SendsAway, Takes
 use crate::answers::{get, put, refused, reply, sent};
 use std::alloc::AllocError;
 use tl_bank::{Action, Bank};
-use tl_trace::Answer;
+use tl_text::Answer;
 use tl_types::{BlockNo, Ticket};
 
 /// Home accepts an Acquire.

@@ -10,7 +10,7 @@ use crate::shared_bank::SharedBank;
 use std::alloc::{AllocError, Global};
 use std::marker::Model;
 use tl_map::Geometry;
-use tl_trace::{Answer, BankClosing};
+use tl_text::{Answer, BankClosing};
 use tl_types::{BankNo, ClientId};
 use tl_words::{STEPS, Step};
 

@@ -10,7 +10,7 @@ use std::alloc::{AllocError, Global};
 use std::marker::Model;
 use tl_bank::{Bank, Share};
 use tl_map::Geometry;
-use tl_trace::Answer;
+use tl_text::Answer;
 use tl_types::{BankNo, ClientId};
 use tl_words::Step;
 

@@ -5,7 +5,7 @@ ghost use Rattle.tl_player.specs.NetworkSteps.{IsTrace};
 use crate::network::Network;
 use std::alloc::{AllocError, Global};
 use tl_map::Geometry;
-use tl_trace::Trace;
+use tl_text::Trace;
 use tl_words::{STEPS, Step};
 
 /// Plays steps, at most `STEPS`, over all banks of a geometry at reset over an image that is no longer than the memory: what each

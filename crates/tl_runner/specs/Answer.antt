@@ -2,8 +2,8 @@
 use Rattle.std.specs.Prelude.{◌≡◌, ℕ, Bool, true, false, List, ◌++◌, Option, Ok, IfSome}
 use Rattle.std.specs.Io.KnownBytes.{Appends}
 use Rattle.tl_conclude.specs.Conclusion.{IsRunReport}
-use Rattle.tl_report.specs.Report.{report_text}
-use Rattle.tl_report.specs.declared.report.Report.{Report}
+use Rattle.tl_text.specs.Report.{report_text}
+use Rattle.tl_text.specs.declared.report.Report.{Report}
 use Rattle.tl_runner.specs.Trace.{IsTraceOf}
 use Rattle.tl_script.specs.Script.{read_of, value_of}
 use Rattle.tl_script.specs.declared.script.Script.{Script}

@@ -1,8 +1,8 @@
 -- What a trace of a script prints (this project's own).
 use Rattle.std.specs.Prelude.{◌≡◌, ℕ, List}
 use Rattle.tl_script.specs.declared.script.Script.{Script}
-use Rattle.tl_trace.specs.Trace.{trace_text}
-use Rattle.tl_trace.specs.declared.trace.Trace.{Trace}
+use Rattle.tl_text.specs.Trace.{trace_text}
+use Rattle.tl_text.specs.declared.trace.Trace.{Trace}
 use Rattle.tl_player.specs.NetworkSteps.{IsTrace}
 
 -- The text of a trace of the script's steps, over banks of its numbers and its image.

@@ -12,7 +12,7 @@ pub use tl_client::{Free, Gate, Who};
 pub use tl_conclude::{RunError, conclude};
 pub use tl_job::{Job, JobError, job};
 pub use tl_machine::{run, run_sized};
-pub use tl_report::{Answered, BankLine, Report};
 pub use tl_rules::certify;
 pub use tl_script::{Script, ScriptError, read_script};
+pub use tl_text::{Answered, BankLine, Report};
 pub use tl_tickets::gather;

@@ -1,6 +1,6 @@
 use std::alloc::Global;
 use std::test::Fail;
-use tl_report::{Answered, BankLine, Report};
+use tl_text::{Answered, BankLine, Report};
 use tl_types::AccessBytes;
 use tl_words::Command;
 

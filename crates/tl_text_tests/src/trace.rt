@@ -4,7 +4,7 @@ use std::alloc::{AllocError, Global};
 use std::test::Fail;
 use tl_bank_spec::Refusal;
 use tl_map::{Geometry, GeometryNumbers};
-use tl_trace::{Answer, BankClosing, BlockLine, BlockSize, MemoryMessage, Standing, Trace};
+use tl_text::{Answer, BankClosing, BlockLine, BlockSize, MemoryMessage, Standing, Trace};
 use tl_types::{
     AccessBytes, BankNo, BlockBytes, BlockNo, Body, Channel, ClientId, Downward, GrantCap, Grow,
     Kind, Perm, ProbeAnswer, ProbeCap, Surrender, Ticket, Upward,

@@ -3,9 +3,9 @@ use Rattle.std.specs.Prelude.{◌≡◌, ◌++◌, ℕ, Bool, true, false, List,
 use Rattle.tl_player.specs.NetworkSteps.{IsTrace}
 use Rattle.tl_script.specs.Script.{read_of, value_of}
 use Rattle.tl_script.specs.declared.script.Script.{Script}
-use Rattle.tl_trace.specs.declared.answer.Answer.{Answer}
-use Rattle.tl_trace.specs.declared.answer.Answer.TheVariants as a
-use Rattle.tl_trace.specs.declared.trace.Trace.{Trace}
+use Rattle.tl_text.specs.declared.answer.Answer.{Answer}
+use Rattle.tl_text.specs.declared.answer.Answer.TheVariants as a
+use Rattle.tl_text.specs.declared.trace.Trace.{Trace}
 
 -- a bank refused the step
 abbrev pub is_refused : Answer → Bool

@@ -8,7 +8,7 @@ use crate::script::{Draft, draft_of};
 use std::alloc::{AllocError, Global};
 use tl_player::play;
 use tl_script::{Script, read_script};
-use tl_trace::{Answer, Trace};
+use tl_text::{Answer, Trace};
 
 /// Whether a step was refused.
 fn is_refused(answer: &Answer) -> bool

@@ -1,7 +1,7 @@
 use Rattle.std.proofs.Common.{◌≡◌, ℕ, List, [], Vec, length, map, replicate, take, ap, sym, ◌∙◌, arith}
 use Rattle.std.specs.declared.alloc.Global.{Global}
 use Rattle.tl_words.specs.declared.command.Command.{Command}
-use Rattle.tl_report.specs.declared.report.Answered.{Answered}
+use Rattle.tl_text.specs.declared.report.Answered.{Answered}
 use Rattle.tl_script.specs.Commands.{commands as commands_in}
 use Rattle.tl_conclude.proofs.Compared.{grown, lists_more, mapped_more}
 use Rattle.tl_conclude.proofs.lines.all_empty_lines.Goals as goal

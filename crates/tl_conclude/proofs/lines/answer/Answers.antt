@@ -3,7 +3,7 @@ use Rattle.std.specs.declared.alloc.Global.{Global}
 use Rattle.std.proofs.lemmas.List.{map-set}
 use Rattle.std.proofs.Math.Seq.{map-set_same}
 use Rattle.tl_words.specs.declared.command.Command.{Command}
-use Rattle.tl_report.specs.declared.report.Answered.{Answered}
+use Rattle.tl_text.specs.declared.report.Answered.{Answered}
 use Rattle.tl_conclude.specs.Loops.{bytes_on}
 use Rattle.tl_conclude.proofs.Compared.{read_mapped}
 use Rattle.tl_conclude.proofs.lines.answer.Goals as goal

@@ -1,5 +1,5 @@
 use Rattle.std.proofs.Common.{◌≡◌, [], map, replicate, take}
-use Rattle.tl_report.specs.declared.report.Answered.{Answered}
+use Rattle.tl_text.specs.declared.report.Answered.{Answered}
 use Rattle.tl_conclude.proofs.lines.empty_lines.Given as goal
 
 abbrev pub invariant-loop-command : goal.invariant-loop-command

@@ -1,7 +1,7 @@
 use Rattle.std.proofs.Common.{◌≡◌, get_or, ap}
 use Rattle.std.proofs.lemmas.List.{map-set}
 use Rattle.std.proofs.Math.Seq.{map-set_same}
-use Rattle.tl_report.specs.declared.report.Answered.{Answered}
+use Rattle.tl_text.specs.declared.report.Answered.{Answered}
 use Rattle.tl_conclude.proofs.lines.write.Goals as goal
 
 pub returns-in-Some-clause-commands : goal.returns-in-Some-clause-commands

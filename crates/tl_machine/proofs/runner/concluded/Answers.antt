@@ -5,7 +5,7 @@ use Rattle.tl_conclude.specs.Conclusion.{IsConclusion, IsRunReport}
 use Rattle.tl_conclude.specs.RunError.{TellsTurns}
 use Rattle.tl_conclude.specs.declared.error.RunError.{RunError}
 use Rattle.tl_conclude.specs.declared.error.RunError.TheVariants.{Stalled, Memory, NotOrdered, Shares}
-use Rattle.tl_report.specs.declared.report.Report.{Report}
+use Rattle.tl_text.specs.declared.report.Report.{Report}
 use Rattle.tl_script.specs.declared.script.Script.{Script}
 use Rattle.tl_machine.proofs.runner.concluded.Goals as goal
 

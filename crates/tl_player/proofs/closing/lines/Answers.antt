@@ -2,8 +2,8 @@ use Rattle.std.proofs.Common.{◌≡◌, ℕ, Bool, Option, List, [], ◌∷◌,
 use Rattle.std.proofs.lemmas.List.{append-nil, map-append, take_all}
 use Rattle.tl_bank_spec.specs.View.{View}
 use Rattle.tl_bank_spec.specs.Views.{dirty_at}
-use Rattle.tl_trace.specs.declared.closing.BlockLine.{BlockLine}
-use Rattle.tl_trace.specs.declared.closing.Standing.{Standing}
+use Rattle.tl_text.specs.declared.closing.BlockLine.{BlockLine}
+use Rattle.tl_text.specs.declared.closing.Standing.{Standing}
 use Rattle.tl_player.specs.Closing.{LineState, line_state, line_if}
 use Rattle.tl_player.proofs.ClosingLemmas.{lines_of, lines-more, lines-all}
 use Rattle.tl_player.proofs.closing.lines.Goals as goal

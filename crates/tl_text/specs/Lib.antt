@@ -1,0 +1,5 @@
+pub mod Answer
+pub mod Closing
+pub mod Memory
+pub mod Report
+pub mod Trace

@@ -1,8 +1,0 @@
-use Rattle.std.proofs.Common.{take}
-use Rattle.std.specs.Fmt.{HasWritten, IsPlainFormatter}
-use Rattle.tl_trace.specs.Closing.{held_letters}
-use Rattle.tl_trace.proofs.closing.HeldDisplay.fmt.Given as goal
-
-abbrev pub invariant-loop-standing : goal.invariant-loop-standing
-invariant-loop-standing g l =
-    IsPlainFormatter l.initial.f → HasWritten g.W.Write.write_str_gives l.initial.f (held_letters (take l.standing-index l.standing-items)) l.f

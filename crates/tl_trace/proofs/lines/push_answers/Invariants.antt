@@ -1,7 +1,0 @@
-use Rattle.std.proofs.Common.{◌≡◌, ◌++◌, drop, string_bytes}
-use Rattle.tl_report.specs.Report.{lines_from}
-use Rattle.tl_trace.specs.Trace.{answer_line}
-use Rattle.tl_trace.proofs.lines.push_answers.Given as goal
-
-abbrev pub invariant-loop-index : goal.invariant-loop-index
-invariant-loop-index l = string_bytes l.text ++ lines_from answer_line l.index (drop l.index l.answers) ≡ string_bytes l.fn.text ++ lines_from answer_line 0 l.answers

@@ -1,4 +1,0 @@
-pub mod Memory
-pub mod Answer
-pub mod Closing
-pub mod Trace
