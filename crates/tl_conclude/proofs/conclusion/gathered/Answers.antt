@@ -11,7 +11,7 @@ use Rattle.tl_tickets.proofs.Sums.{one_more}
 use Rattle.tl_conclude.proofs.Reported.{read_at}
 use Rattle.tl_conclude.proofs.Zipped.{zip_from, zip_long, zip_at, slice_at, taken_more, taken_same}
 use Rattle.tl_conclude.proofs.conclusion.gathered.Goals as goal
-use Rattle.tl_conclude.proofs.conclusion.gathered.Goals.{then-place-lt8, else-place-lt8}
+use Rattle.tl_conclude.proofs.conclusion.gathered.Goals.{then-place-lt-BANKS, else-place-lt-BANKS}
 
 abbrev Given : View → Vec Holding Global → Type 0
 Given v list = AreShares v list.items
@@ -48,15 +48,15 @@ loop-place-preserved c =
           (subst (λ (hs : List Holding). AreShares c.index-banks-place.result hs)
           (c.as_slice.ensures.value ∙ ap (λ (l : Vec Holding Global). l.items) (read_at c.args.shares.now i c.index-shares-place.result list c.index-shares-place.is shares))
           own)),
-      elim c.if-place-lt8.branch [
-        | then-place-lt8 w ↦
+      elim c.if-place-lt-BANKS.branch [
+        | then-place-lt-BANKS w ↦
             ap (λ h. h.items) w.held-is
             ∙ (w.push.ensures.items
             ∙ (ap (λ (xs : List ℕ). xs ++ c.in-Ok.sum ∷ []) c.loop-place.invariant.1
             ∙ (ap (λ (n : ℕ). map (pairs_at has_copy) (take i (take 8 c.args.banks.now)) ++ n ∷ []) c.in-Ok.ensures.held
-            ∙ sym (taken_more (pairs_at has_copy) 8 c.args.banks.now i c.index-banks-place.result w.if-place-lt8.true (omega (arith, lt)) c.index-banks-place.is))))
-        | else-place-lt8 w ↦
-            ap (λ h. h.items) w.held-is ∙ (c.loop-place.invariant.1 ∙ taken_same (pairs_at has_copy) 8 c.args.banks.now i (omega (arith, w.if-place-lt8.false)))
+            ∙ sym (taken_more (pairs_at has_copy) 8 c.args.banks.now i c.index-banks-place.result w.if-place-lt-BANKS.true (omega (arith, lt)) c.index-banks-place.is))))
+        | else-place-lt-BANKS w ↦
+            ap (λ h. h.items) w.held-is ∙ (c.loop-place.invariant.1 ∙ taken_same (pairs_at has_copy) 8 c.args.banks.now i (omega (arith, w.if-place-lt-BANKS.false)))
       ],
     )
 

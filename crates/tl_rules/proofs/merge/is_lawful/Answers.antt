@@ -5,8 +5,8 @@ use Rattle.tl_rules.specs.Certified.{accesses_of}
 use Rattle.tl_rules.proofs.Rising.{made_more, refuted, not_past, all_rise}
 use Rattle.tl_rules.proofs.merge.is_lawful.Goals as goal
 
-pub returns-then-number-ge16 : goal.returns-then-number-ge16
-returns-then-number-ge16 c =
+pub returns-then-index-ge-CLIENTS : goal.returns-then-index-ge-CLIENTS
+returns-then-index-ge-CLIENTS c =
     let step = made_more c.args.log.now c.loop-event.event-index c.event-item.result c.in-Some.access.now (omega arith) c.event-item.is (sym c.in-Some.ensures) in
     (λ f. absurd (false≢true f), λ all. absurd (refuted _ _ _ _ _ c.loop-event.invariant step (λ ok. omega (arith, ok.0)) all))
 
