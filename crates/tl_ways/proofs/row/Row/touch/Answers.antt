@@ -5,20 +5,20 @@ use Rattle.tl_ways.specs.Rows.{Row}
 use Rattle.tl_ways.proofs.OrderLaws.{touch_step, without-same, without-other, length-without-among, take-all}
 use Rattle.tl_ways.proofs.RowLaws.{IsRow-touched}
 use Rattle.tl_ways.proofs.row.Row.touch.Goals as goal
-use Rattle.tl_ways.proofs.row.Row.touch.Goals.{then-number, else-number}
+use Rattle.tl_ways.proofs.row.Row.touch.Goals.{then-ne, else-ne}
 
 pub loop-other-preserved : goal.loop-other-preserved
 loop-other-preserved c =
     let step = touch_step c.args.way c.other-item.result c.loop-other.other-index _ c.loop-other.order.items c.loop-other-test.true
     c.other-item.is c.loop-other.invariant.so_far in
-    elim c.if-number.branch [
-      | then-number w ↦
+    elim c.if-ne.branch [
+      | then-ne w ↦
           let other : c.other-item.result ≡ c.args.way → ⊥ = search rules in
           record {
             so_far = rw (step, without-other c.args.way c.other-item.result [] other, w.order-is) w.push.ensures.items;
             few = rw w.order-is (omega (arith, w.push.ensures.len, c.loop-other.invariant.few));
           }
-      | else-number w ↦
+      | else-ne w ↦
           let same : c.other-item.result ≡ c.args.way = search rules in
           record {
             so_far = rw (step, without-same c.args.way c.other-item.result [] same, w.order-is) (grind (arith, common_steps));
