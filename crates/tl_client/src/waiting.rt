@@ -67,8 +67,13 @@ impl Waiting {
         ensures room { OnOk result (length self.new.kept + length self.new.rest + count ≤ self.new.room) }
         ensures same { self.new ≡ record self.old { room = self.new.room } }
     {
-        self.kept.reserve(self.rest.len() + count)?;
-        self.rest.reserve(self.kept.len() + count)
+        if self.kept.capacity() < self.len() + count {
+            self.kept.reserve(self.rest.len() + count)?;
+        }
+        if self.rest.capacity() < self.len() + count {
+            self.rest.reserve(self.kept.len() + count)?;
+        }
+        Ok(())
     }
 
     /// The tickets of a channel join them, in order, behind all that wait.

@@ -36,8 +36,8 @@ impl Report {
         ensures { IfOk result (λ text. string_bytes text ≡ report_text self.now) }
     {
         let mut text = String::new(alloc);
-        lines::push_clients(&mut text, &self.clients)?;
-        lines::push_banks(&mut text, &self.banks)?;
+        report_lines::push_clients(&mut text, &self.clients)?;
+        report_lines::push_banks(&mut text, &self.banks)?;
         text.push_str("ok\n")?;
         Ok(text)
     }

@@ -21,8 +21,8 @@ impl Trace {
         ensures { IfOk result (λ text. string_bytes text ≡ trace_text self.now) }
     {
         let mut text = String::new(alloc);
-        lines::push_answers(&mut text, &self.answers)?;
-        lines::push_banks(&mut text, &self.banks)?;
+        trace_lines::push_answers(&mut text, &self.answers)?;
+        trace_lines::push_banks(&mut text, &self.banks)?;
         text.push_str("end\n")?;
         Ok(text)
     }
