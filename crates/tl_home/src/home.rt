@@ -23,6 +23,9 @@ use tl_protocol::Outward;
 use tl_types::{BankNo, BlockBytes, BlockNo, CLIENTS, ClientId, Perm};
 use tl_ways::{Entry, Way};
 
+/// Of how many blocks something can pass between home and the memory at one time.
+pub const MOST_CROSSINGS: usize = 8;
+
 /// Home's part of the blocks of one bank, and the memory's.
 #[derive(Drop)]
 pub struct Home {
@@ -43,9 +46,6 @@ impl Model for Home {
 
 #[tactic(auto, unfolding(crate::specs::Homes::geometry_in, crate::specs::Homes::bank_in, crate::specs::Homes::line_in, crate::specs::Homes::recorded_in, crate::specs::Homes::outward_in, crate::specs::Homes::crossing_count, crate::specs::Homes::memory_in, crate::specs::Homes::way_in, crate::specs::Homes::free_at, crate::specs::Homes::order_at))]
 impl Home {
-    /// Of how many blocks something can pass between home and the memory at one time.
-    pub const MOST_CROSSINGS: usize = 8;
-
     /// Home of one bank over a memory that holds an image no longer than it, and 0 past the image: it holds no block. All
     /// memory that it ever uses is taken here, and only the bytes of the bank's own blocks grow with the blocks.
     pub fn new(
@@ -171,7 +171,7 @@ impl Home {
     /// Of how many blocks something passes between home and the memory.
     pub fn crossings(&self) -> usize
         ensures is { result ≡ crossing_count self.now }
-        ensures few { result ≤ Home::MOST_CROSSINGS }
+        ensures few { result ≤ MOST_CROSSINGS }
         ensures each { (n : ℕ) (holder : ℕ → ℕ) → EachHasHolder self.now n holder → result ≤ n }
     {
         self.crossings.len()
@@ -263,7 +263,7 @@ impl Home {
     /// Home asks the memory for a block of which nothing passes.
     pub fn send_get(&mut self, block: BlockNo)
         requires quiet { outward_in self.old block ≡ Quiet }
-        requires room { crossing_count self.old < Home::MOST_CROSSINGS }
+        requires room { crossing_count self.old < MOST_CROSSINGS }
         ensures bank { SameBank self.old self.new }
         ensures home { SameHome self.old self.new }
         ensures outward { (b : ℕ) → outward_in self.new b ≡ (if b == block then Get else outward_in self.old b) }
@@ -296,7 +296,7 @@ impl Home {
         requires block { block < (geometry_in self.old).memory_blocks }
         requires held { IsSome (line_in self.old block) }
         requires quiet { outward_in self.old block ≡ Quiet }
-        requires room { crossing_count self.old < Home::MOST_CROSSINGS }
+        requires room { crossing_count self.old < MOST_CROSSINGS }
         ensures bank { SameBank self.old self.new }
         ensures lines { (b : ℕ) → line_in self.new b ≡ (if b == block then None else line_in self.old b) }
         ensures recorded { (c b : ℕ) → recorded_in self.new c b ≡ (if b == block then NoAccess else recorded_in self.old c b) }

@@ -6,4 +6,4 @@ mod crossings;
 mod directory;
 mod home;
 
-pub use home::Home;
+pub use home::{Home, MOST_CROSSINGS};

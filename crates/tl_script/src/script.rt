@@ -4,7 +4,7 @@ ghost use Rattle.std.specs.Prelude.{◌≡◌, ◌*◌, ◌≤◌, length, map, 
 ghost use Rattle.tl_script.specs.Commands.{all_fit};
 
 use tl_map::Geometry;
-use tl_words::{Command, STEPS, Step};
+use tl_words::{Command, Step};
 
 /// What a script asks for.
 #[derive(Debug, Drop)]
@@ -26,8 +26,8 @@ pub struct Script {
     pub ghost each_client: { length commands.items ≡ geometry.clients },
     // The bytes of each command lie in the memory and in one block.
     pub ghost placed: { all_fit geometry (map (λ v. v.items) commands.items) ≡ true },
-    // There are at most 4,096 steps.
-    pub ghost few: { length steps.items ≤ STEPS },
+    // There are at most 4,096 steps (`STEPS`).
+    pub ghost few: { length steps.items ≤ 4096 },
 }
 
 impl Script {
