@@ -1,4 +1,4 @@
--- What the first message of a channel tells a client.
+-- What the first message of a channel tells a client. No public clause cites this module.
 use Rattle.std.specs.Prelude.{List, [], ◌∷◌}
 use Rattle.tl_types.specs.Permission.{grant_perm}
 use Rattle.tl_types.specs.declared.message.Body.{Body}

@@ -1,4 +1,4 @@
--- What a bank's layers hold is what its log leaves (this project's own).
+-- What a bank's layers hold is what its log leaves (this project's own). No public clause cites this module.
 use Rattle.std.specs.Prelude.{◌≡◌, ℕ, ◌<◌, ◌≤◌, ◌==◌, ◌&&◌, not, Bool, true, false, List, [], ◌∷◌, length, Some, is_none}
 use Rattle.std.specs.List.{All, list_any}
 use Rattle.tl_types.specs.declared.channel.Channel.{Channel}

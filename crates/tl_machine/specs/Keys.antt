@@ -1,4 +1,4 @@
--- Which passes and seats are a mailbox's.
+-- Which passes and seats are a mailbox's. No public clause cites this module.
 use Rattle.std.specs.Prelude.{◌≡◌, ℕ, List, [], ◌∷◌, vec_len}
 use Rattle.std.specs.List.{All}
 use Rattle.tl_tickets.specs.Inbox.{IsReceiverOf, IsSenderOf}

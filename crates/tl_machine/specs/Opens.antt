@@ -1,4 +1,4 @@
--- Which passes and seats are those of a run's mailboxes and bells.
+-- Which passes and seats are those of a run's mailboxes and bells. No public clause cites this module.
 use Rattle.std.specs.Prelude.{◌≡◌, ◌+◌, vec_len}
 use Rattle.std.specs.List.{All}
 use Rattle.tl_map.specs.Numbers.{Numbers}

@@ -1,4 +1,4 @@
--- The rule of a bell's word: it is the sum of what all seats rang. This is the project's own.
+-- The rule of a bell's word: it is the sum of what all seats rang. This is the project's own. No public clause cites this module.
 use Rattle.std.specs.Prelude.{◌≡◌, ℕ, ◌+◌, ◌-◌, ◌*◌, ◌≤◌, max, List, [], ◌∷◌}
 use Rattle.std.specs.List.{sum_by}
 use Rattle.atomic_table.specs.Table.{State, Me}

@@ -3,7 +3,8 @@ use Rattle.std.proofs.Common.{◌≡◌, ◌==◌, ℕ, Option, Some, None, if�
 use borrow.Author.Tests.{eqb-true}
 use Rattle.std.specs.Option.{option_map}
 use Rattle.std.proofs.lemmas.Grind.{common_steps}
-use Rattle.tl_types.specs.Codes.{channel_of, code_of, kind_at, kind_on_a, kind_on_b, kind_on_c, kind_on_d, kind_on_e, plain_at, grow_at, probe_at, grant_at, prune_at, dirty_at, report_at, grow_param, probe_param, grant_param, prune_param, dirty_param, report_param, EveryKindHasItsCode, EveryCodeIsOfItsKind}
+use Rattle.tl_types.specs.Codes.{channel_of, code_of, grow_param, probe_param, grant_param, prune_param, dirty_param, report_param, HasCode}
+use Rattle.tl_types.specs.Decoding.{kind_at, kind_on_a, kind_on_b, kind_on_c, kind_on_d, kind_on_e, plain_at, grow_at, probe_at, grant_at, prune_at, dirty_at, report_at}
 use Rattle.tl_types.specs.declared.channel.Channel.{Channel}
 use Rattle.tl_types.specs.declared.channel.Channel.TheVariants.{A, B, C, D, E}
 use Rattle.tl_types.specs.declared.permission.ProbeCap.{ProbeCap}
@@ -22,7 +23,7 @@ use Rattle.tl_types.specs.declared.kind.Kind.{Kind}
 use Rattle.tl_types.specs.declared.kind.Kind.TheVariants.{PutFullData, Get, AcquireBlock, ProbeBlock, ProbeAck, ProbeAckData, Release, ReleaseData, AccessAck, AccessAckData, Grant, GrantData, ReleaseAck, GrantAck}
 
 -- each kind's codes stand for it
-pub every_kind : EveryKindHasItsCode
+every_kind : (kind : Kind) → kind_at (channel_of kind) (code_of kind).0 (code_of kind).1 ≡ Some kind
 unfolding kind_at
 every_kind PutFullData = refl
 every_kind Get = refl
@@ -52,6 +53,12 @@ every_kind (GrantData g_ToB) = refl
 every_kind ReleaseAck = refl
 every_kind GrantAck = refl
 
+-- the codes of a kind stand for it
+pub own_code : (channel : Channel) (opcode param : ℕ) (kind : Kind) → HasCode kind channel opcode param → kind_at channel opcode param ≡ Some kind
+own_code channel opcode param kind (on, code) =
+    subst (λ (c : Channel). kind_at c opcode param ≡ Some kind) on
+    (subst (λ (pair : ℕ × ℕ). kind_at (channel_of kind) pair.0 pair.1 ≡ Some kind) code (every_kind kind))
+
 -- ## A parameter that stands for a value is its own
 
 -- a parameter that stands for what an Acquire asks for is its own
@@ -80,10 +87,6 @@ report_is n x e = grind (arith, common_steps)
 
 -- ## Codes that stand for a kind are its own
 
--- the channel and the codes are those of the kind
-abbrev IsCodeOf : Kind → Channel → ℕ → ℕ → Type 0
-IsCodeOf kind channel opcode param = (channel_of kind ≡ channel) × (code_of kind ≡ (opcode, param))
-
 -- a choice that gives a value gives it by one of its sides
 either :
     {P : Type 0} (b : Bool) (x y : Option Kind) (kind : Kind) → (if b then x else y) ≡ Some kind
@@ -94,14 +97,14 @@ either false x y kind e yes_ no_ = no_ e
 -- a kind without a parameter
 plain :
     (its kind : Kind) (channel : Channel) (n opcode param : ℕ) → channel_of its ≡ channel → code_of its ≡ (n, 0)
-    → (opcode == n) ≡ true → plain_at param its ≡ Some kind → IsCodeOf kind channel opcode param
+    → (opcode == n) ≡ true → plain_at param its ≡ Some kind → HasCode kind channel opcode param
 plain its kind channel n opcode param on code same e =
     either (param == 0) (Some its) None kind e
     (λ zero_ is.
     let opcode_is : opcode ≡ n = eqb-true opcode n same in
     let param_is : param ≡ 0 = eqb-true param 0 zero_ in
     let kind_is : its ≡ kind = cc in
-    subst (λ (k : Kind). IsCodeOf k channel opcode param) kind_is (on, cc))
+    subst (λ (k : Kind). HasCode k channel opcode param) kind_is (on, cc))
     (λ never. cc)
 
 -- a kind with a parameter
@@ -109,17 +112,17 @@ with_param :
     {X : Type 0} (make : X → Kind) (at : Option X) (code : X → ℕ) (kind : Kind) (channel : Channel) (n opcode param : ℕ)
     → ((x : X) → channel_of (make x) ≡ channel) → ((x : X) → code_of (make x) ≡ (n, code x))
     → (opcode == n) ≡ true → ((x : X) → at ≡ Some x → code x ≡ param) → option_map make at ≡ Some kind
-    → IsCodeOf kind channel opcode param
+    → HasCode kind channel opcode param
 with_param make None code kind channel n opcode param on codes_ same is e = cc
 with_param make (Some x) code kind channel n opcode param on codes_ same is e =
     let opcode_is : opcode ≡ n = eqb-true opcode n same in
     let param_is : code x ≡ param = is x refl in
     let kind_is : make x ≡ kind = cc in
     let its : code_of (make x) ≡ (n, code x) = codes_ x in
-    subst (λ (k : Kind). IsCodeOf k channel opcode param) kind_is (on x, cc)
+    subst (λ (k : Kind). HasCode k channel opcode param) kind_is (on x, cc)
 
 -- codes that stand for a kind on A are its own
-on_a : (opcode param : ℕ) (kind : Kind) → kind_on_a opcode param ≡ Some kind → IsCodeOf kind A opcode param
+on_a : (opcode param : ℕ) (kind : Kind) → kind_on_a opcode param ≡ Some kind → HasCode kind A opcode param
 on_a o p k e =
     either (o == 0) _ _ k e (λ t h. plain PutFullData k A 0 o p refl refl t h)
     (λ e4. either (o == 4) _ _ k e4 (λ t h. plain Get k A 4 o p refl refl t h)
@@ -127,13 +130,13 @@ on_a o p k e =
     (λ t h. with_param AcquireBlock (grow_at p) grow_param k A 6 o p (λ x. refl) (λ x. refl) t (grow_is p) h) (λ never. cc)))
 
 -- codes that stand for a kind on B are its own
-on_b : (opcode param : ℕ) (kind : Kind) → kind_on_b opcode param ≡ Some kind → IsCodeOf kind B opcode param
+on_b : (opcode param : ℕ) (kind : Kind) → kind_on_b opcode param ≡ Some kind → HasCode kind B opcode param
 on_b o p k e =
     either (o == 6) _ _ k e
     (λ t h. with_param ProbeBlock (probe_at p) probe_param k B 6 o p (λ x. refl) (λ x. refl) t (probe_is p) h) (λ never. cc)
 
 -- codes that stand for a kind on C are its own
-on_c : (opcode param : ℕ) (kind : Kind) → kind_on_c opcode param ≡ Some kind → IsCodeOf kind C opcode param
+on_c : (opcode param : ℕ) (kind : Kind) → kind_on_c opcode param ≡ Some kind → HasCode kind C opcode param
 on_c o p k e =
     either (o == 4) _ _ k e
     (λ t h. with_param ProbeAck (report_at p) report_param k C 4 o p (λ x. refl) (λ x. refl) t (report_is p) h)
@@ -146,7 +149,7 @@ on_c o p k e =
     (λ never. cc))))
 
 -- codes that stand for a kind on D are its own
-on_d : (opcode param : ℕ) (kind : Kind) → kind_on_d opcode param ≡ Some kind → IsCodeOf kind D opcode param
+on_d : (opcode param : ℕ) (kind : Kind) → kind_on_d opcode param ≡ Some kind → HasCode kind D opcode param
 on_d o p k e =
     either (o == 0) _ _ k e (λ t h. plain AccessAck k D 0 o p refl refl t h)
     (λ e1. either (o == 1) _ _ k e1 (λ t h. plain AccessAckData k D 1 o p refl refl t h)
@@ -157,11 +160,11 @@ on_d o p k e =
     (λ e6. either (o == 6) _ _ k e6 (λ t h. plain ReleaseAck k D 6 o p refl refl t h) (λ never. cc)))))
 
 -- codes that stand for a kind on E are its own
-on_e : (opcode param : ℕ) (kind : Kind) → kind_on_e opcode param ≡ Some kind → IsCodeOf kind E opcode param
+on_e : (opcode param : ℕ) (kind : Kind) → kind_on_e opcode param ≡ Some kind → HasCode kind E opcode param
 on_e o p k e = either (o == 0) _ _ k e (λ t h. plain GrantAck k E 0 o p refl refl t h) (λ never. cc)
 
 -- codes that stand for a kind are its own
-pub every_code : EveryCodeIsOfItsKind
+pub every_code : (channel : Channel) (opcode param : ℕ) (kind : Kind) → kind_at channel opcode param ≡ Some kind → HasCode kind channel opcode param
 unfolding kind_at
 every_code A = on_a
 every_code B = on_b

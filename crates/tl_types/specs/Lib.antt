@@ -2,6 +2,7 @@ pub mod Bytes
 pub mod Channel
 pub mod Codes
 pub mod Count
+pub mod Decoding
 pub mod Lane
 pub mod Lowest
 pub mod Message

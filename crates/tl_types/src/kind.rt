@@ -1,7 +1,8 @@
 //! The kinds of message, and their codes. All opcodes and parameters are this project's profile of TileLink 1.8, section 6
 //! ("Operations and messages").
 ghost use Rattle.std.specs.Prelude.{◌≡◌, Some};
-ghost use Rattle.tl_types.specs.Codes.{channel_of, code_of, kind_at, kind_on_a, kind_on_b, kind_on_c, kind_on_d, kind_on_e, plain_at, grow_at, probe_at, grant_at, prune_at, dirty_at, report_at, grow_param, probe_param, grant_param, prune_param, dirty_param, report_param, EveryKindHasItsCode, EveryCodeIsOfItsKind};
+ghost use Rattle.tl_types.specs.Codes.{channel_of, code_of, grow_param, probe_param, grant_param, prune_param, dirty_param, report_param, HasCode};
+ghost use Rattle.tl_types.specs.Decoding.{kind_at, kind_on_a, kind_on_b, kind_on_c, kind_on_d, kind_on_e, plain_at, grow_at, probe_at, grant_at, prune_at, dirty_at, report_at};
 ghost use Rattle.tl_types.specs.Text.{kind_text};
 
 use crate::channel::Channel;
@@ -197,9 +198,17 @@ fn kind_on_e(opcode: u8, param: u8) -> Option<Kind>
     }
 }
 
-/// The kind that a channel, an opcode and a parameter stand for: Some exactly on the table of codes.
-#[tactic(auto, unfolding(crate::specs::Codes::kind_at))]
+/// The kind that a channel, an opcode and a parameter stand for: the one that `Kind::channel` and `code` give them for, and none
+/// where they give them for no kind.
 pub fn decode(channel: Channel, opcode: u8, param: u8) -> Option<Kind>
+    ensures own { (kind : Kind) → HasCode kind channel opcode param → result ≡ Some kind }
+    ensures each { (kind : Kind) → result ≡ Some kind → HasCode kind channel opcode param }
+{
+    kind_at(channel, opcode, param)
+}
+
+#[tactic(auto, unfolding(crate::specs::Decoding::kind_at))]
+fn kind_at(channel: Channel, opcode: u8, param: u8) -> Option<Kind>
     ensures { result ≡ kind_at channel opcode param }
 {
     match channel {
@@ -291,10 +300,3 @@ pub fn code(kind: Kind) -> (u8, u8)
         Kind::GrantAck => (0, 0),
     }
 }
-
-/// What `decode` and `code` answer are one table, read both ways: each kind's codes stand for it, and codes that stand for a
-/// kind are its own.
-pub fn codes_are_the_table()
-    ensures code { EveryKindHasItsCode }
-    ensures decode { EveryCodeIsOfItsKind }
-{}

@@ -12,7 +12,7 @@ mod wait;
 
 pub use bytes::{AccessBytes, BlockBytes};
 pub use channel::Channel;
-pub use kind::{Kind, code, codes_are_the_table, decode};
+pub use kind::{Kind, code, decode};
 pub use message::{Body, Downward, Message, ProbeAnswer, Surrender, Upward};
 pub use names::{BankNo, BlockNo, ClientId};
 pub use permission::{Cap, DirtyPrune, GrantCap, Grow, Perm, ProbeCap, ProbeReport, Prune, Report};

@@ -133,7 +133,7 @@ impl Bank {
 
 /// What the memory has just answered.
 fn answered(home: &Home, block: BlockNo) -> Reply
-    ensures { result ≡ answered (outward_in home.now block) }
+    ensures { result ≡ memory_reply (outward_in home.now block) }
 {
     match home.outward(block) {
         Some(Outward::Data(bytes)) => Reply::AccessAckData(bytes.copied()),

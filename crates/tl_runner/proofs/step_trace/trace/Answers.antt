@@ -2,7 +2,7 @@ use Rattle.std.proofs.Common.{ℕ, List, ap, subst}
 use Rattle.tl_map.specs.Numbers.{Numbers}
 use Rattle.tl_words.specs.declared.step.Step.{Step}
 use Rattle.tl_script.specs.Numbers.{unsigned_of}
-use Rattle.tl_player.specs.Plays.{Traces}
+use Rattle.tl_player.specs.NetworkSteps.{IsTrace}
 use Rattle.tl_runner.proofs.step_trace.trace.Goals as goal
 
 -- the script's numbers make the geometry, and its image and steps were played
@@ -13,9 +13,9 @@ returns c =
     record {
       text = (
         played,
-        subst (λ (g : Numbers). Traces g script.image.items script.steps.items played) (ap unsigned_of c.geometry.ensures.numbers)
-            (subst (λ (image : List ℕ). Traces c.geometry.result image script.steps.items played) c.deref.ensures.value
-            (subst (λ (steps : List Step). Traces c.geometry.result c.deref.result.now steps played) c.deref-2.ensures.value
+        subst (λ (g : Numbers). IsTrace g script.image.items script.steps.items played) (ap unsigned_of c.geometry.ensures.numbers)
+            (subst (λ (image : List ℕ). IsTrace c.geometry.result image script.steps.items played) c.deref.ensures.value
+            (subst (λ (steps : List Step). IsTrace c.geometry.result c.deref.result.now steps played) c.deref-2.ensures.value
             c.in_ok-played.ensures)),
         c.in_ok-text.ensures,
       );
