@@ -19,11 +19,11 @@ use Rattle.tl_text.specs.declared.memory.MemoryMessage.TheVariants.{Get, PutFull
 
 -- ## Messages
 
--- The answer shows a ticket and the message that it names.
+-- The answer shows a ticket and the message that it names, with its block.
 pub record Shows (v : View) (ticket : Ticket) (answer : Answer) : Type 0 where
   pub message : Message
   pub names : in_flight_at v ticket ≡ Some message
-  pub says : answer ≡ Sent ticket message.body
+  pub says : answer ≡ Sent ticket message.block message.body
 
 -- The answer shows a message between home and the memory, with the size of the bank's blocks.
 pub record ShowsMemory (v : View) (message : MemoryMessage) (answer : Answer) : Type 0 where

@@ -35,10 +35,14 @@ pub(crate) fn sent(bank: &Bank, ticket: Ticket) -> Answer
 
 /// A message to or from a client.
 fn of_client(ticket: Ticket, message: Message) -> Answer
-    ensures { result ≡ Answer.Sent ticket message.body }
+    ensures { result ≡ Answer.Sent ticket message.block message.body }
 {
-    let body = message.body;
-    Answer::Sent { ticket, body }
+    let Message { block, body } = message;
+    Answer::Sent {
+        ticket,
+        block,
+        body,
+    }
 }
 
 /// A message between home and the memory.

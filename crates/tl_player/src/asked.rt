@@ -8,7 +8,7 @@ use tl_types::{BankNo, BlockNo, ClientId};
 use tl_words::Step;
 
 /// The bank that a step names by its address, block or ticket; bank 0 where that is not there.
-pub(crate) fn bank_asked(geometry: Geometry, step: &Step) -> usize
+pub fn bank_asked(geometry: Geometry, step: &Step) -> usize
     ensures is { result ≡ bank_asked geometry step.now }
     ensures inside { result < geometry.banks }
 {
@@ -65,7 +65,7 @@ fn bank_or_first(geometry: Geometry, bank: BankNo) -> usize
 }
 
 /// The client that a step names; a call that has a block alone uses no share and no clock.
-pub(crate) fn client_named(step: &Step) -> ClientId
+pub fn client_named(step: &Step) -> ClientId
     ensures { result ≡ client_named step.now }
 {
     match step {

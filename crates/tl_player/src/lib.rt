@@ -11,4 +11,5 @@ mod network;
 mod shared_bank;
 mod trace;
 
+pub use asked::{bank_asked, client_named};
 pub use trace::play;

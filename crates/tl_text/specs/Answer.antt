@@ -22,7 +22,7 @@ carried_text None = []
 
 -- what a step's answer prints as
 abbrev pub answer_text : Answer → List ℕ
-answer_text (Sent ticket body) = codes "sent " ++ ticket_text ticket ++ codes " " ++ coded_text (body_kind body) ++ carried_text (body_bytes body)
+answer_text (Sent ticket block body) = codes "sent " ++ ticket_text ticket ++ codes " " ++ coded_text (body_kind body) ++ carried_text (body_bytes body)
 answer_text (Memory size message) = codes "memory " ++ coded_text (memory_kind message) ++ codes " " ++ decimal (log_of_size size) ++ operands_text message
 answer_text Dropped = codes "drop"
 answer_text (Loaded bytes) = codes "data " ++ hex_text bytes

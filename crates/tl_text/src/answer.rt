@@ -7,15 +7,16 @@ ghost use Rattle.tl_text.specs.Answer.{coded_text, carried_text, answer_text};
 use crate::memory::{BlockSize, MemoryMessage, Operands};
 use std::fmt;
 use tl_bank_spec::Refusal;
-use tl_types::{AccessBytes, BlockBytes, Body, Kind, Ticket, code};
+use tl_types::{AccessBytes, BlockBytes, BlockNo, Body, Kind, Ticket, code};
 use tl_words::Hex;
 
 /// What a step answered. It prints as the rest of the step's line, after its index.
 #[derive(Debug, Drop)]
 pub enum Answer {
-    /// A message to or from a client was sent.
+    /// A message to or from a client about this block was sent. The block is not printed.
     Sent {
         ticket: Ticket,
+        block: BlockNo,
         body: Body,
     },
     /// Home asked something of the memory, or the memory answered it, about a block of this size.
@@ -66,7 +67,11 @@ impl fmt::Display for Answer {
 
     fn fmt<W: fmt::Write>(&self, f: &mut fmt::Formatter<W>) -> fmt::Result {
         match self {
-            Answer::Sent { ticket, body } => {
+            Answer::Sent {
+                ticket,
+                block: _,
+                body,
+            } => {
                 write!(
                     f,
                     "sent {ticket} {}{}",

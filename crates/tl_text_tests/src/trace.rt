@@ -29,7 +29,11 @@ fn sent(client: u32, channel: Channel, serial: u64, body: Body) -> Answer {
         channel,
         serial,
     };
-    Answer::Sent { ticket, body }
+    Answer::Sent {
+        ticket,
+        block: BlockNo::new(0),
+        body,
+    }
 }
 
 fn acquire(client: u32, grow: Grow) -> Answer {

@@ -1,0 +1,84 @@
+//! From the bytes of a script to its picture.
+ghost use Rattle.std.specs.Prelude.{◌≡◌};
+
+use crate::sheet::{Form, Sheet, picture_of};
+use std::alloc::{AllocError, Global};
+use std::fmt;
+use thiserror::Error;
+use tl_chart::chart_of;
+use tl_player::play;
+use tl_script::{Script, ScriptError, read_script};
+use tl_types::BlockNo;
+
+/// The most steps that are drawn.
+const MOST: usize = 200;
+
+/// Why no picture is drawn. It prints as the one fault line.
+#[derive(Debug, Drop, Error)]
+pub enum DrawError {
+    /// The script was refused, or could not be read for want of memory.
+    Script(ScriptError),
+    /// The script has so many steps, more than 200.
+    TooMany(usize),
+    /// A request for memory was refused.
+    Memory,
+}
+
+impl fmt::Display for DrawError {
+    fn fmt<W: fmt::Write>(&self, f: &mut fmt::Formatter<W>) -> fmt::Result {
+        match self {
+            DrawError::Script(error) => write!(f, "{error}"),
+            DrawError::TooMany(steps) => write!(f, "error 60 {steps} steps, at most {MOST} are drawn"),
+            DrawError::Memory => write!(f, "error 41 memory"),
+        }
+    }
+}
+
+impl From<ScriptError> for DrawError {
+    fn from(error: ScriptError) -> DrawError {
+        DrawError::Script(error)
+    }
+}
+
+impl From<AllocError> for DrawError {
+    fn from(_error: AllocError) -> DrawError {
+        DrawError::Memory
+    }
+}
+
+/// Plays a script's steps, and writes the chart of their trace.
+fn drawn(
+    alloc: Global,
+    script: &Script,
+    title: &str,
+    form: Form,
+    block: Option<BlockNo>,
+) -> Result<String, AllocError> {
+    let geometry = script.geometry();
+    let trace = play(alloc, geometry, &script.image, &script.steps)?;
+    let chart = chart_of(alloc, geometry, &script.steps, &trace, block)?;
+    let sheet = Sheet {
+        title,
+        steps: &script.steps,
+        chart: &chart,
+        banks: &trace.banks,
+    };
+    picture_of(alloc, sheet, form)
+}
+
+/// The picture of the trace of the script that the bytes write, under a title, with bands for a block: the one that is asked for, or
+/// else that of the first message. The errors are those of the script, more than 200 steps, or want of memory.
+pub fn draw(
+    alloc: Global,
+    bytes: &[u8],
+    title: &str,
+    form: Form,
+    block: Option<BlockNo>,
+) -> Result<String, DrawError> {
+    let script = read_script(alloc, bytes)?;
+    let steps = script.steps.len();
+    if steps > MOST {
+        return Err(DrawError::TooMany(steps));
+    }
+    Ok(drawn(alloc, &script, title, form, block)?)
+}

@@ -1,0 +1,12 @@
+//! Sequence charts as text: SVG, or Mermaid.
+#![tactic(auto)]
+
+mod draw;
+mod labels;
+mod layout;
+mod mermaid;
+mod sheet;
+mod svg;
+
+pub use draw::{DrawError, draw};
+pub use sheet::{Form, Sheet, picture_of};

@@ -1,0 +1,97 @@
+//! The command line: `tlchart [--mermaid] [--block NUM] FILE`.
+
+use clap::error::ErrorKind;
+use clap::{Arg, ArgAction, ArgMatches, Command};
+use std::alloc::{AllocError, Global};
+use tl_picture::Form;
+use tl_types::BlockNo;
+use tl_words::parse_number;
+
+/// What the words ask for: a file, a form, and the block of the bands.
+#[derive(Debug, Drop)]
+pub(crate) struct Asked {
+    pub(crate) file: String,
+    pub(crate) form: Form,
+    pub(crate) block: Option<BlockNo>,
+}
+
+/// Why the words ask for nothing.
+#[derive(Clone, Copy, Debug, PartialEq, Eq)]
+pub(crate) enum AskedError {
+    /// The words are refused, or ask for help.
+    Usage,
+    /// A request for memory was refused.
+    Memory,
+}
+
+impl From<AllocError> for AskedError {
+    fn from(_error: AllocError) -> AskedError {
+        AskedError::Memory
+    }
+}
+
+impl From<clap::Error> for AskedError {
+    fn from(error: clap::Error) -> AskedError {
+        match error.kind() {
+            ErrorKind::OutOfMemory => AskedError::Memory,
+            _ => AskedError::Usage,
+        }
+    }
+}
+
+fn command<'a>(alloc: Global) -> Result<Command<'a>, AllocError> {
+    let mermaid = Arg::new(alloc, "mermaid")
+        .long("mermaid")
+        .action(ArgAction::SetTrue);
+    let block = Arg::new(alloc, "block")
+        .long("block")
+        .action(ArgAction::Set);
+    let file = Arg::new(alloc, "file")
+        .required(true)
+        .action(ArgAction::Set);
+    Command::new(alloc, "tlchart")
+        .no_binary_name(true)
+        .arg(mermaid)?
+        .arg(block)?
+        .arg(file)
+}
+
+/// The block that is asked for, if one is.
+fn block_asked(matches: &ArgMatches<'_>) -> Result<Option<BlockNo>, AskedError> {
+    match matches.get_str("block") {
+        None => Ok(None),
+        Some(text) => match parse_number(text) {
+            Some(number) => Ok(Some(BlockNo::new(number))),
+            None => Err(AskedError::Usage),
+        },
+    }
+}
+
+/// What the words after the program's name ask for.
+pub(crate) fn asked_by(alloc: Global, words: &[String]) -> Result<Asked, AskedError> {
+    let matches = command(alloc)?.try_get_matches_from(words)?;
+    let Some(file) = matches.get_str("file") else {
+        return Err(AskedError::Usage);
+    };
+    Ok(Asked {
+        file: String::from_str(alloc, file)?,
+        form: if matches.get_flag("mermaid") {
+            Form::Mermaid
+        } else {
+            Form::Svg
+        },
+        block: block_asked(&matches)?,
+    })
+}
+
+/// A file's name, without its folder and its last ending.
+pub(crate) fn title_of(file: &str) -> &str {
+    let name = match file.rsplit_once('/') {
+        Some((_, name)) => name,
+        None => file,
+    };
+    match name.rsplit_once('.') {
+        Some((stem, _)) => stem,
+        None => name,
+    }
+}

@@ -1,0 +1,98 @@
+//! What stops the program, and how it is told.
+
+use crate::asked::AskedError;
+use arrayvec::ArrayVec;
+use std::io::{ErrorKind, Write};
+use std::{fmt, io};
+use tl_picture::DrawError;
+use tl_script::ScriptError;
+
+/// The bytes of the longest fault line, with room.
+const LINE: usize = 64;
+
+/// What stops the program. It prints as the one fault line.
+#[derive(Debug, Drop)]
+pub(crate) enum Fault {
+    /// The words of the command line were refused.
+    Usage,
+    /// The file could not be read, or the picture not written.
+    File,
+    /// A request for memory was refused.
+    Memory,
+    /// The script is not drawn.
+    Draw(DrawError),
+}
+
+impl fmt::Display for Fault {
+    fn fmt<W: fmt::Write>(&self, f: &mut fmt::Formatter<W>) -> fmt::Result {
+        match self {
+            Fault::Usage => write!(f, "error usage"),
+            Fault::File => write!(f, "error file"),
+            Fault::Memory => write!(f, "error 41 memory"),
+            Fault::Draw(error) => write!(f, "{error}"),
+        }
+    }
+}
+
+impl From<AskedError> for Fault {
+    fn from(error: AskedError) -> Fault {
+        match error {
+            AskedError::Usage => Fault::Usage,
+            AskedError::Memory => Fault::Memory,
+        }
+    }
+}
+
+impl From<DrawError> for Fault {
+    fn from(error: DrawError) -> Fault {
+        Fault::Draw(error)
+    }
+}
+
+impl Fault {
+    /// The status that the program ends with: as `tlcache` has them, and 6 for too many steps.
+    pub(crate) fn status(&self) -> u8 {
+        match self {
+            Fault::Memory
+            | Fault::Draw(DrawError::Memory)
+            | Fault::Draw(DrawError::Script(ScriptError::Memory)) => 4,
+            Fault::Draw(DrawError::Script(_)) => 1,
+            Fault::Usage => 2,
+            Fault::File => 5,
+            Fault::Draw(DrawError::TooMany(_)) => 6,
+        }
+    }
+}
+
+/// Writes the whole text, or a beginning of it where a write fails.
+pub(crate) fn write_whole<W: Write>(writer: &mut W, text: &[u8]) -> io::Result<()> {
+    let mut rest = text;
+    for _ in 0..u64::MAX {
+        if rest.is_empty() {
+            return writer.flush();
+        }
+        match writer.write(rest) {
+            Ok(0) => return Err(io::Error::from(ErrorKind::WriteZero)),
+            Ok(taken) => rest = &rest[taken..],
+            Err(error) => {
+                if error.kind() != ErrorKind::Interrupted {
+                    return Err(error);
+                }
+            }
+        }
+    }
+    Err(io::Error::from(ErrorKind::TimedOut))
+}
+
+/// Writes the line of a fault, or a beginning of it where a write fails.
+fn tell<E: Write>(faults: &mut E, fault: &Fault) -> io::Result<()> {
+    let mut line: ArrayVec<u8, LINE> = ArrayVec::new();
+    writeln!(line, "{fault}")?;
+    write_whole(faults, line.as_slice())
+}
+
+/// Tells a fault, as far as `faults` takes it, and answers its status.
+pub(crate) fn show<E: Write>(faults: &mut E, fault: &Fault) -> u8 {
+    let _ = tell(faults, fault);
+    fault.status()
+}

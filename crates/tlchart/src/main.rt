@@ -1,0 +1,75 @@
+//! `tlchart FILE`: the sequence chart of a script's trace. `-` stands for standard input.
+#![tactic(auto)]
+
+mod asked;
+mod fault;
+
+use asked::{Asked, asked_by, title_of};
+use fault::{Fault, show, write_whole};
+use std::alloc::Global;
+use std::fs::File;
+use std::io;
+use std::io::{ErrorKind, Read};
+use std::process::ExitCode;
+use tl_picture::draw;
+
+/// The words after the program's name.
+fn words(rt: &HostRuntime) -> io::Result<Vec<String>> {
+    let mut words = Vec::new(rt.alloc());
+    for word in std::env::args(rt)?.skip(1) {
+        words.push(word)?;
+    }
+    Ok(words)
+}
+
+fn read_all<R: Read>(alloc: Global, reader: &mut R) -> Result<Vec<u8>, Fault> {
+    let mut bytes = Vec::new(alloc);
+    match reader.read_to_end(&mut bytes) {
+        Ok(_) => Ok(bytes),
+        Err(error) => match error.kind() {
+            ErrorKind::OutOfMemory => Err(Fault::Memory),
+            _ => Err(Fault::File),
+        },
+    }
+}
+
+/// The bytes of the file that is asked for.
+fn bytes(rt: &HostRuntime, file: &str) -> Result<Vec<u8>, Fault> {
+    if file == "-" {
+        return read_all(rt.alloc(), &mut rt.reader());
+    }
+    match File::open(rt, file) {
+        Ok(mut file) => read_all(rt.alloc(), &mut file),
+        Err(_) => Err(Fault::File),
+    }
+}
+
+fn picture(rt: &HostRuntime, asked: &Asked) -> Result<String, Fault> {
+    let bytes = bytes(rt, &asked.file)?;
+    Ok(draw(
+        rt.alloc(),
+        &bytes,
+        title_of(&asked.file),
+        asked.form,
+        asked.block,
+    )?)
+}
+
+fn answer(rt: &HostRuntime) -> Result<(), Fault> {
+    let Ok(words) = words(rt) else {
+        return Err(Fault::Usage);
+    };
+    let picture = picture(rt, &asked_by(rt.alloc(), &words)?)?;
+    match write_whole(&mut rt.stdout(), picture.as_bytes()) {
+        Ok(()) => Ok(()),
+        Err(_) => Err(Fault::File),
+    }
+}
+
+fn main(rt: HostRuntime) -> ExitCode {
+    let status = match answer(&rt) {
+        Ok(()) => 0,
+        Err(fault) => show(&mut rt.stderr(), &fault),
+    };
+    ExitCode::from(status)
+}
