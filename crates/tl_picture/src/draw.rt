@@ -1,5 +1,7 @@
 //! From the bytes of a script to its picture.
-ghost use Rattle.std.specs.Prelude.{◌≡◌};
+ghost use Rattle.std.specs.Prelude.{◌≡◌, ◌≤◌, IfErr, OnOk, length};
+ghost use Rattle.tl_picture.specs.Draw.{IsDrawn, IsWhy};
+ghost use Rattle.tl_picture.specs.declared.draw.DrawError.TheVariants as its;
 
 use crate::sheet::{Form, Sheet, picture_of};
 use std::alloc::{AllocError, Global};
@@ -25,22 +27,33 @@ pub enum DrawError {
 }
 
 impl fmt::Display for DrawError {
+    ghost use Rattle.std.specs.Prelude.{Some};
+    ghost use Rattle.tl_picture.specs.Draw.{draw_error_text};
+
+    ghost output = { λ e. Some (draw_error_text e) };
+
     fn fmt<W: fmt::Write>(&self, f: &mut fmt::Formatter<W>) -> fmt::Result {
         match self {
             DrawError::Script(error) => write!(f, "{error}"),
-            DrawError::TooMany(steps) => write!(f, "error 60 {steps} steps, at most {MOST} are drawn"),
+            DrawError::TooMany(steps) => {
+                write!(f, "error 60 {steps} steps, at most 200 are drawn")
+            },
             DrawError::Memory => write!(f, "error 41 memory"),
         }
     }
 }
 
 impl From<ScriptError> for DrawError {
+    ghost from_gives = { λ error e. e ≡ its.Script error };
+
     fn from(error: ScriptError) -> DrawError {
         DrawError::Script(error)
     }
 }
 
 impl From<AllocError> for DrawError {
+    ghost from_gives = { λ _ e. e ≡ its.Memory };
+
     fn from(_error: AllocError) -> DrawError {
         DrawError::Memory
     }
@@ -53,7 +66,9 @@ fn drawn(
     title: &str,
     form: Form,
     block: Option<BlockNo>,
-) -> Result<String, AllocError> {
+) -> Result<String, AllocError>
+    requires { length script.now.steps.items ≤ 4096 }
+{
     let geometry = script.geometry();
     let trace = play(alloc, geometry, &script.image, &script.steps)?;
     let chart = chart_of(alloc, geometry, &script.steps, &trace, block)?;
@@ -74,7 +89,10 @@ pub fn draw(
     title: &str,
     form: Form,
     block: Option<BlockNo>,
-) -> Result<String, DrawError> {
+) -> Result<String, DrawError>
+    ensures drawn { OnOk result (IsDrawn bytes.now) }
+    ensures why { IfErr result (IsWhy bytes.now) }
+{
     let script = read_script(alloc, bytes)?;
     let steps = script.steps.len();
     if steps > MOST {

@@ -58,7 +58,9 @@ fn foot_lines(banks: &[BankClosing]) -> usize {
 /// The opening tag, the title, and the paper.
 fn push_opening(text: &mut String, sheet: Sheet<'_>) -> Result<(), AllocError> {
     let width = width(sheet.chart);
-    let foot = foot_lines(sheet.banks).saturating_mul(16).saturating_add(30);
+    let foot = foot_lines(sheet.banks)
+        .saturating_mul(16)
+        .saturating_add(46);
     let height = y(sheet.chart.turns.len()).saturating_add(foot);
     write!(
         text,
@@ -68,7 +70,9 @@ fn push_opening(text: &mut String, sheet: Sheet<'_>) -> Result<(), AllocError> {
     text.push_str("</title>\n")?;
     text.push_str(STYLE)?;
     push_heads(text)?;
-    text.push_str("<rect class=\"paper\" width=\"100%\" height=\"100%\"/>\n<text class=\"title\" x=\"16\" y=\"30\">")?;
+    text.push_str(
+        "<rect class=\"paper\" width=\"100%\" height=\"100%\"/>\n<text class=\"title\" x=\"16\" y=\"30\">",
+    )?;
     push_title(text, sheet.title)?;
     text.push_str("</text>\n")
 }
@@ -80,20 +84,32 @@ fn push_legend(text: &mut String, chart: &Chart) -> Result<(), AllocError> {
         "<rect class=\"Branch\" x=\"16\" y=\"46\" width=\"10\" height=\"16\"/><text x=\"32\" y=\"58\">Branch</text><rect class=\"Tip\" x=\"88\" y=\"46\" width=\"10\" height=\"16\"/><text x=\"104\" y=\"58\">Tip of block {}</text>\n",
         chart.block
     )?;
-    text.push_str("<circle class=\"mark\" cx=\"21\" cy=\"78\" r=\"4\"/><text x=\"32\" y=\"82\">store</text><circle class=\"hollow\" cx=\"93\" cy=\"78\" r=\"4\"/><text x=\"104\" y=\"82\">load</text><path class=\"cross\" d=\"M152 74l8 8m0 -8l-8 8\"/><text x=\"168\" y=\"82\">refused</text>\n")?;
-    text.push_str("<path class=\"arrow open lE\" d=\"M16 98h36\"/><text x=\"60\" y=\"102\">never taken; b: block</text>\n")
+    text.push_str(
+        "<circle class=\"mark\" cx=\"21\" cy=\"78\" r=\"4\"/><text x=\"32\" y=\"82\">store</text><circle class=\"hollow\" cx=\"93\" cy=\"78\" r=\"4\"/><text x=\"104\" y=\"82\">load</text><path class=\"cross\" d=\"M152 74l8 8m0 -8l-8 8\"/><text x=\"168\" y=\"82\">refused</text>\n",
+    )?;
+    text.push_str(
+        "<path class=\"arrow open lE\" d=\"M16 98h36\"/><text x=\"60\" y=\"102\">never taken; b: block</text>\n",
+    )
 }
 
-/// A lifeline, with its name at the head.
-fn push_lifeline_of(text: &mut String, chart: &Chart, lifeline: Lifeline) -> Result<(), AllocError> {
-    let x = x(chart, lifeline);
-    let end = y(chart.turns.len());
-    write!(
-        text,
-        "<path class=\"life\" d=\"M{x} 112V{end}\"/><text class=\"head\" x=\"{x}\" y=\"104\">"
-    )?;
+/// The name of a lifeline, centered at a point.
+fn push_name(text: &mut String, lifeline: Lifeline, x: usize, y: usize) -> Result<(), AllocError> {
+    write!(text, "<text class=\"head\" x=\"{x}\" y=\"{y}\">")?;
     push_lifeline(text, lifeline)?;
     text.push_str("</text>\n")
+}
+
+/// A lifeline, with its name at both ends.
+fn push_lifeline_of(
+    text: &mut String,
+    chart: &Chart,
+    lifeline: Lifeline,
+) -> Result<(), AllocError> {
+    let x = x(chart, lifeline);
+    let end = y(chart.turns.len());
+    write!(text, "<path class=\"life\" d=\"M{x} 112V{end}\"/>")?;
+    push_name(text, lifeline, x, 104)?;
+    push_name(text, lifeline, x, end.saturating_add(16))
 }
 
 /// The lifeline of each client, each bank's home, and the memory.
@@ -229,8 +245,14 @@ fn push_labels(text: &mut String, chart: &Chart) -> Result<(), AllocError> {
 /// The shape of a mark in the middle of its row.
 fn push_shape(text: &mut String, mark: &Mark, x: usize, y: usize) -> Result<(), AllocError> {
     match mark {
-        Mark::Loaded(_) => write!(text, "<circle class=\"hollow\" cx=\"{x}\" cy=\"{y}\" r=\"4\"/>")?,
-        Mark::Stored(_) => write!(text, "<circle class=\"mark\" cx=\"{x}\" cy=\"{y}\" r=\"4\"/>")?,
+        Mark::Loaded(_) => write!(
+            text,
+            "<circle class=\"hollow\" cx=\"{x}\" cy=\"{y}\" r=\"4\"/>"
+        )?,
+        Mark::Stored(_) => write!(
+            text,
+            "<circle class=\"mark\" cx=\"{x}\" cy=\"{y}\" r=\"4\"/>"
+        )?,
         Mark::Dropped | Mark::Evicting(_) => write!(
             text,
             "<path class=\"mark\" d=\"M{x} {y}m-4 -4h8v8h-8z\"/>"
@@ -265,7 +287,10 @@ fn push_mark_of(
     let class = class_of(mark);
     if at == Lifeline::Memory {
         let right = x.saturating_sub(BESIDE);
-        write!(text, "<text class=\"{class} end\" x=\"{right}\" y=\"{base}\">")?;
+        write!(
+            text,
+            "<text class=\"{class} end\" x=\"{right}\" y=\"{base}\">"
+        )?;
     } else {
         let left = x.saturating_add(BESIDE);
         write!(text, "<text class=\"{class}\" x=\"{left}\" y=\"{base}\">")?;
@@ -281,7 +306,10 @@ fn push_marks(text: &mut String, chart: &Chart) -> Result<(), AllocError> {
             Some(mark) => push_mark_of(text, chart, row, turn.at, mark)?,
             None => {
                 let (x, y) = (x(chart, turn.at), y(row));
-                write!(text, "<circle class=\"dot\" cx=\"{x}\" cy=\"{y}\" r=\"2\"/>\n")?;
+                write!(
+                    text,
+                    "<circle class=\"dot\" cx=\"{x}\" cy=\"{y}\" r=\"2\"/>\n"
+                )?;
             }
         }
     }
@@ -290,7 +318,9 @@ fn push_marks(text: &mut String, chart: &Chart) -> Result<(), AllocError> {
 
 /// The beginning of a line at the foot.
 fn push_foot(text: &mut String, chart: &Chart, line: usize) -> Result<(), AllocError> {
-    let base = y(chart.turns.len()).saturating_add(line.saturating_mul(16)).saturating_add(24);
+    let base = y(chart.turns.len())
+        .saturating_add(line.saturating_mul(16))
+        .saturating_add(44);
     write!(text, "<text x=\"16\" y=\"{base}\">")?;
     Ok(())
 }

@@ -1,4 +1,7 @@
 //! What stops the program, and how it is told.
+ghost use Rattle.std.specs.Prelude.{◌≡◌};
+ghost use Rattle.tlchart.specs.declared.fault.Fault.TheVariants as its;
+ghost use Rattle.tlchart.specs.Fault.{fault_of_words, status_of};
 
 use crate::asked::AskedError;
 use arrayvec::ArrayVec;
@@ -24,6 +27,11 @@ pub(crate) enum Fault {
 }
 
 impl fmt::Display for Fault {
+    ghost use Rattle.std.specs.Prelude.{Some};
+    ghost use Rattle.tlchart.specs.Fault.{fault_text};
+
+    ghost output = { λ fault. Some (fault_text fault) };
+
     fn fmt<W: fmt::Write>(&self, f: &mut fmt::Formatter<W>) -> fmt::Result {
         match self {
             Fault::Usage => write!(f, "error usage"),
@@ -35,6 +43,8 @@ impl fmt::Display for Fault {
 }
 
 impl From<AskedError> for Fault {
+    ghost from_gives = { λ error fault. fault ≡ fault_of_words error };
+
     fn from(error: AskedError) -> Fault {
         match error {
             AskedError::Usage => Fault::Usage,
@@ -44,6 +54,8 @@ impl From<AskedError> for Fault {
 }
 
 impl From<DrawError> for Fault {
+    ghost from_gives = { λ error fault. fault ≡ its.Draw error };
+
     fn from(error: DrawError) -> Fault {
         Fault::Draw(error)
     }
@@ -51,7 +63,9 @@ impl From<DrawError> for Fault {
 
 impl Fault {
     /// The status that the program ends with: as `tlcache` has them, and 6 for too many steps.
-    pub(crate) fn status(&self) -> u8 {
+    pub(crate) fn status(&self) -> u8
+        ensures { result ≡ status_of self.now }
+    {
         match self {
             Fault::Memory
             | Fault::Draw(DrawError::Memory)
@@ -92,7 +106,9 @@ fn tell<E: Write>(faults: &mut E, fault: &Fault) -> io::Result<()> {
 }
 
 /// Tells a fault, as far as `faults` takes it, and answers its status.
-pub(crate) fn show<E: Write>(faults: &mut E, fault: &Fault) -> u8 {
+pub(crate) fn show<E: Write>(faults: &mut E, fault: &Fault) -> u8
+    ensures { result ≡ status_of fault.now }
+{
     let _ = tell(faults, fault);
     fault.status()
 }
