@@ -18,12 +18,12 @@ impl Links {
     {
         match self {
             Links::OfClient(client, banks) => {
-                ticket.client == client
+                ticket.client == *client
                     && ticket.bank.index() < *banks
                     && is_to_client(ticket.channel)
             }
             Links::OfBank(bank, clients) => {
-                ticket.bank == bank
+                ticket.bank == *bank
                     && ticket.client.index() < *clients
                     && !is_to_client(ticket.channel)
             }
