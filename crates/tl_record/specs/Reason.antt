@@ -55,7 +55,7 @@ rule_source CopyIsWritable = TileLink
 rule_source WaitsForNothing = Own
 rule_source StartsFromItsCopy = TileLink
 rule_source ProbeWaits = TileLink
-rule_source NoReleaseUnanswered = TileLink
+rule_source NoReleaseUnanswered = Own
 rule_source GrantIsFirst = TileLink
 rule_source ReleaseAckIsFirst = TileLink
 rule_source AcquireWaits = TileLink
@@ -77,7 +77,7 @@ rule_source DataIsOutward = TileLink
 rule_source PutAckIsOutward = TileLink
 rule_source CopyIsClean = TileLink
 rule_source CopyIsDirty = Own
-rule_source NobodyIsRecorded = TileLink
+rule_source NobodyIsRecorded = Own
 
 -- where docs/PROTOCOL.md has it
 abbrev pub rule_place : Rule → Place
@@ -123,7 +123,7 @@ sentence_of NotAsShown = codes "what is shown is what the event sends"
 -- who laid it down
 abbrev pub source_of : Breach → Source
 source_of (NotPermitted rule) = rule_source rule
-source_of OutOfOrder = Own
+source_of OutOfOrder = TileLink
 source_of NotAsShown = Own
 
 -- where it stands

@@ -80,19 +80,20 @@ fn rule_source(rule: Rule) -> Source
         | Rule::ClientIsThere
         | Rule::AccessFits
         | Rule::WaitsForNothing
+        | Rule::NoReleaseUnanswered
         | Rule::ServesNoAcquire
         | Rule::RecordIsAbove
         | Rule::HomeHasTheBlock
         | Rule::ServesAnAcquire
         | Rule::HomeLacksTheBlock
         | Rule::NothingIsOutward
-        | Rule::CopyIsDirty => Source::Own,
+        | Rule::CopyIsDirty
+        | Rule::NobodyIsRecorded => Source::Own,
         Rule::CopyIsReadable
         | Rule::LoadHasItsBytes
         | Rule::CopyIsWritable
         | Rule::StartsFromItsCopy
         | Rule::ProbeWaits
-        | Rule::NoReleaseUnanswered
         | Rule::GrantIsFirst
         | Rule::ReleaseAckIsFirst
         | Rule::AcquireWaits
@@ -106,8 +107,7 @@ fn rule_source(rule: Rule) -> Source
         | Rule::RequestIsOutward
         | Rule::DataIsOutward
         | Rule::PutAckIsOutward
-        | Rule::CopyIsClean
-        | Rule::NobodyIsRecorded => Source::TileLink,
+        | Rule::CopyIsClean => Source::TileLink,
     }
 }
 
@@ -171,7 +171,8 @@ impl Reason {
     {
         match self.0 {
             Breach::NotPermitted(rule) => rule_source(rule),
-            Breach::OutOfOrder | Breach::NotAsShown => Source::Own,
+            Breach::OutOfOrder => Source::TileLink,
+            Breach::NotAsShown => Source::Own,
         }
     }
 

@@ -43,7 +43,7 @@ plain n h =
     rw (some, no_leading_zero n h) (all_digits (decimal n) numeral.0.1)
 
 -- a number is read back as it was printed
-number_read : (n : ℕ) → n < 2 ^ 32 → number_of (decimal n) ≡ Some n
+pub number_read : (n : ℕ) → n < 2 ^ 32 → number_of (decimal n) ≡ Some n
 number_read n h =
     let numeral = decimal_is_IsNumeral n (omega arith) in
     rw (plain n h, numeral.1, lt-ltb n (2 ^ 32) h) refl
