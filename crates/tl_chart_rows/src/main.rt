@@ -6,10 +6,11 @@ use std::{fs, io};
 use tl_picture::{Form, draw};
 
 /// The scripts: `NAME.toml`, whose pictures are `NAME.svg` and `NAME.mmd`.
-const SCRIPTS: [&str; 3] = [
+const SCRIPTS: [&str; 4] = [
     "release-crosses-probe",
     "both-upgrade",
     "eviction-writes-back",
+    "every-mark",
 ];
 
 /// Whether the picture of a script is this one.

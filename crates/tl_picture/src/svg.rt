@@ -181,7 +181,24 @@ fn ends(from: usize, to: usize) -> (usize, usize) {
     }
 }
 
-/// The line of a message, dashed and open where nobody took it.
+/// The line of a message that nobody took: dashed, with a ring before its receiver.
+fn push_open(
+    text: &mut String,
+    channel: Channel,
+    from: usize,
+    to: usize,
+    start: usize,
+) -> Result<(), AllocError> {
+    let (_, before) = ends(from, ends(from, to).1);
+    let end = start.saturating_add(ROW / 2);
+    write!(
+        text,
+        "<path class=\"arrow open l{channel}\" d=\"M{from} {start}L{before} {end}\"/><circle class=\"arrow l{channel}\" cx=\"{before}\" cy=\"{end}\" r=\"3\"/>\n"
+    )?;
+    Ok(())
+}
+
+/// The line of a message.
 fn push_line(text: &mut String, chart: &Chart, arrow: &Arrow) -> Result<(), AllocError> {
     let channel = arrow.message.kind.channel();
     let (from, to) = ends(x(chart, arrow.message.from), x(chart, arrow.message.to));
@@ -194,14 +211,7 @@ fn push_line(text: &mut String, chart: &Chart, arrow: &Arrow) -> Result<(), Allo
                 "<path class=\"arrow l{channel}\" d=\"M{from} {start}L{to} {end}\" marker-end=\"url(#head{channel})\"/>\n"
             )?;
         }
-        None => {
-            let middle = from / 2 + to / 2;
-            let end = start.saturating_add(ROW / 2);
-            write!(
-                text,
-                "<path class=\"arrow open l{channel}\" d=\"M{from} {start}L{middle} {end}\"/><circle class=\"arrow l{channel}\" cx=\"{middle}\" cy=\"{end}\" r=\"3\"/>\n"
-            )?;
-        }
+        None => push_open(text, channel, from, to, start)?,
     }
     Ok(())
 }
