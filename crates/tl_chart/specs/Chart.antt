@@ -17,10 +17,10 @@ chosen None (first ∷ rest) = first.message.block
 
 -- A chart has a lifeline for each client and each bank, what each step did, each message of the trace once as an arrow, and the
 -- changes of permissions to its block.
-pub record IsChart (g : Numbers) (steps : List Step) (trace : Trace) (block : Option ℕ) (chart : Chart) : Type 0 where
+pub record IsChart (g : Numbers) (steps : List Step) (trace : Trace) (asked : Option ℕ) (chart : Chart) : Type 0 where
   pub clients : chart.clients ≡ g.clients
   pub banks : chart.banks ≡ g.banks
   pub turns : chart.turns.items ≡ turns_of g steps trace.answers.items
   pub arrows : chart.arrows.items ≡ arrows_of (turns_of g steps trace.answers.items)
-  pub block : chart.block ≡ chosen block (arrows_of (turns_of g steps trace.answers.items))
+  pub block : chart.block ≡ chosen asked (arrows_of (turns_of g steps trace.answers.items))
   pub changes : chart.changes.items ≡ changes_of chart.block (arrows_of (turns_of g steps trace.answers.items))

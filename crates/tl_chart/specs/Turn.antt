@@ -1,6 +1,5 @@
 -- What a step of a trace did (this project's own).
-use Rattle.std.specs.Prelude.{List, map, Option, Some, None}
-use Rattle.std.specs.List.{zip}
+use Rattle.std.specs.Prelude.{List, [], ◌∷◌, Option, Some, None}
 use Rattle.tl_map.specs.Numbers.{Numbers}
 use Rattle.tl_words.specs.declared.step.BlockCall.TheVariants.{Evict, ServeMemory, TakeMemory}
 use Rattle.tl_words.specs.declared.step.Step.{Step}
@@ -42,9 +41,11 @@ mark_of s (answer.Refused refusal) = Some (Refused refusal)
 mark_of s _ = None
 
 -- what a step with an answer did
-abbrev pub turn_of : Numbers → Step → Answer → Turn
+unfoldable pub turn_of : Numbers → Step → Answer → Turn
 turn_of g s a = record { at = lifeline_of g s; sends = message_by g s a; takes = place_taken s a; mark = mark_of s a }
 
--- what each step did
+-- what each step did, as far as there are answers
 abbrev pub turns_of : Numbers → List Step → List Answer → List Turn
-turns_of g steps answers = map (λ p. turn_of g p.0 p.1) (zip steps answers)
+turns_of g (s ∷ steps) (a ∷ answers) = turn_of g s a ∷ turns_of g steps answers
+turns_of g [] answers = []
+turns_of g (s ∷ steps) [] = []

@@ -16,19 +16,19 @@ pub struct Arrow {
 }
 
 /// Whether a step took the message at a place.
-fn takes(place: Place, turn: &Turn) -> bool
-    ensures { result ≡ takes_at place turn.now.takes }
+fn takes(place: &Place, turn: &Turn) -> bool
+    ensures { result ≡ takes_at place.now turn.now.takes }
 {
-    match turn.takes {
+    match &turn.takes {
         Some(taken) => same_place(place, taken),
         None => false,
     }
 }
 
 /// The row of the first of the later steps, which begin at the row `after`, that took the message at a place.
-fn taker(place: Place, after: usize, later: &[Turn]) -> Option<usize>
+fn taker(place: &Place, after: usize, later: &[Turn]) -> Option<usize>
     requires { after + length later.now < 2 ^ 64 }
-    ensures { result ≡ taker place after later.now }
+    ensures { result ≡ taker place.now after later.now }
 {
     for (index, turn) in later.iter().enumerate() {
         if takes(place, turn) {
@@ -47,7 +47,7 @@ fn arrow_by(row: usize, turn: &Turn, later: &[Turn]) -> Option<Arrow>
         Some(message) => Some(Arrow {
             message: message.copied(),
             sent: row,
-            taken: taker(message.place, row + 1, later),
+            taken: taker(&message.place, row + 1, later),
         }),
         None => None,
     }

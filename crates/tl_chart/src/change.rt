@@ -1,7 +1,6 @@
 //! Where clients gain and lose permissions to a block.
 ghost use Rattle.std.specs.Prelude.{◌≡◌, IfOk};
-ghost use Rattle.std.specs.List.{filter_map};
-ghost use Rattle.tl_chart.specs.Change.{change_at, change_by, change_in, changes_of};
+ghost use Rattle.tl_chart.specs.Change.{change_by, change_in, changes_of, where_sent, where_taken};
 
 use crate::arrow::Arrow;
 use crate::lifeline::Lifeline;

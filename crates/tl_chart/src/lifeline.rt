@@ -84,8 +84,8 @@ fn is_from_client(channel: Channel) -> bool
 }
 
 /// Who sends on a ticket's channel.
-pub(crate) fn sender(ticket: Ticket) -> Lifeline
-    ensures { result ≡ sender ticket }
+pub(crate) fn sender(ticket: &Ticket) -> Lifeline
+    ensures { result ≡ sender ticket.now }
 {
     if is_from_client(ticket.channel) {
         Lifeline::Client(ticket.client)
@@ -95,8 +95,8 @@ pub(crate) fn sender(ticket: Ticket) -> Lifeline
 }
 
 /// Who takes from a ticket's channel.
-pub(crate) fn receiver(ticket: Ticket) -> Lifeline
-    ensures { result ≡ receiver ticket }
+pub(crate) fn receiver(ticket: &Ticket) -> Lifeline
+    ensures { result ≡ receiver ticket.now }
 {
     if is_from_client(ticket.channel) {
         Lifeline::Home(ticket.bank)
@@ -105,8 +105,9 @@ pub(crate) fn receiver(ticket: Ticket) -> Lifeline
     }
 }
 
-fn same_ticket(a: Ticket, b: Ticket) -> bool
-    ensures { result ≡ same_ticket a b }
+/// Whether two tickets are one.
+fn same_ticket(a: &Ticket, b: &Ticket) -> bool
+    ensures { result ≡ same_ticket a.now b.now }
 {
     a.bank.number() == b.bank.number()
         && a.client.number() == b.client.number()
@@ -115,13 +116,21 @@ fn same_ticket(a: Ticket, b: Ticket) -> bool
 }
 
 /// Whether two places are one.
-pub(crate) fn same_place(a: Place, b: Place) -> bool
-    ensures { result ≡ same_place a b }
+pub(crate) fn same_place(a: &Place, b: &Place) -> bool
+    ensures { result ≡ same_place a.now b.now }
 {
-    match (a, b) {
-        (Place::Link(one), Place::Link(other)) => same_ticket(one, other),
-        (Place::ToMemory(one), Place::ToMemory(other)) => one.number() == other.number(),
-        (Place::FromMemory(one), Place::FromMemory(other)) => one.number() == other.number(),
-        _ => false,
+    match a {
+        Place::Link(one) => match b {
+            Place::Link(other) => same_ticket(one, other),
+            Place::ToMemory(_) | Place::FromMemory(_) => false,
+        },
+        Place::ToMemory(one) => match b {
+            Place::ToMemory(other) => one.number() == other.number(),
+            Place::Link(_) | Place::FromMemory(_) => false,
+        },
+        Place::FromMemory(one) => match b {
+            Place::FromMemory(other) => one.number() == other.number(),
+            Place::Link(_) | Place::ToMemory(_) => false,
+        },
     }
 }

@@ -39,7 +39,7 @@ impl ShownMessage {
 
 /// The same bytes again, where there are some.
 fn copied_bytes(bytes: Option<&BlockBytes>) -> Option<BlockBytes>
-    ensures { result ≡ option_map (λ b. b.now) bytes }
+    ensures { result ≡ option_map (λ b. b.now) bytes.entry }
 {
     match bytes {
         Some(bytes) => Some(bytes.copied()),
@@ -48,16 +48,20 @@ fn copied_bytes(bytes: Option<&BlockBytes>) -> Option<BlockBytes>
 }
 
 /// A message to or from a client.
-fn link_message(ticket: Ticket, block: BlockNo, body: &Body) -> ShownMessage
-    ensures { result ≡ link_message ticket block body.now }
+fn link_message(ticket: &Ticket, block: BlockNo, body: &Body) -> ShownMessage
+    ensures { result ≡ link_message ticket.now block body.now }
 {
+    let from = sender(ticket);
+    let to = receiver(ticket);
+    let kind = body.kind();
+    let bytes = copied_bytes(body.bytes());
     ShownMessage {
-        place: Place::Link(ticket),
-        from: sender(ticket),
-        to: receiver(ticket),
+        place: Place::Link(*ticket),
+        from,
+        to,
         block,
-        kind: body.kind(),
-        bytes: copied_bytes(body.bytes()),
+        kind,
+        bytes,
     }
 }
 
@@ -139,7 +143,7 @@ pub(crate) fn message_by(geometry: Geometry, step: &Step, answer: &Answer) -> Op
             ticket,
             block,
             body,
-        } => Some(link_message(*ticket, *block, body)),
+        } => Some(link_message(ticket, *block, body)),
         Answer::Memory { size: _, message } => Some(memory_message(geometry, step, message)),
         Answer::Dropped | Answer::Loaded(_) | Answer::Done | Answer::Refused(_) => None,
     }

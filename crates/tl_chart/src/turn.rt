@@ -82,6 +82,7 @@ fn mark_of(step: &Step, answer: &Answer) -> Option<Mark>
 }
 
 /// What a step with this answer did.
+#[tactic(auto, unfolding(crate::specs::Turn::turn_of))]
 fn turn_of(geometry: Geometry, step: &Step, answer: &Answer) -> Turn
     ensures { result ≡ turn_of geometry step.now answer.now }
 {
@@ -102,9 +103,16 @@ pub(crate) fn turns(
 ) -> Result<Vec<Turn>, AllocError>
     ensures { IfOk result (λ turns. turns.items ≡ turns_of geometry steps.now answers.now) }
 {
-    steps
-        .iter()
-        .zip(answers)
-        .map(|(step, answer)| turn_of(geometry, step, answer))
-        .collect(alloc)
+    let mut turns = Vec::new(alloc);
+    let mut rest = answers;
+    for step in steps {
+        match rest {
+            [] => return Ok(turns),
+            [answer, after @ ..] => {
+                turns.push(turn_of(geometry, step, answer))?;
+                rest = after;
+            }
+        }
+    }
+    Ok(turns)
 }
