@@ -1,5 +1,7 @@
 //! What no clause says: that a memory is made with ample room, the whole or a bank's part, and a Put and a Get of blocks of each
 //! size.
+use std::alloc::Global;
+use std::marker::Model;
 use std::process::Abort;
 use std::test::Fail;
 use tl_map::{Geometry, GeometryNumbers};
@@ -42,71 +44,107 @@ fn counted(beats: u8) -> Burst {
     burst
 }
 
-/// Serves a Put of these beats at an address.
-fn put(rt: &impl Abort, memory: &mut Memory, size: u32, address: u32, burst: Burst) {
-    let request = Request::Put {
-        size,
-        address,
-        burst,
-    };
-    assert!(rt; memory.has(&request));
-    let reply = memory.serve(request);
-    assert!(rt; matches!(reply, Reply::AccessAck { size: answered } if answered == size));
+/// A memory. Its model says nothing, so that a test of many calls has their answers alone to carry along.
+#[derive(Drop)]
+struct Blocks {
+    memory: Memory,
 }
 
-/// The first and the last byte of the block at an address, and how many bytes it has.
-fn get(rt: &impl Abort, memory: &mut Memory, size: u32, address: u32) -> Option<(u8, u8, usize)> {
-    let request = Request::Get { size, address };
-    assert!(rt; memory.has(&request));
-    match memory.serve(request) {
-        Reply::AccessAckData {
-            size: answered,
+impl Model for Blocks {
+    ghost Value = { Unit {0} };
+
+    ghost view = { λ _. tt };
+}
+
+impl Blocks {
+    /// The whole memory of four blocks.
+    fn new(rt: &impl Abort, alloc: Global, block_bytes: u32, image: &[u8]) -> Result<Blocks, Fail> {
+        let geometry = four_blocks(1, i64::from(block_bytes))?;
+        assert_eq!(rt; geometry.memory_bytes(), block_bytes.saturating_mul(4));
+        assert!(rt; image.len() <= geometry.memory_bytes() as usize);
+        Ok(Blocks {
+            memory: Memory::new(alloc, geometry, image)?,
+        })
+    }
+
+    /// The part of bank 1 of two, of four blocks of eight bytes.
+    fn of_bank(rt: &impl Abort, alloc: Global, image: &[u8]) -> Result<Blocks, Fail> {
+        let geometry = four_blocks(2, 8)?;
+        assert!(rt; image.len() <= geometry.memory_bytes() as usize);
+        Ok(Blocks {
+            memory: Memory::of_bank(alloc, geometry, BankNo::new(1), image)?,
+        })
+    }
+
+    /// Whether it has a block of a size at an address.
+    fn has(&self, size: u32, address: u32) -> bool {
+        self.memory.has(&Request::Get { size, address })
+    }
+
+    /// Serves a Put of these beats at an address.
+    fn put(&mut self, rt: &impl Abort, size: u32, address: u32, burst: Burst) {
+        let request = Request::Put {
+            size,
+            address,
             burst,
-        } if answered == size => {
-            let block = burst.block();
-            let bytes = block.as_slice();
-            Some((*bytes.first()?, *bytes.last()?, bytes.len()))
+        };
+        assert!(rt; self.memory.has(&request));
+        let reply = self.memory.serve(request);
+        assert!(rt; matches!(reply, Reply::AccessAck { size: answered } if answered == size));
+    }
+
+    /// The first and the last byte of the block at an address, and how many bytes it has.
+    fn get(&mut self, rt: &impl Abort, size: u32, address: u32) -> Option<(u8, u8, usize)> {
+        let request = Request::Get { size, address };
+        assert!(rt; self.memory.has(&request));
+        match self.memory.serve(request) {
+            Reply::AccessAckData {
+                size: answered,
+                burst,
+            } if answered == size => {
+                let block = burst.block();
+                let bytes = block.as_slice();
+                Some((*bytes.first()?, *bytes.last()?, bytes.len()))
+            }
+            _ => None,
         }
-        _ => None,
     }
 }
 
 #[test]
 fn a_put_is_read_back(rt: HostRuntime) -> Result<(), Fail> {
-    for (size, bytes, last) in [(3, 8, 0x87), (4, 16, 0x8f), (5, 32, 0x9f), (6, 64, 0xbf)] {
-        let geometry = four_blocks(1, bytes as i64)?;
-        assert_eq!(rt; geometry.memory_bytes(), 4 * bytes);
-        let mut memory = Memory::new(rt.alloc(), geometry, &[1, 2, 3, 4, 5, 6, 7, 8, 9])?;
-        put(
-            &rt,
-            &mut memory,
-            size,
-            2 * bytes,
-            counted((bytes / 8) as u8),
-        );
+    for (size, bytes, beats, last) in [
+        (3, 8, 1, 0x87),
+        (4, 16, 2, 0x8f),
+        (5, 32, 4, 0x9f),
+        (6, 64, 8, 0xbf),
+    ] {
+        let mut blocks = Blocks::new(&rt, rt.alloc(), bytes, &[1, 2, 3, 4, 5, 6, 7, 8, 9])?;
+        blocks.put(&rt, size, bytes.saturating_mul(2), counted(beats));
         let len = bytes as usize;
         assert_eq!(rt;
-            get(&rt, &mut memory, size, 2 * bytes),
+            blocks.get(&rt, size, bytes.saturating_mul(2)),
             Some((0x80, last, len))
         );
         let rest = if bytes == 8 { 8 } else { 0 };
-        assert_eq!(rt; get(&rt, &mut memory, size, 0), Some((1, rest, len)));
-        assert_eq!(rt; get(&rt, &mut memory, size, 3 * bytes), Some((0, 0, len)));
+        assert_eq!(rt; blocks.get(&rt, size, 0), Some((1, rest, len)));
+        assert_eq!(rt;
+            blocks.get(&rt, size, bytes.saturating_mul(3)),
+            Some((0, 0, len))
+        );
     }
     Ok(())
 }
 
 #[test]
 fn a_bank_keeps_its_own_blocks(rt: HostRuntime) -> Result<(), Fail> {
-    let geometry = four_blocks(2, 8)?;
     let image = [1, 2, 3, 4, 5, 6, 7, 8, 9, 10, 11, 12];
-    assert!(rt; image.len() <= geometry.memory_bytes() as usize);
-    let mut memory = Memory::of_bank(rt.alloc(), geometry, BankNo::new(1), &image)?;
+    let mut blocks = Blocks::of_bank(&rt, rt.alloc(), &image)?;
     for address in [0, 24] {
-        assert!(rt; !memory.has(&Request::Get { size: 3, address }));
+        assert!(rt; !blocks.has(3, address));
     }
-    put(&rt, &mut memory, 3, 16, counted(1));
-    assert_eq!(rt; get(&rt, &mut memory, 3, 8), Some((9, 0, 8)));
-    assert_eq!(rt; get(&rt, &mut memory, 3, 16), Some((0x80, 0x87, 8)));
+    blocks.put(&rt, 3, 16, counted(1));
+    assert_eq!(rt; blocks.get(&rt, 3, 8), Some((9, 0, 8)));
+    assert_eq!(rt; blocks.get(&rt, 3, 16), Some((0x80, 0x87, 8)));
     Ok(())
 }

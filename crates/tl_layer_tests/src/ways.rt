@@ -1,6 +1,8 @@
+use std::alloc::Global;
+use std::marker::Model;
+use std::process::Abort;
 use std::test::Fail;
 use tl_map::{Geometry, GeometryNumbers, Set, Tag};
-use tl_types::{BankNo, ClientId, Perm};
 use tl_ways::{Entry, Way, Ways};
 
 /// One bank with one set of three ways.
@@ -16,32 +18,85 @@ const NUMBERS: GeometryNumbers = GeometryNumbers {
     memory_blocks: 8,
 };
 
+/// The ways of one set. Its model says nothing, so that a test of many calls has their answers alone to carry along.
+#[derive(Drop)]
+struct OneSet {
+    ways: Ways,
+}
+
+impl Model for OneSet {
+    ghost Value = { Unit {0} };
+
+    ghost view = { λ _. tt };
+}
+
+impl OneSet {
+    fn new(alloc: Global) -> Result<OneSet, Fail> {
+        let ways = Ways::new(alloc, Geometry::new(NUMBERS)?)?;
+        Ok(OneSet { ways })
+    }
+
+    /// The way that is taken next.
+    fn choose(&self, rt: &impl Abort, busy: &[Way]) -> Option<u32> {
+        assert!(rt; self.ways.sets() == 1);
+        self.ways.choose(Set::new(0), busy).map(Way::number)
+    }
+
+    /// The way of a tag.
+    fn find(&self, rt: &impl Abort, tag: u32) -> Option<u32> {
+        assert!(rt; self.ways.sets() == 1);
+        self.ways.find(Set::new(0), Tag::new(tag)).map(Way::number)
+    }
+
+    /// Whether the entry in a way is dirty.
+    fn is_dirty(&self, rt: &impl Abort, way: u32) -> Option<bool> {
+        assert!(rt; self.ways.sets() == 1);
+        self.ways
+            .entry(Set::new(0), Way::new(way))
+            .map(Entry::is_dirty)
+    }
+
+    /// Puts an entry of a tag into a way, where no way has the tag.
+    fn place(&mut self, rt: &impl Abort, way: u32, tag: u32, dirty: bool) {
+        let tag = Tag::new(tag);
+        assert!(rt; self.ways.sets() == 1 && way < self.ways.ways());
+        assert!(rt; self.ways.find(Set::new(0), tag).is_none());
+        self.ways
+            .place(Set::new(0), Way::new(way), Entry::new(tag, dirty));
+    }
+
+    /// Moves a way last in the order.
+    fn touch(&mut self, rt: &impl Abort, way: u32) {
+        assert!(rt; self.ways.sets() == 1 && way < self.ways.ways());
+        self.ways.touch(Set::new(0), Way::new(way));
+    }
+
+    /// Frees a way.
+    fn clear(&mut self, rt: &impl Abort, way: u32) {
+        assert!(rt; self.ways.sets() == 1 && way < self.ways.ways());
+        self.ways.clear(Set::new(0), Way::new(way));
+    }
+}
+
 #[test]
 fn replacement(rt: HostRuntime) -> Result<(), Fail> {
-    let geometry = Geometry::new(NUMBERS)?;
-    assert_eq!(rt; geometry.sets(), 1);
-    assert_eq!(rt; geometry.ways(), 3);
-    let mut ways = Ways::new(rt.alloc(), geometry)?;
-    let set = Set::new(0);
+    let mut set = OneSet::new(rt.alloc())?;
     let (first, second, third) = (Way::new(0), Way::new(1), Way::new(2));
-    assert_eq!(rt; ways.choose(set, &[]), Some(first));
-    assert_eq!(rt; ways.find(set, Tag::new(5)), None);
-    ways.place(set, first, Entry::new(Tag::new(5), false));
-    assert_eq!(rt; ways.find(set, Tag::new(6)), None);
-    ways.place(set, second, Entry::new(Tag::new(6), false));
-    assert_eq!(rt; ways.find(set, Tag::new(7)), None);
-    ways.place(set, third, Entry::new(Tag::new(7), true));
-    ways.touch(set, first);
-    ways.touch(set, second);
-    ways.touch(set, third);
-    ways.touch(set, first);
-    assert_eq!(rt; ways.find(set, Tag::new(7)), Some(third));
-    assert_eq!(rt; ways.entry(set, third).map(Entry::is_dirty), Some(true));
-    assert_eq!(rt; ways.choose(set, &[]), Some(second));
-    assert_eq!(rt; ways.choose(set, &[second]), Some(third));
-    assert_eq!(rt; ways.choose(set, &[first, second, third]), None);
-    ways.clear(set, first);
-    assert_eq!(rt; ways.choose(set, &[]), Some(first));
-    assert_eq!(rt; ways.choose(set, &[first]), Some(second));
+    assert_eq!(rt; set.choose(&rt, &[]), Some(0));
+    assert_eq!(rt; set.find(&rt, 5), None);
+    set.place(&rt, 0, 5, false);
+    set.place(&rt, 1, 6, false);
+    set.place(&rt, 2, 7, true);
+    for way in [0, 1, 2, 0] {
+        set.touch(&rt, way);
+    }
+    assert_eq!(rt; set.find(&rt, 7), Some(2));
+    assert_eq!(rt; set.is_dirty(&rt, 2), Some(true));
+    assert_eq!(rt; set.choose(&rt, &[]), Some(1));
+    assert_eq!(rt; set.choose(&rt, &[second]), Some(2));
+    assert_eq!(rt; set.choose(&rt, &[first, second, third]), None);
+    set.clear(&rt, 0);
+    assert_eq!(rt; set.choose(&rt, &[]), Some(0));
+    assert_eq!(rt; set.choose(&rt, &[first]), Some(1));
     Ok(())
 }
