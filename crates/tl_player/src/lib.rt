@@ -11,4 +11,5 @@ mod network;
 mod shared_bank;
 mod trace;
 
+pub use network::Network;
 pub use trace::play;
