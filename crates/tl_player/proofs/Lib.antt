@@ -5,3 +5,4 @@ pub mod Done
 pub mod Places
 pub mod Posted
 pub mod Resets
+pub mod Starved

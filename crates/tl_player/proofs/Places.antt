@@ -1,14 +1,19 @@
 -- A step changes one share, one bank and one clock.
-use Rattle.std.proofs.Common.{◌≡◌, ℕ, ◌<◌, List, length, get_or, set, length-set, Some, slice_get, slice_index, slice_set, sym, ◌∙◌, ap, subst, arith}
+use Rattle.std.proofs.Common.{◌≡◌, ℕ, ◌<◌, List, length, get_or, set, length-set, Some, slice_get, slice_index, slice_set, refl, sym, ◌∙◌, ap, subst, arith}
 use Rattle.std.specs.List.{refill}
 use Rattle.std.proofs.lemmas.Grind.{common_steps}
+use Rattle.std.proofs.lemmas.List.{set-get_or}
 use Rattle.std.proofs.lemmas.Option.{slice_get-get_or}
 use Rattle.tl_words.specs.declared.step.Step.{Step}
+use Rattle.tl_bank_spec.specs.Refusal.{first_of}
 use Rattle.tl_bank_spec.specs.Share.{Holding}
+use Rattle.tl_bank_spec.specs.View.{View}
 use Rattle.tl_text.specs.declared.answer.Answer.{Answer}
-use Rattle.tl_player.specs.Steps.{IsStep}
-use Rattle.tl_player.specs.NetworkSteps.{IsStepAt, IsNetworkStep}
-use Rattle.tl_player.specs.NetworkState.{SharedBankState, NetworkState, bank_asked, client_named, share_place}
+use Rattle.tl_player.specs.Answers.{IsStarved}
+use Rattle.tl_player.specs.Steps.{IsStep, cases_of}
+use Rattle.tl_player.specs.NetworkSteps.{IsStarvedAt, IsStarvedNetwork, IsStepAt, IsNetworkStep}
+use Rattle.tl_player.specs.NetworkState.{HasRoom, IsReserved, SharedBankState, NetworkState, bank_asked, client_named, share_place}
+use Rattle.tl_player.proofs.Starved.{step-room}
 
 -- a list of the same length takes the other's place
 refill-whole : {X : Type 0} (xs ws : List X) → length ws ≡ length xs → refill (length xs) xs ws ≡ ws
@@ -55,4 +60,52 @@ played index step old new place client clock shared_bank other left answer at of
       after
       ∙ (ap (λ (n : ℕ). record old { shared_banks = slice_set old.shared_banks n left; clocks = slice_set old.clocks client clock }) at
       ∙ ap (λ (n : ℕ). record old { shared_banks = slice_set old.shared_banks (bank_asked old.geometry step) left; clocks = slice_set old.clocks n clock }) of);
+}
+
+-- a share that was handed to a bank without memory, and written back
+pub starved-at : (step : Step) (old new : SharedBankState) (before after place : ℕ) (shown : List Holding) (other left : Holding)
+    → place < length old.shares → shown ≡ old.shares
+    → new.shares ≡ refill (length old.shares) old.shares (set shown place left)
+    → IsStarved (first_of (cases_of (record { bank = old.bank; share = get_or shown place other; clock = before }) step)) old.bank.room
+    ((new.bank ≡ old.bank) × (left ≡ get_or shown place other) × (after ≡ before))
+    → IsStarvedAt old new before after
+starved-at step old new before after place shown other left inside is shares starved =
+    let back : set shown place left ≡ shown = ap (λ (x : Holding). set shown place x) starved.0.1 ∙ set-get_or shown place other in
+    let same : new.shares ≡ old.shares =
+    shares ∙ (ap (λ (xs : List Holding). refill (length old.shares) old.shares xs) (back ∙ is) ∙ refill-whole old.shares old.shares refl) in
+    record {
+      same =
+          ap (λ (b : View). record { bank = b; shares = new.shares }) starved.0.0
+          ∙ ap (λ (xs : List Holding). record { bank = old.bank; shares = xs }) same;
+      clock = starved.0.2;
+      room = step-room (record { bank = old.bank; share = get_or shown place other; clock = before }) step old.bank.room starved.1;
+    }
+
+-- a bank without memory, written back
+pub starved-network : (step : Step) (old new : NetworkState) (place before after : ℕ) (shared_bank other left : SharedBankState)
+    → place ≡ bank_asked old.geometry step → place < length old.shared_banks → shared_bank ≡ get_or old.shared_banks place other
+    → IsStarvedAt shared_bank left before after
+    → new ≡ record old { shared_banks = slice_set old.shared_banks place left } → IsStarvedNetwork step old new
+starved-network step old new place before after shared_bank other left at inside is starved made = record {
+  same =
+      made
+      ∙ ap (λ (xs : List SharedBankState). record old { shared_banks = xs })
+      (ap (λ (s : SharedBankState). set old.shared_banks place s) (starved.same ∙ is) ∙ set-get_or old.shared_banks place other);
+  shared_bank = shared_bank;
+  is_site =
+      subst (λ (n : ℕ). slice_get old.shared_banks n ≡ Some shared_bank) at
+      (slice_get-get_or old.shared_banks place other inside ∙ ap (λ (s : SharedBankState). Some s) (sym is));
+  room = starved.room;
+}
+
+-- a bank with room, written back
+pub reserved-at : (number count : ℕ) (old new : NetworkState) (shared_bank other left : SharedBankState)
+    → number < length old.shared_banks → shared_bank ≡ get_or old.shared_banks number other → HasRoom count shared_bank left
+    → new ≡ record old { shared_banks = slice_set old.shared_banks number left } → IsReserved number count old new
+reserved-at number count old new shared_bank other left inside is has made = record {
+  shared_bank = shared_bank;
+  left = left;
+  is_site = slice_get-get_or old.shared_banks number other inside ∙ ap (λ (s : SharedBankState). Some s) (sym is);
+  has_room = has;
+  is = made;
 }

@@ -7,7 +7,9 @@ use Rattle.tl_bank_spec.specs.View.{View, block_at}
 use Rattle.tl_bank_spec.specs.Views.{in_flight_at}
 use Rattle.tl_bank_spec.specs.declared.action.Action.{Action}
 use Rattle.tl_bank_spec.specs.declared.action.Action.TheVariants.{Probe as did_Probe, Grant as did_Grant, Get as did_Get, Put as did_Put, Drop as did_Drop}
+use Rattle.tl_bank_spec.specs.Refusal.{IsRefused}
 use Rattle.tl_bank_spec.specs.declared.refusal.Refusal.{Refusal}
+use Rattle.tl_bank_spec.specs.declared.refusal.Refusal.TheVariants.{Memory as r_Memory}
 use Rattle.tl_bank_spec.specs.declared.reply.Reply.{Reply}
 use Rattle.tl_bank_spec.specs.declared.reply.Reply.TheVariants as reply
 use Rattle.tl_text.specs.Memory.{bytes_of_size}
@@ -65,3 +67,7 @@ message_in reply.AccessAck = AccessAck
 abbrev pub Answers : Option Refusal → Type 0 → Type 0 → Answer → Type 0
 Answers (Some refusal) unchanged done answer = unchanged × (answer ≡ Refused refusal)
 Answers None unchanged done answer = done
+
+-- There was no memory for a step: no other refusal stands against it, the bank's log had no room, and `unchanged` holds.
+abbrev pub IsStarved : Option Refusal → ℕ → Type 0 → Type 0
+IsStarved first room unchanged = unchanged × IsRefused first room r_Memory

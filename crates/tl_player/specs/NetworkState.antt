@@ -1,6 +1,7 @@
 -- All banks with their clients' shares and clocks, and which of them a step is asked of (this project's own).
-use Rattle.std.specs.Prelude.{◌≡◌, ℕ, suc, List, [], ◌∷◌, length, nat_lt, replicate, None, if◌then◌else◌}
+use Rattle.std.specs.Prelude.{◌≡◌, ℕ, suc, ◌≤◌, List, [], ◌∷◌, length, nat_lt, replicate, slice_get, slice_set, Option, Some, None, if◌then◌else◌}
 use Rattle.std.specs.List.{All}
+use Rattle.std.specs.Option.{option_map}
 use Rattle.tl_map.specs.Numbers.{Numbers}
 use Rattle.tl_map.specs.Places.{bank_of, block_of_address, has_block}
 use Rattle.tl_words.specs.declared.step.Step.{Step}
@@ -20,6 +21,10 @@ pub record NetworkState : Type 0 where
   pub geometry : Numbers
   pub shared_banks : List SharedBankState
   pub clocks : List ℕ
+
+-- the bank with a number, if it is there
+abbrev pub bank_at : NetworkState → ℕ → Option View
+bank_at network number = option_map (λ (s : SharedBankState). s.bank) (slice_get network.shared_banks number)
 
 -- ## Reset
 
@@ -50,6 +55,23 @@ pub record IsReset (g : Numbers) (image : List ℕ) (network : NetworkState) : T
   pub count : length network.shared_banks ≡ g.banks
   pub fresh : AreFresh g image 0 network.shared_banks
   pub clocks : network.clocks ≡ replicate g.clients 0
+
+-- ## Room
+
+-- A bank's log has room for a number of events and at least what it had; nothing else changed.
+pub record HasRoom (count : ℕ) (old new : SharedBankState) : Type 0 where
+  pub room : ℕ
+  pub enough : count ≤ room
+  pub grows : old.bank.room ≤ room
+  pub is : new ≡ record old { bank = record old.bank { room = room } }
+
+-- The log of a bank with a number has such room; nothing else changed.
+pub record IsReserved (number count : ℕ) (old new : NetworkState) : Type 0 where
+  pub shared_bank : SharedBankState
+  pub left : SharedBankState
+  pub is_site : slice_get old.shared_banks number ≡ Some shared_bank
+  pub has_room : HasRoom count shared_bank left
+  pub is : new ≡ record old { shared_banks = slice_set old.shared_banks number left }
 
 -- ## Whenever
 

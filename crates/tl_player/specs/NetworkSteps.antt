@@ -36,6 +36,19 @@ pub record IsNetworkStep (index : ℕ) (step : Step) (old new : NetworkState) (a
         clocks = slice_set old.clocks (client_named step) clock;
       }
 
+-- There was no memory for a step: all is as it was, and the bank's log had no room.
+pub record IsStarvedAt (old new : SharedBankState) (before after : ℕ) : Type 0 where
+  pub same : new ≡ old
+  pub clock : after ≡ before
+  pub room : old.bank.room ≡ 0
+
+-- There was no memory for a step: all is as it was, and the log of the bank that it names had no room.
+pub record IsStarvedNetwork (step : Step) (old new : NetworkState) : Type 0 where
+  pub same : new ≡ old
+  pub shared_bank : SharedBankState
+  pub is_site : slice_get old.shared_banks (bank_asked old.geometry step) ≡ Some shared_bank
+  pub room : shared_bank.bank.room ≡ 0
+
 -- ## All steps
 
 -- these steps give these answers, one each, from an index and a state of the network on; a refused step ends nothing

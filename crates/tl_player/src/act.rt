@@ -1,8 +1,8 @@
 //! One step at one bank.
-ghost use Rattle.std.specs.Prelude.{◌≡◌, IfOk};
+ghost use Rattle.std.specs.Prelude.{◌≡◌, IfOk, OnErr};
 ghost use Rattle.tl_bank_spec.specs.Refusal.{first_of};
-ghost use Rattle.tl_player.specs.Answers.{Answers};
-ghost use Rattle.tl_player.specs.Steps.{IsStep, BlockDoes, TicketDoes, block_cases_of, ticket_cases_of};
+ghost use Rattle.tl_player.specs.Answers.{Answers, IsStarved};
+ghost use Rattle.tl_player.specs.Steps.{IsStep, BlockDoes, TicketDoes, block_cases_of, cases_of, ticket_cases_of};
 
 use crate::client_steps::{
     acquire, answer_probe, load, release, store, take_grant, take_release_ack,
@@ -25,7 +25,10 @@ pub(crate) fn act(
     index: u32,
     step: &Step,
 ) -> Result<Answer, AllocError>
-    ensures { IfOk result
+    ensures memory { OnErr result
+        (IsStarved (first_of (cases_of (record { bank = bank.old; share = share.old; clock = clock.old }) step.now)) bank.old.room
+        ((bank.new ≡ bank.old) × (share.new ≡ share.old) × (clock.new ≡ clock.old))) }
+    ensures answer { IfOk result
         (IsStep index step.now (record { bank = bank.old; share = share.old; clock = clock.old })
         (record { bank = bank.new; share = share.new; clock = clock.new })) }
 {
@@ -62,7 +65,10 @@ fn act_by_ticket(
     call: TicketCall,
     ticket: Ticket,
 ) -> Result<Answer, AllocError>
-    ensures { IfOk result
+    ensures memory { OnErr result
+        (IsStarved (first_of (ticket_cases_of bank.old share.old call ticket)) bank.old.room
+        ((bank.new ≡ bank.old) × (share.new ≡ share.old))) }
+    ensures answer { IfOk result
         (λ answer. Answers (first_of (ticket_cases_of bank.old share.old call ticket))
         ((bank.new ≡ bank.old) × (share.new ≡ share.old))
         (TicketDoes call ticket bank.old bank.new share.old share.new answer) answer) }
@@ -79,7 +85,9 @@ fn act_by_ticket(
 
 /// A call that has a block.
 fn act_on_block(bank: &mut Bank, call: BlockCall, block: BlockNo) -> Result<Answer, AllocError>
-    ensures { IfOk result
+    ensures memory { OnErr result
+        (IsStarved (first_of (block_cases_of bank.old call block)) bank.old.room (bank.new ≡ bank.old)) }
+    ensures answer { IfOk result
         (λ answer. Answers (first_of (block_cases_of bank.old call block)) (bank.new ≡ bank.old)
         (BlockDoes call block bank.old bank.new answer) answer) }
 {

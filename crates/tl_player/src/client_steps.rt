@@ -1,12 +1,12 @@
 //! The steps that are calls of clients.
-ghost use Rattle.std.specs.Prelude.{◌≡◌, IfOk, length};
+ghost use Rattle.std.specs.Prelude.{◌≡◌, IfOk, OnErr, length};
 ghost use Rattle.tl_types.specs.declared.channel.Channel.{Channel};
 ghost use Rattle.tl_protocol.specs.declared.event.Event.{Event};
 ghost use Rattle.tl_bank_spec.specs.Calls.{load_cases, store_cases, acquire_cases, release_cases, answer_probe_cases, take_grant_cases, take_release_ack_cases};
 ghost use Rattle.tl_bank_spec.specs.Cases.{block_named};
 ghost use Rattle.tl_bank_spec.specs.Refusal.{first_of};
 ghost use Rattle.tl_bank_spec.specs.Channels.{next_ticket};
-ghost use Rattle.tl_player.specs.Answers.{Answers};
+ghost use Rattle.tl_player.specs.Answers.{Answers, IsStarved};
 ghost use Rattle.tl_player.specs.Steps.{Loads, Logs, Posts, Recounts, Stores};
 
 use crate::answers::{refused, sent};
@@ -24,7 +24,10 @@ pub(crate) fn load(
     address: u32,
     len: u8,
 ) -> Result<Answer, AllocError>
-    ensures { IfOk result
+    ensures memory { OnErr result
+        (IsStarved (first_of (load_cases bank.old client address len clock.old)) bank.old.room
+        ((bank.new ≡ bank.old) × (clock.new ≡ clock.old))) }
+    ensures answer { IfOk result
         (λ answer. Answers (first_of (load_cases bank.old client address len clock.old))
         ((bank.new ≡ bank.old) × (clock.new ≡ clock.old))
         (Loads index bank.old bank.new clock.old clock.new client address len answer) answer) }
@@ -51,7 +54,10 @@ pub(crate) fn store(
     address: u32,
     bytes: &AccessBytes,
 ) -> Result<Answer, AllocError>
-    ensures { IfOk result
+    ensures memory { OnErr result
+        (IsStarved (first_of (store_cases bank.old client address (length bytes.now) clock.old)) bank.old.room
+        ((bank.new ≡ bank.old) × (clock.new ≡ clock.old))) }
+    ensures answer { IfOk result
         (λ answer. Answers (first_of (store_cases bank.old client address (length bytes.now) clock.old))
         ((bank.new ≡ bank.old) × (clock.new ≡ clock.old))
         (Stores index bank.old bank.new clock.old clock.new client address bytes.now answer) answer) }
@@ -76,7 +82,10 @@ pub(crate) fn acquire(
     block: BlockNo,
     grow: Grow,
 ) -> Result<Answer, AllocError>
-    ensures { IfOk result
+    ensures memory { OnErr result
+        (IsStarved (first_of (acquire_cases bank.old client block grow)) bank.old.room
+        (bank.new ≡ bank.old)) }
+    ensures answer { IfOk result
         (λ answer. Answers (first_of (acquire_cases bank.old client block grow)) (bank.new ≡ bank.old)
         (Posts bank.old bank.new (Event.SendAcquire client block grow) (next_ticket bank.old client Channel.A) answer) answer) }
 {
@@ -94,7 +103,10 @@ pub(crate) fn release(
     block: BlockNo,
     prune: Prune,
 ) -> Result<Answer, AllocError>
-    ensures { IfOk result
+    ensures memory { OnErr result
+        (IsStarved (first_of (release_cases bank.old client block prune share.old)) bank.old.room
+        ((bank.new ≡ bank.old) × (share.new ≡ share.old))) }
+    ensures answer { IfOk result
         (λ answer. Answers (first_of (release_cases bank.old client block prune share.old))
         ((bank.new ≡ bank.old) × (share.new ≡ share.old))
         (Posts bank.old bank.new (Event.SendRelease client block prune) (next_ticket bank.old client Channel.C) answer
@@ -112,7 +124,10 @@ pub(crate) fn answer_probe(
     share: &mut Share,
     ticket: Ticket,
 ) -> Result<Answer, AllocError>
-    ensures { IfOk result
+    ensures memory { OnErr result
+        (IsStarved (first_of (answer_probe_cases bank.old ticket share.old)) bank.old.room
+        ((bank.new ≡ bank.old) × (share.new ≡ share.old))) }
+    ensures answer { IfOk result
         (λ answer. Answers (first_of (answer_probe_cases bank.old ticket share.old))
         ((bank.new ≡ bank.old) × (share.new ≡ share.old))
         (Posts bank.old bank.new (Event.AnswerProbe ticket.client (block_named bank.old ticket Channel.B))
@@ -131,7 +146,10 @@ pub(crate) fn take_grant(
     share: &mut Share,
     ticket: Ticket,
 ) -> Result<Answer, AllocError>
-    ensures { IfOk result
+    ensures memory { OnErr result
+        (IsStarved (first_of (take_grant_cases bank.old ticket share.old)) bank.old.room
+        ((bank.new ≡ bank.old) × (share.new ≡ share.old))) }
+    ensures answer { IfOk result
         (λ answer. Answers (first_of (take_grant_cases bank.old ticket share.old))
         ((bank.new ≡ bank.old) × (share.new ≡ share.old))
         (Posts bank.old bank.new (Event.TakeGrant ticket.client (block_named bank.old ticket Channel.D))
@@ -146,7 +164,10 @@ pub(crate) fn take_grant(
 
 /// A client takes the answer to its Release.
 pub(crate) fn take_release_ack(bank: &mut Bank, ticket: Ticket) -> Result<Answer, AllocError>
-    ensures { IfOk result
+    ensures memory { OnErr result
+        (IsStarved (first_of (take_release_ack_cases bank.old ticket)) bank.old.room
+        (bank.new ≡ bank.old)) }
+    ensures answer { IfOk result
         (λ answer. Answers (first_of (take_release_ack_cases bank.old ticket)) (bank.new ≡ bank.old)
         (Logs bank.old bank.new (Event.TakeReleaseAck ticket.client (block_named bank.old ticket Channel.D)) answer) answer) }
 {

@@ -1,8 +1,8 @@
 //! The steps that are calls of home and of the memory.
-ghost use Rattle.std.specs.Prelude.{◌≡◌, IfOk};
+ghost use Rattle.std.specs.Prelude.{◌≡◌, IfOk, OnErr};
 ghost use Rattle.tl_bank_spec.specs.HomeCalls.{accept_cases, advance_cases, evict_cases, serve_memory_cases, take_c_cases, take_grant_ack_cases, take_memory_cases};
 ghost use Rattle.tl_bank_spec.specs.Refusal.{first_of};
-ghost use Rattle.tl_player.specs.Answers.{Answers, ShowsAction};
+ghost use Rattle.tl_player.specs.Answers.{Answers, IsStarved, ShowsAction};
 ghost use Rattle.tl_player.specs.Ready.{IsDone};
 ghost use Rattle.tl_player.specs.Steps.{GoesOn, Opens, Replies, SendsAway, TakesC, TakesGrantAck, TakesReply};
 
@@ -14,7 +14,10 @@ use tl_types::{BlockNo, Ticket};
 
 /// Home accepts an Acquire.
 pub(crate) fn accept(bank: &mut Bank, ticket: Ticket) -> Result<Answer, AllocError>
-    ensures { IfOk result
+    ensures memory { OnErr result
+        (IsStarved (first_of (accept_cases bank.old ticket)) bank.old.room
+        (bank.new ≡ bank.old)) }
+    ensures answer { IfOk result
         (λ answer. Answers (first_of (accept_cases bank.old ticket)) (bank.new ≡ bank.old)
         (Opens bank.old bank.new ticket answer) answer) }
 {
@@ -26,7 +29,10 @@ pub(crate) fn accept(bank: &mut Bank, ticket: Ticket) -> Result<Answer, AllocErr
 
 /// Home takes a client's first message on channel C, and answers a Release.
 pub(crate) fn take_c(bank: &mut Bank, ticket: Ticket) -> Result<Answer, AllocError>
-    ensures { IfOk result
+    ensures memory { OnErr result
+        (IsStarved (first_of (take_c_cases bank.old ticket)) bank.old.room
+        (bank.new ≡ bank.old)) }
+    ensures answer { IfOk result
         (λ answer. Answers (first_of (take_c_cases bank.old ticket)) (bank.new ≡ bank.old)
         (TakesC bank.old bank.new ticket answer) answer) }
 {
@@ -39,7 +45,10 @@ pub(crate) fn take_c(bank: &mut Bank, ticket: Ticket) -> Result<Answer, AllocErr
 
 /// Home takes a GrantAck.
 pub(crate) fn take_grant_ack(bank: &mut Bank, ticket: Ticket) -> Result<Answer, AllocError>
-    ensures { IfOk result
+    ensures memory { OnErr result
+        (IsStarved (first_of (take_grant_ack_cases bank.old ticket)) bank.old.room
+        (bank.new ≡ bank.old)) }
+    ensures answer { IfOk result
         (λ answer. Answers (first_of (take_grant_ack_cases bank.old ticket)) (bank.new ≡ bank.old)
         (TakesGrantAck bank.old bank.new ticket answer) answer) }
 {
@@ -51,7 +60,10 @@ pub(crate) fn take_grant_ack(bank: &mut Bank, ticket: Ticket) -> Result<Answer, 
 
 /// The register of a block does what it does next.
 pub(crate) fn advance(bank: &mut Bank, block: BlockNo) -> Result<Answer, AllocError>
-    ensures { IfOk result
+    ensures memory { OnErr result
+        (IsStarved (first_of (advance_cases bank.old block)) bank.old.room
+        (bank.new ≡ bank.old)) }
+    ensures answer { IfOk result
         (λ answer. Answers (first_of (advance_cases bank.old block)) (bank.new ≡ bank.old)
         (GoesOn bank.old bank.new block answer) answer) }
 {
@@ -81,7 +93,10 @@ fn shown(bank: &Bank, own: BlockNo, action: Action) -> Answer
 
 /// A register opens that sends a block away.
 pub(crate) fn evict(bank: &mut Bank, block: BlockNo) -> Result<Answer, AllocError>
-    ensures { IfOk result
+    ensures memory { OnErr result
+        (IsStarved (first_of (evict_cases bank.old block)) bank.old.room
+        (bank.new ≡ bank.old)) }
+    ensures answer { IfOk result
         (λ answer. Answers (first_of (evict_cases bank.old block)) (bank.new ≡ bank.old)
         (SendsAway bank.old bank.new block answer) answer) }
 {
@@ -93,7 +108,10 @@ pub(crate) fn evict(bank: &mut Bank, block: BlockNo) -> Result<Answer, AllocErro
 
 /// The memory answers a request.
 pub(crate) fn serve_memory(bank: &mut Bank, block: BlockNo) -> Result<Answer, AllocError>
-    ensures { IfOk result
+    ensures memory { OnErr result
+        (IsStarved (first_of (serve_memory_cases bank.old block)) bank.old.room
+        (bank.new ≡ bank.old)) }
+    ensures answer { IfOk result
         (λ answer. Answers (first_of (serve_memory_cases bank.old block)) (bank.new ≡ bank.old)
         (Replies bank.old bank.new block answer) answer) }
 {
@@ -105,7 +123,10 @@ pub(crate) fn serve_memory(bank: &mut Bank, block: BlockNo) -> Result<Answer, Al
 
 /// Home takes what the memory answered.
 pub(crate) fn take_memory(bank: &mut Bank, block: BlockNo) -> Result<Answer, AllocError>
-    ensures { IfOk result
+    ensures memory { OnErr result
+        (IsStarved (first_of (take_memory_cases bank.old block)) bank.old.room
+        (bank.new ≡ bank.old)) }
+    ensures answer { IfOk result
         (λ answer. Answers (first_of (take_memory_cases bank.old block)) (bank.new ≡ bank.old)
         (TakesReply bank.old bank.new block answer) answer) }
 {

@@ -12,4 +12,5 @@ mod shared_bank;
 mod trace;
 
 pub use asked::{bank_asked, client_named};
+pub use network::Network;
 pub use trace::play;

@@ -1,22 +1,24 @@
 //! All banks, and the steps that are asked of them.
-ghost use Rattle.std.specs.Prelude.{◌≡◌, ◌<◌, ◌≤◌, ◌*◌, IfOk, OnOk, length, slice_index, slice_set};
+ghost use Rattle.std.specs.Prelude.{◌≡◌, ◌<◌, ◌≤◌, ◌*◌, IfOk, OnErr, OnOk, length, slice_index, slice_set};
 ghost use Rattle.tl_player.specs.Closing.{Close};
-ghost use Rattle.tl_player.specs.NetworkSteps.{AreNetworkSteps, IsNetworkStep};
-ghost use Rattle.tl_player.specs.NetworkState.{AreCoherent, AreFresh, IsReset};
+ghost use Rattle.tl_player.specs.NetworkSteps.{AreNetworkSteps, IsNetworkStep, IsStarvedNetwork};
+ghost use Rattle.std.specs.Option.{option_map};
+ghost use Rattle.tl_player.specs.NetworkState.{AreCoherent, AreFresh, IsReset, IsReserved, bank_at};
 
 use crate::asked::{bank_asked, client_named};
 use crate::closing::closing;
 use crate::shared_bank::SharedBank;
 use std::alloc::{AllocError, Global};
 use std::marker::Model;
+use tl_bank::{Bank, Refusal};
 use tl_map::Geometry;
 use tl_text::{Answer, BankClosing};
 use tl_types::{BankNo, ClientId};
 use tl_words::{STEPS, Step};
 
-/// Every bank with its clients' shares, by number, and the clock of each client.
+/// Every bank with its clients' shares, by number, and the clock of each client: all that steps are asked of.
 #[derive(Drop)]
-pub(crate) struct Network {
+pub struct Network {
     geometry: Geometry,
     shared_banks: Vec<SharedBank>,
     clocks: Vec<u64>,
@@ -35,11 +37,7 @@ impl Model for Network {
 
 impl Network {
     /// All banks at reset over an image that is no longer than the memory.
-    pub(crate) fn new(
-        alloc: Global,
-        geometry: Geometry,
-        image: &[u8],
-    ) -> Result<Network, AllocError>
+    pub fn new(alloc: Global, geometry: Geometry, image: &[u8]) -> Result<Network, AllocError>
         requires { length image.now ≤ geometry.memory_blocks * geometry.block_bytes }
         ensures { IfOk result (IsReset geometry image.now) }
     {
@@ -50,9 +48,11 @@ impl Network {
         })
     }
 
-    /// One step, and its answer. An error is a request for memory that was refused.
-    fn step(&mut self, index: u32, step: &Step) -> Result<Answer, AllocError>
-        ensures { IfOk result (IsNetworkStep index step.now self.old self.new) }
+    /// One step, and its answer. An error is a request for memory that was refused: then nothing changed, and the log of the bank
+    /// that the step names had no room.
+    pub fn step(&mut self, index: u32, step: &Step) -> Result<Answer, AllocError>
+        ensures memory { OnErr result (IsStarvedNetwork step.now self.old self.new) }
+        ensures answer { IfOk result (IsNetworkStep index step.now self.old self.new) }
     {
         let place = bank_asked(self.geometry, step);
         let client = client_named(step);
@@ -61,6 +61,30 @@ impl Network {
         let answer = shared_bank.ask(&mut clock, index, step)?;
         self.set_clock(client, clock);
         Ok(answer)
+    }
+
+    /// The geometry of all banks.
+    pub fn geometry(&self) -> Geometry
+        ensures { result ≡ self.now.geometry }
+    {
+        self.geometry
+    }
+
+    /// A bank, if it is there.
+    pub fn bank(&self, number: BankNo) -> Option<&Bank>
+        ensures { option_map (λ bank. bank.now) result ≡ bank_at self.now number }
+    {
+        Some(self.shared_banks.get(number.index())?.bank())
+    }
+
+    /// Makes room in a bank's log for `count` more events, which then need no memory. It is refused only for want of memory, and
+    /// then nothing changed.
+    pub fn reserve_steps(&mut self, bank: BankNo, count: usize) -> Result<(), Refusal>
+        requires { bank < self.now.geometry.banks }
+        ensures unchanged { OnErr result (self.new ≡ self.old) }
+        ensures room { OnOk result (IsReserved bank count self.old self.new) }
+    {
+        self.shared_banks[bank.index()].reserve_steps(count)
     }
 
     /// The clock of a client; 0 for a client that is not there.

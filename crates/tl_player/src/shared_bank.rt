@@ -1,14 +1,14 @@
 //! A bank with its clients' shares.
-ghost use Rattle.std.specs.Prelude.{◌≡◌, ◌<◌, ◌≤◌, ◌*◌, IfOk, length};
-ghost use Rattle.tl_player.specs.NetworkSteps.{IsStepAt};
-ghost use Rattle.tl_player.specs.NetworkState.{IsFresh, share_place};
+ghost use Rattle.std.specs.Prelude.{◌≡◌, ◌<◌, ◌≤◌, ◌*◌, IfOk, OnErr, OnOk, length};
+ghost use Rattle.tl_player.specs.NetworkSteps.{IsStarvedAt, IsStepAt};
+ghost use Rattle.tl_player.specs.NetworkState.{HasRoom, IsFresh, share_place};
 
 use crate::act::act;
 use crate::asked::client_named;
 use arrayvec::ArrayVec;
 use std::alloc::{AllocError, Global};
 use std::marker::Model;
-use tl_bank::{Bank, Share};
+use tl_bank::{Bank, Refusal, Share};
 use tl_map::Geometry;
 use tl_text::Answer;
 use tl_types::{BankNo, ClientId};
@@ -64,11 +64,20 @@ impl SharedBank {
         index: u32,
         step: &Step,
     ) -> Result<Answer, AllocError>
-        ensures { IfOk result (IsStepAt index step.now self.old self.new clock.old clock.new) }
+        ensures memory { OnErr result (IsStarvedAt self.old self.new clock.old clock.new) }
+        ensures answer { IfOk result (IsStepAt index step.now self.old self.new clock.old clock.new) }
     {
         let place = self.share_place(client_named(step));
         let share = &mut self.shares[place];
         act(&mut self.bank, share, clock, index, step)
+    }
+
+    /// Makes room in the bank's log for `count` more events. It is refused only for want of memory, and then nothing changed.
+    pub(crate) fn reserve_steps(&mut self, count: usize) -> Result<(), Refusal>
+        ensures unchanged { OnErr result (self.new ≡ self.old) }
+        ensures room { OnOk result (HasRoom count self.old self.new) }
+    {
+        self.bank.reserve_steps(count)
     }
 
     /// The place of a client's share; that of client 0's for a client that is not there.

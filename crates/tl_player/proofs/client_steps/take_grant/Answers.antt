@@ -1,4 +1,4 @@
-use Rattle.tl_player.proofs.Answered.{err-answers}
+use Rattle.tl_player.proofs.Answered.{err-answers, err-starved}
 use Rattle.tl_player.proofs.Posted.{there}
 use Rattle.tl_player.proofs.client_steps.take_grant.Goals as goal
 
@@ -7,7 +7,12 @@ pub sent-requires : goal.sent-requires
 sent-requires c = there _ _ _ _ c.in-Ok.ensures.sends
 
 -- a refusal is the answer
-pub returns-in-Err : goal.returns-in-Err
-returns-in-Err c =
+pub returns-in-Err-clause-answer : goal.returns-in-Err-clause-answer
+returns-in-Err-clause-answer c =
     err-answers c.refused.result _ _ _ _ _ c.refused.ensures.answer c.refused.ensures.other c.in-Err.ensures.refused
     (c.in-Err.ensures.unchanged, c.in-Err.ensures.share_unchanged)
+
+-- want of memory is no answer
+pub returns-in-Err-clause-memory : goal.returns-in-Err-clause-memory
+returns-in-Err-clause-memory c =
+    err-starved c.refused.result _ _ _ _ c.refused.ensures.memory c.in-Err.ensures.refused (c.in-Err.ensures.unchanged, c.in-Err.ensures.share_unchanged)

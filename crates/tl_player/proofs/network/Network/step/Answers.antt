@@ -1,12 +1,13 @@
-use Rattle.std.proofs.Common.{◌≡◌, ◌<◌, length, slice_index, ap, subst, arith}
-use Rattle.tl_player.specs.NetworkSteps.{IsStepAt, IsNetworkStep}
+use Rattle.std.proofs.Common.{◌≡◌, ◌<◌, length, set, slice_index, refl, ap, subst, arith}
+use Rattle.tl_player.specs.NetworkSteps.{IsStarvedNetwork, IsStepAt, IsNetworkStep}
 use Rattle.tl_player.specs.NetworkState.{NetworkState}
-use Rattle.tl_player.proofs.Places.{played}
+use Rattle.tl_player.proofs.Answered.{any-err}
+use Rattle.tl_player.proofs.Places.{played, starved-network}
 use Rattle.tl_player.proofs.network.Network.step.Goals as goal
 
 -- the bank that was asked and the clock that was set are back in their places
-pub returns : goal.returns
-returns c =
+pub returns-clause-answer : goal.returns-clause-answer
+returns-clause-answer c =
     let old : NetworkState = record {
       geometry = c.self.inside.geometry;
       shared_banks = c.self.inside.shared_banks.items;
@@ -23,4 +24,18 @@ returns c =
     inside c.index_mut-shared_bank.ensures.value
     (subst
     (λ n. IsStepAt c.args.index c.args.step.now c.index_mut-shared_bank.result.now c.ask.new.self n c.ask.new.clock c.in_ok-answer.answer)
-    clock c.in_ok-answer.ensures) c.set_clock.ensures)
+    clock c.in_ok-answer.ensures.answer) c.set_clock.ensures)
+
+-- the bank that found no memory is back in its place, as it was
+pub returns-in_err-answer-clause-memory : goal.returns-in_err-answer-clause-memory
+returns-in_err-answer-clause-memory c =
+    let old : NetworkState = record {
+      geometry = c.self.inside.geometry;
+      shared_banks = c.self.inside.shared_banks.items;
+      clocks = c.self.inside.clocks.items;
+    } in
+    let new : NetworkState = record old { shared_banks = set old.shared_banks c.bank_asked-place.result c.ask.new.self } in
+    let inside : c.bank_asked-place.result < length old.shared_banks = omega (arith, c.bank_asked-place.ensures.inside, c.self.invariant) in
+    any-err _ _ (subst (λ (s : NetworkState). IsStarvedNetwork c.args.step.now s new) c.self.view_is
+    (starved-network c.args.step.now old new c.bank_asked-place.result _ _ c.index_mut-shared_bank.result.now _ c.ask.new.self
+    c.bank_asked-place.ensures.is inside c.index_mut-shared_bank.ensures.value c.in_err-answer.ensures.memory refl))

@@ -1,9 +1,9 @@
-use Rattle.std.proofs.Common.{◌≡◌, ◌<◌, IfOk, length, set, sym, ◌∙◌, ap, subst, refl}
+use Rattle.std.proofs.Common.{◌≡◌, ◌<◌, IfOk, OnErr, length, set, sym, ◌∙◌, ap, subst, refl}
 use Rattle.std.specs.List.{refill}
-use Rattle.tl_player.specs.NetworkSteps.{IsStepAt}
+use Rattle.tl_player.specs.NetworkSteps.{IsStarvedAt, IsStepAt}
 use Rattle.tl_player.specs.NetworkState.{SharedBankState, client_named, share_place}
-use Rattle.tl_player.proofs.Answered.{if-answered}
-use Rattle.tl_player.proofs.Places.{asked-at}
+use Rattle.tl_player.proofs.Answered.{if-answered, if-starved}
+use Rattle.tl_player.proofs.Places.{asked-at, starved-at}
 use Rattle.tl_player.proofs.shared_bank.SharedBank.ask.Goals as goal
 
 -- the share that was used is back in its place
@@ -21,8 +21,18 @@ returns c =
       bank = c.act.new.bank;
       shares = refill (length old.shares) old.shares (set c.deref_mut.result.now place c.act.new.share);
     } in
-    subst (λ (s : SharedBankState). IfOk c.act.result (IsStepAt c.args.index c.args.step.now s new c.args.clock.now c.act.new.clock)) view
-    (if-answered c.act.result _ _
-    (λ answer acts.
-    asked-at c.args.index c.args.step.now old new c.args.clock.now c.act.new.clock place c.deref_mut.result.now _ c.act.new.share
-    answer at inside c.deref_mut.ensures.value refl acts) c.act.ensures)
+    record {
+      memory =
+          subst (λ (s : SharedBankState). OnErr c.act.result (IsStarvedAt s new c.args.clock.now c.act.new.clock)) view
+          (if-starved c.act.result _ _
+          (λ starved.
+          starved-at c.args.step.now old new c.args.clock.now c.act.new.clock place c.deref_mut.result.now _ c.act.new.share inside
+          c.deref_mut.ensures.value refl starved) c.act.ensures.memory);
+      answer =
+          subst
+          (λ (s : SharedBankState). IfOk c.act.result (IsStepAt c.args.index c.args.step.now s new c.args.clock.now c.act.new.clock)) view
+          (if-answered c.act.result _ _
+          (λ answer acts.
+          asked-at c.args.index c.args.step.now old new c.args.clock.now c.act.new.clock place c.deref_mut.result.now _ c.act.new.share
+          answer at inside c.deref_mut.ensures.value refl acts) c.act.ensures.answer);
+    }
