@@ -6,6 +6,7 @@ ghost use Rattle.tl_protocol.specs.OneMemory.{access_of};
 ghost use Rattle.tl_protocol.specs.Protocol.{block_of};
 
 use crate::shape::Shape;
+use std::mem::size_of;
 use tl_types::{AccessBytes, BlockNo, ClientId, Grow, ProbeCap, Prune};
 
 /// A load or a store of a client.
@@ -15,12 +16,12 @@ pub struct Access {
     pub client: ClientId,
     /// The address of its first byte.
     pub address: u32,
-    /// The bytes that it read or writes.
-    pub bytes: AccessBytes,
     /// Its place in the order of all banks.
     pub stamp: u64,
     /// The command of the client's script that it answers.
     pub index: u32,
+    /// The bytes that it reads or writes.
+    pub bytes: AccessBytes,
 }
 
 impl Access {
@@ -75,6 +76,9 @@ pub enum Event {
     /// Home takes the memory's acknowledgement.
     TakePutAck(BlockNo),
 }
+
+// An event takes at most 40 bytes of a log: fields lie in the order of the source.
+const _: () = prove!(size_of::<Event>() <= 40);
 
 impl Event {
     /// The access that it is, if it is a load or a store.
