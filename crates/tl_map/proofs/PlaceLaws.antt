@@ -12,18 +12,13 @@ use Rattle.tl_map.specs.declared.place.Place.{Place}
 -- ## The exclusive or of groups
 
 -- one group less
-pub xor_of_groups-step : (banks count number : ℕ) → 0 < count
+xor_of_groups-step : (banks count number : ℕ) → 0 < count
     → xor_of_groups banks count number ≡ bit_xor (number % banks) (xor_of_groups banks (count - 1) (number / banks))
 unfolding xor_of_groups
 xor_of_groups-step banks zero number some = absurd (omega arith)
 xor_of_groups-step banks (suc count) number some =
     let less : suc count - 1 ≡ count = omega arith in
     rw less refl
-
--- no groups
-pub xor_of_groups-none : (banks number : ℕ) → xor_of_groups banks 0 number ≡ 0
-unfolding xor_of_groups
-xor_of_groups-none banks number = refl
 
 -- it is a group
 pub xor_of_groups-lt : (k count number : ℕ) → xor_of_groups (2 ^ k) count number < 2 ^ k
@@ -34,21 +29,12 @@ xor_of_groups-lt k (suc count) number =
     (xor_of_groups-lt k count (number / 2 ^ k))
 
 -- with one bank it is 0
-pub xor_of_groups-one : (count number : ℕ) → xor_of_groups 1 count number ≡ 0
+xor_of_groups-one : (count number : ℕ) → xor_of_groups 1 count number ≡ 0
 unfolding xor_of_groups
 xor_of_groups-one zero number = refl
 xor_of_groups-one (suc count) number =
     let rest : number % 1 ≡ 0 = omega (arith, mod_below number 1 (omega arith)) in
     rw rest (xor_zero_l _ ∙ xor_of_groups-one count (number / 1))
-
--- of 0 it is 0
-pub xor_of_groups-rest : (banks count rest : ℕ) → 0 < banks → rest ≡ 0 → xor_of_groups banks count rest ≡ 0
-unfolding xor_of_groups
-xor_of_groups-rest banks zero rest some none = refl
-xor_of_groups-rest banks (suc count) rest some none =
-    let lowest : rest % banks ≡ 0 = omega (arith, none, mod_below rest banks some) in
-    let others : rest / banks ≡ 0 = omega (arith, none, div-le_self rest banks) in
-    rw lowest (xor_zero_l _ ∙ xor_of_groups-rest banks count (rest / banks) some others)
 
 -- groups past the top of a number are 0
 xor_of_groups-more : (banks count number : ℕ) → 2 ≤ banks → number < 2 ^ count

@@ -9,9 +9,6 @@ use crate::place::{Place, Set, Tag};
 use std::marker::Model;
 use tl_types::{BankNo, BlockNo};
 
-/// How many groups the number of a block has at most.
-const GROUPS: u32 = 16;
-
 /// The numbers of a cache, each within its limits.
 #[derive(Clone, Debug, PartialEq, Eq)]
 pub struct Geometry {
@@ -275,31 +272,23 @@ impl Geometry {
             && len <= (self.block_bytes - self.offset(address)) as usize
     }
 
-    /// The exclusive or of the groups of a number's bits that are as wide as the number of a bank.
+    /// The exclusive or of the 16 lowest groups of a number's bits that are as wide as the number of a bank: four times the
+    /// groups above the half are folded into those below.
     fn xor_of_groups(self, number: u32) -> u32
         ensures is { result ≡ xor_of_groups self.banks 16 number }
         ensures group { result < self.banks }
     {
         let bits = self.bank_bits();
-        if bits == 0 {
-            return 0;
-        }
-        let mut groups = 0;
-        let mut rest = number;
-        for _ in 0..GROUPS {
-            if rest == 0 {
-                return groups;
-            }
-            groups ^= rest & (self.banks - 1);
-            rest >>= bits;
-        }
-        groups
+        let folded = number ^ (number >> (8 * bits));
+        let folded = folded ^ (folded >> (4 * bits));
+        let folded = folded ^ (folded >> (2 * bits));
+        (folded ^ (folded >> bits)) & (self.banks - 1)
     }
 
     /// The base-2 logarithm of the number of banks.
     fn bank_bits(self) -> u32
         ensures power { 2 ^ result ≡ self.banks }
-        ensures few { result < 32 }
+        ensures few { result ≤ 3 }
     {
         self.banks.ilog2()
     }
