@@ -32,12 +32,12 @@ use tl_types::{BankNo, BlockNo, ClientId, Perm};
 mod advance;
 mod client_calls;
 mod home_calls;
-mod home_refusals;
+mod look;
 mod memory_calls;
 mod open;
 mod protocol_view;
-mod refusals;
-mod ticket_refusals;
+mod settle;
+mod tickets;
 mod views;
 
 /// A bank can't be made for want of memory alone.

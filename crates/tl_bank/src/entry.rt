@@ -2,14 +2,15 @@
 ghost use Rattle.std.specs.Prelude.{◌≡◌, ◌≤◌, ◌+◌, ℕ, length, slice_range, if◌then◌else◌};
 ghost use Rattle.std.specs.Option.{option_copied};
 ghost use Rattle.tl_bank_laws.specs.Entry.{HasPlace, entry_with, held_as, copy_in, wait_in, perm_in, bytes_in};
-ghost use Rattle.tl_bank_laws.specs.Head.{asked_by, granted_by};
 ghost use Rattle.tl_bank_spec.specs.Tables.{has_entry_for, is_waiting};
-ghost use Rattle.tl_protocol.specs.Copy.{dirty_bytes, reduced};
+ghost use Rattle.tl_types.specs.Permission.{grant_perm};
+ghost use Rattle.tl_protocol.specs.Client.{bytes_or};
+ghost use Rattle.tl_protocol.specs.Copy.{bytes_of, clean_copy, dirty_bytes, reduced};
 ghost use Rattle.tl_copies.specs.Copies.{held_at, is_cell, SameSize};
 
 use tl_copies::{Copies, Held};
 use tl_protocol::CachedCopy;
-use tl_types::{AccessBytes, BlockBytes, BlockNo, Body, ClientId, Downward, Perm, ProbeCap, Wait};
+use tl_types::{AccessBytes, BlockBytes, BlockNo, ClientId, GrantCap, Perm, Wait};
 
 /// The copy that an entry keeps.
 pub(crate) fn copy_in(held: Option<&Held>) -> CachedCopy
@@ -114,30 +115,18 @@ fn held_as(copy: CachedCopy, wait: Wait) -> Held
     }
 }
 
-/// What a Probe leaves at most.
-pub(crate) fn asked_by(body: &Body) -> ProbeCap
-    ensures { result ≡ asked_by body.now }
+/// The clean copy that a Grant makes of a client's own, which its entry keeps.
+pub(crate) fn granted_in(
+    held: Option<&Held>,
+    cap: GrantCap,
+    bytes: Option<&BlockBytes>,
+) -> CachedCopy
+    ensures { result
+        ≡ clean_copy (grant_perm cap) (bytes_or (option_copied bytes.entry) (bytes_of (copy_in (option_copied held.entry)))) }
 {
-    match body {
-        Body::ProbeBlock(cap) => *cap,
-        _ => ProbeCap::ToN,
-    }
-}
-
-/// The copy that a Grant makes of a client's own, which its entry keeps.
-pub(crate) fn granted_by(body: &Body, held: Option<&Held>) -> CachedCopy
-    ensures { result ≡ granted_by body.now (copy_in (option_copied held.entry)) }
-{
-    match body {
-        Body::Downward(Downward::Grant(cap, Some(bytes))) => CachedCopy::clean(
-            cap.perm(),
-            bytes.copied(),
-        ),
-        Body::Downward(Downward::Grant(cap, None)) => CachedCopy::clean(
-            cap.perm(),
-            copy_in(held).into_bytes(),
-        ),
-        _ => CachedCopy::Absent,
+    match bytes {
+        Some(bytes) => CachedCopy::clean(cap.perm(), bytes.copied()),
+        None => CachedCopy::clean(cap.perm(), copy_in(held).into_bytes()),
     }
 }
 

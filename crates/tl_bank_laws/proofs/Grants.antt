@@ -2,7 +2,7 @@
 use Rattle.std.proofs.Common.{◌≡◌, ℕ, ◌<◌, ◌^◌, ◌==◌, not, true, false, cond, List, [], ◌∷◌, ◌++◌, map, Option, None, if◌then◌else◌, refl, sym, ◌∙◌, ap, subst}
 use Rattle.std.proofs.lemmas.Bool.{or_parts}
 use Rattle.tl_types.specs.Bodies.{is_a_grant}
-use Rattle.tl_types.specs.Lane.{Lane, is_here, with_message, without_first, bodies_of}
+use Rattle.tl_types.specs.Lane.{IsFirst, Lane, is_here, with_message, without_first, bodies_of}
 use Rattle.tl_types.specs.Permission.{grant_perm}
 use Rattle.tl_types.specs.declared.channel.Channel.{Channel}
 use Rattle.tl_types.specs.declared.channel.Channel.TheVariants.{D, E}
@@ -24,10 +24,11 @@ use Rattle.tl_protocol.specs.declared.copy.CachedCopy.{CachedCopy}
 use Rattle.tl_protocol.specs.declared.copy.CachedCopy.TheVariants.{Absent, Readable, Writable}
 use Rattle.tl_protocol.specs.declared.event.Event.TheVariants.{TakeGrant}
 use Rattle.tl_protocol.proofs.Pending.{every_run_keeps_messages}
+use Rattle.tl_lanes.proofs.Logs.{first_heads_its_list}
 use Rattle.tl_links.specs.Table.{LinkTable, lane_in, SameSize as SameLinks}
 use Rattle.tl_copies.specs.Copies.{Tables, held_at, is_cell, SameSize as SameCopies}
 use Rattle.tl_bank_spec.specs.Calls.{take_grant_cases}
-use Rattle.tl_bank_spec.specs.Cases.{bad_share, block_named, no_client, other_share}
+use Rattle.tl_bank_spec.specs.Cases.{bad_share, block_named, first_block, no_client, other_share}
 use Rattle.tl_bank_spec.specs.Refusal.{first_of}
 use Rattle.tl_bank_spec.specs.Share.{Holding, recount}
 use Rattle.tl_bank_spec.specs.View.{View, shape_of, client_at, perm_at}
@@ -35,13 +36,13 @@ use Rattle.tl_bank_spec.specs.Own.{IsOwn}
 use Rattle.tl_bank_spec.specs.Tables.{has_entry_for, is_waiting, copies_at}
 use Rattle.tl_bank_spec.specs.Channels.{lane_at}
 use Rattle.tl_bank_laws.specs.Entry.{HasPlace, entry_with}
-use Rattle.tl_bank_laws.specs.Head.{first_granted, granted_by}
 use Rattle.tl_bank_laws.specs.Layers.{Layers}
 use Rattle.tl_bank_laws.specs.Means.{Means}
+use Rattle.tl_bank_laws.specs.Settled.{FindsGrant}
 use Rattle.tl_bank_laws.proofs.Allowed.{AllFalse, all-false, client-is, share-is}
 use Rattle.tl_bank_laws.proofs.Counts.{step-perm}
 use Rattle.tl_bank_laws.proofs.Entries.{put-is}
-use Rattle.tl_bank_laws.proofs.Heads.{HeadAllowed, head-allowed, head-first, head-list, head-own}
+use Rattle.tl_bank_laws.proofs.Heads.{HeadAllowed, head-allowed, head-first, head-own}
 use Rattle.tl_bank_laws.proofs.Keep.{ClientStep, means-step}
 use Rattle.tl_bank_laws.proofs.Places.{place-there}
 use Rattle.tl_bank_laws.proofs.Shares.{share-count, share-enough}
@@ -59,15 +60,6 @@ grant-allowed v t share none =
       share-is v t.client share range.1 place.1,
     )
 
--- a message that is found to be a Grant has a cap, and bytes or none
-grant-body : (body : Body) → is_a_grant body ≡ true → (cap : GrantCap) × (bytes : Option (List ℕ)) × (body ≡ b_Downward (Grant cap bytes))
-grant-body (AcquireBlock grow) h = cc
-grant-body (ProbeBlock cap) h = cc
-grant-body (b_Upward message) h = cc
-grant-body (b_Downward (Grant cap bytes)) h = (cap, bytes, refl)
-grant-body (b_Downward ReleaseAck) h = cc
-grant-body GrantAck h = cc
-
 -- a list on D whose first message is a Grant begins with it
 grant-begins : (ds : List Downward) (zs : List Body) (cap : GrantCap) (bytes : Option (List ℕ))
     → map b_Downward ds ≡ b_Downward (Grant cap bytes) ∷ zs → (rest : List Downward) × (ds ≡ Grant cap bytes ∷ rest)
@@ -75,63 +67,71 @@ grant-begins [] zs cap bytes e = cc
 grant-begins (Grant c b ∷ ds) zs cap bytes e = (ds, cc)
 grant-begins (ReleaseAck ∷ ds) zs cap bytes e = cc
 
--- the client's list on D begins with a Grant, and the copy that it makes is this
-pub record Granted (v : View) (t : Ticket) : Type 0 where
-  pub cap : GrantCap
-  pub bytes : Option (List ℕ)
-  pub rest : List Downward
-  pub list : (client_at v t.client (block_named v t D)).d ≡ Grant cap bytes ∷ rest
-  pub makes :
-      (own : CachedCopy) → first_granted (lane_at v t.client D).messages own ≡ clean_copy (grant_perm cap) (bytes_or bytes (bytes_of own))
-
--- so it does where the ticket names a Grant, first on D
-granted-is : (v : View) (h : Layers) (t : Ticket) → Means v h → HeadAllowed v t D is_a_grant → Granted v t
-granted-is v h t m ok =
-    let x : Message = ok.first.0 in
-    let body = grant-body x.body ok.first.3 in
-    let list = grant-begins (client_at v t.client (block_named v t D)).d (bodies_of x.block ok.first.1) body.0 body.1
-    (head-list v h t D is_a_grant m ok ∙ ap (λ (b : Body). b ∷ bodies_of x.block ok.first.1) body.2) in
-    record {
-      cap = body.0;
-      bytes = body.1;
-      rest = list.0;
-      list = list.1;
-      makes = λ own.
-          ap (λ (ms : List Message). first_granted ms own) ok.first.2 ∙ ap (λ (b : Body). granted_by b own) body.2;
-    }
-
 -- ## The step
 
 -- what taking a Grant shows of the bank before it
 pub record Takes (v : View) (t : Ticket) (share : Holding) (block : ℕ) (before : Perm) (copy : CachedCopy) : Type 0 where
   pub allowed : first_of (take_grant_cases v t share) ≡ None
-  pub block_is : block ≡ block_named v t D
-  pub before_is : before ≡ perm_at v t.client block
-  pub copy_is : copy ≡ first_granted (lane_at v t.client D).messages (client_at v t.client block).held
+  pub finds : FindsGrant v t.client block before copy
+
+-- a Grant that is found is of the block that the first message speaks of
+pub grant-named : {v : View} {c block : ℕ} {before : Perm} {copy : CachedCopy} → FindsGrant v c block before copy
+    → block ≡ first_block (lane_at v c D).messages
+grant-named finds = sym (ap first_block finds.first.1)
+
+-- and is found as well once there is room for the event
+pub takes-with-room : (v old : View) (t : Ticket) (share : Holding) (room block : ℕ) (before : Perm) (copy : CachedCopy)
+    → v ≡ record old { room = room } → first_of (take_grant_cases old t share) ≡ None
+    → FindsGrant old t.client block before copy → Takes v t share block before copy
+takes-with-room v old t share room block before copy made none finds =
+    subst (λ (w : View). Takes w t share block before copy) (sym made)
+    (record {
+      allowed = none;
+      finds = record {
+        cap = finds.cap;
+        bytes = finds.bytes;
+        first = finds.first;
+        before_is = finds.before_is;
+        copy_is = finds.copy_is;
+      };
+    })
+
+-- the client's list on D begins with it
+pub record Granted (v : View) (t : Ticket) (block : ℕ) (cap : GrantCap) (bytes : Option (List ℕ)) : Type 0 where
+  pub rest : List Downward
+  pub list : (client_at v t.client block).d ≡ Grant cap bytes ∷ rest
+
+granted-is : (v : View) (h : Layers) (t : Ticket) (share : Holding) (block : ℕ) (before : Perm) (copy : CachedCopy) → Means v h
+    → (takes : Takes v t share block before copy) → Granted v t block takes.finds.cap takes.finds.bytes
+granted-is v h t share block before copy m takes =
+    let cap : GrantCap = takes.finds.cap in
+    let bytes : Option (List ℕ) = takes.finds.bytes in
+    let x : Message = record { block = block; body = b_Downward (Grant cap bytes) } in
+    let list = grant-begins (client_at v t.client block).d (bodies_of block takes.finds.first.0) cap bytes
+    (first_heads_its_list (shape_of v.geometry) v.image v.log t.client D x takes.finds.first.0 m.lawful takes.finds.first.1) in
+    record { rest = list.0; list = list.1 }
 
 -- the client's part of a block once it took that Grant
-abbrev taken : (v : View) (t : Ticket) → Granted v t → ℕ → Client
-taken v t g block = took_grant (client_at v t.client block) (Grant g.cap g.bytes ∷ g.rest)
+abbrev taken : (v : View) (t : Ticket) (block : ℕ) (cap : GrantCap) (bytes : Option (List ℕ)) → Granted v t block cap bytes → Client
+taken v t block cap bytes g = took_grant (client_at v t.client block) (Grant cap bytes ∷ g.rest)
 
 -- taking the Grant is a step of the client, which has that part of the block afterwards
-grant-step : (v : View) (h : Layers) (t : Ticket) (share : Holding) (block : ℕ) → Means v h → first_of (take_grant_cases v t share) ≡ None
-    → (g : Granted v t) → block ≡ block_named v t D → ClientStep v (TakeGrant t.client block) t.client (taken v t g block)
-grant-step v h t share block m none g is =
+grant-step : (v : View) (h : Layers) (t : Ticket) (share : Holding) (block : ℕ) (cap : GrantCap) (bytes : Option (List ℕ)) → Means v h
+    → first_of (take_grant_cases v t share) ≡ None → (g : Granted v t block cap bytes) → block ≡ block_named v t D
+    → ClientStep v (TakeGrant t.client block) t.client (taken v t block cap bytes g)
+grant-step v h t share block cap bytes m none g is =
     let ok = (grant-allowed v t share none).0 in
-    let at : ℕ = block_named v t D in
-    let own : IsOwn v.geometry v.number at = head-own v h t D is_a_grant m ok in
-    let k : Client = client_at v t.client at in
-    let step : ClientStep v (TakeGrant t.client at) t.client (taken v t g at) = record {
-      may = (own.0, (ok.client, (g.cap, g.bytes, g.rest, g.list)));
-      first = head-first v t D is_a_grant ok;
+    let own : IsOwn v.geometry v.number block = subst (λ b. IsOwn v.geometry v.number b) (sym is) (head-own v h t D is_a_grant m ok) in
+    record {
+      may = (own.0, (ok.client, (cap, bytes, g.rest, g.list)));
+      first = subst (λ b. IsFirst b (lane_at v t.client D).messages) (sym is) (head-first v t D is_a_grant ok);
       leaves = refl;
       leaves_registers = tt;
       here = own.1;
       later = tt;
-      client = λ x. ap (λ (ds : List Downward). cond (x == t.client) (took_grant k ds) (client_at v x at)) g.list;
+      client = λ x. ap (λ (ds : List Downward). cond (x == t.client) (took_grant (client_at v t.client block) ds) (client_at v x block)) g.list;
       recorded = refl;
-    } in
-    subst (λ b. ClientStep v (TakeGrant t.client b) t.client (taken v t g b)) (sym is) step
+    }
 
 -- a client that waits for a Grant has an entry
 waiting-entry : (copy : CachedCopy) (wait : Wait) → wait ≡ ForGrant → has_entry_for copy wait ≡ true
@@ -144,18 +144,13 @@ pub grant-place : (v : View) (h : Layers) (t : Ticket) (share : Holding) (block 
     → Takes v t share block before copy → HasPlace h.copies t.client block copy Nothing
 grant-place v h t share block before copy m takes =
     let ok = (grant-allowed v t share takes.allowed).0 in
-    let g : Granted v t = granted-is v h t m ok in
-    let own = head-own v h t D is_a_grant m ok in
-    let at : ℕ = block_named v t D in
-    let waits = ((every_run_keeps_messages (shape_of v.geometry) v.image v.log m.lawful.run at t.client).granted g.cap g.bytes g.rest g.list).0 in
-    subst (λ b. HasPlace h.copies t.client b copy Nothing) (sym takes.block_is)
-    (place-there v h t.client at copy Nothing m ok.client own.0
-    (λ need. waiting-entry (client_at v t.client at).held (client_at v t.client at).wait waits))
-
--- that copy is what the client holds once it took the Grant
-copy-taken : (v : View) (t : Ticket) (share : Holding) (block : ℕ) (before : Perm) (copy : CachedCopy) (g : Granted v t)
-    → Takes v t share block before copy → copy ≡ (taken v t g block).held
-copy-taken v t share block before copy g takes = takes.copy_is ∙ g.makes (client_at v t.client block).held
+    let g = granted-is v h t share block before copy m takes in
+    let own : IsOwn v.geometry v.number block =
+    subst (λ b. IsOwn v.geometry v.number b) (sym (grant-named takes.finds)) (head-own v h t D is_a_grant m ok) in
+    let k : Client = client_at v t.client block in
+    let keeps = every_run_keeps_messages (shape_of v.geometry) v.image v.log m.lawful.run block t.client in
+    let waits = (keeps.granted takes.finds.cap takes.finds.bytes g.rest g.list).0 in
+    place-there v h t.client block copy Nothing m ok.client own.0 (λ need. waiting-entry k.held k.wait waits)
 
 -- the bank is kept once the Grant is gone from D, its GrantAck is on E, and the copy is in the client's table
 pub grant-keeps : (v : View) (h : Layers) (t : Ticket) (share : Holding) (block : ℕ) (before : Perm) (copy : CachedCopy) (room : ℕ)
@@ -172,20 +167,20 @@ pub grant-keeps : (v : View) (h : Layers) (t : Ticket) (share : Holding) (block 
     → Means (record v { log = v.log ++ TakeGrant t.client block ∷ []; room = room }) (record h { links = links; copies = tables })
 grant-keeps v h t share block before copy room between links tables m takes first took second sends same after =
     let ok = (grant-allowed v t share takes.allowed).0 in
-    let g : Granted v t = granted-is v h t m ok in
+    let g = granted-is v h t share block before copy m takes in
     let Took : Channel → Type 0 = λ k. (x : ℕ) (l : Channel) → lane_in between x l
     ≡ (if is_here t.client k x l then without_first (lane_in h.links x l) else lane_in h.links x l) in
     let from_d : Took D = subst Took ok.channel took in
-    means-step v h (record h { links = links; copies = tables }) (TakeGrant t.client block) t.client (taken v t g block) room m
-    (grant-step v h t share block m takes.allowed g takes.block_is)
+    means-step v h (record h { links = links; copies = tables }) (TakeGrant t.client block) t.client (taken v t block takes.finds.cap takes.finds.bytes g) room m
+    (grant-step v h t share block takes.finds.cap takes.finds.bytes m takes.allowed g (grant-named takes.finds))
     (record {
       lanes = λ x l.
           sends x l
           ∙ ap (λ (lane : Lane). cond (is_here t.client E x l) (with_message lane (record { block = block; body = GrantAck })) lane)
           (from_d x l);
       copies =
-          put-is h.copies tables t.client block copy (taken v t g block).held Nothing Nothing
-          (copy-taken v t share block before copy g takes) refl after;
+          put-is h.copies tables t.client block copy (taken v t block takes.finds.cap takes.finds.bytes g).held Nothing Nothing
+          takes.finds.copy_is refl after;
       links_size = record { bank = second.bank ∙ first.bank; clients = second.clients ∙ first.clients };
       copies_size = same;
       home = refl;
@@ -201,19 +196,19 @@ pub grant-enough : (v : View) (h : Layers) (t : Ticket) (share : Holding) (block
 grant-enough v h t share block before copy m takes =
     let both = grant-allowed v t share takes.allowed in
     let own : IsOwn v.geometry v.number block =
-    subst (λ b. IsOwn v.geometry v.number b) (sym takes.block_is) (head-own v h t D is_a_grant m both.0) in
+    subst (λ b. IsOwn v.geometry v.number b) (sym (grant-named takes.finds)) (head-own v h t D is_a_grant m both.0) in
     let enough = share-enough v t.client block share m.geometry own.0 both.1 in
-    (λ some. enough.0 (sym (ap is_none takes.before_is) ∙ some), enough.1)
+    (λ some. enough.0 (sym (ap is_none takes.finds.before_is) ∙ some), enough.1)
 
 -- the copy is what the client holds afterwards
 pub grant-later : (v : View) (h : Layers) (t : Ticket) (share : Holding) (block : ℕ) (before : Perm) (copy : CachedCopy) (room : ℕ)
     → Means v h → Takes v t share block before copy
     → perm_of copy ≡ perm_at (record v { log = v.log ++ TakeGrant t.client block ∷ []; room = room }) t.client block
 grant-later v h t share block before copy room m takes =
-    let g : Granted v t = granted-is v h t m (grant-allowed v t share takes.allowed).0 in
-    ap perm_of (copy-taken v t share block before copy g takes)
-    ∙ sym (step-perm v (TakeGrant t.client block) t.client (taken v t g block) room
-    (grant-step v h t share block m takes.allowed g takes.block_is))
+    let g = granted-is v h t share block before copy m takes in
+    ap perm_of takes.finds.copy_is
+    ∙ sym (step-perm v (TakeGrant t.client block) t.client (taken v t block takes.finds.cap takes.finds.bytes g) room
+    (grant-step v h t share block takes.finds.cap takes.finds.bytes m takes.allowed g (grant-named takes.finds)))
 
 -- and the share counts the client's copies afterwards
 pub grant-count : (v : View) (h : Layers) (t : Ticket) (share : Holding) (block : ℕ) (before : Perm) (copy : CachedCopy) (room : ℕ)
@@ -221,7 +216,7 @@ pub grant-count : (v : View) (h : Layers) (t : Ticket) (share : Holding) (block 
     → recount before (perm_of copy) share.count ≡ copies_at (record v { log = v.log ++ TakeGrant t.client block ∷ []; room = room }) t.client
 grant-count v h t share block before copy room m takes =
     let both = grant-allowed v t share takes.allowed in
-    let g : Granted v t = granted-is v h t m both.0 in
-    share-count v (TakeGrant t.client block) t.client (taken v t g block) room share before (perm_of copy)
-    (grant-step v h t share block m takes.allowed g takes.block_is) both.1 takes.before_is
-    (ap perm_of (copy-taken v t share block before copy g takes))
+    let g = granted-is v h t share block before copy m takes in
+    share-count v (TakeGrant t.client block) t.client (taken v t block takes.finds.cap takes.finds.bytes g) room share before (perm_of copy)
+    (grant-step v h t share block takes.finds.cap takes.finds.bytes m takes.allowed g (grant-named takes.finds)) both.1 takes.finds.before_is
+    (ap perm_of takes.finds.copy_is)

@@ -1,8 +1,8 @@
 pub mod Entry
 pub mod Found
 pub mod Given
-pub mod Head
 pub mod Layers
 pub mod Link
 pub mod Means
 pub mod Memory
+pub mod Settled

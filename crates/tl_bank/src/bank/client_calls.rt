@@ -22,8 +22,7 @@ use crate::{entry, link};
 use tl_bank_spec::{Loaded, Refusal, When};
 use tl_protocol::{Access, Event};
 use tl_types::{
-    AccessBytes, BlockNo, Body, Channel, ClientId, Grow, Message, ProbeAnswer, Prune, Surrender,
-    Ticket, Upward, Wait,
+    AccessBytes, BlockNo, Body, Channel, ClientId, Grow, Message, Prune, Ticket, Upward, Wait,
 };
 
 impl Bank {
@@ -53,7 +52,7 @@ impl Bank {
         ensures newest { IfOk result (λ loaded. AreLast self.old.image self.old.log address loaded.bytes) }
         ensures stamp { IfOk result (λ loaded. loaded.stamp ≡ latest self.old when.clock + 1) }
     {
-        let bytes = self.loaded(client, address, len, when.clock)?;
+        let bytes = self.settle_load(client, address, len, when.clock)?;
         let stamp = self.next_stamp(when.clock);
         self.make_room()?;
         self.clock = stamp;
@@ -88,7 +87,7 @@ impl Bank {
             }))) }
         ensures stamp { IfOk result (λ stamp. stamp ≡ latest self.old when.clock + 1) }
     {
-        let place = self.writable_place(client, address, bytes.len(), when.clock)?;
+        let place = self.settle_store(client, address, bytes.len(), when.clock)?;
         let block = self.geometry.block_at(address);
         let access = entry::access_of(bytes);
         let stamp = self.next_stamp(when.clock);
@@ -120,10 +119,7 @@ impl Bank {
         ensures ticket { IfOk result (λ ticket. ticket ≡ next_ticket self.old client Channel.A) }
         ensures sends { IfOk result (λ ticket. Sends self.old self.new (Event.SendAcquire client block grow) ticket) }
     {
-        if let Some(refusal) = self.acquire_refusal(client, block, grow) {
-            return Err(refusal);
-        }
-        let copy = self.copy(client, block);
+        let copy = self.settle_acquire(client, block, grow)?;
         self.make_room()?;
         let body = Body::AcquireBlock(grow);
         let ticket = link::send(&mut self.links, client, Channel::A, Message { block, body });
@@ -152,20 +148,14 @@ impl Bank {
         ensures counted { OnOk result (share.new.count ≡ copies_at self.new client) }
         ensures others { OnOk result ((x : ℕ) → x ≢ client → copies_at self.new x ≡ copies_at self.old x) }
     {
-        if let Some(refusal) = self.release_refusal(client, block, prune, share) {
-            return Err(refusal);
-        }
-        let held = self.entry(client, block);
-        let before = entry::perm_in(held);
-        let given = Surrender::of(prune, entry::dirty_in(held));
-        let copy = entry::reduced_in(held, prune.to());
-        let later = copy.perm();
+        let found = self.settle_release(client, block, prune, share)?;
         self.make_room()?;
-        let body = Body::Upward(Upward::Release(given));
+        let later = found.copy.perm();
+        let body = Body::Upward(Upward::Release(found.given));
         let ticket = link::send(&mut self.links, client, Channel::C, Message { block, body });
-        entry::put(&mut self.copies, client, block, copy, Wait::ForReleaseAck);
+        entry::put(&mut self.copies, client, block, found.copy, Wait::ForReleaseAck);
         self.log.append(Event::SendRelease(client, block, prune));
-        share.recount(before, later);
+        share.recount(found.before, later);
         Ok(ticket)
     }
 
@@ -177,14 +167,11 @@ impl Bank {
         ensures appends { OnOk result
             (Appends self.old self.new (Event.TakeReleaseAck ticket.client (block_named self.old ticket Channel.D))) }
     {
-        if let Some(refusal) = self.take_release_ack_refusal(&ticket) {
-            return Err(refusal);
-        }
-        let block = self.first_block(ticket.client, Channel::D);
-        let copy = self.copy(ticket.client, block);
+        let found = self.settle_release_ack(&ticket)?;
         self.make_room()?;
+        let block = found.block;
         link::discard(&mut self.links, ticket);
-        entry::put(&mut self.copies, ticket.client, block, copy, Wait::Nothing);
+        entry::put(&mut self.copies, ticket.client, block, found.copy, Wait::Nothing);
         self.log.append(Event::TakeReleaseAck(ticket.client, block));
         Ok(())
     }
@@ -207,29 +194,21 @@ impl Bank {
         ensures counted { OnOk result (share.new.count ≡ copies_at self.new ticket.client) }
         ensures others { OnOk result ((x : ℕ) → x ≢ ticket.client → copies_at self.new x ≡ copies_at self.old x) }
     {
-        if let Some(refusal) = self.answer_probe_refusal(&ticket, share) {
-            return Err(refusal);
-        }
-        let block = self.first_block(ticket.client, Channel::B);
-        let cap = self.first_cap(ticket.client);
-        let held = self.entry(ticket.client, block);
-        let wait = entry::wait_in(held);
-        let before = entry::perm_in(held);
-        let answer = ProbeAnswer::of(before, cap, entry::dirty_in(held));
-        let copy = entry::reduced_in(held, cap.perm());
-        let later = copy.perm();
+        let found = self.settle_answer(&ticket, share)?;
         self.make_room()?;
+        let block = found.block;
+        let later = found.copy.perm();
         link::discard(&mut self.links, ticket);
-        let body = Body::Upward(Upward::ProbeAck(answer));
+        let body = Body::Upward(Upward::ProbeAck(found.answer));
         let sent = link::send(
             &mut self.links,
             ticket.client,
             Channel::C,
             Message { block, body },
         );
-        entry::put(&mut self.copies, ticket.client, block, copy, wait);
+        entry::put(&mut self.copies, ticket.client, block, found.copy, found.wait);
         self.log.append(Event::AnswerProbe(ticket.client, block));
-        share.recount(before, later);
+        share.recount(found.before, later);
         Ok(sent)
     }
 
@@ -251,15 +230,10 @@ impl Bank {
         ensures counted { OnOk result (share.new.count ≡ copies_at self.new ticket.client) }
         ensures others { OnOk result ((x : ℕ) → x ≢ ticket.client → copies_at self.new x ≡ copies_at self.old x) }
     {
-        if let Some(refusal) = self.take_grant_refusal(&ticket, share) {
-            return Err(refusal);
-        }
-        let block = self.first_block(ticket.client, Channel::D);
-        let held = self.entry(ticket.client, block);
-        let before = entry::perm_in(held);
-        let copy = self.first_granted(ticket.client, held);
-        let later = copy.perm();
+        let found = self.settle_grant(&ticket, share)?;
         self.make_room()?;
+        let block = found.block;
+        let later = found.copy.perm();
         link::discard(&mut self.links, ticket);
         let body = Body::GrantAck;
         let sent = link::send(
@@ -268,9 +242,9 @@ impl Bank {
             Channel::E,
             Message { block, body },
         );
-        entry::put(&mut self.copies, ticket.client, block, copy, Wait::Nothing);
+        entry::put(&mut self.copies, ticket.client, block, found.copy, Wait::Nothing);
         self.log.append(Event::TakeGrant(ticket.client, block));
-        share.recount(before, later);
+        share.recount(found.before, later);
         Ok(sent)
     }
 

@@ -17,7 +17,7 @@ ghost use Rattle.tl_bank_spec.specs.Refusal.{IsRefused, first_of};
 ghost use Rattle.tl_bank_spec.specs.Own.{way_at};
 
 use crate::bank::Bank;
-use crate::bank::ticket_refusals::is_release;
+use crate::bank::tickets::is_release;
 use crate::link;
 use tl_bank_spec::Refusal;
 use tl_links::Links;
@@ -42,11 +42,9 @@ impl Bank {
         ensures sends { IfOk result
             (λ sent. IfSome sent (λ ack. Sends self.old self.new (Event.TakeC ticket.client (block_named self.old ticket Channel.C)) ack)) }
     {
-        if let Some(refusal) = self.take_c_refusal(&ticket) {
-            return Err(refusal);
-        }
-        let client = ticket.client;
+        self.settle_c(&ticket)?;
         self.make_room()?;
+        let client = ticket.client;
         let message = link::take(&mut self.links, ticket);
         let block = message.block;
         let is_release = is_release(&message.body);
@@ -70,15 +68,34 @@ impl Bank {
             (Serves self.old self.new (Event.TakeGrantAck ticket.client (block_named self.old ticket Channel.E))
             (closed (block_named self.old ticket Channel.E) self.old.registers) (way_at self.old)) }
     {
-        if let Some(refusal) = self.take_grant_ack_refusal(&ticket) {
-            return Err(refusal);
-        }
-        let block = self.first_block(ticket.client, Channel::E);
+        let block = self.settle_grant_ack(&ticket)?;
         self.make_room()?;
         link::discard(&mut self.links, ticket);
         self.registers.close(block);
         self.log.append(Event::TakeGrantAck(ticket.client, block));
         Ok(())
+    }
+
+    /// Nothing but why home does not take a message on C, for want of memory aside.
+    fn settle_c(&self, ticket: &Ticket) -> Result<(), Refusal>
+        ensures refused { IfErr result (λ r. first_of (take_c_cases self.now ticket.now) ≡ Some r) }
+        ensures permitted { OnOk result (first_of (take_c_cases self.now ticket.now) ≡ None) }
+    {
+        let message = self.ticket_message(ticket, Channel::C)?;
+        if is_release(&message.body) && self.is_link_full(ticket.client, Channel::D) {
+            return Err(Refusal::LinkFull);
+        }
+        Ok(())
+    }
+
+    /// The block of a GrantAck that home takes.
+    fn settle_grant_ack(&self, ticket: &Ticket) -> Result<BlockNo, Refusal>
+        ensures refused { IfErr result (λ r. first_of (take_grant_ack_cases self.now ticket.now) ≡ Some r) }
+        ensures permitted { OnOk result (first_of (take_grant_ack_cases self.now ticket.now) ≡ None) }
+        ensures block { IfOk result (λ block. block ≡ block_named self.now ticket.now Channel.E) }
+    {
+        let message = self.ticket_message(ticket, Channel::E)?;
+        Ok(message.block)
     }
 }
 

@@ -29,9 +29,7 @@ impl Bank {
         ensures serves { OnOk result (Serves self.old self.new (Event.Serve block) self.old.registers (way_at self.old)) }
         ensures reply { IfOk result (λ reply. MemoryReplies (block_at self.old block) reply) }
     {
-        if let Some(refusal) = self.serve_memory_refusal(block) {
-            return Err(refusal);
-        }
+        self.settle_serve(block)?;
         self.make_room()?;
         self.home.serve(block);
         let reply = answered(&self.home, block);
@@ -98,20 +96,21 @@ impl Bank {
         Way::new(register.way.way)
     }
 
-    /// Why the memory does not answer, but for want of memory for the log.
-    fn serve_memory_refusal(&self, block: BlockNo) -> Option<Refusal>
-        ensures { result ≡ first_of (serve_memory_cases self.now block) }
+    /// Nothing but why the memory does not answer, for want of memory for the log aside.
+    fn settle_serve(&self, block: BlockNo) -> Result<(), Refusal>
+        ensures refused { IfErr result (λ r. first_of (serve_memory_cases self.now block) ≡ Some r) }
+        ensures permitted { OnOk result (first_of (serve_memory_cases self.now block) ≡ None) }
     {
         if !self.geometry.has(block) {
-            return Some(Refusal::OutOfRange);
+            return Err(Refusal::OutOfRange);
         }
         if self.is_elsewhere(block) {
-            return Some(Refusal::WrongBank);
+            return Err(Refusal::WrongBank);
         }
         if !self.home.may_serve(block) {
-            return Some(Refusal::NothingThere);
+            return Err(Refusal::NothingThere);
         }
-        None
+        Ok(())
     }
 
     /// Why home does not take what the memory answered, but for want of memory for the log.

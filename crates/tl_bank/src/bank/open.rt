@@ -74,12 +74,8 @@ impl Bank {
         ensures permitted { OnOk result (first_of (evict_cases self.old block) ≡ None) }
         ensures evicts { OnOk result (Evicts self.old self.new block) }
     {
-        if let Some(refusal) = self.evict_refusal(block) {
-            return Err(refusal);
-        }
-        let way = self.home.way(block).unwrap();
-        let set = self.geometry.place(block).set;
-        self.registers.open_evict(block, in_set(set, way));
+        let way = self.settle_evict(block)?;
+        self.registers.open_evict(block, way);
         Ok(())
     }
 
@@ -127,34 +123,38 @@ impl Bank {
         })
     }
 
-    /// Why an eviction is refused.
-    fn evict_refusal(&self, block: BlockNo) -> Option<Refusal>
-        ensures { result ≡ first_of (evict_cases self.now block) }
+    /// Where the block lies that is sent away.
+    fn settle_evict(&self, block: BlockNo) -> Result<WayOfSet, Refusal>
+        ensures refused { IfErr result (λ r. first_of (evict_cases self.now block) ≡ Some r) }
+        ensures permitted { OnOk result (first_of (evict_cases self.now block) ≡ None) }
+        ensures set { IfOk result (λ way. way.set ≡ set_of self.now.geometry block) }
+        ensures way { IfOk result (λ way. way_at self.now block ≡ Some way.way) }
     {
         if !self.geometry.has(block) {
-            return Some(Refusal::OutOfRange);
+            return Err(Refusal::OutOfRange);
         }
         if self.is_elsewhere(block) {
-            return Some(Refusal::WrongBank);
+            return Err(Refusal::WrongBank);
         }
         if self.registers.is_busy(block) {
-            return Some(Refusal::BlockBusy);
+            return Err(Refusal::BlockBusy);
         }
-        if self.lacks(block) {
-            return Some(Refusal::NotYet);
-        }
+        let Some(way) = self.way_of(block) else {
+            return Err(Refusal::NotYet);
+        };
         if self.is_in_use() {
-            return Some(Refusal::NoRegister);
+            return Err(Refusal::NoRegister);
         }
-        None
+        Ok(in_set(self.geometry.place(block).set, way))
     }
 
-    /// Whether home does not hold a block.
-    fn lacks(&self, block: BlockNo) -> bool
+    /// The way in which a block lies, if home holds it.
+    fn way_of(&self, block: BlockNo) -> Option<Way>
         requires { IsOwn self.now.geometry self.now.number block }
-        ensures { result ≡ lacks self.now block }
+        ensures is { result ≡ way_at self.now block }
+        ensures lacks { is_none result ≡ lacks self.now block }
     {
-        self.home.way(block).is_none()
+        self.home.way(block)
     }
 
     /// Whether all registers are in use.
@@ -175,7 +175,7 @@ impl Bank {
         ensures none { is_none result ≡ (lacks self.now block && ways_held self.now (set_of self.now.geometry block)) }
     {
         let set = self.geometry.place(block).set;
-        if let Some(way) = self.home.way(block) {
+        if let Some(way) = self.way_of(block) {
             return Some(Opening {
                 way: in_set(set, way),
                 victim: None,

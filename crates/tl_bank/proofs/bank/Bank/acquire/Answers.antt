@@ -8,21 +8,21 @@ use Rattle.tl_bank.proofs.bank.Bank.acquire.Goals as goal
 
 pub put-requires : goal.put-requires
 put-requires c =
-    let Shows : View → Type 0 = λ w. Asks w c.args.client c.args.block c.args.grow c.copy-copy.result in
+    let Shows : View → Type 0 = λ w. Asks w c.args.client c.args.block c.args.grow c.in_ok-copy.copy in
     let asks : Shows (shown c.self.inside) =
     subst Shows (sym (c.self.view_is ∙ c.make_room.ensures.same))
-    (record { allowed = sym c.acquire_refusal.ensures ∙ c.in_default.is; copy_is = c.copy-copy.ensures }) in
-    acquire-place (shown c.self.inside) (layers c.self.inside) c.args.client c.args.block c.args.grow c.copy-copy.result
+    (record { allowed = c.in_ok-copy.ensures.permitted; copy_is = c.in_ok-copy.ensures.copy }) in
+    acquire-place (shown c.self.inside) (layers c.self.inside) c.args.client c.args.block c.args.grow c.in_ok-copy.copy
     c.self.invariant asks.allowed
 
 pub invariant_of-self : goal.invariant_of-self
 invariant_of-self c =
-    let Shows : View → Type 0 = λ w. Asks w c.args.client c.args.block c.args.grow c.copy-copy.result in
+    let Shows : View → Type 0 = λ w. Asks w c.args.client c.args.block c.args.grow c.in_ok-copy.copy in
     let asks : Shows (shown c.self.inside) =
     subst Shows (sym (c.self.view_is ∙ c.make_room.ensures.same))
-    (record { allowed = sym c.acquire_refusal.ensures ∙ c.in_default.is; copy_is = c.copy-copy.ensures }) in
+    (record { allowed = c.in_ok-copy.ensures.permitted; copy_is = c.in_ok-copy.ensures.copy }) in
     rw c.append.ensures.events
-    (acquire-keeps (shown c.self.inside) (layers c.self.inside) c.args.client c.args.block c.args.grow c.copy-copy.result
+    (acquire-keeps (shown c.self.inside) (layers c.self.inside) c.args.client c.args.block c.args.grow c.in_ok-copy.copy
     c.append.new.self.room c.send-ticket.new.links c.put.new.copies c.self.invariant asks c.send-ticket.ensures.same
     c.send-ticket.ensures.after c.put.ensures.same c.put.ensures.after)
 

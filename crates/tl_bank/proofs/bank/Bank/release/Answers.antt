@@ -16,83 +16,77 @@ pub recount-requires-clause-counted : goal.recount-requires-clause-counted
 recount-requires-clause-counted c = λ some.
     let lawful : IsLawful c.args.self.now.geometry =
     subst (λ (w : View). IsLawful w.geometry) (c.self.view_is ∙ c.make_room.ensures.same) c.self.invariant.geometry in
-    let before : c.perm_in-before.result ≡ perm_at c.args.self.now c.args.client c.args.block =
-    c.perm_in-before.ensures ∙ c.entry-held.ensures.perm in
+    let before : c.in_ok-found.found.before ≡ perm_at c.args.self.now c.args.client c.args.block =
+    c.in_ok-found.ensures.before in
     (release-counted c.args.self.now c.args.client c.args.block c.args.prune c.args.share.now lawful
-    (sym c.release_refusal.ensures ∙ c.in_default.is)).0 (sym (ap is_none before) ∙ some)
+    (c.in_ok-found.ensures.permitted)).0 (sym (ap is_none before) ∙ some)
 
 pub recount-requires-clause-few : goal.recount-requires-clause-few
 recount-requires-clause-few c =
     let lawful : IsLawful c.args.self.now.geometry =
     subst (λ (w : View). IsLawful w.geometry) (c.self.view_is ∙ c.make_room.ensures.same) c.self.invariant.geometry in
     (release-counted c.args.self.now c.args.client c.args.block c.args.prune c.args.share.now lawful
-    (sym c.release_refusal.ensures ∙ c.in_default.is)).1
+    (c.in_ok-found.ensures.permitted)).1
 
 pub invariant_of-self : goal.invariant_of-self
 invariant_of-self c =
     let v : View = shown c.self.inside in
     let Shows : View → Type 0 =
-    λ w. GivesUp w c.args.client c.args.block c.args.prune c.args.share.now c.reduced_in-copy.result c.of-given.result in
+    λ w. GivesUp w c.args.client c.args.block c.args.prune c.args.share.now c.in_ok-found.found.copy c.in_ok-found.found.given in
     let gives : Shows v =
     subst Shows (sym (c.self.view_is ∙ c.make_room.ensures.same))
     (record {
-      allowed = sym c.release_refusal.ensures ∙ c.in_default.is;
-      copy_is = c.reduced_in-copy.ensures ∙ ap (λ k. reduced k c.to.result) c.entry-held.ensures.copy
-          ∙ ap (λ p. reduced (client_at c.args.self.now c.args.client c.args.block).held p) c.to.ensures;
-      given_is = c.of-given.ensures.value
-          ∙ ap (λ b. surrender c.args.prune b) (c.dirty_in.ensures ∙ ap dirty_bytes c.entry-held.ensures.copy);
+      allowed = c.in_ok-found.ensures.permitted;
+      copy_is = c.in_ok-found.ensures.copy;
+      given_is = c.in_ok-found.ensures.given;
     }) in
     rw c.append.ensures.events
-    (release-keeps v (layers c.self.inside) c.args.client c.args.block c.args.prune c.args.share.now c.reduced_in-copy.result
-    c.of-given.result c.append.new.self.room c.send-ticket.new.links c.put.new.copies c.self.invariant gives
+    (release-keeps v (layers c.self.inside) c.args.client c.args.block c.args.prune c.args.share.now c.in_ok-found.found.copy
+    c.in_ok-found.found.given c.append.new.self.room c.send-ticket.new.links c.put.new.copies c.self.invariant gives
     c.send-ticket.ensures.same c.send-ticket.ensures.after c.put.ensures.same c.put.ensures.after)
 
 pub returns-clause-share : goal.returns-clause-share
 returns-clause-share c =
     let v : View = shown c.self.inside in
     let Shows : View → Type 0 =
-    λ w. GivesUp w c.args.client c.args.block c.args.prune c.args.share.now c.reduced_in-copy.result c.of-given.result in
+    λ w. GivesUp w c.args.client c.args.block c.args.prune c.args.share.now c.in_ok-found.found.copy c.in_ok-found.found.given in
     let gives : Shows v =
     subst Shows (sym (c.self.view_is ∙ c.make_room.ensures.same))
     (record {
-      allowed = sym c.release_refusal.ensures ∙ c.in_default.is;
-      copy_is = c.reduced_in-copy.ensures ∙ ap (λ k. reduced k c.to.result) c.entry-held.ensures.copy
-          ∙ ap (λ p. reduced (client_at c.args.self.now c.args.client c.args.block).held p) c.to.ensures;
-      given_is = c.of-given.ensures.value
-          ∙ ap (λ b. surrender c.args.prune b) (c.dirty_in.ensures ∙ ap dirty_bytes c.entry-held.ensures.copy);
+      allowed = c.in_ok-found.ensures.permitted;
+      copy_is = c.in_ok-found.ensures.copy;
+      given_is = c.in_ok-found.ensures.given;
     }) in
-    let before : c.perm_in-before.result ≡ perm_at c.args.self.now c.args.client c.args.block =
-    c.perm_in-before.ensures ∙ c.entry-held.ensures.perm in
+    let before : c.in_ok-found.found.before ≡ perm_at c.args.self.now c.args.client c.args.block =
+    c.in_ok-found.ensures.before in
     rw c.append.ensures.events
     (c.recount.ensures
     ∙ ap (λ p. recounted p c.perm-later.result c.args.share.now) before
     ∙ ap (λ p. recounted (perm_at c.args.self.now c.args.client c.args.block) p c.args.share.now)
     (c.perm-later.ensures
-    ∙ release-later v c.args.client c.args.block c.args.prune c.args.share.now c.reduced_in-copy.result c.of-given.result
+    ∙ release-later v c.args.client c.args.block c.args.prune c.args.share.now c.in_ok-found.found.copy c.in_ok-found.found.given
     c.append.new.self.room gives))
 
 pub returns-clause-counted : goal.returns-clause-counted
 returns-clause-counted c =
     let v : View = shown c.self.inside in
     let Shows : View → Type 0 =
-    λ w. GivesUp w c.args.client c.args.block c.args.prune c.args.share.now c.reduced_in-copy.result c.of-given.result in
+    λ w. GivesUp w c.args.client c.args.block c.args.prune c.args.share.now c.in_ok-found.found.copy c.in_ok-found.found.given in
     let gives : Shows v =
     subst Shows (sym (c.self.view_is ∙ c.make_room.ensures.same))
     (record {
-      allowed = sym c.release_refusal.ensures ∙ c.in_default.is;
-      copy_is = c.reduced_in-copy.ensures ∙ ap (λ k. reduced k c.to.result) c.entry-held.ensures.copy
-          ∙ ap (λ p. reduced (client_at c.args.self.now c.args.client c.args.block).held p) c.to.ensures;
-      given_is = c.of-given.ensures.value
-          ∙ ap (λ b. surrender c.args.prune b) (c.dirty_in.ensures ∙ ap dirty_bytes c.entry-held.ensures.copy);
+      allowed = c.in_ok-found.ensures.permitted;
+      copy_is = c.in_ok-found.ensures.copy;
+      given_is = c.in_ok-found.ensures.given;
     }) in
-    let Before : View → Type 0 = λ w. c.perm_in-before.result ≡ perm_at w c.args.client c.args.block in
+    let Before : View → Type 0 = λ w. c.in_ok-found.found.before ≡ perm_at w c.args.client c.args.block in
     let before : Before v =
-    subst Before (sym (c.self.view_is ∙ c.make_room.ensures.same)) (c.perm_in-before.ensures ∙ c.entry-held.ensures.perm) in
+    subst Before (sym (c.self.view_is ∙ c.make_room.ensures.same)) (c.in_ok-found.ensures.before) in
     rw c.append.ensures.events
     (ap (λ (s : Holding). s.count) c.recount.ensures
-    ∙ ap (λ p. recount c.perm_in-before.result p c.args.share.now.count) c.perm-later.ensures
-    ∙ release-count v c.args.client c.args.block c.args.prune c.args.share.now c.reduced_in-copy.result c.of-given.result
-    c.append.new.self.room c.perm_in-before.result gives before)
+    ∙ ap (λ p. recount c.in_ok-found.found.before p c.args.share.now.count) c.perm-later.ensures
+    ∙ release-count v c.args.client c.args.block c.args.prune c.args.share.now c.in_ok-found.found.copy c.in_ok-found.found.given
+    c.append.new.self.room c.in_ok-found.found.before gives before)
 
 pub returns-clause-appends : goal.returns-clause-appends
 returns-clause-appends c = search rules

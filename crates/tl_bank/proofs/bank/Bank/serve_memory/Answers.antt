@@ -19,7 +19,7 @@ serve-requires-clause-whole c =
     let v : View = shown c.self.inside in
     let none : first_of (serve_memory_cases v c.args.block) ≡ None =
     subst (λ (w : View). first_of (serve_memory_cases w c.args.block) ≡ None) (sym (c.self.view_is ∙ c.make_room.ensures.same))
-    (sym c.serve_memory_refusal.ensures ∙ c.in_default.is) in
+    (c.in_ok-settle_serve.ensures.permitted) in
     subst (λ (g : Numbers). IsWhole g.block_bytes (outward_bytes (outward_in c.self.inside.home c.args.block)))
     (sym c.self.invariant.home_geometry) (serve-whole v (layers c.self.inside) c.args.block c.self.invariant none)
 
@@ -28,7 +28,7 @@ serve-requires-clause-own c =
     let v : View = shown c.self.inside in
     let none : first_of (serve_memory_cases v c.args.block) ≡ None =
     subst (λ (w : View). first_of (serve_memory_cases w c.args.block) ≡ None) (sym (c.self.view_is ∙ c.make_room.ensures.same))
-    (sym c.serve_memory_refusal.ensures ∙ c.in_default.is) in
+    (c.in_ok-settle_serve.ensures.permitted) in
     rw (c.self.invariant.home_geometry, c.self.invariant.home_bank) (serve-allowed v c.args.block none).own.1
 
 pub invariant_of-self : goal.invariant_of-self
@@ -36,7 +36,7 @@ invariant_of-self c =
     let v : View = shown c.self.inside in
     let none : first_of (serve_memory_cases v c.args.block) ≡ None =
     subst (λ (w : View). first_of (serve_memory_cases w c.args.block) ≡ None) (sym (c.self.view_is ∙ c.make_room.ensures.same))
-    (sym c.serve_memory_refusal.ensures ∙ c.in_default.is) in
+    (c.in_ok-settle_serve.ensures.permitted) in
     rw c.append.ensures.events
     (serve-keeps v (layers c.self.inside) c.serve.new.self c.args.block c.append.new.self.room c.self.invariant none
     (record {
@@ -68,7 +68,7 @@ returns-clause-reply c =
     let made : v ≡ record c.args.self.now { room = c.make_room.new.self.room } = c.self.view_is ∙ c.make_room.ensures.same in
     let none : first_of (serve_memory_cases v c.args.block) ≡ None =
     subst (λ (w : View). first_of (serve_memory_cases w c.args.block) ≡ None) (sym made)
-    (sym c.serve_memory_refusal.ensures ∙ c.in_default.is) in
+    (c.in_ok-settle_serve.ensures.permitted) in
     subst (λ (w : View). MemoryReplies (block_at w c.args.block) c.answered-reply.result) made
     (rw c.answered-reply.ensures
     (serve-reply v (layers c.self.inside) c.serve.new.self c.args.block c.self.invariant none

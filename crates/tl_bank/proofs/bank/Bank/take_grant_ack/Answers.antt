@@ -16,12 +16,12 @@ invariant_of-self c =
     let v : View = shown c.self.inside in
     let none : first_of (take_grant_ack_cases v c.args.ticket) ≡ None =
     subst (λ (w : View). first_of (take_grant_ack_cases w c.args.ticket) ≡ None) (sym (c.self.view_is ∙ c.make_room.ensures.same))
-    (sym c.take_grant_ack_refusal.ensures ∙ c.in_default.is) in
-    let block_is : c.first_block-block.result ≡ block_named v c.args.ticket E =
-    subst (λ (w : View). c.first_block-block.result ≡ block_named w c.args.ticket E) (sym (c.self.view_is ∙ c.make_room.ensures.same))
-    c.first_block-block.ensures.value in
+    (c.in_ok-block.ensures.permitted) in
+    let block_is : c.in_ok-block.block ≡ block_named v c.args.ticket E =
+    subst (λ (w : View). c.in_ok-block.block ≡ block_named w c.args.ticket E) (sym (c.self.view_is ∙ c.make_room.ensures.same))
+    c.in_ok-block.ensures.block in
     rw (c.append.ensures.events, c.close.ensures)
-    (grant_ack-keeps v (layers c.self.inside) c.args.ticket c.first_block-block.result c.discard.new.links c.append.new.self.room
+    (grant_ack-keeps v (layers c.self.inside) c.args.ticket c.in_ok-block.block c.discard.new.links c.append.new.self.room
     (ways_below (way_in c.self.inside.home) v.geometry.memory_blocks) c.self.invariant none block_is
     c.discard.ensures.same c.discard.ensures.after
     (λ b l. below-at (way_in c.self.inside.home) v.geometry.memory_blocks b l))
