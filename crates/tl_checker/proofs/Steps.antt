@@ -3,7 +3,7 @@ use Rattle.std.proofs.Common.{◌≡◌, ◌≢◌, ◌+◌, ◌==◌, ℕ, Bool
 use Rattle.std.proofs.lemmas.List.{append-nil}
 use Rattle.std.specs.Io.BufRead.{take_through, drop_through, strip_last}
 use Rattle.tl_words.specs.Reads.{◌>>=◌}
-use Rattle.tl_judge.specs.declared.judge.Breach.{Breach}
+use Rattle.tl_checker.specs.declared.outcome.BrokenEntry.{BrokenEntry}
 use Rattle.tl_checker.specs.declared.outcome.LineFault.{LineFault}
 use Rattle.tl_checker.specs.declared.outcome.LineFault.TheVariants.{Unreadable as bad_line, Broken as bad_entry, Memory}
 use Rattle.tl_checker.specs.declared.outcome.Outcome.{Outcome}
@@ -103,8 +103,8 @@ module _ (text left : List ℕ) (count : ℕ) (stage : Stage) (at : IsAt text le
       number = ap (λ (n : ℕ). n + 1) at.number;
     }
 
-    pub broken : (n : ℕ) (breach : Breach) → Takes (after_line at.reading line) (Err (bad_entry n breach)) → IsOutcome text (Broken (count + 1) n breach)
-    broken n breach t = record {
+    pub broken : (b : BrokenEntry) → Takes (after_line at.reading line) (Err (bad_entry b)) → IsOutcome text (Broken (count + 1) b)
+    broken b t = record {
       shape = t.shape;
       image = t.image;
       entries = t.entries;
@@ -114,9 +114,8 @@ module _ (text left : List ℕ) (count : ℕ) (stage : Stage) (at : IsAt text le
       lines = lines_here;
       reads = reads_here ∙ t.reads;
       lawful = t.lawful;
-      breaks = t.breaks;
+      stops = t.stops;
       number = counted;
-      counted = t.counted;
     }
 
   -- at the end
@@ -130,7 +129,7 @@ module _ (text left : List ℕ) (count : ℕ) (stage : Stage) (at : IsAt text le
   end_at (going s image entries) Fresh h e = absurd h
   end_at (going s image entries) (Shaped shape) h e = absurd h
   end_at (going s image entries) (Judging judge n) h e =
-      record { shape = s; image = image; entries = entries; reads = e; lawful = h.1; counted = h.2 }
+      record { shape = s; image = image; entries = entries; reads = e; lawful = h.1; counted = h.2; end = h.0 }
 
   pub ended : take_through 10 left ≡ [] → IsOutcome text (ending_of stage)
   ended none =
@@ -186,11 +185,11 @@ module _ (now : Option (List ℕ)) (n : ℕ) (stage : Stage) (old new : List ℕ
         unreadable text w.0 n stage w.2 (there w.0 w.1)
         (subst (λ (o : Result Stage LineFault). Takes (after_line w.2.reading (take_through 10 w.0)) o) r (leads text w.0 w.1 w.2))
 
-    pub no_entry : (known : Option (List ℕ)) (count : ℕ) (breach : Breach) → result ≡ Err (bad_entry count breach) → IsWhere known now n stage
-        → IfSome known (λ text. IsOutcome text (Broken (n + 1) count breach))
-    no_entry None count breach r w = tt
-    no_entry (Some text) count breach r w =
-        broken text w.0 n stage w.2 (there w.0 w.1) count breach
+    pub no_entry : (known : Option (List ℕ)) (b : BrokenEntry) → result ≡ Err (bad_entry b) → IsWhere known now n stage
+        → IfSome known (λ text. IsOutcome text (Broken (n + 1) b))
+    no_entry None b r w = tt
+    no_entry (Some text) b r w =
+        broken text w.0 n stage w.2 (there w.0 w.1) b
         (subst (λ (o : Result Stage LineFault). Takes (after_line w.2.reading (take_through 10 w.0)) o) r (leads text w.0 w.1 w.2))
 
     -- what is said where the line is not taken
@@ -198,9 +197,9 @@ module _ (now : Option (List ℕ)) (n : ℕ) (stage : Stage) (old new : List ℕ
         → IfSome known (λ text. IsOutcome text o)
     stops_at known bad_line o r e w =
         let same : Unreadable (n + 1) ≡ o = cc in subst (λ (x : Outcome). IfSome known (λ text. IsOutcome text x)) same (no_line known r w)
-    stops_at known (bad_entry count breach) o r e w =
-        let same : Broken (n + 1) count breach ≡ o = cc in
-        subst (λ (x : Outcome). IfSome known (λ text. IsOutcome text x)) same (no_entry known count breach r w)
+    stops_at known (bad_entry b) o r e w =
+        let same : Broken (n + 1) b ≡ o = cc in
+        subst (λ (x : Outcome). IfSome known (λ text. IsOutcome text x)) same (no_entry known b r w)
     stops_at known Memory o r e w = cc
 
     pub stops : (known : Option (List ℕ)) (fault : LineFault) (res : Result Outcome CheckFault) → result ≡ Err fault

@@ -6,17 +6,19 @@ use Rattle.std.specs.Str.{IsUtf8, is_utf8}
 use Rattle.tl_words.specs.Reads.{◌>>=◌, Refuses}
 use Rattle.tl_words.specs.declared.error.ParseError.{ParseError}
 use Rattle.tl_words.specs.declared.error.ParseError.TheVariants.{Malformed, Memory as p_Memory}
+use Rattle.tl_protocol.specs.Protocol.{block_of}
 use Rattle.tl_protocol.specs.declared.event.Event.{Event}
 use Rattle.tl_protocol.specs.declared.shape.Shape.{Shape}
-use Rattle.tl_judge.specs.Judged.{Follows, IsLawful, IsLawfulAfter, IsPermitted, JudgeState, events_of}
+use Rattle.tl_judge.specs.Judged.{Breaks, Follows, IsLawful, IsLawfulAfter, IsPermitted, JudgeState, events_of}
 use Rattle.tl_judge.specs.declared.entry.Entry.{Entry}
+use Rattle.tl_judge.specs.declared.judge.Breach.{Breach}
 use Rattle.tl_checker.specs.declared.outcome.LineFault.{LineFault}
 use Rattle.tl_checker.specs.declared.outcome.LineFault.TheVariants.{Unreadable as bad_line, Broken as bad_entry, Memory}
 use Rattle.tl_checker.specs.declared.outcome.Stage.{Stage}
 use Rattle.tl_checker.specs.declared.outcome.Stage.TheVariants.{Fresh, Shaped, Judging}
 use Rattle.tl_record.specs.Entry.{entry_of}
 use Rattle.tl_record.specs.Header.{image_of, is_blank, shape_of}
-use Rattle.tl_checker.specs.Outcome.{Agrees, IsJudged, Takes, fault_of}
+use Rattle.tl_checker.specs.Outcome.{Agrees, IsJudged, Takes, fault_of, stopped_at}
 use Rattle.tl_checker.specs.Reading.{Reading, fresh, shaped, going, after_text, image_or_entry, next}
 
 -- the events of one more entry
@@ -51,14 +53,27 @@ judged shape image entries entry judge count number lawful same next_ permitted 
   omega (arith, same, next_, length_more entries entry),
 )
 
+-- the judge stops at an entry that breaks something, and is where it was
+pub stopped : (shape : Shape) (image : List ℕ) (entries : List Entry) (entry : Entry) (old new : JudgeState) (count number : ℕ) (breach : Breach)
+    → length entries ≡ count → number ≡ count + 1 → new ≡ old → Follows shape image (events_of entries) old
+    → Breaks shape image (events_of entries) entry breach → IsJudged shape image entries entry (Err (stopped_at new entry number breach))
+stopped shape image entries entry old new count number breach same next_ kept follows breaks =
+    let before : Follows shape image (events_of entries) new = subst (λ (j : JudgeState). Follows shape image (events_of entries) j) (sym kept) follows in
+    record {
+      breaks = breaks;
+      counted = omega (arith, same, next_);
+      block = ap (λ (sh : Shape). block_of sh entry.event) (sym before.same_shape);
+      before = before;
+    }
+
 -- what was judged is what a line with that entry leads to
 pub takes_entry : (shape : Shape) (image : List ℕ) (entries : List Entry) (entry : Entry) (result : Result Stage LineFault)
     → IsLawful shape image entries → IsJudged shape image entries entry result
     → Takes (Some (going shape image (entries ++ entry ∷ []))) result
 takes_entry shape image entries entry (Ok stage) lawful h = (going shape image (entries ++ entry ∷ []), refl, h)
 takes_entry shape image entries entry (Err bad_line) lawful h = absurd h
-takes_entry shape image entries entry (Err (bad_entry count breach)) lawful h =
-    record { shape = shape; image = image; entries = entries; entry = entry; reads = refl; lawful = lawful; breaks = h.0; counted = h.1 }
+takes_entry shape image entries entry (Err (bad_entry broken)) lawful h =
+    record { shape = shape; image = image; entries = entries; entry = entry; reads = refl; lawful = lawful; stops = h }
 takes_entry shape image entries entry (Err Memory) lawful h = tt
 
 -- a text that is outside the grammar

@@ -1,9 +1,11 @@
 -- What a check of a record's text answers.
 use Rattle.std.specs.Prelude.{◌≡◌, ℕ, ◌+◌, ◌<◌, ◌≤◌, List, [], ◌∷◌, ◌++◌, length, Option, Some, None, Result, Ok, Err}
 use Rattle.tl_protocol.specs.declared.shape.Shape.{Shape}
-use Rattle.tl_judge.specs.Judged.{Breaks, Follows, IsLawful, events_of}
+use Rattle.tl_protocol.specs.Protocol.{block_of}
+use Rattle.tl_judge.specs.Judged.{Breaks, Follows, IsLawful, JudgeState, events_of}
 use Rattle.tl_judge.specs.declared.entry.Entry.{Entry}
 use Rattle.tl_judge.specs.declared.judge.Breach.{Breach}
+use Rattle.tl_checker.specs.declared.outcome.BrokenEntry.{BrokenEntry}
 use Rattle.tl_checker.specs.declared.outcome.LineFault.{LineFault}
 use Rattle.tl_checker.specs.declared.outcome.LineFault.TheVariants.{Unreadable as bad_line, Broken as bad_entry, Memory}
 use Rattle.tl_checker.specs.declared.outcome.Outcome.{Outcome}
@@ -25,16 +27,27 @@ Agrees (going shape image entries) (Judging judge count) =
     Follows shape image (events_of entries) judge × IsLawful shape image entries × (length entries ≡ count)
 Agrees reading stage = ⊥
 
+-- The entry breaks just this after those entries; it has that number and is of that block, and the judge follows those before it.
+pub record Stops (shape : Shape) (image : List ℕ) (entries : List Entry) (entry : Entry) (broken : BrokenEntry) : Type 0 where
+  pub breaks : Breaks shape image (events_of entries) entry broken.breach
+  pub counted : length entries + 1 ≡ broken.number
+  pub block : block_of shape entry.event ≡ broken.block
+  pub before : Follows shape image (events_of entries) broken.judge
+
+-- what is said of an entry that a judge refused
+abbrev pub stopped_at : JudgeState → Entry → ℕ → Breach → LineFault
+stopped_at judge entry number breach =
+    bad_entry (record { judge = judge; block = block_of judge.plain.shape entry.event; number = number; breach = breach })
+
 -- this is an entry that breaks something after those that are lawful
-pub record BreaksHere (then_ : Option Reading) (count : ℕ) (breach : Breach) : Type 0 where
+pub record BreaksHere (then_ : Option Reading) (broken : BrokenEntry) : Type 0 where
   pub shape : Shape
   pub image : List ℕ
   pub entries : List Entry
   pub entry : Entry
   pub reads : then_ ≡ Some (going shape image (entries ++ entry ∷ []))
   pub lawful : IsLawful shape image entries
-  pub breaks : Breaks shape image (events_of entries) entry breach
-  pub counted : length entries + 1 ≡ count
+  pub stops : Stops shape image entries entry broken
 
 -- the geometry that was read is in the range of a judge
 abbrev pub IsFit : Stage → Type 0
@@ -53,30 +66,30 @@ fault_of p_Memory = Memory
 abbrev pub IsJudged : Shape → List ℕ → List Entry → Entry → Result Stage LineFault → Type 0
 IsJudged shape image entries entry (Ok stage) = Agrees (going shape image (entries ++ entry ∷ [])) stage
 IsJudged shape image entries entry (Err bad_line) = ⊥
-IsJudged shape image entries entry (Err (bad_entry count breach)) =
-    Breaks shape image (events_of entries) entry breach × (length entries + 1 ≡ count)
+IsJudged shape image entries entry (Err (bad_entry broken)) = Stops shape image entries entry broken
 IsJudged shape image entries entry (Err Memory) = Unit {0}
 
 -- what a text that is not blank leads to, and whether the check is there
 abbrev pub Takes : Option Reading → Result Stage LineFault → Type 0
 Takes then_ (Ok stage) = (after : Reading) × (then_ ≡ Some after) × Agrees after stage
 Takes then_ (Err bad_line) = then_ ≡ None
-Takes then_ (Err (bad_entry count breach)) = BreaksHere then_ count breach
+Takes then_ (Err (bad_entry broken)) = BreaksHere then_ broken
 Takes then_ (Err Memory) = Unit {0}
 
 -- ## The whole text
 
--- The record is read to its end, and each entry is permitted.
-pub record IsLawfulText (text : List ℕ) (count : ℕ) : Type 0 where
+-- The record is read to its end, and each entry is permitted; the judge follows them.
+pub record IsLawfulText (text : List ℕ) (judge : JudgeState) (count : ℕ) : Type 0 where
   pub shape : Shape
   pub image : List ℕ
   pub entries : List Entry
   pub reads : reading_of fresh (lines_of text) ≡ Some (going shape image entries)
   pub lawful : IsLawful shape image entries
   pub counted : length entries ≡ count
+  pub end : Follows shape image (events_of entries) judge
 
 -- So many lines write entries of which the last breaks something, and those before it are lawful.
-pub record IsBrokenText (text : List ℕ) (line count : ℕ) (breach : Breach) : Type 0 where
+pub record IsBrokenText (text : List ℕ) (line : ℕ) (broken : BrokenEntry) : Type 0 where
   pub shape : Shape
   pub image : List ℕ
   pub entries : List Entry
@@ -86,9 +99,8 @@ pub record IsBrokenText (text : List ℕ) (line count : ℕ) (breach : Breach) :
   pub lines : lines_of text ≡ read ++ rest
   pub reads : reading_of fresh read ≡ Some (going shape image (entries ++ entry ∷ []))
   pub lawful : IsLawful shape image entries
-  pub breaks : Breaks shape image (events_of entries) entry breach
+  pub stops : Stops shape image entries entry broken
   pub number : length read ≡ line
-  pub counted : length entries + 1 ≡ count
 
 -- A line is outside the grammar, and those before it are in it.
 pub record IsUnreadable (text : List ℕ) (line : ℕ) : Type 0 where
@@ -109,8 +121,8 @@ IsShort (going shape image entries) = ⊥
 
 -- what an outcome says of a text
 abbrev pub IsOutcome : List ℕ → Outcome → Type 0
-IsOutcome text (Lawful count) = IsLawfulText text count
-IsOutcome text (Broken line count breach) = IsBrokenText text line count breach
+IsOutcome text (Lawful judge count) = IsLawfulText text judge count
+IsOutcome text (Broken line broken) = IsBrokenText text line broken
 IsOutcome text (Unreadable line) = IsUnreadable text line
 IsOutcome text Empty = (reading : Reading) × (reading_of fresh (lines_of text) ≡ Some reading) × IsShort reading
 
@@ -118,12 +130,12 @@ IsOutcome text Empty = (reading : Reading) × (reading_of fresh (lines_of text) 
 abbrev pub ending_of : Stage → Outcome
 ending_of Fresh = Empty
 ending_of (Shaped shape) = Empty
-ending_of (Judging judge count) = Lawful count
+ending_of (Judging judge count) = Lawful judge count
 
 -- what is said where a line is not taken
 abbrev pub stop_of : ℕ → LineFault → Option Outcome
 stop_of line bad_line = Some (Unreadable line)
-stop_of line (bad_entry count breach) = Some (Broken line count breach)
+stop_of line (bad_entry broken) = Some (Broken line broken)
 stop_of line Memory = None
 
 -- So many lines were read, the check is where they lead, and what is left of a text is its other lines.

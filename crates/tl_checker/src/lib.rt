@@ -6,5 +6,5 @@ mod outcome;
 mod record;
 
 pub use line::take_line;
-pub use outcome::{LineFault, Outcome, Stage};
+pub use outcome::{BrokenEntry, LineFault, Outcome, Stage};
 pub use record::{CheckFault, check};

@@ -4,12 +4,12 @@ ghost use Rattle.tl_protocol.specs.declared.shape.Shape.{Shape};
 ghost use Rattle.tl_judge.specs.declared.entry.Entry.{Entry};
 ghost use Rattle.tl_judge.specs.Judged.{Follows, IsLawful, events_of};
 ghost use Rattle.tl_checker.specs.declared.outcome.LineFault.TheVariants.{Unreadable, Memory};
-ghost use Rattle.tl_checker.specs.Outcome.{Agrees, IsFit, IsJudged, Takes, fault_of};
+ghost use Rattle.tl_checker.specs.Outcome.{Agrees, IsFit, IsJudged, Takes, fault_of, stopped_at};
 ghost use Rattle.tl_checker.specs.Reading.{Reading, after_text, next};
 
-use crate::outcome::{LineFault, Stage};
+use crate::outcome::{BrokenEntry, LineFault, Stage};
 use std::alloc::Global;
-use tl_judge::{Entry, Judge, Refusal};
+use tl_judge::{Breach, Entry, Judge, Refusal};
 use tl_record::{is_blank, read_entry, read_image, read_shape};
 use tl_rules::Shape;
 use tl_words::ParseError;
@@ -22,6 +22,19 @@ fn fault(error: ParseError) -> LineFault
         ParseError::Malformed => LineFault::Unreadable,
         ParseError::Memory => LineFault::Memory,
     }
+}
+
+/// An entry that breaks something, with the judge of those before it.
+fn stop_at(judge: Judge, entry: &Entry, number: u64, breach: Breach) -> LineFault
+    ensures { result ≡ stopped_at judge entry.now number breach }
+{
+    let block = entry.event.block(judge.plain().shape());
+    LineFault::Broken(BrokenEntry {
+        judge,
+        block,
+        number,
+        breach,
+    })
 }
 
 /// Judges one more entry.
@@ -37,7 +50,7 @@ fn judge_entry(mut judge: Judge, count: u64, entry: &Entry) -> Result<Stage, Lin
     let number = count + 1;
     match judge.step(entry) {
         Ok(()) => Ok(Stage::Judging(judge, number)),
-        Err(Refusal::Broken(breach)) => Err(LineFault::Broken(number, breach)),
+        Err(Refusal::Broken(breach)) => Err(stop_at(judge, entry, number, breach)),
         Err(Refusal::Memory) => Err(LineFault::Memory),
     }
 }

@@ -2,13 +2,26 @@
 use tl_judge::{Breach, Judge};
 use tl_rules::Shape;
 
+/// The first entry that is not permitted.
+#[derive(Drop)]
+pub struct BrokenEntry {
+    /// The judge of the entries before it, which are permitted.
+    pub judge: Judge,
+    /// The block that it is of.
+    pub block: u32,
+    /// Its number among the entries, from 1 on.
+    pub number: u64,
+    /// What it breaks.
+    pub breach: Breach,
+}
+
 /// What a check says of a record.
-#[derive(Clone, Copy, Debug, PartialEq, Eq)]
+#[derive(Drop)]
 pub enum Outcome {
-    /// Each of so many entries is permitted.
-    Lawful(u64),
-    /// On this line stands the entry with this number, both from 1 on, which is the first that is not permitted.
-    Broken(u64, u64, Breach),
+    /// Each of so many entries is permitted; the judge is where they lead.
+    Lawful(Judge, u64),
+    /// On this line, from 1 on, stands the first entry that is not permitted.
+    Broken(u64, BrokenEntry),
     /// This line is outside the grammar.
     Unreadable(u64),
     /// There is no geometry, or neither image nor entry.
@@ -16,12 +29,12 @@ pub enum Outcome {
 }
 
 /// Why a line is not taken.
-#[derive(Clone, Copy, Debug, PartialEq, Eq)]
+#[derive(Drop)]
 pub enum LineFault {
     /// It is outside the grammar.
     Unreadable,
-    /// It has the entry with this number, which breaks this.
-    Broken(u64, Breach),
+    /// It has an entry that is not permitted.
+    Broken(BrokenEntry),
     /// A request for memory was refused.
     Memory,
 }

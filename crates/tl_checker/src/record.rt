@@ -44,12 +44,12 @@ fn is_end(line: &[u8]) -> bool
 }
 
 /// What is said at the end of a record.
-fn ending(stage: &Stage) -> Outcome
-    ensures { result ≡ ending_of stage.now }
+fn ending(stage: Stage) -> Outcome
+    ensures { result ≡ ending_of stage }
 {
     match stage {
         Stage::Fresh | Stage::Shaped(_) => Outcome::Empty,
-        Stage::Judging(_, count) => Outcome::Lawful(*count),
+        Stage::Judging(judge, count) => Outcome::Lawful(judge, count),
     }
 }
 
@@ -59,13 +59,14 @@ fn stop(number: u64, fault: LineFault) -> Result<Outcome, CheckFault>
 {
     match fault {
         LineFault::Unreadable => Ok(Outcome::Unreadable(number)),
-        LineFault::Broken(entry, breach) => Ok(Outcome::Broken(number, entry, breach)),
+        LineFault::Broken(broken) => Ok(Outcome::Broken(number, broken)),
         LineFault::Memory => Err(CheckFault::Memory),
     }
 }
 
 /// Checks a record line by line, as it is read: it takes memory for one line, for blocks, clients and the messages that wait. It says
-/// whether each entry is permitted, or which is the first that is not and what it breaks, or which line is outside the grammar.
+/// whether each entry is permitted, or which is the first that is not and what it breaks, or which line is outside the grammar; and it
+/// gives the judge of the entries that are permitted.
 pub fn check<R: BufRead>(alloc: Global, reader: &mut R) -> Result<Outcome, CheckFault>
     ensures { IfOk result (λ outcome. IfSome (R.remaining reader.old) (λ text. IsOutcome text outcome)) }
 {
@@ -78,7 +79,7 @@ pub fn check<R: BufRead>(alloc: Global, reader: &mut R) -> Result<Outcome, Check
             Err(error) => return Err(fault(&error)),
         }
         if is_end(&line) {
-            return Ok(ending(&stage));
+            return Ok(ending(stage));
         }
         stage = match take_line(alloc, stage, text_of(&line)) {
             Ok(next) => next,

@@ -1,7 +1,7 @@
 //! A record with each kind of event, and each small damage of it, beside the plain map of the protocol.
+use crate::brief::{Verdict, verdict_on};
 use std::alloc::{AllocError, Global};
 use std::test::Fail;
-use tl_checker::{Outcome, check};
 use tl_judge::Breach;
 use tl_record::read_entry;
 use tl_rules::{ApplyError, Plain, Shape};
@@ -99,21 +99,21 @@ fn first_refused(alloc: Global, lines: &[&str]) -> Result<Option<u64>, Fail> {
     Ok(None)
 }
 
-fn verdict(alloc: Global, lines: &[&str]) -> Result<Outcome, Fail> {
+fn verdict(alloc: Global, lines: &[&str]) -> Result<Verdict, Fail> {
     let mut text = String::from_str(alloc, "clients 3 block_bytes 8 memory_blocks 2\n")?;
     for line in lines {
         text.push_str(line)?;
         text.push_str("\n")?;
     }
-    Ok(check(alloc, &mut text.as_bytes())?)
+    Ok(verdict_on(alloc, text.as_bytes())?)
 }
 
 /// The verdict is what the plain map says: lawful to the end, or a rule broken by that entry.
 fn is_as_plain(alloc: Global, lines: &[&str]) -> Result<bool, Fail> {
     Ok(
         match (verdict(alloc, lines)?, first_refused(alloc, lines)?) {
-            (Outcome::Lawful(count), None) => count == lines.len() as u64,
-            (Outcome::Broken(line, entry, Breach::NotPermitted(_)), Some(number)) => {
+            (Verdict::Lawful(count), None) => count == lines.len() as u64,
+            (Verdict::Broken(line, entry, Breach::NotPermitted(_)), Some(number)) => {
                 entry == number && line.checked_sub(1) == Some(number)
             }
             _ => false,
@@ -123,7 +123,7 @@ fn is_as_plain(alloc: Global, lines: &[&str]) -> Result<bool, Fail> {
 
 #[test]
 fn each_kind_is_lawful(rt: HostRuntime) -> Result<(), Fail> {
-    assert_eq!(rt; verdict(rt.alloc(), LINES)?, Outcome::Lawful(41));
+    assert_eq!(rt; verdict(rt.alloc(), LINES)?, Verdict::Lawful(41));
     Ok(())
 }
 

@@ -1,7 +1,7 @@
 //! Records with the verdicts that their stories give.
+use crate::brief::{Verdict, verdict_on};
 use std::alloc::{AllocError, Global};
 use std::test::Fail;
-use tl_checker::{Outcome, check};
 use tl_judge::{Breach, Rule};
 use tl_record::Reason;
 
@@ -39,10 +39,10 @@ fn joined(alloc: Global, parts: &[&str]) -> Result<String, AllocError> {
 }
 
 /// The verdict on what follows the crossing.
-fn judged(alloc: Global, parts: &[&str]) -> Result<Outcome, Fail> {
+fn judged(alloc: Global, parts: &[&str]) -> Result<Verdict, Fail> {
     let tail = joined(alloc, parts)?;
     let text = joined(alloc, &[CROSSED, tail.as_str()])?;
-    Ok(check(alloc, &mut text.as_bytes())?)
+    Ok(verdict_on(alloc, text.as_bytes())?)
 }
 
 #[test]
@@ -52,7 +52,7 @@ grant 1 0 GrantData toT aa11223344556677
 take_grant 1 0
 take_grant_ack 1 0
 load 1 0x00000000 aa";
-    assert_eq!(rt; judged(rt.alloc(), &[ANSWERED, tail])?, Outcome::Lawful(21));
+    assert_eq!(rt; judged(rt.alloc(), &[ANSWERED, tail])?, Verdict::Lawful(21));
     Ok(())
 }
 
@@ -104,12 +104,12 @@ fn broken_records(rt: HostRuntime) -> Result<(), Fail> {
         ),
         ("drop 4\n", 20, 17, Breach::NotPermitted(Rule::BlockIsThere)),
     ] {
-        let verdict = judged(alloc, &[ANSWERED, tail])?;
-        assert_eq!(rt; verdict, Outcome::Broken(line, entry, breach), "at {tail}");
+        let said = judged(alloc, &[ANSWERED, tail])?;
+        assert_eq!(rt; said, Verdict::Broken(line, entry, breach), "at {tail}");
     }
     let early = judged(alloc, &["answer_probe 0 0 ProbeAck NtoN\n"])?;
     let unanswered = Breach::NotPermitted(Rule::NoReleaseUnanswered);
-    assert_eq!(rt; early, Outcome::Broken(18, 15, unanswered));
+    assert_eq!(rt; early, Verdict::Broken(18, 15, unanswered));
     Ok(())
 }
 
@@ -117,47 +117,47 @@ fn broken_records(rt: HostRuntime) -> Result<(), Fail> {
 fn texts_from_their_first_line(rt: HostRuntime) -> Result<(), Fail> {
     let alloc = rt.alloc();
     for (text, want) in [
-        (b"".as_slice(), Outcome::Empty),
-        (b"# only this\n\n", Outcome::Empty),
-        (b"clients 1 block_bytes 8 memory_blocks 4", Outcome::Empty),
+        (b"".as_slice(), Verdict::Empty),
+        (b"# only this\n\n", Verdict::Empty),
+        (b"clients 1 block_bytes 8 memory_blocks 4", Verdict::Empty),
         (
             b"clients 1 block_bytes 8 memory_blocks 4\nimage 00\n",
-            Outcome::Lawful(0),
+            Verdict::Lawful(0),
         ),
         (
             b"clients 0 block_bytes 8 memory_blocks 4\n",
-            Outcome::Unreadable(1),
+            Verdict::Unreadable(1),
         ),
         (
             b"\nclients 1 block_bytes 9 memory_blocks 4\n",
-            Outcome::Unreadable(2),
+            Verdict::Unreadable(2),
         ),
         (
             b"clients 1 block_bytes 8 memory_blocks 4 banks 1\n",
-            Outcome::Unreadable(1),
+            Verdict::Unreadable(1),
         ),
         (
             b"clients 1 block_bytes 8 memory_blocks 4\r\n",
-            Outcome::Unreadable(1),
+            Verdict::Unreadable(1),
         ),
         (
             b"clients 1 block_bytes 8 memory_blocks 4\nget  0\n",
-            Outcome::Unreadable(2),
+            Verdict::Unreadable(2),
         ),
         (
             b"clients 1 block_bytes 8 memory_blocks 4\nget 0 0\n",
-            Outcome::Unreadable(2),
+            Verdict::Unreadable(2),
         ),
         (
             b"clients 1 block_bytes 8 memory_blocks 4\n\xff\n",
-            Outcome::Unreadable(2),
+            Verdict::Unreadable(2),
         ),
         (
             b"clients 1 block_bytes 8 memory_blocks 4\nacquire 0 2 NtoB\nacquire 0 3 NtoB\naccept 0 3\n",
-            Outcome::Broken(4, 3, Breach::OutOfOrder),
+            Verdict::Broken(4, 3, Breach::OutOfOrder),
         ),
     ] {
-        assert_eq!(rt; check(alloc, &mut &*text), Ok(want));
+        assert_eq!(rt; verdict_on(alloc, text), Ok(want));
     }
     Ok(())
 }

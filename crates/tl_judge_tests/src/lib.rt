@@ -1,9 +1,14 @@
-//! Tests of records by the public calls: whole records and their verdicts, each damage of one, and readers that fail.
+//! Tests of records by the public calls: whole records and their verdicts, each damage of one, entries and states as lines,
+//! and readers that fail.
 #![tactic(auto)]
 
+#[cfg(test)]
+mod brief;
 #[cfg(test)]
 mod damages;
 #[cfg(test)]
 mod examples;
 #[cfg(test)]
 mod readers;
+#[cfg(test)]
+mod states;

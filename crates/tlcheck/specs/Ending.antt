@@ -1,17 +1,18 @@
 -- What the program ends with, what it prints then, and its status (this project's own format).
-use Rattle.std.specs.Prelude.{◌≡◌, ◌≢◌, ◌<◌, ◌≤◌, ℕ, List, ◌++◌, Option, IfSome, codes, decimal}
+use Rattle.std.specs.Prelude.{◌≡◌, ◌≢◌, ◌<◌, ◌≤◌, ℕ, List, [], ◌++◌, Option, IfSome, codes, decimal}
 use Rattle.std.specs.Io.KnownBytes.{Appends}
 use Rattle.tl_checker.specs.Outcome.{IsOutcome}
 use Rattle.tl_checker.specs.declared.outcome.Outcome.{Outcome}
 use Rattle.tl_checker.specs.declared.outcome.Outcome.TheVariants.{Lawful, Broken, Unreadable, Empty}
 use Rattle.tl_record.specs.Reason.{reason_text}
+use Rattle.tl_record.specs.State.{end_lines, state_lines}
 use Rattle.tlcheck.specs.declared.ending.Ending.{Ending}
 use Rattle.tlcheck.specs.declared.ending.Ending.TheVariants.{Usage, Judged, Memory, File}
 
 -- the status of what was said of a record: 0 lawful, 1 not lawful, 3 not readable as a record
 abbrev pub outcome_status : Outcome → ℕ
-outcome_status (Lawful count) = 0
-outcome_status (Broken line count breach) = 1
+outcome_status (Lawful judge count) = 0
+outcome_status (Broken line broken) = 1
 outcome_status (Unreadable line) = 3
 outcome_status Empty = 3
 
@@ -22,20 +23,34 @@ status_of (Judged outcome) = outcome_status outcome
 status_of Memory = 4
 status_of File = 5
 
--- what was said of a record, in lines
-abbrev pub outcome_lines : Outcome → List ℕ
-outcome_lines (Lawful count) = codes "lawful: " ++ decimal count ++ codes " entries\n"
-outcome_lines (Broken line count breach) =
-    codes "not lawful: line " ++ decimal line ++ codes ", entry " ++ decimal count ++ codes ": " ++ reason_text breach ++ codes "\n"
-outcome_lines (Unreadable line) = codes "error 50 line " ++ decimal line ++ codes "\n"
-outcome_lines Empty = codes "error 51 empty\n"
+-- what was said of a record, as a line
+abbrev pub outcome_line : Outcome → List ℕ
+outcome_line (Lawful judge count) = codes "lawful: " ++ decimal count ++ codes " entries\n"
+outcome_line (Broken line broken) =
+    codes "not lawful: line " ++ decimal line ++ codes ", entry " ++ decimal broken.number ++ codes ": " ++ reason_text broken.breach ++ codes "\n"
+outcome_line (Unreadable line) = codes "error 50 line " ++ decimal line ++ codes "\n"
+outcome_line Empty = codes "error 51 empty\n"
 
--- what the program ends with, in lines
+-- what stands beside it: the state at the record's end, or before the entry that is not permitted, of the entry's block
+abbrev pub beside : Outcome → List ℕ
+beside (Lawful judge count) = end_lines judge.plain
+beside (Broken line broken) = state_lines broken.judge.plain broken.block
+beside (Unreadable line) = []
+beside Empty = []
+
+-- what the program ends with, as a line
+abbrev pub ending_line : Ending → List ℕ
+ending_line Usage = codes "error usage\n"
+ending_line (Judged outcome) = outcome_line outcome
+ending_line Memory = codes "error 41 memory\n"
+ending_line File = codes "error file\n"
+
+-- that line, and what stands beside it
 abbrev pub ending_lines : Ending → List ℕ
-ending_lines Usage = codes "error usage\n"
-ending_lines (Judged outcome) = outcome_lines outcome
-ending_lines Memory = codes "error 41 memory\n"
-ending_lines File = codes "error file\n"
+ending_lines Usage = ending_line Usage
+ending_lines (Judged outcome) = outcome_line outcome ++ beside outcome
+ending_lines Memory = ending_line Memory
+ending_lines File = ending_line File
 
 -- What a check of a record may end with: what is said holds of the record's bytes, where those are known.
 abbrev pub MayEnd : Option (List ℕ) → Ending → Type 0
@@ -51,14 +66,14 @@ pub record AppendsBeginning (old new : Option (List ℕ)) (text : List ℕ) : Ty
   pub split : text ≡ written ++ rest
   pub appended : Appends old new written
 
--- A verdict stands in the output, and nothing in the faults.
+-- A verdict stands in the output, with the state beside it, and nothing in the faults.
 pub record IsVerdict (ending : Ending) (output output_new faults faults_new : Option (List ℕ)) : Type 0 where
-  pub line : Appends output output_new (ending_lines ending)
+  pub lines : Appends output output_new (ending_lines ending)
   pub quiet : faults_new ≡ faults
 
 -- A fault stands in the faults, as far as they take it, and nothing in the output, unless that could not be written.
 pub record IsFault (ending : Ending) (output output_new faults faults_new : Option (List ℕ)) : Type 0 where
-  pub line : AppendsBeginning faults faults_new (ending_lines ending)
+  pub line : AppendsBeginning faults faults_new (ending_line ending)
   pub nothing : status_of ending ≢ 5 → output_new ≡ output
 
 -- which of the two stands for a status

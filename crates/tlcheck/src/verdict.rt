@@ -3,7 +3,7 @@ ghost use Rattle.std.specs.Prelude.{◌≡◌};
 ghost use Rattle.tlcheck.specs.Ending.{IsTold, MayEnd, status_of};
 ghost use Rattle.tlcheck.specs.declared.ending.Ending.{Ending};
 
-use crate::ending::{Ending, show, write_whole};
+use crate::ending::{Ending, lines, show, write_whole};
 use std::alloc::Global;
 use std::io::{BufRead, Write};
 use tl_checker::{CheckFault, check};
@@ -19,8 +19,8 @@ fn ending<R: BufRead>(alloc: Global, reader: &mut R) -> Ending
     }
 }
 
-/// Checks a record, and writes what it is: a verdict to `output`, a fault to `faults`. It answers the status: 0 where the record is lawful,
-/// 1 where it is not, 3 where it cannot be read as one, 4 for want of memory, 5 where the file could not be read or the verdict not
+/// Checks a record, and writes what it is: a verdict, and the state beside it, to `output`, a fault to `faults`. It answers the status: 0
+/// where the record is lawful, 1 where it is not, 3 where it cannot be read as one, 4 for want of memory, 5 where the file could not be read or the verdict not
 /// written. A failing `faults` does not change it.
 pub(crate) fn answer<R: BufRead, W: Write, E: Write>(
     alloc: Global,
@@ -38,7 +38,7 @@ pub(crate) fn answer<R: BufRead, W: Write, E: Write>(
     if status > 1 {
         return show(faults, &ending);
     }
-    match format!(in alloc; "{ending}") {
+    match lines(alloc, &ending) {
         Ok(text) => match write_whole(output, text.as_bytes()) {
             Ok(()) => status,
             Err(_) => show(faults, &Ending::File),
