@@ -3,7 +3,7 @@
 
 use std::alloc::Global;
 use std::{fs, io};
-use tl_picture::{Form, draw};
+use tl_picture::{Form, draw_script};
 
 /// The scripts: `NAME.toml`, whose pictures are `NAME.svg` and `NAME.mmd`.
 const SCRIPTS: [&str; 4] = [
@@ -15,7 +15,7 @@ const SCRIPTS: [&str; 4] = [
 
 /// Whether the picture of a script is this one.
 fn is_drawn(alloc: Global, script: &[u8], name: &str, form: Form, picture: &[u8]) -> bool {
-    match draw(alloc, script, name, form, None) {
+    match draw_script(alloc, script, name, form, None) {
         Ok(text) => text.as_bytes() == picture,
         Err(_) => false,
     }

@@ -83,7 +83,7 @@ fn drawn(
 
 /// The picture of the trace of the script that the bytes write, under a title, with bands for a block: the one that is asked for, or
 /// else that of the first message. The errors are those of the script, more than 200 steps, or want of memory.
-pub fn draw(
+pub fn draw_script(
     alloc: Global,
     bytes: &[u8],
     title: &str,

@@ -8,5 +8,5 @@ mod mermaid;
 mod sheet;
 mod svg;
 
-pub use draw::{DrawError, draw};
+pub use draw::{DrawError, draw_script};
 pub use sheet::{Form, Sheet, picture_of};

@@ -20,23 +20,23 @@ fn push_short(text: &mut String, lifeline: Lifeline) -> Result<(), AllocError> {
     Ok(())
 }
 
-fn push_participant(text: &mut String, lifeline: Lifeline) -> Result<(), AllocError> {
+fn push_participant(text: &mut String, lifeline: &Lifeline) -> Result<(), AllocError> {
     text.push_str("    participant ")?;
-    push_short(text, lifeline)?;
+    push_short(text, *lifeline)?;
     text.push_str(" as ")?;
-    push_lifeline(text, lifeline)?;
+    push_lifeline(text, *lifeline)?;
     text.push_str("\n")
 }
 
 /// Each client, each bank's home, and the memory.
 fn push_participants(text: &mut String, chart: &Chart) -> Result<(), AllocError> {
     for client in 0..chart.clients {
-        push_participant(text, Lifeline::Client(ClientId::new(client)))?;
+        push_participant(text, &Lifeline::Client(ClientId::new(client)))?;
     }
     for bank in 0..chart.banks {
-        push_participant(text, Lifeline::Home(BankNo::new(bank)))?;
+        push_participant(text, &Lifeline::Home(BankNo::new(bank)))?;
     }
-    push_participant(text, Lifeline::Memory)
+    push_participant(text, &Lifeline::Memory)
 }
 
 /// A message, in the row of the step that sent it, with the row of the step that took it.

@@ -103,24 +103,24 @@ fn push_name(text: &mut String, lifeline: Lifeline, x: usize, y: usize) -> Resul
 fn push_lifeline_of(
     text: &mut String,
     chart: &Chart,
-    lifeline: Lifeline,
+    lifeline: &Lifeline,
 ) -> Result<(), AllocError> {
-    let x = x(chart, lifeline);
+    let x = x(chart, *lifeline);
     let end = y(chart.turns.len());
     write!(text, "<path class=\"life\" d=\"M{x} 112V{end}\"/>")?;
-    push_name(text, lifeline, x, 104)?;
-    push_name(text, lifeline, x, end.saturating_add(16))
+    push_name(text, *lifeline, x, 104)?;
+    push_name(text, *lifeline, x, end.saturating_add(16))
 }
 
 /// The lifeline of each client, each bank's home, and the memory.
 fn push_lifelines(text: &mut String, chart: &Chart) -> Result<(), AllocError> {
     for client in 0..chart.clients {
-        push_lifeline_of(text, chart, Lifeline::Client(ClientId::new(client)))?;
+        push_lifeline_of(text, chart, &Lifeline::Client(ClientId::new(client)))?;
     }
     for bank in 0..chart.banks {
-        push_lifeline_of(text, chart, Lifeline::Home(BankNo::new(bank)))?;
+        push_lifeline_of(text, chart, &Lifeline::Home(BankNo::new(bank)))?;
     }
-    push_lifeline_of(text, chart, Lifeline::Memory)
+    push_lifeline_of(text, chart, &Lifeline::Memory)
 }
 
 /// A row's stripe, its number and its step.

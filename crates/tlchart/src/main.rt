@@ -11,7 +11,7 @@ use std::fs::File;
 use std::io;
 use std::io::{ErrorKind, Read};
 use std::process::ExitCode;
-use tl_picture::draw;
+use tl_picture::draw_script;
 
 /// The words after the program's name.
 fn words(rt: &HostRuntime) -> io::Result<Vec<String>> {
@@ -46,7 +46,7 @@ fn bytes(rt: &HostRuntime, file: &str) -> Result<Vec<u8>, Fault> {
 
 fn picture(rt: &HostRuntime, asked: &Asked) -> Result<String, Fault> {
     let bytes = bytes(rt, &asked.file)?;
-    Ok(draw(
+    Ok(draw_script(
         rt.alloc(),
         &bytes,
         title_of(&asked.file),
