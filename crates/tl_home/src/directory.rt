@@ -5,6 +5,7 @@ ghost use Rattle.std.specs.Option.{option_map};
 ghost use Rattle.tl_types.specs.declared.permission.Perm.TheVariants.{None as NoAccess, Branch, Tip};
 ghost use Rattle.tl_map.specs.Places.{bank_of, set_of};
 ghost use Rattle.tl_protocol.specs.declared.home.Line.{Line};
+ghost use Rattle.tl_ways.specs.Lines.{line_perm};
 ghost use Rattle.tl_ways.specs.Orders.{chosen, is_busy, rising};
 ghost use Rattle.tl_home.specs.Directories.{way_of, line_of, recorded_of, free_in, order_of, is_way, order_after, perm_in, IsHeld, SameBank};
 
@@ -99,6 +100,17 @@ impl Directory {
         Some(held.entry)
     }
 
+    /// The entry and the bytes of a block, if home holds it.
+    pub fn line(&self, block: BlockNo) -> Option<(Entry, &BlockBytes)>
+        requires { block < self.now.geometry.memory_blocks }
+        ensures is { MatchOption result (line_of self.now block ≡ None)
+            (λ line. line_of self.now block ≡ Some (record { bytes = line.1.now; dirty = line.0.dirty })) }
+        ensures recorded { IfSome result (λ line. (client : ℕ) → recorded_of self.now client block ≡ line_perm line.0 client) }
+    {
+        let held = self.find(block)?;
+        Some((held.entry, self.store.read(held.set, held.way)))
+    }
+
     /// The permission that home records for a client of a block: None where home does not hold it.
     pub fn recorded(&self, client: ClientId, block: BlockNo) -> Perm
         requires { block < self.now.geometry.memory_blocks }
@@ -172,20 +184,26 @@ impl Directory {
         self.store.write(held.set, held.way, bytes);
     }
 
-    /// Moves the way of a block that home holds last in the order of its set.
-    pub fn touch(&mut self, block: BlockNo)
+    /// Records a permission for a client of a block that home holds, and moves the block's way last in the order of its set.
+    /// Beside Tip no other client may have any.
+    pub fn grant(&mut self, client: ClientId, block: BlockNo, perm: Perm)
         requires block { block < self.old.geometry.memory_blocks }
         requires held { IsSome (line_of self.old block) }
+        requires known { client < 16 }
+        requires tip { perm ≡ Tip → (other : ℕ) → other ≢ client → recorded_of self.old other block ≡ NoAccess }
+        requires branch { perm ≡ Branch → (other : ℕ) → other ≢ client → recorded_of self.old other block ≢ Tip }
         ensures same { SameBank self.old self.new }
         ensures ways { (b : ℕ) → way_of self.new b ≡ way_of self.old b }
         ensures lines { (b : ℕ) → line_of self.new b ≡ line_of self.old b }
-        ensures recorded { (c b : ℕ) → recorded_of self.new c b ≡ recorded_of self.old c b }
+        ensures recorded { (c b : ℕ) → recorded_of self.new c b ≡ (if c == client && b == block then perm else recorded_of self.old c b) }
         ensures free { (set way : ℕ) → free_in self.new set way ≡ free_in self.old set way }
         ensures orders { (set : ℕ)
             → order_of self.new set
             ≡ (if set == set_of self.old.geometry block then order_after (way_of self.old block) (order_of self.old set) else order_of self.old set) }
     {
-        let held = self.find(block).unwrap();
+        let mut held = self.find(block).unwrap();
+        held.entry.set(client, perm);
+        self.ways.place(held.set, held.way, held.entry);
         self.ways.touch(held.set, held.way);
     }
 

@@ -9,6 +9,7 @@ ghost use Rattle.tl_protocol.specs.Protocol.{home_after, home_bytes};
 ghost use Rattle.tl_protocol.specs.Sizes.{IsWhole, outward_bytes};
 ghost use Rattle.tl_protocol.specs.declared.home.Line.{Line};
 ghost use Rattle.tl_protocol.specs.declared.home.Outward.TheVariants.{Quiet, Get, Put, PutAck};
+ghost use Rattle.tl_ways.specs.Lines.{line_perm};
 ghost use Rattle.tl_ways.specs.Orders.{chosen, is_busy, rising};
 ghost use Rattle.tl_home.specs.Directories.{is_way, order_after, perm_in};
 ghost use Rattle.tl_home.specs.Homes.{geometry_in, bank_in, line_in, recorded_in, outward_in, crossing_count, memory_in, way_in, free_at, order_at, SameBank, SameWays, SameOutward, SameHome, SameMemory, EachHasHolder, served_outward, served_memory, fetched};
@@ -123,6 +124,16 @@ impl Home {
         ensures recorded { (client : ℕ) → perm_in result client ≡ recorded_in self.now client block }
     {
         self.directory.entry(block)
+    }
+
+    /// The entry of a block in home's directory and the bytes of home's copy, if home holds it.
+    pub fn line(&self, block: BlockNo) -> Option<(Entry, &BlockBytes)>
+        requires { block < (geometry_in self.now).memory_blocks }
+        ensures is { MatchOption result (line_in self.now block ≡ None)
+            (λ line. line_in self.now block ≡ Some (record { bytes = line.1.now; dirty = line.0.dirty })) }
+        ensures recorded { IfSome result (λ line. (client : ℕ) → recorded_in self.now client block ≡ line_perm line.0 client) }
+    {
+        self.directory.line(block)
     }
 
     /// The permission that home records for a client of a block: None where home does not hold it.
@@ -256,8 +267,7 @@ impl Home {
         ensures outward { SameOutward self.old self.new }
         ensures memory { SameMemory self.old self.new }
     {
-        self.directory.record(client, block, perm);
-        self.directory.touch(block);
+        self.directory.grant(client, block, perm);
     }
 
     /// Home asks the memory for a block of which nothing passes.

@@ -1,8 +1,9 @@
 //! A register's next action, carried out.
-ghost use Rattle.std.specs.Prelude.{◌≡◌, ◌≢◌, ◌<◌, ◌^◌, None, Some, false, length, IfErr, IfOk, OnErr, OnOk};
+ghost use Rattle.std.specs.Prelude.{◌≡◌, ◌≢◌, ◌<◌, ◌^◌, ℕ, None, Some, false, length, IfErr, IfOk, OnErr, OnOk};
 ghost use Rattle.tl_protocol.specs.Client.{grant_bytes};
 ghost use Rattle.tl_protocol.specs.Protocol.{granted, home_bytes, is_alone};
 ghost use Rattle.tl_registers.specs.declared.due.Due.{Due};
+ghost use Rattle.tl_ways.specs.Lines.{line_perm};
 ghost use Rattle.tl_bank_spec.specs.Effects.{Advances};
 ghost use Rattle.tl_bank_spec.specs.HomeCalls.{advance_cases};
 ghost use Rattle.tl_bank_spec.specs.HomeCases.{due_at, due_full};
@@ -14,10 +15,11 @@ use crate::bank::Bank;
 use crate::link;
 use tl_bank_spec::{Action, Refusal};
 use tl_protocol::{Accepted, Event};
-use tl_registers::{Due, Protocol, Task};
+use tl_registers::{Due, Task};
 use tl_types::{
     BlockBytes, BlockNo, Body, Channel, ClientId, Downward, GrantCap, Grow, Message, Perm, ProbeCap,
 };
+use tl_ways::Entry;
 
 impl Bank {
     /// Carries out what the miss register of a block does next, and says what that was. It is refused with OutOfRange where the
@@ -104,8 +106,11 @@ impl Bank {
         requires small { length self.old.log < 2 ^ 63 }
         ensures { Advances self.old self.new own result }
     {
-        let cap = self.granted(self.accepted(own).unwrap(), own);
-        let body = Body::Downward(Downward::Grant(cap, self.grant_bytes(client, own)));
+        let acquire = self.accepted(own).unwrap();
+        let (entry, bytes) = self.home_line(own);
+        let cap = self.granted(acquire, entry, own);
+        let recorded = entry.perm(client);
+        let body = Body::Downward(Downward::Grant(cap, grant_bytes(recorded, bytes)));
         let message = Message { block: own, body };
         let ticket = link::send(&mut self.links, client, Channel::D, message);
         self.home.grant(client, own, cap.perm());
@@ -165,14 +170,28 @@ impl Bank {
         }
     }
 
-    /// What an Acquire of a block is granted now: Tip too where Branch was asked for and no other client has a copy.
-    fn granted(&self, acquire: Accepted, block: BlockNo) -> GrantCap
-        requires { IsOwn self.now.geometry self.now.number block }
+    /// Home's entry of a block that it holds, and its bytes.
+    fn home_line(&self, block: BlockNo) -> (Entry, &BlockBytes)
+        requires own { IsOwn self.now.geometry self.now.number block }
+        requires held { (block_at self.now block).home ≢ None }
+        ensures recorded { (x : ℕ) → (client_at self.now x block).recorded ≡ line_perm result.0 x }
+        ensures bytes { result.1.now ≡ home_bytes (block_at self.now block).home }
+    {
+        let Some(line) = self.home.line(block) else {
+            unreachable!()
+        };
+        line
+    }
+
+    /// What an Acquire of a block is granted now, by home's entry: Tip too where Branch was asked for and no other client has a
+    /// copy.
+    fn granted(&self, acquire: Accepted, entry: Entry, block: BlockNo) -> GrantCap
+        requires { (x : ℕ) → (client_at self.now x block).recorded ≡ line_perm entry x }
         ensures { result ≡ granted (shape_of self.now.geometry) (block_at self.now block) acquire }
     {
         match acquire.grow {
             Grow::NtoB => {
-                if self.is_alone(acquire.client, block) {
+                if self.is_alone(acquire.client, entry, block) {
                     GrantCap::ToT
                 } else {
                     GrantCap::ToB
@@ -182,14 +201,12 @@ impl Bank {
         }
     }
 
-    /// Whether home records None for each client but this one.
-    fn is_alone(&self, client: ClientId, block: BlockNo) -> bool
-        requires { IsOwn self.now.geometry self.now.number block }
+    /// Whether home's entry of a block records None for each client but this one.
+    fn is_alone(&self, client: ClientId, entry: Entry, block: BlockNo) -> bool
+        requires { (x : ℕ) → (client_at self.now x block).recorded ≡ line_perm entry x }
         ensures { result ≡ is_alone self.now.geometry.clients client (block_at self.now block).client }
     {
-        let Some(entry) = Protocol::entry(self, block) else {
-            return true;
-        };
+        let _ = block;
         if entry.is_unshared() {
             return true;
         }
@@ -200,18 +217,14 @@ impl Bank {
         }
         true
     }
+}
 
-    /// The bytes that go along with a Grant: home's, where home records None for the client.
-    fn grant_bytes(&self, client: ClientId, block: BlockNo) -> Option<BlockBytes>
-        requires own { IsOwn self.now.geometry self.now.number block }
-        requires client { client < self.now.geometry.clients }
-        requires held { (block_at self.now block).home ≢ None }
-        ensures { result ≡ grant_bytes (client_at self.now client block).recorded (home_bytes (block_at self.now block).home) }
-    {
-        if self.home.recorded(client, block) == Perm::None {
-            Some(self.home.bytes(block)?.copied())
-        } else {
-            None
-        }
+/// The bytes that go along with a Grant: home's, where home records None for the client.
+fn grant_bytes(recorded: Perm, bytes: &BlockBytes) -> Option<BlockBytes>
+    ensures { result ≡ grant_bytes recorded bytes.now }
+{
+    match recorded {
+        Perm::None => Some(bytes.copied()),
+        Perm::Branch | Perm::Tip => None,
     }
 }

@@ -153,7 +153,13 @@ impl Bank {
         let later = found.copy.perm();
         let body = Body::Upward(Upward::Release(found.given));
         let ticket = link::send(&mut self.links, client, Channel::C, Message { block, body });
-        entry::put(&mut self.copies, client, block, found.copy, Wait::ForReleaseAck);
+        entry::put(
+            &mut self.copies,
+            client,
+            block,
+            found.copy,
+            Wait::ForReleaseAck,
+        );
         self.log.append(Event::SendRelease(client, block, prune));
         share.recount(found.before, later);
         Ok(ticket)
@@ -171,7 +177,13 @@ impl Bank {
         self.make_room()?;
         let block = found.block;
         link::discard(&mut self.links, ticket);
-        entry::put(&mut self.copies, ticket.client, block, found.copy, Wait::Nothing);
+        entry::put(
+            &mut self.copies,
+            ticket.client,
+            block,
+            found.copy,
+            Wait::Nothing,
+        );
         self.log.append(Event::TakeReleaseAck(ticket.client, block));
         Ok(())
     }
@@ -206,7 +218,13 @@ impl Bank {
             Channel::C,
             Message { block, body },
         );
-        entry::put(&mut self.copies, ticket.client, block, found.copy, found.wait);
+        entry::put(
+            &mut self.copies,
+            ticket.client,
+            block,
+            found.copy,
+            found.wait,
+        );
         self.log.append(Event::AnswerProbe(ticket.client, block));
         share.recount(found.before, later);
         Ok(sent)
@@ -242,7 +260,13 @@ impl Bank {
             Channel::E,
             Message { block, body },
         );
-        entry::put(&mut self.copies, ticket.client, block, found.copy, Wait::Nothing);
+        entry::put(
+            &mut self.copies,
+            ticket.client,
+            block,
+            found.copy,
+            Wait::Nothing,
+        );
         self.log.append(Event::TakeGrant(ticket.client, block));
         share.recount(found.before, later);
         Ok(sent)

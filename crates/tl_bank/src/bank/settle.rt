@@ -20,8 +20,8 @@ use crate::share::Share;
 use tl_bank_spec::Refusal;
 use tl_protocol::CachedCopy;
 use tl_types::{
-    AccessBytes, BlockNo, Body, Channel, ClientId, Grow, Message, Perm, ProbeAnswer, ProbeCap, Prune,
-    Surrender, Ticket, Wait,
+    AccessBytes, BlockNo, Body, Channel, ClientId, Grow, Message, Perm, ProbeAnswer, ProbeCap,
+    Prune, Surrender, Ticket, Wait,
 };
 
 /// What a client gives up by a Release, what it is left with, and what it had.

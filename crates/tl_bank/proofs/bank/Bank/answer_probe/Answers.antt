@@ -10,14 +10,14 @@ use Rattle.tl_bank.proofs.bank.Bank.answer_probe.Goals as goal
 pub discard-requires : goal.discard-requires
 discard-requires c =
     let found = c.in_ok-found.ensures in
-    let answers = answers-with-room _ c.args.self.now c.args.ticket c.args.share.now c.make_room.new.self.room _ _ _ _ _ 
+    let answers = answers-with-room _ c.args.self.now c.args.ticket c.args.share.now c.make_room.new.self.room _ _ _ _ _
     (c.self.view_is ∙ c.make_room.ensures.same) found.permitted found.finds in
     probe-head _ _ _ _ c.self.invariant answers.allowed
 
 pub send-sent-requires : goal.send-sent-requires
 send-sent-requires c =
     let found = c.in_ok-found.ensures in
-    let answers = answers-with-room _ c.args.self.now c.args.ticket c.args.share.now c.make_room.new.self.room _ _ _ _ _ 
+    let answers = answers-with-room _ c.args.self.now c.args.ticket c.args.share.now c.make_room.new.self.room _ _ _ _ _
     (c.self.view_is ∙ c.make_room.ensures.same) found.permitted found.finds in
     let small = subst (λ (w : View). length w.log < 2 ^ 63) (sym c.self.view_is) c.make_room.ensures.small in
     probe-room _ _ _ _ _ c.self.invariant answers.allowed small c.discard.ensures.same c.discard.ensures.after
@@ -25,28 +25,28 @@ send-sent-requires c =
 pub put-requires : goal.put-requires
 put-requires c =
     let found = c.in_ok-found.ensures in
-    let answers = answers-with-room _ c.args.self.now c.args.ticket c.args.share.now c.make_room.new.self.room _ _ _ _ _ 
+    let answers = answers-with-room _ c.args.self.now c.args.ticket c.args.share.now c.make_room.new.self.room _ _ _ _ _
     (c.self.view_is ∙ c.make_room.ensures.same) found.permitted found.finds in
     probe-place _ _ _ _ _ _ _ _ _ c.self.invariant answers
 
 pub recount-requires-clause-counted : goal.recount-requires-clause-counted
 recount-requires-clause-counted c =
     let found = c.in_ok-found.ensures in
-    let answers = answers-with-room _ c.args.self.now c.args.ticket c.args.share.now c.make_room.new.self.room _ _ _ _ _ 
+    let answers = answers-with-room _ c.args.self.now c.args.ticket c.args.share.now c.make_room.new.self.room _ _ _ _ _
     (c.self.view_is ∙ c.make_room.ensures.same) found.permitted found.finds in
     (probe-enough _ _ _ _ _ _ _ _ _ c.self.invariant answers).0
 
 pub recount-requires-clause-few : goal.recount-requires-clause-few
 recount-requires-clause-few c =
     let found = c.in_ok-found.ensures in
-    let answers = answers-with-room _ c.args.self.now c.args.ticket c.args.share.now c.make_room.new.self.room _ _ _ _ _ 
+    let answers = answers-with-room _ c.args.self.now c.args.ticket c.args.share.now c.make_room.new.self.room _ _ _ _ _
     (c.self.view_is ∙ c.make_room.ensures.same) found.permitted found.finds in
     (probe-enough _ _ _ _ _ _ _ _ _ c.self.invariant answers).1
 
 pub invariant_of-self : goal.invariant_of-self
 invariant_of-self c =
     let found = c.in_ok-found.ensures in
-    let answers = answers-with-room _ c.args.self.now c.args.ticket c.args.share.now c.make_room.new.self.room _ _ _ _ _ 
+    let answers = answers-with-room _ c.args.self.now c.args.ticket c.args.share.now c.make_room.new.self.room _ _ _ _ _
     (c.self.view_is ∙ c.make_room.ensures.same) found.permitted found.finds in
     rw c.append.ensures.events
     (probe-keeps _ _ _ _ _ _ _ _ _ c.append.new.self.room _ _ _ c.self.invariant answers c.discard.ensures.same c.discard.ensures.after
@@ -55,7 +55,7 @@ invariant_of-self c =
 pub returns-clause-share : goal.returns-clause-share
 returns-clause-share c =
     let found = c.in_ok-found.ensures in
-    let answers = answers-with-room _ c.args.self.now c.args.ticket c.args.share.now c.make_room.new.self.room _ _ _ _ _ 
+    let answers = answers-with-room _ c.args.self.now c.args.ticket c.args.share.now c.make_room.new.self.room _ _ _ _ _
     (c.self.view_is ∙ c.make_room.ensures.same) found.permitted found.finds in
     rw (c.append.ensures.events, ← probe-named found.finds)
     (c.recount.ensures
@@ -66,7 +66,7 @@ returns-clause-share c =
 pub returns-clause-counted : goal.returns-clause-counted
 returns-clause-counted c =
     let found = c.in_ok-found.ensures in
-    let answers = answers-with-room _ c.args.self.now c.args.ticket c.args.share.now c.make_room.new.self.room _ _ _ _ _ 
+    let answers = answers-with-room _ c.args.self.now c.args.ticket c.args.share.now c.make_room.new.self.room _ _ _ _ _
     (c.self.view_is ∙ c.make_room.ensures.same) found.permitted found.finds in
     rw c.append.ensures.events
     (ap (λ (s : Holding). s.count) c.recount.ensures

@@ -2,9 +2,10 @@ use Rattle.std.proofs.Common.{◌≢◌, ℕ, ◌∙◌, ◌<◌, ◌^◌, Optio
 use Rattle.std.specs.Prelude.{slice_index_or}
 use Rattle.tl_types.specs.declared.channel.Channel.TheVariants.{D}
 use Rattle.tl_types.specs.declared.ticket.Ticket.{Ticket}
+use Rattle.tl_protocol.specs.Client.{grant_bytes}
 use Rattle.tl_home.specs.Homes.{way_in}
 use Rattle.tl_registers.specs.declared.due.Due.TheVariants.{Grant}
-use Rattle.tl_bank_spec.specs.View.{View, block_at}
+use Rattle.tl_bank_spec.specs.View.{View, block_at, client_at}
 use Rattle.tl_bank_spec.specs.Own.{ways_below}
 use Rattle.tl_bank_spec.specs.declared.action.Action.TheVariants.{Grant as did_Grant}
 use Rattle.tl_bank.specs.Shown.{shown, layers}
@@ -14,16 +15,8 @@ use Rattle.tl_bank_laws.proofs.SendProbe.{channel-room}
 use Rattle.tl_bank_laws.proofs.Slots.{below-at, below-same}
 use Rattle.tl_bank.proofs.bank.Bank.send_grant.Goals as goal
 
-pub grant_bytes-requires-clause-client : goal.grant_bytes-requires-clause-client
-grant_bytes-requires-clause-client c =
-    let v : View = shown c.self.inside in
-    let h = layers c.self.inside in
-    let acts = acts-at v c.args.self.now h c.args.own (Grant c.args.client) c.self.invariant c.self.view_is c.requires.permitted
-    c.requires.due in
-    subst (λ (w : View). c.args.client < w.geometry.clients) c.self.view_is acts.may.1.0
-
-pub grant_bytes-requires-clause-held : goal.grant_bytes-requires-clause-held
-grant_bytes-requires-clause-held c =
+pub home_line-entry-requires-clause-held : goal.home_line-entry-requires-clause-held
+home_line-entry-requires-clause-held c =
     let v : View = shown c.self.inside in
     let h = layers c.self.inside in
     let acts = acts-at v c.args.self.now h c.args.own (Grant c.args.client) c.self.invariant c.self.view_is c.requires.permitted
@@ -63,15 +56,17 @@ grant-requires-clause-tip c = λ tip other ne.
     let acts = acts-at v c.args.self.now h c.args.own (Grant c.args.client) c.self.invariant c.self.view_is c.requires.permitted
     c.requires.due in
     let Shows : View → Type 0 =
-    λ w. Gives w c.args.own c.args.client c.unwrap.result c.granted-cap.result c.grant_bytes.result in
+    λ w. Gives w c.args.own c.args.client c.unwrap-acquire.result c.granted-cap.result c.grant_bytes.result in
     let gives : Shows v =
     subst Shows (sym c.self.view_is)
     (record {
-      accepted = sym c.accepted.ensures ∙ c.unwrap.ensures;
+      accepted = sym c.accepted.ensures ∙ c.unwrap-acquire.ensures;
       cap_is = c.granted-cap.ensures;
-      bytes_is = c.grant_bytes.ensures;
+      bytes_is = c.grant_bytes.ensures
+          ∙ ap (λ p. grant_bytes p c.home_line-entry.result.1.now) (c.perm-recorded.ensures.is ∙ sym (c.home_line-entry.ensures.recorded c.args.client))
+          ∙ ap (λ b. grant_bytes (client_at c.args.self.now c.args.client c.args.own).recorded b) c.home_line-entry.ensures.bytes;
     }) in
-    grant-tip v h c.args.own c.args.client c.unwrap.result c.granted-cap.result c.grant_bytes.result c.self.invariant acts gives
+    grant-tip v h c.args.own c.args.client c.unwrap-acquire.result c.granted-cap.result c.grant_bytes.result c.self.invariant acts gives
     (sym c.perm.ensures ∙ tip) other ne
 
 pub grant-requires-clause-branch : goal.grant-requires-clause-branch
@@ -81,15 +76,17 @@ grant-requires-clause-branch c = λ branch other ne.
     let acts = acts-at v c.args.self.now h c.args.own (Grant c.args.client) c.self.invariant c.self.view_is c.requires.permitted
     c.requires.due in
     let Shows : View → Type 0 =
-    λ w. Gives w c.args.own c.args.client c.unwrap.result c.granted-cap.result c.grant_bytes.result in
+    λ w. Gives w c.args.own c.args.client c.unwrap-acquire.result c.granted-cap.result c.grant_bytes.result in
     let gives : Shows v =
     subst Shows (sym c.self.view_is)
     (record {
-      accepted = sym c.accepted.ensures ∙ c.unwrap.ensures;
+      accepted = sym c.accepted.ensures ∙ c.unwrap-acquire.ensures;
       cap_is = c.granted-cap.ensures;
-      bytes_is = c.grant_bytes.ensures;
+      bytes_is = c.grant_bytes.ensures
+          ∙ ap (λ p. grant_bytes p c.home_line-entry.result.1.now) (c.perm-recorded.ensures.is ∙ sym (c.home_line-entry.ensures.recorded c.args.client))
+          ∙ ap (λ b. grant_bytes (client_at c.args.self.now c.args.client c.args.own).recorded b) c.home_line-entry.ensures.bytes;
     }) in
-    grant-branch v h c.args.own c.args.client c.unwrap.result c.granted-cap.result c.grant_bytes.result c.self.invariant acts gives
+    grant-branch v h c.args.own c.args.client c.unwrap-acquire.result c.granted-cap.result c.grant_bytes.result c.self.invariant acts gives
     (sym c.perm.ensures ∙ branch) other
 
 pub invariant_of-self : goal.invariant_of-self
@@ -99,17 +96,19 @@ invariant_of-self c =
     let acts = acts-at v c.args.self.now h c.args.own (Grant c.args.client) c.self.invariant c.self.view_is c.requires.permitted
     c.requires.due in
     let Shows : View → Type 0 =
-    λ w. Gives w c.args.own c.args.client c.unwrap.result c.granted-cap.result c.grant_bytes.result in
+    λ w. Gives w c.args.own c.args.client c.unwrap-acquire.result c.granted-cap.result c.grant_bytes.result in
     let gives : Shows v =
     subst Shows (sym c.self.view_is)
     (record {
-      accepted = sym c.accepted.ensures ∙ c.unwrap.ensures;
+      accepted = sym c.accepted.ensures ∙ c.unwrap-acquire.ensures;
       cap_is = c.granted-cap.ensures;
-      bytes_is = c.grant_bytes.ensures;
+      bytes_is = c.grant_bytes.ensures
+          ∙ ap (λ p. grant_bytes p c.home_line-entry.result.1.now) (c.perm-recorded.ensures.is ∙ sym (c.home_line-entry.ensures.recorded c.args.client))
+          ∙ ap (λ b. grant_bytes (client_at c.args.self.now c.args.client c.args.own).recorded b) c.home_line-entry.ensures.bytes;
     }) in
     let lies : ℕ → Option ℕ = way_in c.grant.new.self in
     rw c.append.ensures.events
-    (grant-keeps v h c.args.own c.args.client c.unwrap.result c.granted-cap.result c.grant_bytes.result c.append.new.self.room
+    (grant-keeps v h c.args.own c.args.client c.unwrap-acquire.result c.granted-cap.result c.grant_bytes.result c.append.new.self.room
     (ways_below lies v.geometry.memory_blocks) c.send-ticket.new.links c.grant.new.self c.self.invariant acts gives
     c.send-ticket.ensures.same c.send-ticket.ensures.after
     (record {

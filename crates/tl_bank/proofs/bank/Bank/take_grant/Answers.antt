@@ -10,28 +10,28 @@ use Rattle.tl_bank.proofs.bank.Bank.take_grant.Goals as goal
 pub put-requires : goal.put-requires
 put-requires c =
     let found = c.in_ok-found.ensures in
-    let takes = takes-with-room _ c.args.self.now c.args.ticket c.args.share.now c.make_room.new.self.room _ _ _ 
+    let takes = takes-with-room _ c.args.self.now c.args.ticket c.args.share.now c.make_room.new.self.room _ _ _
     (c.self.view_is ∙ c.make_room.ensures.same) found.permitted found.finds in
     grant-place _ _ _ _ _ _ _ c.self.invariant takes
 
 pub recount-requires-clause-counted : goal.recount-requires-clause-counted
 recount-requires-clause-counted c =
     let found = c.in_ok-found.ensures in
-    let takes = takes-with-room _ c.args.self.now c.args.ticket c.args.share.now c.make_room.new.self.room _ _ _ 
+    let takes = takes-with-room _ c.args.self.now c.args.ticket c.args.share.now c.make_room.new.self.room _ _ _
     (c.self.view_is ∙ c.make_room.ensures.same) found.permitted found.finds in
     (grant-enough _ _ _ _ _ _ _ c.self.invariant takes).0
 
 pub recount-requires-clause-few : goal.recount-requires-clause-few
 recount-requires-clause-few c =
     let found = c.in_ok-found.ensures in
-    let takes = takes-with-room _ c.args.self.now c.args.ticket c.args.share.now c.make_room.new.self.room _ _ _ 
+    let takes = takes-with-room _ c.args.self.now c.args.ticket c.args.share.now c.make_room.new.self.room _ _ _
     (c.self.view_is ∙ c.make_room.ensures.same) found.permitted found.finds in
     (grant-enough _ _ _ _ _ _ _ c.self.invariant takes).1
 
 pub invariant_of-self : goal.invariant_of-self
 invariant_of-self c =
     let found = c.in_ok-found.ensures in
-    let takes = takes-with-room _ c.args.self.now c.args.ticket c.args.share.now c.make_room.new.self.room _ _ _ 
+    let takes = takes-with-room _ c.args.self.now c.args.ticket c.args.share.now c.make_room.new.self.room _ _ _
     (c.self.view_is ∙ c.make_room.ensures.same) found.permitted found.finds in
     rw c.append.ensures.events
     (grant-keeps _ _ _ _ _ _ _ c.append.new.self.room _ _ _ c.self.invariant takes c.discard.ensures.same c.discard.ensures.after
@@ -40,7 +40,7 @@ invariant_of-self c =
 pub returns-clause-share : goal.returns-clause-share
 returns-clause-share c =
     let found = c.in_ok-found.ensures in
-    let takes = takes-with-room _ c.args.self.now c.args.ticket c.args.share.now c.make_room.new.self.room _ _ _ 
+    let takes = takes-with-room _ c.args.self.now c.args.ticket c.args.share.now c.make_room.new.self.room _ _ _
     (c.self.view_is ∙ c.make_room.ensures.same) found.permitted found.finds in
     rw (c.append.ensures.events, ← grant-named found.finds)
     (c.recount.ensures
@@ -51,7 +51,7 @@ returns-clause-share c =
 pub returns-clause-counted : goal.returns-clause-counted
 returns-clause-counted c =
     let found = c.in_ok-found.ensures in
-    let takes = takes-with-room _ c.args.self.now c.args.ticket c.args.share.now c.make_room.new.self.room _ _ _ 
+    let takes = takes-with-room _ c.args.self.now c.args.ticket c.args.share.now c.make_room.new.self.room _ _ _
     (c.self.view_is ∙ c.make_room.ensures.same) found.permitted found.finds in
     rw c.append.ensures.events
     (ap (λ (s : Holding). s.count) c.recount.ensures
