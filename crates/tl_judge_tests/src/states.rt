@@ -178,13 +178,12 @@ fn the_state_before_a_broken_entry(rt: HostRuntime) -> Result<(), Fail> {
     let alloc = rt.alloc();
     for broken in ["get 0\n", "drop 0\n", "accept 2 0\n"] {
         let mut text = String::new(alloc);
-        let mut before = "";
-        for (lines, state) in STATES.iter().take(5) {
+        for (lines, _) in STATES.iter().take(5) {
             text.push_str(lines)?;
-            before = state;
         }
         text.push_str(broken)?;
         let shown = beside(alloc, &text)?;
+        let (_, before) = STATES[4];
         assert_eq!(rt; shown.as_str(), before, "before {broken}");
     }
     let nowhere = beside(alloc, "clients 1 block_bytes 8 memory_blocks 4\nget 4\n")?;
