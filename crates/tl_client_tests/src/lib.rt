@@ -13,3 +13,5 @@ mod order;
 mod play;
 #[cfg(test)]
 mod silent;
+#[cfg(test)]
+mod workers;

@@ -1,13 +1,12 @@
 //! The largest script's accesses: 16 clients with 4,096 commands each over 8 banks.
-use crate::setting::{fresh, take};
+use crate::setting::{Setting, read};
 use std::alloc::Global;
 use std::process::Abort;
 use std::test::Fail;
-use tl_bank::{Bank, Share, When};
-use tl_conclude::conclude;
+use tl_bank::When;
 use tl_map::Geometry;
-use tl_script::{Script, read_script};
-use tl_types::{BlockNo, ClientId};
+use tl_script::Script;
+use tl_types::BlockNo;
 
 const NUMBERS: &str =
     "version = 2\nclients = 16\nbanks = 8\nblock_bytes = 8\nsets = 16\nways = 8\nregisters = 8\ncopies = 16\nmemory_blocks = 256\nturns = 10\ncommands = [";
@@ -49,7 +48,7 @@ fn script_of(alloc: Global) -> Result<Script, Fail> {
         push_commands(alloc, &mut text, client)?;
     }
     text.push_str("]\n")?;
-    Ok(read_script(alloc, text.as_bytes())?)
+    read(alloc, text.as_str())
 }
 
 /// The place of a block's bank among the banks.
@@ -63,51 +62,34 @@ fn bank_of(rt: &impl Abort, geometry: Geometry, block: u32) -> usize {
 fn take_block(
     rt: &impl Abort,
     geometry: Geometry,
-    banks: &mut [Bank],
-    shares: &mut [Vec<Share>],
+    setting: &mut Setting,
     client: u8,
     index: u16,
 ) -> Result<(), Fail> {
     let block = block_of(client, index);
-    let number = bank_of(rt, geometry, block);
-    let Some(bank) = banks.get_mut(number) else {
-        panic!(rt; "a bank for each block")
-    };
-    let Some(list) = shares.get_mut(number) else {
-        panic!(rt; "a list of shares for each bank")
-    };
-    let Some(share) = list.as_mut_slice().get_mut(usize::from(client)) else {
-        panic!(rt; "a share for each client")
-    };
-    take(bank, share, u32::from(client), block, 0)
+    setting.take(bank_of(rt, geometry, block), u32::from(client), block)
 }
 
 /// A client's command at an index is carried out.
 fn carry_out(
     rt: &impl Abort,
     geometry: Geometry,
-    banks: &mut [Bank],
+    setting: &mut Setting,
     client: u8,
     index: u16,
 ) -> Result<(), Fail> {
     let block = block_of(client, index);
-    let Some(bank) = banks.get_mut(bank_of(rt, geometry, block)) else {
-        panic!(rt; "a bank for each block")
-    };
-    let client = ClientId::new(u32::from(client));
+    let bank = bank_of(rt, geometry, block);
+    let client = u32::from(client);
     let when = When {
         clock: u64::from(index),
         index: u32::from(index),
     };
     let address = block.wrapping_mul(8);
-    match stored_at(index) {
-        Some(byte) => {
-            bank.store(client, address, &[byte], when)?;
-        }
-        None => {
-            bank.load(client, address, 1, when)?;
-        }
-    }
+    let _stamp = match stored_at(index) {
+        Some(byte) => setting.store(bank, client, address, byte, when)?,
+        None => setting.load(bank, client, address, 1, when)?,
+    };
     Ok(())
 }
 
@@ -116,24 +98,18 @@ fn sixteen_clients_on_eight_banks(rt: HostRuntime) -> Result<(), Fail> {
     let alloc = rt.alloc();
     let script = script_of(alloc)?;
     let geometry = script.geometry();
-    let mut banks = Vec::new(alloc);
-    let mut shares = Vec::new(alloc);
-    for number in 0..geometry.banks() {
-        let (bank, list) = fresh(alloc, &script, number)?;
-        banks.push(bank)?;
-        shares.push(list)?;
-    }
+    let mut setting = Setting::reset(alloc, &script)?;
     for client in 0..16u8 {
         for index in 0..8u16 {
-            take_block(&rt, geometry, &mut banks, &mut shares, client, index)?;
+            take_block(&rt, geometry, &mut setting, client, index)?;
         }
     }
     for index in 0..4096u16 {
         for client in 0..16u8 {
-            carry_out(&rt, geometry, &mut banks, client, index)?;
+            carry_out(&rt, geometry, &mut setting, client, index)?;
         }
     }
-    let report = conclude(alloc, &script, &banks, &shares)?;
+    let report = setting.conclude(alloc, &script)?;
     assert_eq!(rt; report.clients.as_slice().len(), 16);
     assert_eq!(rt; report.banks.as_slice().len(), 8);
     for line in report.banks.as_slice() {

@@ -60,8 +60,8 @@ fn at(number: u32, channel: Channel, serial: u64) -> Ticket {
 }
 
 impl Session {
-    fn advance(&mut self, block: BlockNo) -> Answer {
-        match self.bank.advance(block)? {
+    fn step(&mut self, block: BlockNo) -> Answer {
+        match self.advance(block)? {
             Action::Probe(ticket) | Action::Grant(ticket) => Ok(Some(ticket)),
             Action::Get | Action::Put(_) | Action::Drop => Ok(None),
         }
@@ -70,24 +70,21 @@ impl Session {
     fn ask(&mut self, call: Call) -> Answer {
         match call {
             Call::Store(number, address, byte) => {
-                let stored = self.bank.store(client(number), address, &[byte], NOW);
+                let stored = self.store(client(number), address, &[byte], NOW);
                 stored.map(|_stamp| None)
             }
             Call::Acquire(number, asked, grow) => {
-                self.bank
-                    .acquire(client(number), block(asked), grow)
-                    .map(Some)
+                self.acquire(client(number), block(asked), grow).map(Some)
             }
-            Call::Release(number, given, prune) => self.release(
-                client(number),
-                block(given),
-                prune,
-            ),
+            Call::Release(number, given, prune) => {
+                let client = client(number);
+                self.release(client, block(given), prune, client).map(Some)
+            }
             Call::Take(ticket) => self.take(ticket),
-            Call::TakeReleaseAck(ticket) => self.bank.take_release_ack(ticket).map(|()| None),
-            Call::Advance(asked) => self.advance(block(asked)),
-            Call::ServeMemory(asked) => self.bank.serve_memory(block(asked)).map(|_reply| None),
-            Call::TakeMemory(asked) => self.bank.take_memory(block(asked)).map(|()| None),
+            Call::TakeReleaseAck(ticket) => self.take_release_ack(ticket).map(|()| None),
+            Call::Advance(asked) => self.step(block(asked)),
+            Call::ServeMemory(asked) => self.serve_memory(block(asked)).map(|()| None),
+            Call::TakeMemory(asked) => self.take_memory(block(asked)).map(|()| None),
         }
     }
 
@@ -107,21 +104,18 @@ impl Session {
 
     /// Numbers that stand for what the bank and the shares show.
     fn shown(&self) -> [u64; 10] {
-        let mut counts = 0;
-        for share in self.shares.as_slice() {
-            counts = u64::from(share.count()).saturating_add(counts);
-        }
+        let (held, recorded) = self.copies();
         [
-            self.bank.log().len() as u64,
-            self.bank.held(),
-            self.bank.outstanding(),
-            counts,
-            self.bank.open_blocks().as_slice().len() as u64,
-            u64::from(self.bank.is_quiet()),
-            u64::from(self.bank.home(block(0)).is_some()),
-            u64::from(self.bank.home(block(1)).is_some()),
-            u64::from(self.bank.outward(block(0)).is_some()),
-            u64::from(self.bank.outward(block(1)).is_some()),
+            self.events() as u64,
+            held,
+            recorded,
+            self.shared(),
+            self.open_blocks() as u64,
+            u64::from(self.is_quiet()),
+            u64::from(self.home(block(0)).is_some()),
+            u64::from(self.home(block(1)).is_some()),
+            u64::from(self.is_outward(block(0))),
+            u64::from(self.is_outward(block(1))),
         ]
     }
 }
@@ -190,13 +184,12 @@ fn an_eviction_writes_back(rt: HostRuntime) -> Result<(), Fail> {
     let mut session = Session::new(rt.alloc(), ONE_WAY)?;
     session.play(&fill_and_store())?;
     session.play(&evict_and_fill())?;
-    let bank = &session.bank;
-    assert_eq!(rt; bank.log().len(), 23);
-    assert_eq!(rt; bank.home(block(0)), None);
-    assert_eq!(rt; bank.home(block(1)), Some(false));
-    assert_eq!(rt; bank.perm(client(1), block(1)), Perm::Tip);
-    assert_eq!(rt; bank.held(), 1);
-    assert!(rt; bank.is_quiet());
+    assert_eq!(rt; session.events(), 23);
+    assert_eq!(rt; session.home(block(0)), None);
+    assert_eq!(rt; session.home(block(1)), Some(false));
+    assert_eq!(rt; session.perm(client(1), block(1)), Perm::Tip);
+    assert_eq!(rt; session.copies().0, 1);
+    assert!(rt; session.is_quiet());
     Ok(())
 }
 
@@ -204,10 +197,9 @@ fn an_eviction_writes_back(rt: HostRuntime) -> Result<(), Fail> {
 fn a_writer_is_shown(rt: HostRuntime) -> Result<(), Fail> {
     let mut session = Session::new(rt.alloc(), NUMBERS)?;
     session.play(&fill_and_store())?;
-    let bank = &session.bank;
-    assert!(rt; bank.writer(block(0)) == Some(client(0)));
-    assert_eq!(rt; bank.peek(client(0), 0), Some(0xaa));
-    assert_eq!(rt; bank.peek(client(1), 0), None);
+    assert!(rt; session.writer(block(0)) == Some(client(0)));
+    assert_eq!(rt; session.peek(client(0), 0), Some(0xaa));
+    assert_eq!(rt; session.peek(client(1), 0), None);
     Ok(())
 }
 
@@ -229,13 +221,12 @@ fn a_grant_on_its_way_is_recorded_and_not_held(rt: HostRuntime) -> Result<(), Fa
         (Call::Take(at(0, Channel::C, 0)), Ok(None)),
         (Call::Advance(0), Ok(Some(at(1, Channel::D, 0)))),
     ])?;
-    let bank = &session.bank;
-    assert_eq!(rt; bank.directory(client(1), block(0)), Perm::Branch);
-    assert_eq!(rt; bank.perm(client(1), block(0)), Perm::None);
-    assert!(rt; bank.writer(block(0)).is_none());
-    assert_eq!(rt; (bank.held(), bank.outstanding()), (1, 2));
-    assert!(rt; !bank.is_quiet());
-    assert_eq!(rt; bank.open_blocks().as_slice().len(), 1);
+    assert_eq!(rt; session.directory(client(1), block(0)), Perm::Branch);
+    assert_eq!(rt; session.perm(client(1), block(0)), Perm::None);
+    assert!(rt; session.writer(block(0)).is_none());
+    assert_eq!(rt; session.copies(), (1, 2));
+    assert!(rt; !session.is_quiet());
+    assert_eq!(rt; session.open_blocks(), 1);
     Ok(())
 }
 
@@ -254,8 +245,7 @@ fn a_release_on_its_way_is_recorded_and_not_held(rt: HostRuntime) -> Result<(), 
             Ok(Some(at(0, Channel::C, 0))),
         ),
     ])?;
-    let bank = &session.bank;
-    assert_eq!(rt; (bank.held(), bank.outstanding()), (0, 1));
+    assert_eq!(rt; session.copies(), (0, 1));
     session.play(&[
         (Call::Advance(0), Ok(Some(at(0, Channel::B, 0)))),
         (
@@ -267,9 +257,8 @@ fn a_release_on_its_way_is_recorded_and_not_held(rt: HostRuntime) -> Result<(), 
             Ok(Some(at(0, Channel::D, 1))),
         ),
     ])?;
-    let bank = &session.bank;
-    assert_eq!(rt; (bank.held(), bank.outstanding()), (0, 0));
-    assert!(rt; !bank.is_quiet());
+    assert_eq!(rt; session.copies(), (0, 0));
+    assert!(rt; !session.is_quiet());
     session.play(&[
         (Call::TakeReleaseAck(at(0, Channel::D, 1)), Ok(None)),
         (
@@ -288,22 +277,21 @@ fn a_clock_at_its_end_is_refused(rt: HostRuntime) -> Result<(), Fail> {
         clock: u64::MAX,
         index: 0,
     };
-    let bank = &mut session.bank;
-    let loaded = bank.load(client(0), 0, 1, end).map(|loaded| loaded.stamp);
-    assert_eq!(rt; loaded, Err(Refusal::ClockFull));
-    let nobody = bank.load(client(1), 0, 1, end).map(|loaded| loaded.stamp);
-    assert_eq!(rt; nobody, Err(Refusal::NoPermission));
+    assert_eq!(rt; session.load(client(0), 0, 1, end), Err(Refusal::ClockFull));
     assert_eq!(rt;
-        bank.store(client(0), 0, &[1], end),
+        session.load(client(1), 0, 1, end),
+        Err(Refusal::NoPermission)
+    );
+    assert_eq!(rt;
+        session.store(client(0), 0, &[1], end),
         Err(Refusal::ClockFull)
     );
     assert_eq!(rt; session.shown(), before);
-    let bank = &mut session.bank;
     let last = When {
         clock: 41,
         index: 7,
     };
-    assert_eq!(rt; bank.store(client(0), 0, &[1], last), Ok(42));
+    assert_eq!(rt; session.store(client(0), 0, &[1], last), Ok(42));
     Ok(())
 }
 
@@ -311,7 +299,7 @@ fn a_clock_at_its_end_is_refused(rt: HostRuntime) -> Result<(), Fail> {
 #[test]
 fn room_for_two_steps(rt: HostRuntime) -> Result<(), Fail> {
     let mut session = Session::new(rt.alloc(), NUMBERS)?;
-    if session.bank.reserve_steps(2).is_err() {
+    if session.reserve_steps(2).is_err() {
         return Ok(());
     }
     let mut made = 0u32;

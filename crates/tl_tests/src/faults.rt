@@ -1,4 +1,5 @@
 //! Faults that only the world outside the program brings: words, files and memory that are not there.
+use crate::asked::{job_of, status_of};
 use std::alloc::Global;
 use std::io;
 use std::io::{ErrorKind, Read, Write};
@@ -6,7 +7,7 @@ use std::sync::Wait;
 use std::test::Fail;
 use std::thread::Threads;
 use std::time::Clock;
-use tl_runner::{Free, Job, JobError, answer};
+use tl_runner::JobError;
 
 /// A script that plays no steps.
 const SCRIPT: &str = "\
@@ -57,13 +58,9 @@ fn traced<T: Threads + Wait + Clock + Sync, R: Read + Drop, W: Write>(
     file: R,
     output: &mut W,
 ) -> Result<(u8, String), Fail> {
-    let file_name = String::from_str(alloc, "script")?;
-    let job = Ok(Job {
-        traces: true,
-        file: file_name,
-    });
     let mut faults = Vec::new(alloc);
-    let status = answer(rt, alloc, &Free, job, Some(file), output, &mut faults);
+    let job = job_of(alloc, true)?;
+    let status = status_of(rt, alloc, job, Some(file), output, &mut faults);
     let line = std::str::from_utf8(&faults).ok().ok_or("faults")?;
     Ok((status, String::from_str(alloc, line)?))
 }

@@ -1,5 +1,5 @@
 //! The largest trace: 8 banks, 65,536 blocks and 4,096 steps.
-use crate::program::answered_by;
+use crate::asked::asked;
 use std::alloc::{AllocError, Global};
 use std::test::Fail;
 
@@ -49,10 +49,10 @@ fn fills(alloc: Global) -> Result<String, AllocError> {
 #[test]
 fn the_largest_trace_is_played(rt: HostRuntime) -> Result<(), Fail> {
     let script = fills(rt.alloc())?;
-    let (status, output, faults) = answered_by(&rt, rt.alloc(), true, script.as_bytes())?;
-    assert_eq!(rt; faults.as_str(), "");
-    assert_eq!(rt; status, 0);
-    let output = output.as_str();
+    let answer = asked(&rt, rt.alloc(), true, script.as_bytes())?;
+    assert_eq!(rt; answer.fault.as_str(), "");
+    assert_eq!(rt; answer.status, 0);
+    let output = answer.output.as_str();
     assert!(rt; !output.contains("refused"));
     assert!(rt; output.contains("\n4095 ok\n"));
     assert!(rt; output.ends_with("bank 7 held 64 recorded 64 events 512\nend\n"));

@@ -26,13 +26,13 @@ impl Session {
     /// Asks for a block, and does all that has to be done until the GrantAck is taken.
     fn fetch(&mut self, client: u32, wanted: u32, grow: Grow) -> Result<(), Refusal> {
         let block = BlockNo::new(wanted);
-        let asked = self.bank.acquire(ClientId::new(client), block, grow)?;
-        self.bank.accept(asked)?;
+        let asked = self.acquire(ClientId::new(client), block, grow)?;
+        let _sent = self.take(asked)?;
         for _ in 0..ACTIONS {
-            match self.bank.advance(block)? {
+            match self.advance(block)? {
                 Action::Get => {
-                    let _reply = self.bank.serve_memory(block)?;
-                    self.bank.take_memory(block)?;
+                    self.serve_memory(block)?;
+                    self.take_memory(block)?;
                 }
                 Action::Probe(ticket) => self.answered(ticket)?,
                 Action::Grant(ticket) => return self.answered(ticket),
@@ -52,19 +52,17 @@ impl Session {
 
     /// Gives up a copy that may be written, until the ReleaseAck is taken.
     fn give_up(&mut self, client: u32, given: u32) -> Result<(), Refusal> {
-        let released = self.release(ClientId::new(client), BlockNo::new(given), Prune::TtoN)?;
-        let Some(ticket) = released else {
-            return Ok(());
-        };
-        if let Some(answer) = self.take(ticket)? {
-            self.bank.take_release_ack(answer)?;
+        let client = ClientId::new(client);
+        let released = self.release(client, BlockNo::new(given), Prune::TtoN, client)?;
+        if let Some(answer) = self.take(released)? {
+            self.take_release_ack(answer)?;
         }
         Ok(())
     }
 
     /// The number of the block that a client was granted longest ago.
     fn oldest(&self, client: u32) -> Option<u32> {
-        Some(self.bank.oldest_copy(ClientId::new(client))?.number())
+        Some(self.oldest_copy(ClientId::new(client))?.number())
     }
 }
 
@@ -98,7 +96,6 @@ fn copies_are_as_old_as_their_last_grants(rt: HostRuntime) -> Result<(), Fail> {
     assert_eq!(rt; session.give_up(0, 1), Ok(()));
     assert!(rt;
         session
-            .bank
             .acquire(ClientId::new(0), BlockNo::new(3), Grow::NtoB)
             .is_ok()
     );

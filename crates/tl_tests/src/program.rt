@@ -1,11 +1,6 @@
 //! The program's answers to whole scripts: output, fault line and status.
-use crate::worked::{
-    self, Worked, both_upgrade, doubled_early_and_foreign_tickets, every_way_is_held,
-    eviction_and_return, eviction_of_a_reader, eviction_writes_back, grant_is_decided_when_sent,
-    reader_beside_a_sole_reader, record_falls_while_a_probe_is_out, release_before_the_grant_ack,
-    release_crosses_probe, sixteen_clients, sole_reader_is_granted_tip, store_and_reader,
-    strange_steps, three_readers, upgrade, wide_blocks,
-};
+use crate::asked::{asked, job_of, status_of};
+use crate::worked::{self, TRACES, Trace};
 use std::alloc::{AllocError, Global};
 use std::io;
 use std::io::{ErrorKind, Read, Write};
@@ -13,7 +8,7 @@ use std::sync::Wait;
 use std::test::Fail;
 use std::thread::Threads;
 use std::time::Clock;
-use tl_runner::{Free, Job, JobError, answer};
+use tl_runner::JobError;
 
 /// The script of the first run, up to the line named `without`, and then `tail`.
 fn script(alloc: Global, without: &str, tail: &str) -> Result<String, AllocError> {
@@ -39,53 +34,6 @@ fn script(alloc: Global, without: &str, tail: &str) -> Result<String, AllocError
     Ok(text)
 }
 
-fn job_of(alloc: Global, traces: bool) -> Result<Result<Job, JobError>, AllocError> {
-    Ok(Ok(Job {
-        traces,
-        file: String::from_str(alloc, "script")?,
-    }))
-}
-
-fn run_job(alloc: Global) -> Result<Result<Job, JobError>, AllocError> {
-    job_of(alloc, false)
-}
-
-/// The status, the output and the fault line of a script, by `run`.
-fn answered<T: Threads + Wait + Clock + Sync>(
-    rt: &T,
-    alloc: Global,
-    script: &[u8],
-) -> Result<(u8, String, String), Fail> {
-    answered_by(rt, alloc, false, script)
-}
-
-/// The status, the output and the fault line of a script, by `trace` or by `run`.
-pub fn answered_by<T: Threads + Wait + Clock + Sync>(
-    rt: &T,
-    alloc: Global,
-    traces: bool,
-    script: &[u8],
-) -> Result<(u8, String, String), Fail> {
-    let mut output = Vec::new(alloc);
-    let mut faults = Vec::new(alloc);
-    let status = answer(
-        rt,
-        alloc,
-        &Free,
-        job_of(alloc, traces)?,
-        Some(script),
-        &mut output,
-        &mut faults,
-    );
-    let output = std::str::from_utf8(&output).ok().ok_or("output")?;
-    let faults = std::str::from_utf8(&faults).ok().ok_or("faults")?;
-    Ok((
-        status,
-        String::from_str(alloc, output)?,
-        String::from_str(alloc, faults)?,
-    ))
-}
-
 #[test]
 fn scripts_that_are_refused(rt: HostRuntime) -> Result<(), Fail> {
     let alloc = rt.alloc();
@@ -107,14 +55,14 @@ fn scripts_that_are_refused(rt: HostRuntime) -> Result<(), Fail> {
         ("none", "steps = [\"advance 01\"]\n", "error 35 step 0\n"),
     ] {
         let text = script(alloc, without, tail)?;
-        let (status, output, faults) = answered(&rt, alloc, text.as_bytes())?;
-        assert_eq!(rt; faults.as_str(), want);
-        assert_eq!(rt; output.as_str(), "");
-        assert_eq!(rt; status, 1);
+        let answer = asked(&rt, alloc, false, text.as_bytes())?;
+        assert_eq!(rt; answer.fault.as_str(), want);
+        assert_eq!(rt; answer.output.as_str(), "");
+        assert_eq!(rt; answer.status, 1);
     }
-    let (status, _, faults) = answered(&rt, alloc, b"\xffversion = 1\n")?;
-    assert_eq!(rt; faults.as_str(), "error 30 not toml\n");
-    assert_eq!(rt; status, 1);
+    let answer = asked(&rt, alloc, false, b"\xffversion = 1\n")?;
+    assert_eq!(rt; answer.fault.as_str(), "error 30 not toml\n");
+    assert_eq!(rt; answer.status, 1);
     Ok(())
 }
 
@@ -139,63 +87,43 @@ impl Write for Broken {
 }
 
 #[test]
-fn files_and_words_that_fail(rt: HostRuntime) -> Result<(), Fail> {
+fn files_that_fail(rt: HostRuntime) -> Result<(), Fail> {
     let alloc = rt.alloc();
     let text = script(alloc, "none", "commands = [[]]\n")?;
     let mut output = Vec::new(alloc);
     let mut faults = Vec::new(alloc);
     let no_file: Option<&[u8]> = None;
-    let status = answer(
-        &rt,
-        alloc,
-        &Free,
-        run_job(alloc)?,
-        no_file,
-        &mut output,
-        &mut faults,
-    );
+    let job = job_of(alloc, false)?;
+    let status = status_of(&rt, alloc, job, no_file, &mut output, &mut faults);
     assert_eq!(rt; status, 5);
     let broken = Some(Broken);
-    let status = answer(
-        &rt,
-        alloc,
-        &Free,
-        run_job(alloc)?,
-        broken,
-        &mut output,
-        &mut faults,
-    );
+    let job = job_of(alloc, false)?;
+    let status = status_of(&rt, alloc, job, broken, &mut output, &mut faults);
     assert_eq!(rt; status, 5);
     let file = Some(text.as_bytes());
-    let status = answer(
-        &rt,
-        alloc,
-        &Free,
-        run_job(alloc)?,
-        file,
-        &mut Broken,
-        &mut faults,
-    );
+    let job = job_of(alloc, false)?;
+    let status = status_of(&rt, alloc, job, file, &mut Broken, &mut faults);
     assert_eq!(rt; status, 5);
     assert_eq!(rt;
         faults.as_slice(),
         b"error file\nerror file\nerror file\n".as_slice()
     );
+    Ok(())
+}
+
+#[test]
+fn fault_lines_and_words_that_fail(rt: HostRuntime) -> Result<(), Fail> {
+    let alloc = rt.alloc();
+    let text = script(alloc, "none", "commands = [[]]\n")?;
+    let mut output = Vec::new(alloc);
     let file = Some(text.as_bytes());
-    let status = answer(
-        &rt,
-        alloc,
-        &Free,
-        run_job(alloc)?,
-        file,
-        &mut output,
-        &mut Broken,
-    );
+    let job = job_of(alloc, false)?;
+    let status = status_of(&rt, alloc, job, file, &mut output, &mut Broken);
     assert_eq!(rt; status, 0);
     let mut faults = Vec::new(alloc);
     let file = Some(text.as_bytes());
     let usage = Err(JobError::Usage);
-    let status = answer(&rt, alloc, &Free, usage, file, &mut output, &mut faults);
+    let status = status_of(&rt, alloc, usage, file, &mut output, &mut faults);
     assert_eq!(rt; status, 2);
     assert_eq!(rt; faults.as_slice(), b"error usage\n".as_slice());
     Ok(())
@@ -205,45 +133,34 @@ fn files_and_words_that_fail(rt: HostRuntime) -> Result<(), Fail> {
 fn is_answered<T: Threads + Wait + Clock + Sync>(
     rt: &T,
     alloc: Global,
-    worked: &Worked,
+    trace: &Trace,
 ) -> Result<bool, Fail> {
-    let (status, output, faults) = answered_by(rt, alloc, true, worked.script.as_bytes())?;
-    Ok(status == 0 && output.as_str() == worked.output.as_str() && faults.as_str() == "")
+    let worked = trace.worked(alloc)?;
+    let answer = asked(rt, alloc, true, worked.script.as_bytes())?;
+    Ok(
+        answer.status == 0
+            && answer.output.as_str() == worked.output.as_str()
+            && answer.fault.as_str() == "",
+    )
+}
+
+/// The first trace that is not answered as it should be.
+fn first_other<T: Threads + Wait + Clock + Sync>(
+    rt: &T,
+    alloc: Global,
+    traces: &[Trace],
+) -> Result<Option<usize>, Fail> {
+    for (place, trace) in traces.iter().enumerate() {
+        if !is_answered(rt, alloc, trace)? {
+            return Ok(Some(place));
+        }
+    }
+    Ok(None)
 }
 
 #[test]
 fn worked_traces(rt: HostRuntime) -> Result<(), Fail> {
-    let alloc = rt.alloc();
-    assert!(rt; is_answered(&rt, alloc, &both_upgrade::trace(alloc)?)?);
-    assert!(rt;
-        is_answered(
-            &rt,
-            alloc,
-            &doubled_early_and_foreign_tickets::trace(alloc)?
-        )?
-    );
-    assert!(rt; is_answered(&rt, alloc, &every_way_is_held::trace(alloc)?)?);
-    assert!(rt; is_answered(&rt, alloc, &eviction_and_return::trace(alloc)?)?);
-    assert!(rt; is_answered(&rt, alloc, &eviction_of_a_reader::trace(alloc)?)?);
-    assert!(rt; is_answered(&rt, alloc, &eviction_writes_back::trace(alloc)?)?);
-    assert!(rt; is_answered(&rt, alloc, &grant_is_decided_when_sent::trace(alloc)?)?);
-    assert!(rt; is_answered(&rt, alloc, &reader_beside_a_sole_reader::trace(alloc)?)?);
-    assert!(rt;
-        is_answered(
-            &rt,
-            alloc,
-            &record_falls_while_a_probe_is_out::trace(alloc)?
-        )?
-    );
-    assert!(rt; is_answered(&rt, alloc, &release_before_the_grant_ack::trace(alloc)?)?);
-    assert!(rt; is_answered(&rt, alloc, &release_crosses_probe::trace(alloc)?)?);
-    assert!(rt; is_answered(&rt, alloc, &sixteen_clients::trace(alloc)?)?);
-    assert!(rt; is_answered(&rt, alloc, &sole_reader_is_granted_tip::trace(alloc)?)?);
-    assert!(rt; is_answered(&rt, alloc, &store_and_reader::trace(alloc)?)?);
-    assert!(rt; is_answered(&rt, alloc, &strange_steps::trace(alloc)?)?);
-    assert!(rt; is_answered(&rt, alloc, &three_readers::trace(alloc)?)?);
-    assert!(rt; is_answered(&rt, alloc, &upgrade::trace(alloc)?)?);
-    assert!(rt; is_answered(&rt, alloc, &wide_blocks::trace(alloc)?)?);
+    assert_eq!(rt; first_other(&rt, rt.alloc(), TRACES)?, None);
     Ok(())
 }
 
@@ -284,10 +201,10 @@ fn full_channel(alloc: Global) -> Result<String, AllocError> {
 fn a_full_channel_is_refused(rt: HostRuntime) -> Result<(), Fail> {
     let alloc = rt.alloc();
     let script = full_channel(alloc)?;
-    let (status, output, _) = answered_by(&rt, alloc, true, script.as_bytes())?;
-    assert_eq!(rt; status, 0);
+    let answer = asked(&rt, alloc, true, script.as_bytes())?;
+    assert_eq!(rt; answer.status, 0);
     let last =
         "590 refused 13\n591 sent 0.0.D.66 6.0 ReleaseAck\n592 sent 0.0.C.65 4.5 ProbeAck NtoN\n";
-    assert!(rt; output.as_str().contains(last));
+    assert!(rt; answer.output.as_str().contains(last));
     Ok(())
 }

@@ -23,7 +23,7 @@ fn contended(alloc: Global, clients: u32, stores: u32, turns: u32) -> Result<Str
 #[test]
 fn a_run_of_one_turn_stalls(rt: HostRuntime) -> Result<(), Fail> {
     let script = contended(rt.alloc(), 1, 1, 1)?;
-    let answer = asked(&rt, rt.alloc(), &script)?;
+    let answer = asked(&rt, rt.alloc(), false, script.as_bytes())?;
     assert_eq!(rt; answer.fault.as_str(), "error 40 stalled 1\n");
     assert_eq!(rt; answer.output.as_str(), "");
     assert_eq!(rt; answer.status, 3);
@@ -34,7 +34,7 @@ fn a_run_of_one_turn_stalls(rt: HostRuntime) -> Result<(), Fail> {
 #[test]
 fn a_stall_is_told(rt: HostRuntime) -> Result<(), Fail> {
     let script = contended(rt.alloc(), 1, 4096, 4000)?;
-    let answer = asked(&rt, rt.alloc(), &script)?;
+    let answer = asked(&rt, rt.alloc(), false, script.as_bytes())?;
     assert_eq!(rt; answer.fault.as_str(), "error 40 stalled 4000\n");
     assert_eq!(rt; answer.status, 3);
     Ok(())
@@ -44,7 +44,7 @@ fn a_stall_is_told(rt: HostRuntime) -> Result<(), Fail> {
 fn contended_runs_end(rt: HostRuntime) -> Result<(), Fail> {
     for (clients, stores) in [(2, 256), (8, 32), (16, 16)] {
         let script = contended(rt.alloc(), clients, stores, 1_000_000)?;
-        let answer = asked(&rt, rt.alloc(), &script)?;
+        let answer = asked(&rt, rt.alloc(), false, script.as_bytes())?;
         assert_eq!(rt; answer.fault.as_str(), "", "{clients} clients");
         assert!(rt;
             answer

@@ -107,17 +107,17 @@ impl Walk {
         let address = self.dice.roll(33);
         let when = When { clock: 0, index };
         if self.dice.roll(2) == 0 {
-            let _loaded = self.session.bank.load(client, address, 1, when)?;
+            let _loaded = self.session.load(client, address, 1, when)?;
         } else {
             let byte = u8::try_from(self.dice.roll(256)).unwrap_or(0);
-            self.session.bank.store(client, address, &[byte], when)?;
+            self.session.store(client, address, &[byte], when)?;
         }
         Ok(())
     }
 
     fn acquire(&mut self) -> Result<(), Fail> {
         let (client, block, grow) = (self.dice.client(), self.dice.block(), self.dice.grow());
-        match self.session.bank.acquire(client, block, grow) {
+        match self.session.acquire(client, block, grow) {
             Ok(ticket) => self.send(Some(ticket)),
             Err(Refusal::Waiting | Refusal::WrongFrom) => {
                 let asked = Event::SendAcquire(client, block, grow);
@@ -129,8 +129,8 @@ impl Walk {
 
     fn release(&mut self) -> Result<(), Fail> {
         let (client, block, prune) = (self.dice.client(), self.dice.block(), self.dice.prune());
-        match self.session.release(client, block, prune) {
-            Ok(sent) => self.send(sent),
+        match self.session.release(client, block, prune, client) {
+            Ok(ticket) => self.send(Some(ticket)),
             Err(Refusal::Waiting | Refusal::WrongFrom) => {
                 let given = Event::SendRelease(client, block, prune);
                 refused(!may_follow(&self.plain, &given))
@@ -171,7 +171,7 @@ impl Walk {
     fn take(&mut self, ticket: Ticket) -> Answer {
         let taken = self.session.take(ticket);
         if ticket.channel == Channel::D && taken == Err(Refusal::NotHead) {
-            return self.session.bank.take_release_ack(ticket).map(|()| None);
+            return self.session.take_release_ack(ticket).map(|()| None);
         }
         taken
     }
@@ -180,15 +180,13 @@ impl Walk {
     fn work(&mut self) -> Result<(), Fail> {
         let block = self.dice.block();
         if self.dice.roll(20) == 0 {
-            let _evicted = self.session.bank.evict(block);
+            let _evicted = self.session.evict(block);
             return Ok(());
         }
-        if self.session.bank.serve_memory(block).is_ok()
-            || self.session.bank.take_memory(block).is_ok()
-        {
+        if self.session.serve_memory(block).is_ok() || self.session.take_memory(block).is_ok() {
             return Ok(());
         }
-        match self.session.bank.advance(block) {
+        match self.session.advance(block) {
             Ok(Action::Probe(ticket) | Action::Grant(ticket)) => self.send(Some(ticket)),
             Ok(Action::Get | Action::Put(_) | Action::Drop) | Err(_) => Ok(()),
         }
@@ -196,7 +194,7 @@ impl Walk {
 
     /// One call, and what became of it.
     fn step(&mut self, index: u32) -> Result<(), Fail> {
-        let before = self.session.bank.log().len();
+        let before = self.session.events();
         match self.dice.roll(10) {
             0 | 1 => {
                 let _answered = self.access(index);
@@ -206,8 +204,8 @@ impl Walk {
             5 | 6 => self.serve()?,
             _ => self.work()?,
         }
-        if self.session.bank.log().len() != before {
-            let event = self.session.bank.log().last().ok_or("an empty log")?;
+        if self.session.events() != before {
+            let event = self.session.last_event().ok_or("an empty log")?;
             self.plain
                 .apply(event)
                 .map_err(|_| "an event that is not permitted")?;
@@ -221,14 +219,14 @@ impl Walk {
             let client = ClientId::new(number);
             let address = block.number().saturating_mul(SHAPE.block_bytes);
             let byte = self.plain.read(client, address, 1);
-            if self.session.bank.perm(client, block) != self.plain.perm(client, block)
-                || self.session.bank.peek(client, address)
+            if self.session.perm(client, block) != self.plain.perm(client, block)
+                || self.session.peek(client, address)
                     != byte.and_then(|byte| byte.as_slice().first().copied())
             {
                 return false;
             }
         }
-        self.session.bank.home(block).is_some() == self.plain.is_at_home(block)
+        self.session.home(block).is_some() == self.plain.is_at_home(block)
     }
 
     /// Whether they count the same copies, and the bank's own counts agree.
@@ -242,14 +240,9 @@ impl Walk {
                 recorded = recorded.saturating_add(self.plain.recorded(block) as u64);
             }
         }
-        let mut shares = 0u64;
-        for share in self.session.shares.as_slice() {
-            shares = shares.saturating_add(u64::from(share.count()));
-        }
-        self.session.bank.held() == held
-            && self.session.bank.outstanding() == recorded
-            && shares == held
-            && (!self.session.bank.is_quiet() || held == recorded)
+        self.session.copies() == (held, recorded)
+            && self.session.shared() == held
+            && (!self.session.is_quiet() || held == recorded)
     }
 }
 
@@ -272,7 +265,7 @@ fn a_random_walk_keeps_to_the_protocol(rt: HostRuntime) -> Result<(), Fail> {
             }
             assert!(rt; walk.counts_agree());
         }
-        assert!(rt; walk.session.bank.log().len() > 300);
+        assert!(rt; walk.session.events() > 300);
     }
     Ok(())
 }

@@ -11,9 +11,8 @@ fn answered(alloc: Global, command: &str, got: &[u8]) -> Result<Answered, Fail> 
     })
 }
 
-#[test]
-fn prints_a_report(rt: HostRuntime) -> Result<(), Fail> {
-    let alloc = rt.alloc();
+/// The report of two clients and two banks.
+fn report(alloc: Global) -> Result<Report, Fail> {
     let mut first = Vec::new(alloc);
     first.push(answered(alloc, "store 0xff 0a", &[0x0a])?)?;
     first.push(answered(alloc, "drop 0x8", &[])?)?;
@@ -25,9 +24,14 @@ fn prints_a_report(rt: HostRuntime) -> Result<(), Fail> {
     for (held, recorded) in [(10, 12), (0, 1)] {
         banks.push(BankLine { held, recorded })?;
     }
-    let report = Report { clients, banks };
+    Ok(Report { clients, banks })
+}
+
+#[test]
+fn prints_a_report(rt: HostRuntime) -> Result<(), Fail> {
+    let text = report(rt.alloc())?.text(rt.alloc())?;
     assert_eq!(rt;
-        report.text(alloc)?.as_str(),
+        text.as_str(),
         "client 0\n0 store 0x000000ff 0a\n1 drop 0x00000008\n2 load 0xdeadbeef ab00\nclient 1\nbank 0 held 10 recorded 12\nbank 1 held 0 recorded 1\nok\n"
     );
     Ok(())

@@ -1,6 +1,6 @@
 use std::alloc::{AllocError, Global};
 use std::test::Fail;
-use tl_script::{ScriptError, read_script};
+use tl_script::{Script, ScriptError, read_script};
 use tl_words::Step;
 
 const KEYS: [(&str, &str); 10] = [
@@ -30,8 +30,13 @@ fn script(alloc: Global, key: &str, value: &str, last: &str) -> Result<String, A
     Ok(text)
 }
 
+// The script of a text: what its contract says, which the prover would work out of a text that it knows, ends here.
+fn read(alloc: Global, bytes: &[u8]) -> Result<Script, ScriptError> {
+    read_script(alloc, bytes)
+}
+
 fn refusal(alloc: Global, bytes: &[u8]) -> Result<String, Fail> {
-    let error = read_script(alloc, bytes).err().ok_or("a script")?;
+    let error = read(alloc, bytes).err().ok_or("a script")?;
     Ok(format!(in alloc; "{error}")?)
 }
 
@@ -166,7 +171,7 @@ fn refuses_too_many(rt: HostRuntime) -> Result<(), Fail> {
         }
         let most = format!(in alloc; "{last}{end}")?;
         let text = script(alloc, "", "", most.as_str())?;
-        assert!(rt; read_script(alloc, text.as_bytes()).is_ok(), "at {start}");
+        assert!(rt; read(alloc, text.as_bytes()).is_ok(), "at {start}");
         let more = format!(in alloc; "{last}{item}{end}")?;
         let text = script(alloc, "", "", more.as_str())?;
         assert_eq!(rt;
@@ -198,7 +203,7 @@ fn knows_two_versions(rt: HostRuntime) -> Result<(), Fail> {
         "error 32 geometry 26"
     );
     let text = second_version(alloc, 16, 64)?;
-    let script = read_script(alloc, text.as_bytes())?;
+    let script = read(alloc, text.as_bytes())?;
     assert_eq!(rt; script.commands.len(), 16);
     Ok(())
 }
@@ -207,7 +212,7 @@ fn knows_two_versions(rt: HostRuntime) -> Result<(), Fail> {
 fn reads_a_script(rt: HostRuntime) -> Result<(), Fail> {
     let text =
         "copies = 16\nclients = 2\nversion = 1\nbanks = 8\nblock_bytes = 64\nsets = 64\nways = 8\nregisters = 8\nmemory_blocks = 65536\nturns = 7\nimage = \"0a0b\"\ncommands = [[\"store 0x3ffff8 0011223344556677\", \"drop 0x0\"]]\nsteps = [\"load 9 0xffffffff 8\"]\nunknown = 1\n";
-    let script = read_script(rt.alloc(), text.as_bytes())?;
+    let script = read(rt.alloc(), text.as_bytes())?;
     assert_eq!(rt; script.geometry.clients(), 2);
     assert_eq!(rt; script.geometry().memory_bytes(), 4_194_304);
     assert_eq!(rt; script.turns, 7);

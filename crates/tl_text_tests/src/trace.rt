@@ -1,6 +1,7 @@
 //! What no clause says: that the text is what the format's worked traces show.
 use arrayvec::ArrayVec;
 use std::alloc::{AllocError, Global};
+use std::marker::Model;
 use std::test::Fail;
 use tl_bank_spec::Refusal;
 use tl_map::{Geometry, GeometryNumbers};
@@ -79,38 +80,66 @@ fn got(bytes: &[u8]) -> Answer {
     })
 }
 
-/// Client 0 gets block 0 for writing and stores a byte: steps 0 to 8.
-fn push_store(answers: &mut Vec<Answer>) -> Result<(), AllocError> {
-    answers.push(acquire(0, Grow::NtoT))?;
-    answers.push(Answer::Done)?;
-    answers.push(get(0))?;
-    answers.push(got(&CLEAN))?;
-    answers.push(Answer::Done)?;
-    answers.push(grant(0, GrantCap::ToT, &CLEAN))?;
-    answers.push(grant_ack(0))?;
-    answers.push(Answer::Done)?;
-    answers.push(Answer::Done)?;
-    Ok(())
+/// Answers in order, and the closings of banks. Its model says nothing, so that a test of many answers does not carry them along.
+#[derive(Drop)]
+struct Shown {
+    trace: Trace,
 }
 
-/// The closing of the only bank, which holds one block.
-fn closing(
-    alloc: Global,
-    line: BlockLine,
-    held: u64,
-    recorded: u64,
-    events: u64,
-) -> Result<Vec<BankClosing>, AllocError> {
-    let mut blocks = Vec::new(alloc);
-    blocks.push(line)?;
-    let mut banks = Vec::new(alloc);
-    banks.push(BankClosing {
-        blocks,
-        held,
-        recorded,
-        events,
-    })?;
-    Ok(banks)
+impl Model for Shown {
+    ghost Value = { Unit {0} };
+
+    ghost view = { λ _. tt };
+}
+
+impl Shown {
+    fn new(alloc: Global) -> Shown {
+        Shown {
+            trace: Trace {
+                answers: Vec::new(alloc),
+                banks: Vec::new(alloc),
+            },
+        }
+    }
+
+    fn push(&mut self, answer: Answer) -> Result<(), AllocError> {
+        self.trace.answers.push(answer)?;
+        Ok(())
+    }
+
+    /// Client 0 gets block 0 for writing and stores a byte: steps 0 to 8.
+    fn push_store(&mut self) -> Result<(), AllocError> {
+        self.push(acquire(0, Grow::NtoT))?;
+        self.push(Answer::Done)?;
+        self.push(get(0))?;
+        self.push(got(&CLEAN))?;
+        self.push(Answer::Done)?;
+        self.push(grant(0, GrantCap::ToT, &CLEAN))?;
+        self.push(grant_ack(0))?;
+        self.push(Answer::Done)?;
+        self.push(Answer::Done)
+    }
+
+    /// A bank that holds these blocks.
+    fn close(
+        &mut self,
+        blocks: Vec<BlockLine>,
+        held: u64,
+        recorded: u64,
+        events: u64,
+    ) -> Result<(), AllocError> {
+        self.trace.banks.push(BankClosing {
+            blocks,
+            held,
+            recorded,
+            events,
+        })?;
+        Ok(())
+    }
+
+    fn text(&self, alloc: Global) -> Result<String, AllocError> {
+        self.trace.text(alloc)
+    }
 }
 
 /// A block's line, with what is recorded of each client and what each client holds.
@@ -129,27 +158,33 @@ fn line(number: u32, dirty: bool, standings: &[(Perm, Perm)]) -> BlockLine {
     }
 }
 
+/// The one line of a bank that holds one block.
+fn one(alloc: Global, line: BlockLine) -> Result<Vec<BlockLine>, AllocError> {
+    let mut lines = Vec::new(alloc);
+    lines.push(line)?;
+    Ok(lines)
+}
+
 /// The worked trace `a-store-and-a-reader`.
 #[test]
 fn shows_a_store_and_a_reader(rt: HostRuntime) -> Result<(), Fail> {
     let alloc = rt.alloc();
-    let mut answers = Vec::new(alloc);
-    push_store(&mut answers)?;
-    answers.push(acquire(1, Grow::NtoB))?;
-    answers.push(Answer::Done)?;
-    answers.push(probe(0, ProbeCap::ToB))?;
-    answers.push(probe_ack(0, ProbeAnswer::TtoB(Some(block(&STORED)))))?;
-    answers.push(Answer::Done)?;
-    answers.push(grant(1, GrantCap::ToB, &STORED))?;
-    answers.push(grant_ack(1))?;
-    answers.push(Answer::Done)?;
-    answers.push(Answer::Loaded(AccessBytes::from_slice(&[0xaa]).ok_or("bytes")?))?;
-    answers.push(Answer::Refused(Refusal::NoPermission))?;
+    let mut shown = Shown::new(alloc);
+    shown.push_store()?;
+    shown.push(acquire(1, Grow::NtoB))?;
+    shown.push(Answer::Done)?;
+    shown.push(probe(0, ProbeCap::ToB))?;
+    shown.push(probe_ack(0, ProbeAnswer::TtoB(Some(block(&STORED)))))?;
+    shown.push(Answer::Done)?;
+    shown.push(grant(1, GrantCap::ToB, &STORED))?;
+    shown.push(grant_ack(1))?;
+    shown.push(Answer::Done)?;
+    shown.push(Answer::Loaded(AccessBytes::from_slice(&[0xaa]).ok_or("bytes")?))?;
+    shown.push(Answer::Refused(Refusal::NoPermission))?;
     let both_read = [(Perm::Branch, Perm::Branch), (Perm::Branch, Perm::Branch)];
-    let banks = closing(alloc, line(0, true, &both_read), 2, 2, 18)?;
-    let trace = Trace { answers, banks };
+    shown.close(one(alloc, line(0, true, &both_read))?, 2, 2, 18)?;
     assert_eq!(rt;
-        trace.text(alloc)?.as_str(),
+        shown.text(alloc)?.as_str(),
         "0 sent 0.0.A.0 6.1 AcquireBlock NtoT
 1 ok
 2 memory 4.0 Get 3 0x00000000
@@ -181,31 +216,30 @@ end
 #[test]
 fn shows_that_an_eviction_writes_back(rt: HostRuntime) -> Result<(), Fail> {
     let alloc = rt.alloc();
-    let mut answers = Vec::new(alloc);
-    push_store(&mut answers)?;
-    answers.push(acquire(1, Grow::NtoT))?;
-    answers.push(Answer::Done)?;
-    answers.push(probe(0, ProbeCap::ToN))?;
-    answers.push(probe_ack(0, ProbeAnswer::TtoN(Some(block(&STORED)))))?;
-    answers.push(Answer::Done)?;
-    answers.push(memory(MemoryMessage::PutFullData {
+    let mut shown = Shown::new(alloc);
+    shown.push_store()?;
+    shown.push(acquire(1, Grow::NtoT))?;
+    shown.push(Answer::Done)?;
+    shown.push(probe(0, ProbeCap::ToN))?;
+    shown.push(probe_ack(0, ProbeAnswer::TtoN(Some(block(&STORED)))))?;
+    shown.push(Answer::Done)?;
+    shown.push(memory(MemoryMessage::PutFullData {
         address: 0,
         bytes: block(&STORED),
     }))?;
-    answers.push(Answer::Refused(Refusal::NotYet))?;
-    answers.push(memory(MemoryMessage::AccessAck))?;
-    answers.push(Answer::Done)?;
-    answers.push(get(8))?;
-    answers.push(got(&CLEAN))?;
-    answers.push(Answer::Done)?;
-    answers.push(grant(1, GrantCap::ToT, &CLEAN))?;
-    answers.push(grant_ack(1))?;
-    answers.push(Answer::Done)?;
+    shown.push(Answer::Refused(Refusal::NotYet))?;
+    shown.push(memory(MemoryMessage::AccessAck))?;
+    shown.push(Answer::Done)?;
+    shown.push(get(8))?;
+    shown.push(got(&CLEAN))?;
+    shown.push(Answer::Done)?;
+    shown.push(grant(1, GrantCap::ToT, &CLEAN))?;
+    shown.push(grant_ack(1))?;
+    shown.push(Answer::Done)?;
     let one_writes = [(Perm::None, Perm::None), (Perm::Tip, Perm::Tip)];
-    let banks = closing(alloc, line(1, false, &one_writes), 1, 1, 23)?;
-    let trace = Trace { answers, banks };
+    shown.close(one(alloc, line(1, false, &one_writes))?, 1, 1, 23)?;
     assert_eq!(rt;
-        trace.text(alloc)?.as_str(),
+        shown.text(alloc)?.as_str(),
         "0 sent 0.0.A.0 6.1 AcquireBlock NtoT
 1 ok
 2 memory 4.0 Get 3 0x00000000
@@ -242,45 +276,30 @@ end
 #[test]
 fn shows_what_is_rarer(rt: HostRuntime) -> Result<(), Fail> {
     let alloc = rt.alloc();
-    let mut answers = Vec::new(alloc);
-    answers.push(sent(
+    let mut shown = Shown::new(alloc);
+    shown.push(sent(
         0,
         Channel::D,
         1,
         Body::Downward(Downward::Grant(GrantCap::ToT, None)),
     ))?;
-    answers.push(sent(0, Channel::D, 1, Body::Downward(Downward::ReleaseAck)))?;
-    answers.push(sent(
+    shown.push(sent(0, Channel::D, 1, Body::Downward(Downward::ReleaseAck)))?;
+    shown.push(sent(
         1,
         Channel::C,
         0,
         Body::Upward(Upward::Release(Surrender::TtoN(None))),
     ))?;
-    answers.push(Answer::Dropped)?;
-    let mut banks = closing(
-        alloc,
-        line(
-            3,
-            true,
-            &[
-                (Perm::Branch, Perm::None),
-                (Perm::Tip, Perm::Branch),
-                (Perm::None, Perm::Tip),
-            ],
-        ),
-        2,
-        3,
-        7,
-    )?;
-    banks.push(BankClosing {
-        blocks: Vec::new(alloc),
-        held: 0,
-        recorded: 0,
-        events: 12,
-    })?;
-    let trace = Trace { answers, banks };
+    shown.push(Answer::Dropped)?;
+    let records = [
+        (Perm::Branch, Perm::None),
+        (Perm::Tip, Perm::Branch),
+        (Perm::None, Perm::Tip),
+    ];
+    shown.close(one(alloc, line(3, true, &records))?, 2, 3, 7)?;
+    shown.close(Vec::new(alloc), 0, 0, 12)?;
     assert_eq!(rt;
-        trace.text(alloc)?.as_str(),
+        shown.text(alloc)?.as_str(),
         "0 sent 0.0.D.1 4.0 Grant toT
 1 sent 0.0.D.1 6.0 ReleaseAck
 2 sent 0.1.C.0 6.1 Release TtoN
@@ -294,22 +313,26 @@ end
     Ok(())
 }
 
-/// The size of a geometry's blocks.
+/// The size of a geometry's blocks, as a logarithm.
+fn log_of_size(block_bytes: i64) -> Result<u32, Fail> {
+    let geometry = Geometry::new(GeometryNumbers {
+        version: 1,
+        clients: 1,
+        banks: 1,
+        block_bytes,
+        sets: 1,
+        ways: 1,
+        registers: 1,
+        copies: 1,
+        memory_blocks: 1,
+    })?;
+    Ok(BlockSize::of(geometry).log2())
+}
+
 #[test]
 fn finds_the_size_of_blocks(rt: HostRuntime) -> Result<(), Fail> {
     for (block_bytes, log) in [(8, 3), (16, 4), (32, 5), (64, 6)] {
-        let geometry = Geometry::new(GeometryNumbers {
-            version: 1,
-            clients: 1,
-            banks: 1,
-            block_bytes,
-            sets: 1,
-            ways: 1,
-            registers: 1,
-            copies: 1,
-            memory_blocks: 1,
-        })?;
-        assert_eq!(rt; BlockSize::of(geometry).log2(), log);
+        assert_eq!(rt; log_of_size(block_bytes)?, log);
     }
     assert!(rt; MemoryMessage::AccessAck.kind() == Kind::AccessAck);
     Ok(())

@@ -59,21 +59,26 @@ fn refuses_other_commands(rt: HostRuntime) {
     }
 }
 
+/// The step of a text: what the words say of it, which the prover would work out of a text that it knows, ends here.
+fn step(alloc: Global, text: &str) -> Result<Step, ParseError> {
+    Step::parse(alloc, text)
+}
+
 #[test]
 fn reads_steps(rt: HostRuntime) -> Result<(), Fail> {
     let alloc = rt.alloc();
-    match &Step::parse(alloc, "take_grant 3.1.D.4294967295")? {
+    match &step(alloc, "take_grant 3.1.D.4294967295")? {
         Step::Ticket(TicketCall::TakeGrant, read) => {
             let printed = format!(in alloc; "{read}")?;
             assert_eq!(rt; printed.as_str(), "3.1.D.4294967295");
         },
         _ => return Err(Fail::from("take_grant")),
     }
-    match &Step::parse(alloc, "evict 65536")? {
+    match &step(alloc, "evict 65536")? {
         Step::Block(BlockCall::Evict, block) => assert_eq!(rt; block.number(), 65_536),
         _ => return Err(Fail::from("evict")),
     }
-    match &Step::parse(alloc, "acquire 0 7 BtoT")? {
+    match &step(alloc, "acquire 0 7 BtoT")? {
         Step::Acquire {
             client: _,
             block,
@@ -84,7 +89,7 @@ fn reads_steps(rt: HostRuntime) -> Result<(), Fail> {
         }
         _ => return Err(Fail::from("acquire")),
     }
-    match &Step::parse(alloc, "release 9 0 TtoB")? {
+    match &step(alloc, "release 9 0 TtoB")? {
         Step::Release {
             client,
             block: _,

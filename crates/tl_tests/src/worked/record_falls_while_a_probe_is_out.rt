@@ -1,35 +1,25 @@
 //! A record falls to None while a Probe is out: the reader that waits is granted Tip.
 
+use crate::worked::Trace;
 use crate::worked::parts::{FILL, STORE};
 use crate::worked::scripts::TWO_CLIENTS;
-use crate::worked::{Steps, Worked};
-use std::alloc::{AllocError, Global};
 
-const STEPS: Steps = &[
-    ("acquire 1 0 NtoB", "sent 0.1.A.0 6.0 AcquireBlock NtoB"),
-    ("accept 0.1.A.0", "ok"),
-    (
-        "release 0 0 TtoN",
-        "sent 0.0.C.0 7.1 ReleaseData TtoN aa00000000000000",
-    ),
-    ("advance 0", "sent 0.0.B.0 6.1 ProbeBlock toB"),
-    ("take_c 0.0.C.0", "sent 0.0.D.1 6.0 ReleaseAck"),
-    ("take_release_ack 0.0.D.1", "ok"),
-    ("answer_probe 0.0.B.0", "sent 0.0.C.1 4.5 ProbeAck NtoN"),
-    ("take_c 0.0.C.1", "ok"),
-    (
-        "advance 0",
-        "sent 0.1.D.0 5.0 GrantData toT aa00000000000000",
-    ),
-    ("take_grant 0.1.D.0", "sent 0.1.E.0 0.0 GrantAck"),
-    ("take_grant_ack 0.1.E.0", "ok"),
-];
+const STEPS: &str = "\
+acquire 1 0 NtoB => sent 0.1.A.0 6.0 AcquireBlock NtoB
+accept 0.1.A.0 => ok
+release 0 0 TtoN => sent 0.0.C.0 7.1 ReleaseData TtoN aa00000000000000
+advance 0 => sent 0.0.B.0 6.1 ProbeBlock toB
+take_c 0.0.C.0 => sent 0.0.D.1 6.0 ReleaseAck
+take_release_ack 0.0.D.1 => ok
+answer_probe 0.0.B.0 => sent 0.0.C.1 4.5 ProbeAck NtoN
+take_c 0.0.C.1 => ok
+advance 0 => sent 0.1.D.0 5.0 GrantData toT aa00000000000000
+take_grant 0.1.D.0 => sent 0.1.E.0 0.0 GrantAck
+take_grant_ack 0.1.E.0 => ok
+";
 
-pub fn trace(alloc: Global) -> Result<Worked, AllocError> {
-    let mut worked = Worked::new(alloc, TWO_CLIENTS)?;
-    worked.push(FILL)?;
-    worked.push(STORE)?;
-    worked.push(STEPS)?;
-    worked.close("block 0 dirty recorded NT copies NT\nbank 0 held 1 recorded 1 events 20\nend\n")?;
-    Ok(worked)
-}
+pub const TRACE: Trace = Trace {
+    head: TWO_CLIENTS,
+    parts: &[FILL, STORE, STEPS],
+    closing: "block 0 dirty recorded NT copies NT\nbank 0 held 1 recorded 1 events 20\nend\n",
+};
