@@ -3,7 +3,7 @@ ghost use Rattle.std.specs.Prelude.{◌≡◌, IfSome};
 ghost use Rattle.tl_tickets.specs.Inbox.{IsPassOf, IsReceiverOf};
 
 use crate::counts::{Counts, count};
-use crate::mails::{Own, Way, mail, open, open_bell};
+use crate::mails::{mail, open, open_bell};
 use std::alloc::Global;
 use std::cell::Cell;
 use std::process::Abort;
@@ -11,7 +11,7 @@ use std::sync::Wait;
 use std::test::Fail;
 use std::time::Clock;
 use tl_bank::{Loaded, Refusal, Share, When};
-use tl_client::{Agent, Command, Port, Success, Turn};
+use tl_client::{Agent, Command, Mail, Port, Success, Turn};
 use tl_map::{Geometry, GeometryNumbers};
 use tl_tickets::{Inbox, Pass, Receiver, Ringer, Sender};
 use tl_types::{BankNo, BlockNo, Channel, ClientId, Grow, Perm, Prune, Ticket};
@@ -136,30 +136,24 @@ fn put_grant<R: Wait>(rt: &R, sender: &mut Sender<'_>) -> bool
     sender.put(rt, grant).is_ok()
 }
 
-/// An idle turn over these ends, and the receiver's pass after it; `None` where it was no idle turn.
+/// An idle turn, and the receiver's pass after it; `None` where it was no idle turn.
 fn idle_turn<R: Wait + Clock>(
     rt: &R,
-    alloc: Global,
     agent: &mut Agent<'_>,
     port: &mut Refuser,
     gate: &Counts,
-    inbox: Receiver<'_>,
-    bell: Ringer<'_>,
+    mut mail: Mail<'_>,
 ) -> Option<Pass>
-    ensures { IfSome result (λ pass. IsReceiverOf inbox.entry.inbox pass) }
+    ensures { IfSome result (λ pass. IsReceiverOf mail.entry.inbox.inbox pass) }
 {
-    let (away, away_bell, _receiver, sender, _own, other) = open(alloc, 8)?;
-    let to_away = Way::new(Sender::new(&away, sender), Ringer::new(&away_bell, other));
-    let (done, rings, _hears) = open_bell(alloc)?;
-    let mut mail = mail(alloc, inbox, bell, to_away, Ringer::new(&done, rings))?;
     let Turn::Idle = agent.turn(rt, port, gate, 1, &mut mail) else {
         return None;
     };
     Some(mail.into_receiver().into_pass())
 }
 
-/// A turn over an inbox and bell of its own, in which a ticket waits that nobody rang for. How many tickets wait after it; `None` also
-/// where it was no idle turn.
+/// A turn over inboxes and bells of its own, in whose inbox a ticket waits that nobody rang for. How many tickets wait after it;
+/// `None` also where it was no idle turn.
 fn tickets_left<R: Wait + Clock>(
     rt: &R,
     alloc: Global,
@@ -168,18 +162,26 @@ fn tickets_left<R: Wait + Clock>(
     gate: &Counts,
 ) -> Option<u64> {
     let (inbox, bell, receiver, sender, own, _other) = open(alloc, 8)?;
+    let (away, away_bell, _receiver, to_away, _own, rings_away) = open(alloc, 8)?;
+    let (done, rings, _hears) = open_bell(alloc)?;
     let mut put = Sender::new(&inbox, sender);
     if !put_grant(rt, &mut put) {
         return None;
     }
-    let of_client = Receiver::new(&inbox, receiver);
-    let bell = Ringer::new(&bell, own);
-    let receiver = idle_turn(rt, alloc, agent, port, gate, of_client, bell)?;
+    let mail = mail(
+        alloc,
+        Receiver::new(&inbox, receiver),
+        Ringer::new(&bell, own),
+        Sender::new(&away, to_away),
+        Ringer::new(&away_bell, rings_away),
+        Ringer::new(&done, rings),
+    )?;
+    let receiver = idle_turn(rt, agent, port, gate, mail)?;
     let sender = put.into_pass();
     settle(alloc, inbox, receiver, sender)
 }
 
-/// A turn over an inbox and bell of its own.
+/// A turn over inboxes and bells of its own.
 fn turn<R: Wait + Clock>(
     rt: &R,
     alloc: Global,
@@ -188,23 +190,16 @@ fn turn<R: Wait + Clock>(
     gate: &Counts,
 ) -> Option<Turn> {
     let (inbox, bell, receiver, _sender, own, _other) = open(alloc, 8)?;
-    let of_client = Own::new(Receiver::new(&inbox, receiver), Ringer::new(&bell, own));
-    turn_with(rt, alloc, agent, port, gate, of_client)
-}
-
-/// The same, where the client's own ends are given.
-fn turn_with<R: Wait + Clock>(
-    rt: &R,
-    alloc: Global,
-    agent: &mut Agent<'_>,
-    port: &mut Refuser,
-    gate: &Counts,
-    of_client: Own<'_>,
-) -> Option<Turn> {
-    let (away, away_bell, _receiver, sender, _own, other) = open(alloc, 8)?;
-    let to_away = Way::new(Sender::new(&away, sender), Ringer::new(&away_bell, other));
+    let (away, away_bell, _receiver, to_away, _own, rings_away) = open(alloc, 8)?;
     let (done, rings, _hears) = open_bell(alloc)?;
-    let mut mail = of_client.mail(alloc, to_away, Ringer::new(&done, rings))?;
+    let mut mail = mail(
+        alloc,
+        Receiver::new(&inbox, receiver),
+        Ringer::new(&bell, own),
+        Sender::new(&away, to_away),
+        Ringer::new(&away_bell, rings_away),
+        Ringer::new(&done, rings),
+    )?;
     Some(agent.turn(rt, port, gate, 1, &mut mail))
 }
 

@@ -13,5 +13,3 @@ mod order;
 mod play;
 #[cfg(test)]
 mod silent;
-#[cfg(test)]
-mod workers;

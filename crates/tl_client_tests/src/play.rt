@@ -1,14 +1,13 @@
 //! One client and one bank, turn by turn in one thread.
 use crate::counts::Counts;
-use crate::mails::{Own, Way, open, open_bell};
-use crate::workers::{Client, Server};
+use crate::mails::{mail, open, open_bell};
 use std::alloc::Global;
 use std::process::Abort;
 use std::sync::Wait;
 use std::test::Fail;
 use std::time::Clock;
 use tl_bank::{Bank, Share};
-use tl_client::{Agent, Command, Home, Locked, Turn};
+use tl_client::{Agent, Command, Home, Locked, Mail, Turn};
 use tl_map::{Geometry, GeometryNumbers};
 use tl_text::Answered;
 use tl_tickets::{Receiver, Ringer, Sender};
@@ -44,24 +43,26 @@ fn lock(alloc: Global, geometry: Geometry) -> Option<(Locked, Vec<Share>)> {
     Some((locked, shares))
 }
 
-/// Turns of the client and of the server, one after another, until both have finished; what was answered.
+/// Turns of the agent and of the home, one after another, until both have finished; what was answered.
 fn take_turns<R: Wait + Clock>(
     rt: &R,
-    alloc: Global,
     locked: &Locked,
     gate: &Counts,
-    mut client: Client<'_>,
-    mut server: Server<'_>,
+    mut agent: Agent<'_>,
+    alloc: Global,
+    client_mail: &mut Mail<'_>,
+    home_mail: &mut Mail<'_>,
 ) -> Option<Vec<Answered>> {
-    let mut port = locked
-        .client_port(rt, alloc, gate, ClientId::new(0), 4)
-        .ok()?;
+    let client = ClientId::new(0);
+    let mut home = Home::new(alloc, BankNo::new(0)).ok()?;
+    let mut port = locked.client_port(rt, alloc, gate, client, 4).ok()?;
     let mut home_port = locked.home_port(rt, gate, BankNo::new(0))?;
     for _ in 0..TURNS {
-        let ours = client.turn(rt, &mut port, gate, 1);
-        let theirs = server.turn(rt, &mut home_port, gate, 1);
+        let ours = agent.turn(rt, &mut port, gate, 1, client_mail);
+        let theirs = home.turn(rt, &mut home_port, gate, 1, home_mail);
         if ours == Turn::Finished && theirs == Turn::Finished {
-            return Some(client.into_answered());
+            let (answered, _shares) = agent.into_parts();
+            return Some(answered);
         }
     }
     None
@@ -76,41 +77,32 @@ fn exchange<R: Wait + Clock>(
     agent: Agent<'_>,
 ) -> Option<Vec<Answered>> {
     let (inbox, bell, receiver, sender, own, other) = open(alloc, 8)?;
-    exchange_with(
-        rt,
+    let (home_inbox, home_bell, home_receiver, home_sender, home_own, home_other) = open(alloc, 8)?;
+    let (done, rings, hears) = open_bell(alloc)?;
+    let mut client_mail = mail(
         alloc,
+        Receiver::new(&inbox, receiver),
+        Ringer::new(&bell, own),
+        Sender::new(&home_inbox, home_sender),
+        Ringer::new(&home_bell, home_other),
+        Ringer::new(&done, rings),
+    )?;
+    let mut home_mail = mail(
+        alloc,
+        Receiver::new(&home_inbox, home_receiver),
+        Ringer::new(&home_bell, home_own),
+        Sender::new(&inbox, sender),
+        Ringer::new(&bell, other),
+        Ringer::new(&done, hears),
+    )?;
+    take_turns(
+        rt,
         locked,
         gate,
         agent,
-        Own::new(Receiver::new(&inbox, receiver), Ringer::new(&bell, own)),
-        Way::new(Sender::new(&inbox, sender), Ringer::new(&bell, other)),
-    )
-}
-
-/// The same, where the client's own ends are given, and the home's to it.
-fn exchange_with<R: Wait + Clock>(
-    rt: &R,
-    alloc: Global,
-    locked: &Locked,
-    gate: &Counts,
-    agent: Agent<'_>,
-    of_client: Own<'_>,
-    to_client: Way<'_>,
-) -> Option<Vec<Answered>> {
-    let (inbox, bell, receiver, sender, own, other) = open(alloc, 8)?;
-    let of_home = Own::new(Receiver::new(&inbox, receiver), Ringer::new(&bell, own));
-    let to_home = Way::new(Sender::new(&inbox, sender), Ringer::new(&bell, other));
-    let (done, rings, hears) = open_bell(alloc)?;
-    let client_mail = of_client.mail(alloc, to_home, Ringer::new(&done, rings))?;
-    let home_mail = of_home.mail(alloc, to_client, Ringer::new(&done, hears))?;
-    let home = Home::new(alloc, BankNo::new(0)).ok()?;
-    take_turns(
-        rt,
         alloc,
-        locked,
-        gate,
-        Client::new(agent, client_mail),
-        Server::new(home, home_mail),
+        &mut client_mail,
+        &mut home_mail,
     )
 }
 

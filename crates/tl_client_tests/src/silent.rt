@@ -1,19 +1,18 @@
 //! A client that holds a block and has no thread: the others wait for ever, and nothing is broken.
-use crate::mails::{Own, Way, mail_to_two, open, open_bell};
-use crate::workers::{Client, Server};
+use crate::mails::{mail, open, open_bell};
+use crossbeam_utils::sync::{Parker, Unparker};
 use std::alloc::Global;
-use std::marker::Model;
 use std::process::Abort;
 use std::sync::Wait;
 use std::test::Fail;
 use std::time::Clock;
 use tl_bank::{Action, Bank, Refusal, Share};
-use tl_client::{Agent, Command, Free, Home, Locked, Turn};
+use tl_client::{Agent, Command, Free, Home, Locked, Mail, Sending, Turn};
 use tl_map::{Geometry, GeometryNumbers};
 use tl_protocol::Shape;
 use tl_rules::Plain;
 use tl_tickets::{Receiver, Ringer, Sender};
-use tl_types::{BankNo, BlockNo, ClientId, Grow, Perm, Ticket};
+use tl_types::{BankNo, BlockNo, ClientId, Grow, Perm};
 
 /// Two clients, one bank with one way and one register, and two blocks of eight bytes.
 const NUMBERS: GeometryNumbers = GeometryNumbers {
@@ -37,55 +36,25 @@ const SHAPE: Shape = Shape {
     block_bytes: 8,
 };
 
-/// A bank with the share of client 0. Its model says nothing, so that calls in a row carry nothing along.
-#[derive(Drop)]
-struct Holder {
-    bank: Bank,
-    share: Share,
-}
-
-impl Model for Holder {
-    ghost Value = { Unit {0} };
-
-    ghost view = { λ _. tt };
-}
-
-impl Holder {
-    /// Client 0 gets block 0 to write it, by calls alone.
-    fn fetch(&mut self) -> Result<(), Refusal> {
-        let block = BlockNo::new(0);
-        self.ask(block)?;
-        for _ in 0..2 {
-            match self.bank.advance(block)? {
-                Action::Get => self.get(block)?,
-                Action::Grant(ticket) => self.take(ticket)?,
-                Action::Probe(_) | Action::Put(_) | Action::Drop => return Err(Refusal::NotYet),
+/// Client 0 gets block 0 to write it, by calls alone.
+fn fetch(bank: &mut Bank, share: &mut Share) -> Result<(), Refusal> {
+    let block = BlockNo::new(0);
+    let asked = bank.acquire(ClientId::new(0), block, Grow::NtoT)?;
+    bank.accept(asked)?;
+    for _ in 0..2 {
+        match bank.advance(block)? {
+            Action::Get => {
+                let _reply = bank.serve_memory(block)?;
+                bank.take_memory(block)?;
             }
+            Action::Grant(ticket) => {
+                let ack = bank.take_grant(ticket, share)?;
+                bank.take_grant_ack(ack)?;
+            }
+            Action::Probe(_) | Action::Put(_) | Action::Drop => return Err(Refusal::NotYet),
         }
-        Ok(())
     }
-
-    /// Client 0 asks for a block, and home accepts.
-    fn ask(&mut self, block: BlockNo) -> Result<(), Refusal> {
-        let asked = self.bank.acquire(ClientId::new(0), block, Grow::NtoT)?;
-        self.bank.accept(asked)
-    }
-
-    /// The memory serves home's Get, and home takes the data.
-    fn get(&mut self, block: BlockNo) -> Result<(), Refusal> {
-        let _reply = self.bank.serve_memory(block)?;
-        self.bank.take_memory(block)
-    }
-
-    /// Client 0 takes a Grant, and home the GrantAck.
-    fn take(&mut self, ticket: Ticket) -> Result<(), Refusal> {
-        let ack = self.bank.take_grant(ticket, &mut self.share)?;
-        self.bank.take_grant_ack(ack)
-    }
-
-    fn into_bank(self) -> Bank {
-        self.bank
-    }
+    Ok(())
 }
 
 /// Whether the bank's log, applied to the plain map, leaves what the bank shows of both clients and blocks.
@@ -110,103 +79,107 @@ fn replays(alloc: Global, bank: &Bank) -> Result<bool, Fail> {
 
 /// The bank behind its lock, once client 0 has block 0, and client 1's share.
 fn lock(alloc: Global, geometry: Geometry) -> Option<(Locked, Vec<Share>)> {
-    let (bank, mut given) = Bank::new(alloc, geometry, BankNo::new(0), &[]).ok()?;
+    let (mut bank, mut given) = Bank::new(alloc, geometry, BankNo::new(0), &[]).ok()?;
     let second = given.pop()?;
-    let share = given.pop()?;
-    let mut holder = Holder { bank, share };
-    holder.fetch().ok()?;
+    let mut first = given.pop()?;
+    fetch(&mut bank, &mut first).ok()?;
     let mut banks = Vec::new(alloc);
-    banks.push(holder.into_bank()).ok()?;
+    banks.push(bank).ok()?;
     let mut shares = Vec::new(alloc);
     shares.push(second).ok()?;
     let locked = Locked::new(alloc, geometry, banks).ok()?;
     Some((locked, shares))
 }
 
-/// So many turns of client 1 and of the server, on a load of block 0; how many answers there are.
+/// The ways of a home to its two clients. One thread plays both, so that a ring need wake nobody: each way wakes the home.
+fn two_ways<'a>(
+    alloc: Global,
+    to_first: Sender<'a>,
+    rings_first: Ringer<'a>,
+    to_second: Sender<'a>,
+    rings_second: Ringer<'a>,
+    rest: &Unparker,
+) -> Option<Vec<Sending<'a>>> {
+    let mut ways = Vec::new(alloc);
+    ways.push(Sending::new(alloc, to_first, rings_first, rest.clone().ok()?).ok()?)
+        .ok()?;
+    ways.push(Sending::new(alloc, to_second, rings_second, rest.clone().ok()?).ok()?)
+        .ok()?;
+    Some(ways)
+}
+
+/// So many turns of client 1's agent and of the home, on a load of block 0; how many answers there are.
 fn take_turns<R: Wait + Clock>(
     rt: &R,
     alloc: Global,
     locked: &Locked,
-    mut client: Client<'_>,
-    mut server: Server<'_>,
+    geometry: Geometry,
+    shares: Vec<Share>,
+    client_mail: &mut Mail<'_>,
+    home_mail: &mut Mail<'_>,
 ) -> Option<usize> {
+    let client = ClientId::new(1);
+    let commands = [Command::Load { address: 0, len: 1 }];
+    let mut agent = Agent::new(alloc, client, geometry, &commands, shares).ok()?;
+    let mut home = Home::new(alloc, BankNo::new(0)).ok()?;
     let gate = Free;
-    let mut port = locked
-        .client_port(rt, alloc, &gate, ClientId::new(1), 1)
-        .ok()?;
+    let mut port = locked.client_port(rt, alloc, &gate, client, 1).ok()?;
     let mut home_port = locked.home_port(rt, &gate, BankNo::new(0))?;
     for _ in 0..TURNS {
-        let ours = client.turn(rt, &mut port, &gate, 2);
-        let theirs = server.turn(rt, &mut home_port, &gate, 2);
+        let ours = agent.turn(rt, &mut port, &gate, 2, client_mail);
+        let theirs = home.turn(rt, &mut home_port, &gate, 2, home_mail);
         if ours == Turn::Finished || theirs == Turn::Finished {
             return None;
         }
     }
-    Some(client.into_answered().len())
+    let (answered, _shares) = agent.into_parts();
+    Some(answered.len())
 }
 
-/// What client 1's agent was answered while client 0 was silent.
+/// What client 1 was answered while client 0 was silent.
 fn wait_for_the_silent<R: Wait + Clock>(
     rt: &R,
     alloc: Global,
     locked: &Locked,
-    agent: Agent<'_>,
+    geometry: Geometry,
+    shares: Vec<Share>,
 ) -> Option<usize> {
-    let (inbox, bell, _receiver, sender, _own, other) = open(alloc, 8)?;
-    let to_silent = Way::new(Sender::new(&inbox, sender), Ringer::new(&bell, other));
-    wait_beside(rt, alloc, locked, agent, to_silent)
-}
-
-/// The same, where the home's ends to client 0 are given.
-fn wait_beside<R: Wait + Clock>(
-    rt: &R,
-    alloc: Global,
-    locked: &Locked,
-    agent: Agent<'_>,
-    to_silent: Way<'_>,
-) -> Option<usize> {
+    let (silent, silent_bell, _receiver, to_silent, _own, rings_silent) = open(alloc, 8)?;
     let (inbox, bell, receiver, sender, own, other) = open(alloc, 8)?;
-    wait_with(
-        rt,
-        alloc,
-        locked,
-        agent,
-        to_silent,
-        Own::new(Receiver::new(&inbox, receiver), Ringer::new(&bell, own)),
-        Way::new(Sender::new(&inbox, sender), Ringer::new(&bell, other)),
-    )
-}
-
-/// The same, where client 1's own ends are given too, and the home's to it.
-fn wait_with<R: Wait + Clock>(
-    rt: &R,
-    alloc: Global,
-    locked: &Locked,
-    agent: Agent<'_>,
-    to_silent: Way<'_>,
-    of_client: Own<'_>,
-    to_client: Way<'_>,
-) -> Option<usize> {
-    let (inbox, bell, receiver, sender, own, other) = open(alloc, 8)?;
-    let of_home = Own::new(Receiver::new(&inbox, receiver), Ringer::new(&bell, own));
-    let to_home = Way::new(Sender::new(&inbox, sender), Ringer::new(&bell, other));
+    let (home_inbox, home_bell, home_receiver, home_sender, home_own, home_other) = open(alloc, 8)?;
     let (done, rings, hears) = open_bell(alloc)?;
-    let client_mail = of_client.mail(alloc, to_home, Ringer::new(&done, rings))?;
-    let home_mail = mail_to_two(
+    let mut client_mail = mail(
         alloc,
-        of_home,
-        to_silent,
-        to_client,
-        Ringer::new(&done, hears),
+        Receiver::new(&inbox, receiver),
+        Ringer::new(&bell, own),
+        Sender::new(&home_inbox, home_sender),
+        Ringer::new(&home_bell, home_other),
+        Ringer::new(&done, rings),
     )?;
-    let home = Home::new(alloc, BankNo::new(0)).ok()?;
+    let parker = Parker::new(alloc).ok()?;
+    let ways = two_ways(
+        alloc,
+        Sender::new(&silent, to_silent),
+        Ringer::new(&silent_bell, rings_silent),
+        Sender::new(&inbox, sender),
+        Ringer::new(&bell, other),
+        parker.unparker(),
+    )?;
+    let mut home_mail = Mail::new(
+        Receiver::new(&home_inbox, home_receiver),
+        Ringer::new(&home_bell, home_own),
+        ways,
+        Ringer::new(&done, hears),
+        parker,
+    );
     take_turns(
         rt,
         alloc,
         locked,
-        Client::new(agent, client_mail),
-        Server::new(home, home_mail),
+        geometry,
+        shares,
+        &mut client_mail,
+        &mut home_mail,
     )
 }
 
@@ -216,9 +189,7 @@ fn nothing_is_answered_and_nothing_broken(rt: HostRuntime) -> Result<(), Fail> {
     let Some((locked, shares)) = lock(rt.alloc(), geometry) else {
         panic!(rt; "no memory");
     };
-    let commands = [Command::Load { address: 0, len: 1 }];
-    let agent = Agent::new(rt.alloc(), ClientId::new(1), geometry, &commands, shares)?;
-    let answered = wait_for_the_silent(&rt, rt.alloc(), &locked, agent);
+    let answered = wait_for_the_silent(&rt, rt.alloc(), &locked, geometry, shares);
     assert_eq!(rt; answered, Some(0));
     let Some(bank) = locked.into_banks(rt.alloc())?.pop() else {
         panic!(rt; "no bank");

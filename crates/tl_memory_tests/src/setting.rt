@@ -6,8 +6,8 @@ use tl_bank::{Bank, Share, When};
 use tl_conclude::{RunError, conclude};
 use tl_map::GeometryError;
 use tl_protocol::Event;
-use tl_text::Report;
 use tl_script::{Script, read_script};
+use tl_text::Report;
 use tl_tickets::{Missing, gather};
 use tl_types::{BankNo, BlockNo, Channel, ClientId, Grow, Ticket};
 

@@ -1,0 +1,5 @@
+pub mod Asked
+pub mod Calls
+pub mod Opens
+pub mod Told
+pub mod Views

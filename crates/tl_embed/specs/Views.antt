@@ -1,0 +1,120 @@
+-- What the views of a cache answer: each what its bank's view shows. They are told apart: 10 is what is not there, 4 an empty place,
+-- 16 no such view, 17 no such channel.
+use Rattle.std.specs.Prelude.{◌≡◌, ◌≢◌, ◌<◌, ◌≤◌, ℕ, ◌==◌, Bool, true, false, List, length, nat_lt, slice_get, Option, Some, None, if◌then◌else◌}
+use Rattle.std.specs.List.Sorted.{IsNonDecreasing, IsPermutation}
+use Rattle.tl_types.specs.Permission.{rank}
+use Rattle.tl_types.specs.declared.message.Message.{Message}
+use Rattle.tl_types.specs.declared.ticket.Ticket.{Ticket}
+use Rattle.tl_map.specs.Places.{bank_of, block_of_address, has_block}
+use Rattle.tl_protocol.specs.Ledger.{has_copy, is_recorded}
+use Rattle.tl_bank_spec.specs.Cases.{no_client}
+use Rattle.tl_bank_spec.specs.Tables.{copies_at}
+use Rattle.tl_bank_spec.specs.View.{View}
+use Rattle.tl_bank_spec.specs.Views.{IsQuiet, copy_perm_at, dirty_at, outward_at, own_blocks, pairs_at, peeked, recorded_at}
+use Rattle.tl_player.specs.NetworkState.{NetworkState, bank_at}
+use Rattle.tl_embed.specs.Asked.{ticket_named}
+use Rattle.tl_embed.specs.Told.{message_of, message_told, number_told, only, outward_told}
+use Rattle.tl_embed.specs.declared.answer.Answer.{Answer}
+use Rattle.tl_embed.specs.declared.request.Request.{Request}
+
+-- ## Of a block, at the bank where it lies
+
+-- the bank where a block lies, if the memory has it
+abbrev pub home_of : NetworkState → ℕ → Option View
+home_of network block = if has_block network.geometry block then bank_at network (bank_of network.geometry block) else None
+
+-- the same, if there is the client as well
+abbrev pub bank_for : NetworkState → ℕ → ℕ → Option View
+bank_for network client block = if nat_lt client network.geometry.clients then home_of network block else None
+
+-- what a bank shows, if it is there
+abbrev pub shown_by : Option View → (View → Answer) → Answer
+shown_by None show = only 10
+shown_by (Some v) show = show v
+
+-- a byte, or that the client may not read it
+abbrev pub byte_told : Option ℕ → Answer
+byte_told None = only 1
+byte_told (Some byte) = number_told byte
+
+-- 0 where home has no copy, 1 a clean one, 2 a dirty one
+abbrev pub home_number : Option Bool → ℕ
+home_number None = 0
+home_number (Some false) = 1
+home_number (Some true) = 2
+
+-- a view of a block
+abbrev pub block_told : NetworkState → Request → Answer
+block_told network r =
+    if r.call == 20 then shown_by (bank_for network r.client r.place) (λ v. number_told (rank (copy_perm_at v r.client r.place)))
+    else if r.call == 21 then shown_by (bank_for network r.client r.place) (λ v. number_told (rank (recorded_at v r.client r.place)))
+    else if r.call == 22 then
+    shown_by (bank_for network r.client (block_of_address network.geometry r.place)) (λ v. byte_told (peeked v r.client r.place))
+    else if r.call == 23 then shown_by (home_of network r.place) (λ v. number_told (home_number (dirty_at v r.place)))
+    else shown_by (home_of network r.place) (λ v. outward_told (outward_at v r.place))
+
+-- ## Of a bank
+
+-- how many copies a client has, or that it is not there
+abbrev pub copies_told : Option ℕ → Answer
+copies_told None = only 10
+copies_told (Some copies) = number_told copies
+
+-- a view of a bank
+abbrev pub bank_told : View → Request → Answer
+bank_told v r =
+    if r.call == 25 then number_told (pairs_at has_copy v)
+    else if r.call == 26 then number_told (pairs_at is_recorded v)
+    else if r.call == 27 then number_told (length v.log)
+    else if r.call == 29 then number_told v.room
+    else copies_told (if no_client v r.client then None else Some (copies_at v r.client))
+
+-- 1 where nothing is under way in a bank, else 0
+pub record QuietTold (v : View) (told : Answer) : Type 0 where
+  pub quiet : IsQuiet v → told ≡ number_told 1
+  pub busy : (IsQuiet v → ⊥) → told ≡ number_told 0
+
+-- a block, or that the list has no such place
+abbrev pub number_or_none : Option ℕ → Answer
+number_or_none None = only 4
+number_or_none (Some n) = number_told n
+
+-- the own block of an open register, by its place among them by rising number
+pub record OpenTold (v : View) (place : ℕ) (told : Answer) : Type 0 where
+  pub blocks : List ℕ
+  pub all : IsPermutation (own_blocks v) blocks
+  pub rising : IsNonDecreasing blocks
+  pub told_is : told ≡ number_or_none (slice_get blocks place)
+
+-- a view of a bank
+pub record BankTells (v : View) (r : Request) (told : Answer) : Type 0 where
+  pub quiet : r.call ≡ 31 → QuietTold v told
+  pub open_block : r.call ≡ 32 → OpenTold v r.serial told
+  pub other : r.call ≢ 31 → r.call ≢ 32 → told ≡ bank_told v r
+
+-- ## Of a ticket
+
+-- the message that a ticket names, or that it waits no more or not yet
+abbrev pub message_or_none : Ticket → Option Message → Answer
+message_or_none ticket None = only 4
+message_or_none ticket (Some message) = message_told ticket message.body message.block
+
+-- the message that a ticket names
+abbrev pub ticket_told : NetworkState → Option Ticket → Answer
+ticket_told network None = only 17
+ticket_told network (Some ticket) = message_or_none ticket (message_of network ticket)
+
+-- ## All views
+
+-- the bank that is asked tells, or is not there
+abbrev pub BankShows : Option View → Request → Answer → Type 0
+BankShows None r told = told ≡ only 10
+BankShows (Some v) r told = BankTells v r told
+
+-- What a request that asks for no step is answered.
+pub record Views (network : NetworkState) (r : Request) (told : Answer) : Type 0 where
+  pub block : 20 ≤ r.call → r.call ≤ 24 → told ≡ block_told network r
+  pub bank : 25 ≤ r.call → r.call ≤ 32 → BankShows (bank_at network r.bank) r told
+  pub message : r.call ≡ 33 → told ≡ ticket_told network (ticket_named r)
+  pub below : r.call < 20 → told ≡ only 16
+  pub above : 33 < r.call → told ≡ only 16

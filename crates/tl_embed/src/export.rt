@@ -1,0 +1,71 @@
+//! What C calls.
+ghost use Rattle.std.specs.Prelude.{◌≡◌};
+ghost use Rattle.std.specs.Align.{type_align};
+ghost use Rattle.std.specs.Borrow.{full_share, sem};
+ghost use Rattle.std.specs.Mem.{type_size};
+ghost use Rattle.std.specs.Ptr.{lies_at, room_at};
+ghost use Rattle.tl_embed.specs.Calls.{Calls};
+ghost use Rattle.tl_embed.specs.Opens.{Opens};
+ghost use Rattle.tl_embed.specs.Told.{echoed};
+ghost use Rattle.tl_embed.specs.contracts.cache.Cache.{the_row};
+ghost use Rattle.tl_embed.specs.declared.cache.Cache.{Cache};
+
+use crate::answer::Answer;
+use crate::cache::{Cache, Numbers, call, opened};
+use crate::request::Request;
+use std::alloc::Global;
+
+/// Which interface this is: it rises with each change of a struct, a number or a meaning.
+const VERSION: u32 = 1;
+
+/// Which interface this is.
+#[unsafe(no_mangle)]
+pub extern "C" fn jv_version() -> u32
+    ensures { result ≡ 1 }
+{
+    VERSION
+}
+
+/// How many bytes of room `jv_open` asks for.
+#[unsafe(no_mangle)]
+pub extern "C" fn jv_size() -> usize
+    ensures { result ≡ type_size the_row }
+{
+    std::mem::size_of::<Cache>()
+}
+
+/// What the address of the room divides by.
+#[unsafe(no_mangle)]
+pub extern "C" fn jv_align() -> usize
+    ensures { result ≡ type_align the_row }
+{
+    std::mem::align_of::<Cache>()
+}
+
+/// The request again, each of its fields in one of an answer.
+#[unsafe(no_mangle)]
+pub extern "C" fn jv_echo(request: &Request) -> Answer
+    ensures { result ≡ echoed request.now }
+{
+    request.echo()
+}
+
+/// Puts a cache into room for one: at reset over an image, or closed for the reason that each call then answers.
+#[unsafe(no_mangle)]
+pub unsafe extern "C" fn jv_open(alloc: Global, numbers: &Numbers, image: &[u8], room: *mut u8)
+    requires* { sem 𝓛 (room_at the_row room) }
+    ensures* { ∃ₛ (λ (made : Cache). sem 𝓛 (lies_at the_row full_share room made) ∗ ⌜ Opens numbers.now image.now made ⌝) }
+{
+    let made = opened(alloc, numbers, image);
+    unsafe { std::ptr::write(room as *mut Cache, made) }
+}
+
+/// Carries out a call of the cache at a pointer where `jv_open` put one.
+#[unsafe(no_mangle)]
+pub unsafe extern "C" fn jv_call(cache: *mut u8, request: &Request) -> Answer
+    ghost before: { Cache }
+    requires* { sem 𝓛 (lies_at the_row full_share cache before) }
+    ensures* { ∃ₛ (λ (after : Cache). sem 𝓛 (lies_at the_row full_share cache after) ∗ ⌜ Calls before request.now after result ⌝) }
+{
+    call(unsafe { &mut *(cache as *mut Cache) }, request)
+}

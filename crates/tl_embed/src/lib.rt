@@ -1,0 +1,9 @@
+//! The banks of a cache for callers in C: an opaque cache in room that C gives, and one function that asks a step or a view of it.
+#![tactic(auto)]
+
+mod answer;
+mod cache;
+mod export;
+mod request;
+mod tell;
+mod views;

@@ -1,0 +1,178 @@
+//! What a cache shows.
+ghost use Rattle.std.specs.Prelude.{◌≡◌};
+ghost use Rattle.std.specs.Option.{option_map};
+ghost use Rattle.tl_types.specs.Permission.{rank};
+ghost use Rattle.tl_embed.specs.Asked.{ticket_named};
+ghost use Rattle.tl_embed.specs.Told.{message_told, number_told};
+ghost use Rattle.tl_embed.specs.Views.{BankTells, OpenTold, QuietTold, Views, bank_for, bank_told, block_told, byte_told, home_number, home_of, ticket_told};
+
+use crate::answer::Answer;
+use crate::request::Request;
+use crate::tell::{message_of, message_told, number_told, outward_told};
+use tl_bank::Bank;
+use tl_player::Network;
+use tl_types::{BankNo, BlockNo, ClientId, Message, Perm, Ticket};
+
+/// What a request that asks for no step is answered: 20 perm, 21 directory, 22 peek, 23 home, 24 outward, 25 held, 26 recorded,
+/// 27 events, 29 room, 30 copies, 31 is_quiet, 32 open block, 33 message; 16 where it is none of these.
+pub fn view(network: &Network, request: &Request) -> Answer
+    ensures { Views network.now request.now result }
+{
+    match request.call {
+        20..=24 => of_block(network, request),
+        25..=32 => match network.bank(BankNo::new(request.bank)) {
+            Some(bank) => of_bank(bank, request),
+            None => Answer::only(10),
+        },
+        33 => of_ticket(network, request),
+        _ => Answer::only(16),
+    }
+}
+
+/// Of a block, at the bank where it lies.
+fn of_block(network: &Network, request: &Request) -> Answer
+    ensures { result ≡ block_told network.now request.now }
+{
+    let client = ClientId::new(request.client);
+    let block = BlockNo::new(request.place);
+    match request.call {
+        20 => match bank_for(network, client, block) {
+            Some(bank) => perm_told(bank.perm(client, block)),
+            None => Answer::only(10),
+        },
+        21 => match bank_for(network, client, block) {
+            Some(bank) => perm_told(bank.directory(client, block)),
+            None => Answer::only(10),
+        },
+        22 => match bank_for(network, client, network.geometry().block_at(request.place)) {
+            Some(bank) => byte_told(bank.peek(client, request.place)),
+            None => Answer::only(10),
+        },
+        23 => match home_of(network, block) {
+            Some(bank) => number_told(home_number(bank.home(block))),
+            None => Answer::only(10),
+        },
+        _ => match home_of(network, block) {
+            Some(bank) => outward_told(bank.outward(block)),
+            None => Answer::only(10),
+        },
+    }
+}
+
+/// The bank where a block lies, if the memory has it.
+fn home_of(network: &Network, block: BlockNo) -> Option<&Bank>
+    ensures { option_map (λ bank. bank.now) result ≡ home_of network.now block }
+{
+    if !network.geometry().has(block) {
+        return None;
+    }
+    network.bank(network.geometry().bank(block))
+}
+
+/// The same, if there is the client as well.
+fn bank_for(network: &Network, client: ClientId, block: BlockNo) -> Option<&Bank>
+    ensures { option_map (λ bank. bank.now) result ≡ bank_for network.now client block }
+{
+    if client.number() >= network.geometry().clients() {
+        return None;
+    }
+    home_of(network, block)
+}
+
+/// A permission: 0 None, 1 Branch, 2 Tip.
+fn perm_told(perm: Perm) -> Answer
+    ensures { result ≡ number_told (rank perm) }
+{
+    match perm {
+        Perm::None => number_told(0),
+        Perm::Branch => number_told(1),
+        Perm::Tip => number_told(2),
+    }
+}
+
+fn byte_told(byte: Option<u8>) -> Answer
+    ensures { result ≡ byte_told byte }
+{
+    match byte {
+        Some(byte) => number_told(u64::from(byte)),
+        None => Answer::only(1),
+    }
+}
+
+fn home_number(dirty: Option<bool>) -> u64
+    ensures { result ≡ home_number dirty }
+{
+    match dirty {
+        None => 0,
+        Some(false) => 1,
+        Some(true) => 2,
+    }
+}
+
+/// Of a bank.
+fn of_bank(bank: &Bank, request: &Request) -> Answer
+    ensures { BankTells bank.now request.now result }
+{
+    match request.call {
+        31 => quiet_told(bank),
+        32 => open_told(bank, request.serial),
+        _ => number_of(bank, request),
+    }
+}
+
+/// Of a bank: what follows from it alone.
+fn number_of(bank: &Bank, request: &Request) -> Answer
+    ensures { result ≡ bank_told bank.now request.now }
+{
+    match request.call {
+        25 => number_told(bank.held()),
+        26 => number_told(bank.outstanding()),
+        27 => number_told(bank.log().len() as u64),
+        29 => number_told(bank.room() as u64),
+        _ => match bank.copies_of(ClientId::new(request.client)) {
+            Some(copies) => number_told(copies),
+            None => Answer::only(10),
+        },
+    }
+}
+
+fn quiet_told(bank: &Bank) -> Answer
+    ensures { QuietTold bank.now result }
+{
+    if bank.is_quiet() {
+        number_told(1)
+    } else {
+        number_told(0)
+    }
+}
+
+fn open_told(bank: &Bank, place: u64) -> Answer
+    ensures { OpenTold bank.now place result }
+{
+    let blocks = bank.open_blocks();
+    match blocks.as_slice().get(place as usize) {
+        Some(block) => number_told(u64::from(block.number())),
+        None => Answer::only(4),
+    }
+}
+
+/// Of the message that a ticket names.
+fn of_ticket(network: &Network, request: &Request) -> Answer
+    ensures { result ≡ ticket_told network.now (ticket_named request.now) }
+{
+    let Some(ticket) = request.ticket() else {
+        return Answer::only(17);
+    };
+    let named = ticket;
+    match message_of(network, named) {
+        Some(message) => waiting_told(ticket, &message),
+        None => Answer::only(4),
+    }
+}
+
+/// A message that waits.
+fn waiting_told(ticket: Ticket, message: &Message) -> Answer
+    ensures { result ≡ message_told ticket message.now.body message.now.block }
+{
+    message_told(ticket, &message.body, message.block.number())
+}

@@ -1,0 +1,341 @@
+/* jinavoke.h: the banks of a Jinavoke cache, a proved TileLink TL-C home agent over a TL-UH memory, for C and C++.
+ *
+ * docs/EMBED.md tells how to build and link it. No thread is started, nothing is printed, no file is opened.
+ *
+ * WHAT IS PROVED, and checked before the archive is built (crates/tl_embed, specs/): each function below that is not
+ * `static inline` meets its contract, where the caller keeps the promises that follow.
+ *   jv_size, jv_align  the room that jv_open asks for.
+ *   jv_open            the room then holds all banks at reset over the image, or a cache that is closed, for the reason that
+ *                      is its status (`Opens`).
+ *   jv_call            the named step of the banks, and no other: the first of its refusals whose case holds is the status,
+ *                      and nothing changed; or it is done, and the answer tells what it did, all fields (`Calls`). Status 14
+ *                      is told only where the log had no room, and nothing changed. A view changes nothing.
+ *   jv_echo            the request again (`echoed`); jv_version the number 1.
+ * The functions that are `static inline` are C: they fill in a request and call jv_call, and are tested (examples/c), not
+ * proved. Of a sequence of calls no theorem is stated here; each bank keeps, by its type, that its log is a run of the protocol
+ * and that it holds what the log leaves (tl_bank, `Bank::log`).
+ *
+ * WHAT THE CALLER OWES; what is not kept is undefined, as in any C, and nothing here tests it:
+ *   1. `room` has jv_size() bytes at an address that jv_align() divides, and lies still: do not copy or move a cache.
+ *   2. `cache` points to room where jv_open put a cache. After jv_free, and before jv_open, there is none.
+ *   3. Nothing but these functions reads or writes the room, nor does a request lie in it.
+ *   4. One call of a cache runs at a time, on the thread that opened it: no second thread, no signal handler, no fork of a
+ *      process with threads in between. Two caches share nothing but malloc.
+ *   5. `numbers` and `request` point to initialised structs, `image` to `image_len` bytes, at most 2^63 - 1.
+ *   6. malloc, realloc and free are one allocator's, which aligns to 16. The stack has some 64 kilobytes left.
+ *
+ * WHAT A WRONG CALL GETS that keeps these:
+ *   any number in any field          a status of the table below; nothing changed unless it is 0
+ *   lawful or not, any jv_numbers    status 20 to 28, of the first that is not lawful; any image: 10 where it is too long
+ *   image NULL and length 0          an empty image (jv_new, jv_place); likewise bytes NULL with length 0 in a store
+ *   a call of a closed cache         status 18; closing it again: nothing
+ *   a refused answer as a ticket     a ticket of channel 5, which each call answers with 17
+ *   jv_free(NULL), jv_close(NULL)    nothing
+ *   jv_place over an open cache      what that holds is never freed: close it first
+ */
+#ifndef JINAVOKE_H
+#define JINAVOKE_H
+#include <stddef.h>
+#include <stdint.h>
+#include <stdlib.h>
+#include <string.h>
+#ifdef __cplusplus
+extern "C" {
+#endif
+
+#define JV_VERSION 1u
+
+typedef struct jv_cache jv_cache; /* all banks with their clients; opaque */
+
+/* The numbers of a cache, and the status where one is not lawful. */
+typedef struct {
+    int64_t version;       /* 1 or 2, which sets the limits of clients and copies (28) */
+    int64_t clients;       /* 1 to 8; in version 2 to 16 (20) */
+    int64_t banks;         /* 1, 2, 4, 8 (21) */
+    int64_t block_bytes;   /* 8, 16, 32, 64 (22) */
+    int64_t sets;          /* of a bank: a power of two, 1 to 64 (23) */
+    int64_t ways;          /* of a set: 1 to 8 (24) */
+    int64_t registers;     /* miss registers of a bank: 1 to 8 (25) */
+    int64_t copies;        /* of a client in a bank: 1 to 16; in version 2 to 64 (26) */
+    int64_t memory_blocks; /* 1 to 65536 (27): addresses are 0 to memory_blocks * block_bytes - 1 */
+} jv_numbers;
+
+enum jv_status { /* the status of an answer, and why a cache is closed */
+    JV_OK = 0,
+    JV_NO_PERMISSION = 1,    /* a load or peek below Branch, a store below Tip */
+    JV_WAITING = 2,          /* an Acquire or Release of the block by the client is unanswered */
+    JV_WRONG_FROM = 3,       /* the param does not start from the copy's permission */
+    JV_NOTHING_THERE = 4,    /* the channel is empty, or nothing of that kind is outward; a list has no such place */
+    JV_NOT_HEAD = 5,         /* the ticket is not the first message's, or that is of another kind than the call takes */
+    JV_RELEASE_PENDING = 6,  /* a Probe is answered before the ReleaseAck was taken */
+    JV_NO_REGISTER = 7,      /* all registers are in use, or every way of the set is held by one */
+    JV_BLOCK_BUSY = 8,       /* the block is the own block or the victim of an open register */
+    JV_NOT_YET = 9,          /* no register's own block, or it has nothing to do now; home does not hold the block to evict */
+    JV_OUT_OF_RANGE = 10,    /* a client, bank, block, address or length that is not there; an access that crosses a block */
+    JV_WRONG_BANK = 11,      /* the ticket belongs to another bank */
+    JV_COPIES_FULL = 12,     /* the client's table of copies is full */
+    JV_LINK_FULL = 13,       /* 64 messages are on the channel */
+    JV_NO_MEMORY = 14,       /* malloc or realloc answered NULL; nothing changed */
+    JV_CLOCK_FULL = 15,      /* the clocks stand at their end */
+    JV_NO_CALL = 16,         /* there is no such call */
+    JV_BAD_ARGUMENT = 17,    /* a length above 8, or a param or a channel that there is not */
+    JV_CLOSED = 18           /* the cache is closed: `serial` says why, 18 where its caller closed it */
+                             /* 20 to 28: a number that is not lawful */
+};
+
+enum jv_call_number {
+    JV_CALL_CLOSE = 0, JV_CALL_LOAD, JV_CALL_STORE, JV_CALL_ACQUIRE, JV_CALL_RELEASE, JV_CALL_ANSWER_PROBE, JV_CALL_TAKE_GRANT,
+    JV_CALL_TAKE_RELEASE_ACK, JV_CALL_ACCEPT, JV_CALL_ADVANCE, JV_CALL_TAKE_C, JV_CALL_TAKE_GRANT_ACK, JV_CALL_EVICT,
+    JV_CALL_SERVE_MEMORY, JV_CALL_TAKE_MEMORY,
+    JV_VIEW_PERM = 20, JV_VIEW_DIRECTORY, JV_VIEW_PEEK, JV_VIEW_HOME, JV_VIEW_OUTWARD, JV_VIEW_HELD, JV_VIEW_RECORDED,
+    JV_VIEW_EVENTS, JV_VIEW_ROOM = 29, JV_VIEW_COPIES, JV_VIEW_IS_QUIET, JV_VIEW_OPEN_BLOCK, JV_VIEW_MESSAGE
+};
+
+enum jv_channel { JV_A, JV_B, JV_C, JV_D, JV_E };
+enum jv_grow { JV_NTOB, JV_NTOT, JV_BTOT };                            /* the param of an Acquire */
+enum jv_prune { JV_TTOB, JV_TTON, JV_BTON };                           /* the param of a Release */
+enum jv_report { JV_REPORT_TTOB = 0, JV_REPORT_TTON = 1, JV_REPORT_BTON = 2, JV_REPORT_BTOB = 4, JV_REPORT_NTON = 5 }; /* of a ProbeAck */
+enum jv_cap { JV_TO_T, JV_TO_B, JV_TO_N };                             /* the param of a Probe or a Grant */
+enum jv_perm_number { JV_NONE, JV_BRANCH, JV_TIP };
+enum jv_opcode {
+    JV_OP_ACQUIRE_BLOCK = 6,                                                                     /* A */
+    JV_OP_PROBE_BLOCK = 6,                                                                       /* B */
+    JV_OP_PROBE_ACK = 4, JV_OP_PROBE_ACK_DATA = 5, JV_OP_RELEASE = 6, JV_OP_RELEASE_DATA = 7,    /* C */
+    JV_OP_GRANT = 4, JV_OP_GRANT_DATA = 5, JV_OP_RELEASE_ACK = 6,                                /* D */
+    JV_OP_GRANT_ACK = 0,                                                                         /* E */
+    JV_OP_PUT_FULL_DATA = 0, JV_OP_GET = 4, JV_OP_ACCESS_ACK = 0, JV_OP_ACCESS_ACK_DATA = 1      /* the memory's link: A, A, D, D */
+};
+enum jv_what { /* what an answer tells */
+    JV_TELLS_NOTHING, JV_TELLS_MESSAGE, JV_TELLS_MEMORY, JV_TELLS_DROPPED, JV_TELLS_LOADED, JV_TELLS_NUMBER,
+    JV_TELLS_OUTWARD = 7
+};
+enum jv_outward { JV_QUIET, JV_GET, JV_DATA, JV_PUT, JV_PUT_ACK };     /* what passes of a block to or from the memory */
+enum jv_home { JV_HOME_NONE, JV_HOME_CLEAN, JV_HOME_DIRTY };
+
+typedef struct { /* what a call does not use it takes no notice of */
+    uint32_t call;    /* jv_call_number */
+    uint32_t index;   /* of an access: its event in the log has it */
+    uint32_t client;
+    uint32_t place;   /* a block, or the address of an access */
+    uint32_t param;   /* jv_grow or jv_prune */
+    uint32_t bank;
+    uint32_t channel; /* of a ticket */
+    uint32_t len;     /* of an access: 1 to 8 */
+    uint64_t serial;  /* of a ticket; a place in a list, from 0 */
+    uint8_t bytes[8]; /* of a store, the first `len` */
+} jv_request;
+
+typedef struct { /* what is not told is 0 */
+    uint32_t status;  /* jv_status: where it is not 0 nothing else is told, but that `serial` of 18 says why */
+    uint32_t what;    /* jv_what */
+    uint32_t bank, client, channel; /* with `serial` the ticket of a message */
+    uint32_t opcode;  /* jv_opcode of a message */
+    uint32_t param;   /* of a message */
+    uint32_t place;   /* the block of a message of a client's link */
+    uint32_t address; /* of a message between home and the memory */
+    uint32_t size;    /* of a message between home and the memory: the base-2 logarithm of a block's bytes */
+    uint32_t index;   /* 0, but in an echo */
+    uint32_t len;     /* how many bytes there are */
+    uint64_t serial;  /* of a ticket; a view's number */
+    uint8_t bytes[64];
+} jv_answer;
+
+#if defined(__cplusplus) && __cplusplus >= 201103L
+#define JV_ASSERT_(holds, name) static_assert(holds, #name)
+#elif defined(__STDC_VERSION__) && __STDC_VERSION__ >= 201112L
+#define JV_ASSERT_(holds, name) _Static_assert(holds, #name)
+#else
+#define JV_ASSERT_(holds, name) typedef char jv_assert_##name[(holds) ? 1 : -1]
+#endif
+#define JV_AT_(type, field, at) JV_ASSERT_(offsetof(type, field) == (at), type##_##field)
+JV_AT_(jv_request, call, 0); JV_AT_(jv_request, index, 4); JV_AT_(jv_request, client, 8); JV_AT_(jv_request, place, 12);
+JV_AT_(jv_request, param, 16); JV_AT_(jv_request, bank, 20); JV_AT_(jv_request, channel, 24); JV_AT_(jv_request, len, 28);
+JV_AT_(jv_request, serial, 32); JV_AT_(jv_request, bytes, 40); JV_ASSERT_(sizeof(jv_request) == 48, whole_request);
+JV_AT_(jv_answer, status, 0); JV_AT_(jv_answer, what, 4); JV_AT_(jv_answer, bank, 8); JV_AT_(jv_answer, client, 12);
+JV_AT_(jv_answer, channel, 16); JV_AT_(jv_answer, opcode, 20); JV_AT_(jv_answer, param, 24); JV_AT_(jv_answer, place, 28);
+JV_AT_(jv_answer, address, 32); JV_AT_(jv_answer, size, 36); JV_AT_(jv_answer, index, 40); JV_AT_(jv_answer, len, 44);
+JV_AT_(jv_answer, serial, 48); JV_AT_(jv_answer, bytes, 56); JV_ASSERT_(sizeof(jv_answer) == 120, whole_answer);
+JV_AT_(jv_numbers, version, 0); JV_AT_(jv_numbers, clients, 8); JV_AT_(jv_numbers, banks, 16);
+JV_AT_(jv_numbers, block_bytes, 24); JV_AT_(jv_numbers, sets, 32); JV_AT_(jv_numbers, ways, 40);
+JV_AT_(jv_numbers, registers, 48); JV_AT_(jv_numbers, copies, 56); JV_AT_(jv_numbers, memory_blocks, 64);
+
+/* ---- the library's own functions */
+
+uint32_t jv_version(void);                      /* JV_VERSION of the archive */
+size_t jv_size(void);                           /* how many bytes of room a cache needs */
+size_t jv_align(void);                          /* what the room's address divides by */
+jv_answer jv_echo(const jv_request *request);   /* each field of the request in one of the answer, for jv_fits */
+void jv_open(const jv_numbers *numbers, const uint8_t *image, size_t image_len, void *room);
+jv_answer jv_call(jv_cache *cache, const jv_request *request);
+
+/* ---- making and closing */
+
+/* Whether this header's structs are laid out as the archive's: 1, else 0. jv_new asks it. */
+static inline int jv_fits(void) {
+    jv_request r; jv_answer a; int i, same = 1;
+    r.call = 101; r.index = 102; r.client = 103; r.place = 104; r.param = 105; r.bank = 106; r.channel = 107; r.len = 108;
+    r.serial = ((uint64_t)109 << 32) + 110;
+    for (i = 0; i < 8; i++) r.bytes[i] = (uint8_t)(200 + i);
+    if (jv_version() != JV_VERSION) return 0;
+    a = jv_echo(&r);
+    for (i = 0; i < 64; i++) same = same && a.bytes[i] == (i < 8 ? 200 + i : 0);
+    return same && a.status == 0 && a.what == r.call && a.index == r.index && a.client == r.client && a.place == r.place
+        && a.param == r.param && a.bank == r.bank && a.channel == r.channel && a.opcode == r.len && a.address == 1 && a.size == 2
+        && a.len == 8 && a.serial == r.serial;
+}
+/* A request of zeros with a call's number. */
+static inline jv_request jv_asks_(uint32_t call) { jv_request r; memset(&r, 0, sizeof r); r.call = call; return r; }
+/* A view: it leaves the cache as it was, so it takes a const one. */
+static inline jv_answer jv_look_(const jv_cache *c, const jv_request *r) { return jv_call((jv_cache *)c, r); }
+
+/* Puts a cache into room of jv_size() bytes at an address that jv_align() divides: at reset over the image (0 past it), or closed.
+   An image of length 0 may be NULL. */
+static inline jv_cache *jv_place(const jv_numbers *numbers, const uint8_t *image, size_t image_len, void *room) {
+    jv_open(numbers, image_len ? image : (const uint8_t *)"", image_len, room);
+    return (jv_cache *)room;
+}
+/* Why the cache is closed: 20 to 28, JV_OUT_OF_RANGE (the image is longer than the memory), JV_NO_MEMORY, JV_CLOSED (by its
+   caller); 0 where it is open. */
+static inline uint32_t jv_why_closed(const jv_cache *c) {
+    jv_request r = jv_asks_(JV_VIEW_ROOM); jv_answer a = jv_look_(c, &r); return a.status == JV_CLOSED ? (uint32_t)a.serial : 0;
+}
+/* Gives all that the cache holds back; the room is the caller's again. */
+static inline void jv_close(jv_cache *c) { if (c) { jv_request r = jv_asks_(JV_CALL_CLOSE); (void)jv_call(c, &r); } }
+/* A cache in room of malloc's; or NULL, with the reason in *status (which may be NULL) as jv_why_closed, or JV_NO_CALL where the
+   header is not the archive's. */
+static inline jv_cache *jv_new(const jv_numbers *numbers, const uint8_t *image, size_t image_len, uint32_t *status) {
+    uint32_t why = JV_NO_CALL; jv_cache *c = NULL;
+    if (jv_fits() && jv_align() <= 16) {
+        void *room = malloc(jv_size());
+        why = JV_NO_MEMORY;
+        if (room) { c = jv_place(numbers, image, image_len, room); why = jv_why_closed(c); if (why) { free(room); c = NULL; } }
+    }
+    if (status) *status = why;
+    return c;
+}
+/* Closes a cache of jv_new and gives its room back. */
+static inline void jv_free(jv_cache *c) { if (c) { jv_close(c); free(c); } }
+
+/* ---- tickets: where a message waits */
+
+typedef struct { uint32_t bank, client, channel; uint64_t serial; } jv_ticket;
+
+/* The ticket of the message that an answer tells; of an answer that tells none, one that no call takes (17). */
+static inline jv_ticket jv_sent(const jv_answer *a) {
+    jv_ticket t; t.bank = a->bank; t.client = a->client; t.serial = a->serial;
+    t.channel = a->status == 0 && a->what == JV_TELLS_MESSAGE ? a->channel : 5;
+    return t;
+}
+static inline jv_answer jv_by_ticket_(jv_cache *c, uint32_t call, jv_ticket t) {
+    jv_request r = jv_asks_(call); r.bank = t.bank; r.client = t.client; r.channel = t.channel; r.serial = t.serial;
+    return jv_call(c, &r);
+}
+static inline jv_answer jv_by_block_(jv_cache *c, uint32_t call, uint32_t block) {
+    jv_request r = jv_asks_(call); r.place = block; return jv_call(c, &r);
+}
+
+/* ---- the calls of clients. The bank is that of the block, the address or the ticket. */
+
+/* Reads 1 to 8 bytes of one block of the client's copy (bytes, len). `index` is the event's in the log. 1, 10, 15 */
+static inline jv_answer jv_load(jv_cache *c, uint32_t client, uint32_t address, uint32_t len, uint32_t index) {
+    jv_request r = jv_asks_(JV_CALL_LOAD); r.client = client; r.place = address; r.len = len; r.index = index; return jv_call(c, &r);
+}
+/* Writes 1 to 8 bytes of one block of the client's copy, which must be Tip. 1, 10, 15 */
+static inline jv_answer jv_store(jv_cache *c, uint32_t client, uint32_t address, const uint8_t *bytes, uint32_t len, uint32_t index) {
+    jv_request r = jv_asks_(JV_CALL_STORE); r.client = client; r.place = address; r.len = len; r.index = index;
+    if (len) memcpy(r.bytes, bytes, len <= 8 ? len : 8);
+    return jv_call(c, &r);
+}
+/* Sends an AcquireBlock on A. 2, 3, 10, 12, 13 */
+static inline jv_answer jv_acquire(jv_cache *c, uint32_t client, uint32_t block, enum jv_grow grow) {
+    jv_request r = jv_asks_(JV_CALL_ACQUIRE); r.client = client; r.place = block; r.param = (uint32_t)grow; return jv_call(c, &r);
+}
+/* Sends a Release on C, with the bytes where the copy is dirty. 2, 3, 10, 13 */
+static inline jv_answer jv_release(jv_cache *c, uint32_t client, uint32_t block, enum jv_prune prune) {
+    jv_request r = jv_asks_(JV_CALL_RELEASE); r.client = client; r.place = block; r.param = (uint32_t)prune; return jv_call(c, &r);
+}
+/* Takes the first Probe of the client's B and sends its ProbeAck on C. 4, 5, 6, 10, 11, 13 */
+static inline jv_answer jv_answer_probe(jv_cache *c, jv_ticket t) { return jv_by_ticket_(c, JV_CALL_ANSWER_PROBE, t); }
+/* Takes the first of the client's D, a Grant, and sends its GrantAck on E. 4, 5, 10, 11, 13 */
+static inline jv_answer jv_take_grant(jv_cache *c, jv_ticket t) { return jv_by_ticket_(c, JV_CALL_TAKE_GRANT, t); }
+/* Takes the first of the client's D, a ReleaseAck. 4, 5, 10, 11 */
+static inline jv_answer jv_take_release_ack(jv_cache *c, jv_ticket t) { return jv_by_ticket_(c, JV_CALL_TAKE_RELEASE_ACK, t); }
+/* Takes the first of the client's D, whichever it is: `a` is the answer that told the message. */
+static inline jv_answer jv_take_d(jv_cache *c, const jv_answer *a) {
+    return a->opcode == JV_OP_RELEASE_ACK ? jv_take_release_ack(c, jv_sent(a)) : jv_take_grant(c, jv_sent(a));
+}
+
+/* ---- the calls of home */
+
+/* Takes the first of the client's A, an AcquireBlock: a miss register opens for its block. 4, 5, 7, 8, 10, 11 */
+static inline jv_answer jv_accept(jv_cache *c, jv_ticket t) { return jv_by_ticket_(c, JV_CALL_ACCEPT, t); }
+/* The register whose own block this is does what is due: a Probe (of its block or of its victim: `place` tells which), a Get or a
+   PutFullData to the memory, a drop, or the Grant. 9, 10, 13 */
+static inline jv_answer jv_advance(jv_cache *c, uint32_t block) { return jv_by_block_(c, JV_CALL_ADVANCE, block); }
+/* Takes the first of the client's C: an answer to a Probe, or a Release, which is answered with a ReleaseAck on D. 4, 5, 10, 11, 13 */
+static inline jv_answer jv_take_c(jv_cache *c, jv_ticket t) { return jv_by_ticket_(c, JV_CALL_TAKE_C, t); }
+/* Takes the first of the client's E, a GrantAck: its register closes. 4, 5, 10, 11 */
+static inline jv_answer jv_take_grant_ack(jv_cache *c, jv_ticket t) { return jv_by_ticket_(c, JV_CALL_TAKE_GRANT_ACK, t); }
+/* Opens a register that sends home's copy of a block away; it logs no event. 7, 8, 9, 10 */
+static inline jv_answer jv_evict(jv_cache *c, uint32_t block) { return jv_by_block_(c, JV_CALL_EVICT, block); }
+
+/* ---- the calls of the memory: of the block that the Get or PutFullData names, a register's own or its victim */
+
+/* The memory answers the request: a Get with the bytes, a PutFullData once it is written. 4, 10 */
+static inline jv_answer jv_serve_memory(jv_cache *c, uint32_t block) { return jv_by_block_(c, JV_CALL_SERVE_MEMORY, block); }
+/* Home takes the memory's answer. 4, 10 */
+static inline jv_answer jv_take_memory(jv_cache *c, uint32_t block) { return jv_by_block_(c, JV_CALL_TAKE_MEMORY, block); }
+
+/* ---- views: they change nothing. `serial` is the number where the answer tells one; status 10 where there is no such client, bank,
+   block or address. Those of a client and a block or of a block look at the bank where the block lies. Each costs some tens of
+   nanoseconds, and jv_recorded and jv_is_quiet as the bank has ways and copies; none as the memory has blocks. */
+
+static inline jv_answer jv_of_block_(const jv_cache *c, uint32_t call, uint32_t client, uint32_t place) {
+    jv_request r = jv_asks_(call); r.client = client; r.place = place; return jv_look_(c, &r);
+}
+static inline jv_answer jv_of_bank_(const jv_cache *c, uint32_t call, uint32_t bank, uint32_t client, uint64_t serial) {
+    jv_request r = jv_asks_(call); r.bank = bank; r.client = client; r.serial = serial; return jv_look_(c, &r);
+}
+/* What the client may do with the block: jv_perm_number. */
+static inline jv_answer jv_perm(const jv_cache *c, uint32_t client, uint32_t block) { return jv_of_block_(c, JV_VIEW_PERM, client, block); }
+/* What home records of it: jv_perm_number. */
+static inline jv_answer jv_directory(const jv_cache *c, uint32_t client, uint32_t block) {
+    return jv_of_block_(c, JV_VIEW_DIRECTORY, client, block);
+}
+/* The byte at an address of the client's copy; status 1 where it may not read it. */
+static inline jv_answer jv_peek(const jv_cache *c, uint32_t client, uint32_t address) {
+    return jv_of_block_(c, JV_VIEW_PEEK, client, address);
+}
+/* Home's copy of the block: jv_home. */
+static inline jv_answer jv_home_copy(const jv_cache *c, uint32_t block) { return jv_of_block_(c, JV_VIEW_HOME, 0, block); }
+/* What passes of the block between home and the memory: jv_outward, with the bytes of JV_DATA and JV_PUT. */
+static inline jv_answer jv_outward_of(const jv_cache *c, uint32_t block) { return jv_of_block_(c, JV_VIEW_OUTWARD, 0, block); }
+/* How many copies the clients have in the bank. */
+static inline jv_answer jv_held(const jv_cache *c, uint32_t bank) { return jv_of_bank_(c, JV_VIEW_HELD, bank, 0, 0); }
+/* For how many pairs of client and block home of the bank records a permission. */
+static inline jv_answer jv_recorded(const jv_cache *c, uint32_t bank) { return jv_of_bank_(c, JV_VIEW_RECORDED, bank, 0, 0); }
+/* How many events the bank's log has. It grows by one with each step that is done (evict: none), some 40 bytes, for ever. */
+static inline jv_answer jv_events(const jv_cache *c, uint32_t bank) { return jv_of_bank_(c, JV_VIEW_EVENTS, bank, 0, 0); }
+/* How many more events of the bank need no memory. */
+static inline jv_answer jv_room(const jv_cache *c, uint32_t bank) { return jv_of_bank_(c, JV_VIEW_ROOM, bank, 0, 0); }
+/* How many copies the client has in the bank. */
+static inline jv_answer jv_copies(const jv_cache *c, uint32_t bank, uint32_t client) {
+    return jv_of_bank_(c, JV_VIEW_COPIES, bank, client, 0);
+}
+/* 1 where no register of the bank is open, no message waits, no client waits for an answer and nothing passes to the memory. */
+static inline jv_answer jv_is_quiet(const jv_cache *c, uint32_t bank) { return jv_of_bank_(c, JV_VIEW_IS_QUIET, bank, 0, 0); }
+/* The own block of an open register of the bank, by its place among them by rising number; status 4 past the last. */
+static inline jv_answer jv_open_block(const jv_cache *c, uint32_t bank, uint64_t place) {
+    return jv_of_bank_(c, JV_VIEW_OPEN_BLOCK, bank, 0, place);
+}
+/* The message that a ticket names, told as when it was sent; status 4 where it is taken or not yet sent. The serials of a channel
+   count its messages from 0, and they are taken in that order: so a bench that has taken n of them finds those that wait at n,
+   n + 1 and so on, until the status is 4. */
+static inline jv_answer jv_message(const jv_cache *c, jv_ticket t) {
+    jv_request r = jv_asks_(JV_VIEW_MESSAGE); r.bank = t.bank; r.client = t.client; r.channel = t.channel; r.serial = t.serial;
+    return jv_look_(c, &r);
+}
+#ifdef __cplusplus
+}
+#endif
+#endif

@@ -1,0 +1,96 @@
+/* Requests of random numbers, and numbers and images at the edges of what opens: each answer has a status of the table, tells
+ * nothing where it is refused, and a view or a refused call leaves the counts of the banks as they were. Status 1 where one does
+ * not. */
+#include "jinavoke.h"
+#include <stdio.h>
+
+static uint64_t state;
+static uint64_t next(void) { state ^= state << 13; state ^= state >> 7; state ^= state << 17; return state; }
+/* a small number, mostly; or one of all 64 bits */
+static uint64_t some(uint32_t small) {
+    static const uint64_t edges[] = {0, 1, 7, 8, 9, 0x7fffffff, 0x80000000u, 0xffffffffu, 0x100000000u, 0x7fffffffffffffffu, ~(uint64_t)0};
+    switch (next() % 8) {
+    case 0: return edges[next() % (sizeof edges / sizeof *edges)];
+    case 1: return next();
+    default: return next() % small;
+    }
+}
+static int is_zero(const jv_answer *a) {
+    int i;
+    for (i = 0; i < 64; i++) if (a->bytes[i]) return 0;
+    return !a->what && !a->bank && !a->client && !a->channel && !a->opcode && !a->param && !a->place && !a->address && !a->size
+        && !a->index && !a->len;
+}
+static uint64_t events(const jv_cache *c) {
+    uint32_t bank; uint64_t sum = 0;
+    for (bank = 0; bank < 8; bank++) sum += jv_events(c, bank).serial;
+    return sum;
+}
+static long wrong, by_status[32];
+static void judge(const jv_request *r, const jv_answer *a, uint64_t before, uint64_t after) {
+    int ok = a->status <= 18 && a->len <= 64;
+    by_status[a->status & 31]++;
+    if (a->status) ok = ok && is_zero(a) && (a->serial == 0 || a->status == JV_CLOSED) && after == before;
+    if (a->status == 0 && r->call >= 15) ok = ok && after == before;
+    if (a->status == 0 && r->call >= 1 && r->call <= 14) ok = ok && after == before + (r->call != JV_CALL_EVICT);
+    if (r->call > 15 && (r->call < 20 || r->call > 33)) ok = ok && a->status == JV_NO_CALL;
+    if (!ok && ++wrong < 10) printf("call %u: status %u what %u, %llu events, then %llu\n", r->call, a->status, a->what,
+        (unsigned long long)before, (unsigned long long)after);
+}
+static void feed(jv_cache *c, long steps) {
+    jv_ticket last = {0, 0, 5, 0};
+    long i; int k;
+    for (i = 0; i < steps; i++) {
+        jv_request r; jv_answer a; uint64_t before = events(c);
+        r.call = 1 + (uint32_t)some(34); r.index = (uint32_t)some(9); r.client = (uint32_t)some(4); r.place = (uint32_t)some(64);
+        r.param = (uint32_t)some(3); r.bank = (uint32_t)some(2); r.channel = (uint32_t)some(5); r.len = (uint32_t)some(9);
+        r.serial = some(8);
+        if (r.call == 0) r.call = 1;                         /* not the one that closes */
+        for (k = 0; k < 8; k++) r.bytes[k] = (uint8_t)next();
+        if (next() % 2) { r.bank = last.bank; r.client = last.client; r.channel = last.channel; r.serial = last.serial; }
+        a = jv_call(c, &r);
+        judge(&r, &a, before, events(c));
+        if (a.status == 0 && a.what == JV_TELLS_MESSAGE) last = jv_sent(&a);
+    }
+}
+static void edges(void) { /* numbers and images that do not open */
+    static const int64_t odd[] = {-1, 0, 3, 65, 65537, INT64_MIN, INT64_MAX};
+    const jv_numbers good = {1, 4, 2, 8, 1, 2, 2, 4, 8};
+    static const uint32_t wants[] = {28, 20, 21, 22, 23, 24, 25, 26, 27};
+    uint8_t image[65] = {0};
+    uint32_t why, i, k;
+    for (i = 0; i < 9; i++) for (k = 0; k < 7; k++) {
+        jv_numbers n = good;
+        int64_t *field = &n.version + i;
+        if (i == 4 && odd[k] == 3) continue;
+        if (i == 5 && odd[k] == 3) continue;
+        *field = odd[k];
+        if ((i == 1 || i == 6 || i == 7 || i == 8) && odd[k] == 3) continue;
+        if (i == 8 && odd[k] == 65) continue;
+        if (jv_new(&n, image, 64, &why) || why != wants[i]) { printf("field %u is %lld: %u\n", i, (long long)odd[k], why); wrong++; }
+    }
+    if (jv_new(&good, image, 65, &why) || why != JV_OUT_OF_RANGE) { printf("long image: %u\n", why); wrong++; }
+    if (jv_new(&good, image, (size_t)1 << 62, &why) || why != JV_OUT_OF_RANGE) { printf("longer image: %u\n", why); wrong++; }
+}
+int main(int argc, char **argv) {
+    const jv_numbers n = {1, 4, 2, 8, 1, 2, 2, 4, 8};
+    uint32_t why; jv_cache *c; jv_request r; jv_answer a; jv_ticket t; int i;
+    state = argc > 1 ? (uint64_t)atol(argv[1]) * 2654435761u + 1 : 1;
+    if (!jv_fits()) { printf("the header is not the archive's\n"); return 1; }
+    edges();
+    c = jv_new(&n, NULL, 0, &why);
+    if (!c) { printf("jv_new: %u\n", why); return 1; }
+    feed(c, argc > 2 ? atol(argv[2]) : 100000);
+    memset(&a, 0, sizeof a); a.status = 3; t = jv_sent(&a);
+    if (jv_accept(c, t).status != JV_BAD_ARGUMENT || jv_store(c, 0, 0, NULL, 0, 0).status != JV_OUT_OF_RANGE) { printf("a bad ticket is taken\n"); wrong++; }
+    jv_close(c); jv_close(c);
+    for (r = jv_asks_(0); r.call < 40; r.call++) {
+        a = jv_call(c, &r);
+        if (a.status != JV_CLOSED || a.serial != JV_CLOSED || !is_zero(&a)) { printf("call %u of a closed cache: %u\n", r.call, a.status); wrong++; }
+    }
+    jv_free(c); jv_free(NULL); jv_close(NULL);
+    printf("seed %s: %ld wrong; by status", argc > 1 ? argv[1] : "1", wrong);
+    for (i = 0; i < 32; i++) if (by_status[i]) printf(" %d:%ld", i, by_status[i]);
+    printf("\n");
+    return wrong != 0;
+}
