@@ -55,7 +55,7 @@ fn foot_lines(banks: &[BankClosing]) -> usize {
     lines
 }
 
-/// The opening tag, the title, and the paper.
+/// The opening tag, the title, and the background.
 fn push_opening(text: &mut String, sheet: Sheet<'_>) -> Result<(), AllocError> {
     let width = width(sheet.chart);
     let foot = foot_lines(sheet.banks)

@@ -12,13 +12,7 @@ use crate::entry;
 use crate::share::Share;
 use tl_copies::Held;
 use tl_protocol::CachedCopy;
-use tl_types::{BlockNo, Channel, ClientId, Perm};
-
-/// How many bytes an access has at most.
-const MOST: usize = 8;
-
-/// How many messages may be on a channel.
-const PLACES: usize = 64;
+use tl_types::{ACCESS_BYTES, BlockNo, Channel, ClientId, MESSAGES, Perm};
 
 impl Bank {
     /// What a client's table has of a block.
@@ -91,7 +85,7 @@ impl Bank {
     {
         client.number() >= self.geometry.clients()
             || len == 0
-            || len > MOST
+            || len > ACCESS_BYTES
             || !self.geometry.has_bytes(address, len)
     }
 
@@ -130,7 +124,7 @@ impl Bank {
         requires { client < self.now.geometry.clients }
         ensures { result ≡ link_full self.now client channel }
     {
-        self.links.waiting(client, channel) >= PLACES
+        self.links.waiting(client, channel) >= MESSAGES
     }
 
     /// Whether a share is of another client, or of this bank with another count than the client's copies.
