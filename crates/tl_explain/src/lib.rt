@@ -1,0 +1,8 @@
+//! Explains what a monitor on the links saw: finds a run of the protocol that has just these messages, loads and stores.
+#![tactic(auto)]
+
+mod answer;
+mod seen;
+
+pub use answer::{Explanation, explain};
+pub use seen::{Seen, Wire};
