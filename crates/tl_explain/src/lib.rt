@@ -2,7 +2,14 @@
 #![tactic(auto)]
 
 mod answer;
+mod marks;
+mod remedy;
+mod search;
 mod seen;
+mod sight;
+mod target;
+mod walk;
+mod wires;
 
 pub use answer::{Explanation, explain};
 pub use seen::{Seen, Wire};
