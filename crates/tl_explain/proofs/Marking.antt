@@ -1,7 +1,6 @@
 -- Marks on what was seen: the first on a wire that has none is the next there.
-use Rattle.std.proofs.Common.{◌≡◌, ◌≢◌, ◌<◌, ◌+◌, ℕ, zero, suc, Bool, true, false, cond, ◌==◌, List, [], ◌∷◌, ◌++◌, length, set, get_or, replicate, Option, Some, None, slice_get, refl, sym, ap, ◌∙◌, subst, arith, eqb-true}
+use Rattle.std.proofs.Common.{◌≡◌, ◌<◌, ℕ, zero, suc, Bool, true, false, cond, List, [], ◌∷◌, ◌++◌, length, set, get_or, replicate, Some, slice_get, refl, sym, ap, ◌∙◌, subst, arith, eqb-true}
 use Rattle.std.proofs.lemmas.List.{length-set}
-use Rattle.tl_types.specs.Channel.{same_channel}
 use Rattle.tl_types.proofs.Lanes.{is_here-true, same_channel-true}
 use Rattle.tl_types.specs.declared.channel.Channel.{Channel}
 use Rattle.tl_explain.specs.Explained.{on, same_wire, wire_of}

@@ -1,10 +1,10 @@
 -- How far a run goes along what was seen: what a walk along it keeps. No public clause cites these.
-use Rattle.std.specs.Prelude.{◌≡◌, ◌<◌, ◌≤◌, ℕ, Bool, true, false, List, [], ◌∷◌, ◌++◌, length, slice_index_or, if◌then◌else◌}
+use Rattle.std.specs.Prelude.{◌≡◌, ◌<◌, ℕ, Bool, true, false, List, [], ◌∷◌, ◌++◌, length, slice_index_or, if◌then◌else◌}
 use Rattle.tl_protocol.specs.declared.event.Event.{Event}
 use Rattle.tl_protocol.specs.declared.shape.Shape.{Shape}
 use Rattle.tl_lanes.specs.Lawful.{Lawful}
 use Rattle.tl_judge.specs.Judged.{Follows, JudgeState}
-use Rattle.tl_explain.specs.Explained.{on, same_wire, seen_along, wire_of}
+use Rattle.tl_explain.specs.Explained.{on, seen_along}
 use Rattle.tl_explain.specs.declared.seen.Seen.{Seen}
 use Rattle.tl_explain.specs.declared.seen.Wire.{Wire}
 

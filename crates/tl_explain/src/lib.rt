@@ -2,11 +2,13 @@
 #![tactic(auto)]
 
 mod answer;
+mod clients;
 mod marks;
 mod remedy;
 mod search;
 mod seen;
 mod sight;
+mod sooner;
 mod target;
 mod walk;
 mod wires;

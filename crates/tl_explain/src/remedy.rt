@@ -1,46 +1,12 @@
 //! What has to come before an event that may not come yet.
+use crate::clients::{Which, in_way};
 use crate::seen::{Seen, Wire};
+use crate::sooner::granted_first;
 use crate::target::target;
 use crate::wires::Wires;
 use tl_judge::{Breach, Judge, Rule, client_of};
 use tl_rules::{BlockState, Client, Event, Outward};
-use tl_types::{BlockNo, Channel, ClientId, GrantCap, Perm, Wait};
-
-/// Which of the clients stand in the way of an event.
-#[derive(Clone, Copy)]
-enum Which {
-    /// One with a Grant pending.
-    Granted,
-    /// One with a Probe pending.
-    Probed,
-    /// One that home records.
-    Recorded,
-    /// One that home records at Tip.
-    AtTip,
-    /// Another one that home records.
-    OtherThan(ClientId),
-}
-
-fn is_in_way(k: &Client, c: ClientId, which: Which) -> bool {
-    match which {
-        Which::Granted => !k.has_no_grant(),
-        Which::Probed => !k.has_no_probe(),
-        Which::Recorded => k.recorded != Perm::None,
-        Which::AtTip => k.recorded == Perm::Tip,
-        Which::OtherThan(own) => c != own && k.recorded != Perm::None,
-    }
-}
-
-/// The first client that is in the way.
-fn in_way(state: &BlockState, clients: u32, which: Which) -> Option<ClientId> {
-    for number in 0..clients {
-        let c = ClientId::new(number);
-        if is_in_way(state.client(c)?, c, which) {
-            return Some(c);
-        }
-    }
-    None
-}
+use tl_types::{BlockNo, Channel, ClientId, GrantCap, Wait};
 
 /// What takes the next step between home and the memory.
 fn outward_step(state: &BlockState, block: BlockNo) -> Option<Event> {
@@ -92,59 +58,15 @@ fn client_step(
     }
 }
 
-/// The client whose Grant of a block is seen first.
-fn granted_first(judge: &Judge, wires: &Wires, seen: &[Seen], block: BlockNo) -> Option<ClientId> {
-    let shape = judge.plain().shape();
-    let mut first = None;
-    let mut least = seen.len();
-    for number in 0..shape.clients {
+/// A client whose Acquire of a block is first on A, else one that has it on A.
+fn asking(judge: &Judge, state: &BlockState, clients: u32, block: BlockNo) -> Option<ClientId> {
+    for number in 0..clients {
         let c = ClientId::new(number);
-        if let Some(place) = wires.next_grant(seen, c, block) {
-            if place < least {
-                least = place;
-                first = Some(c);
-            }
+        if judge.first_on(c, Channel::A) == Some(block) {
+            return Some(c);
         }
     }
-    first
-}
-
-/// Home has a copy that it gives up before it serves this client: a Get is seen before the client's next message on C.
-fn is_fetched_anew(
-    judge: &Judge,
-    wires: &Wires,
-    seen: &[Seen],
-    state: &BlockState,
-    c: ClientId,
-    block: BlockNo,
-) -> bool {
-    let shape = judge.plain().shape();
-    if !state.is_at_home() || in_way(state, shape.clients, Which::Recorded).is_some() {
-        return false;
-    }
-    let Some(get) = wires.next_get(seen, block) else {
-        return false;
-    };
-    match wires.next_of(shape, seen, Wire::Link(c, Channel::C), block) {
-        Some(given_up) => get < given_up,
-        None => true,
-    }
-}
-
-/// Home begins to serve a client, once it has given up its copy where it is fetched anew.
-fn serve(
-    judge: &Judge,
-    wires: &Wires,
-    seen: &[Seen],
-    state: &BlockState,
-    c: ClientId,
-    block: BlockNo,
-) -> Option<Event> {
-    if is_fetched_anew(judge, wires, seen, state, c, block) {
-        Some(Event::Drop(block))
-    } else {
-        Some(Event::AcceptAcquire(c, block))
-    }
+    in_way(state, clients, Which::Asking)
 }
 
 /// What a client does first.
@@ -207,13 +129,19 @@ fn home_before(
         Rule::OthersLeaveRoom => room_for(state, clients, c, block),
         Rule::ServesThisClient => match state.accepted() {
             Some(acquire) => Some(Event::TakeGrantAck(acquire.client, block)),
-            None => serve(judge, wires, seen, state, c, block),
+            None => Some(Event::AcceptAcquire(c, block)),
         },
         Rule::ServesAnAcquire => {
             if state.is_at_home() {
                 Some(Event::Drop(block))
             } else {
-                Some(Event::AcceptAcquire(granted_first(judge, wires, seen, block)?, block))
+                Some(Event::AcceptAcquire(
+                    match granted_first(clients, wires, seen, block) {
+                        Some(first) => first,
+                        None => asking(judge, state, clients, block)?,
+                    },
+                    block,
+                ))
             }
         }
         Rule::HomeHasTheBlock => match state.outward() {
@@ -257,7 +185,7 @@ fn unlike(
         }
         Event::SendGrant(_, _) => {
             let clients = judge.plain().shape().clients;
-            let other = in_way(state, clients, Which::OtherThan(c));
+            let other = in_way(state, clients, Which::Giving(c));
             Some(Event::TakeC(other.unwrap_or(c), block))
         }
         _ => None,

@@ -6,6 +6,7 @@ ghost use Rattle.tl_judge.specs.Judged.{own_block};
 use crate::remedy::remedy;
 use crate::seen::{Seen, Wire};
 use crate::sight::seen_of;
+use crate::sooner::sooner;
 use crate::target::{target, wire_of};
 use crate::wires::Wires;
 use std::alloc::{AllocError, Global};
@@ -82,6 +83,10 @@ fn ready_for(judge: &Judge, wires: &Wires, seen: &[Seen], wanted: Event) -> Opti
     let mut event = wanted;
     for _ in 0..DEPTH {
         event = in_order(judge, wires, seen, event)?;
+        if let Some(first) = sooner(judge, wires, seen, &event) {
+            event = first;
+            continue;
+        }
         let entry = Entry { event, shown: None };
         let breach = judge.breach(&entry);
         if breach.is_none() && is_next(judge, wires, seen, &entry.event) {

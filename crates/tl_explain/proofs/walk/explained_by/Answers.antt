@@ -1,7 +1,7 @@
-use Rattle.std.proofs.Common.{◌≡◌, List, sym, subst, refl, rules}
+use Rattle.std.proofs.Common.{List, sym, subst, refl}
 use Rattle.tl_protocol.specs.declared.event.Event.{Event}
 use Rattle.tl_explain.specs.Left.{GoesAlong}
-use Rattle.tl_explain.proofs.Along.{explains, starts}
+use Rattle.tl_explain.proofs.Along.{starts}
 use Rattle.tl_explain.proofs.walk.explained_by.Goals as goal
 
 pub loop-event-init : goal.loop-event-init

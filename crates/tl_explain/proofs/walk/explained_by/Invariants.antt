@@ -1,4 +1,3 @@
-use Rattle.std.proofs.Common.{◌≡◌}
 use Rattle.tl_explain.specs.Left.{GoesAlong}
 use Rattle.tl_explain.proofs.walk.explained_by.Given as goal
 

@@ -1,4 +1,4 @@
-use Rattle.std.proofs.Common.{◌≡◌, Option, sym, subst, ◌∙◌, rules}
+use Rattle.std.proofs.Common.{Option, sym, subst, ◌∙◌, rules}
 use Rattle.tl_explain.specs.Left.{IsMarked, MarkState}
 use Rattle.tl_explain.specs.declared.seen.Seen.{Seen}
 use Rattle.tl_explain.proofs.Along.{IsMarkedBy, goes_on}

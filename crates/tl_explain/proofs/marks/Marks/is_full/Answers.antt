@@ -1,4 +1,4 @@
-use Rattle.std.proofs.Common.{◌≡◌, ℕ, ap, arith}
+use Rattle.std.proofs.Common.{◌≡◌, ap, arith}
 use Rattle.tl_explain.specs.Left.{MarkState}
 use Rattle.tl_explain.proofs.Marking.{all_marked}
 use Rattle.tl_explain.proofs.marks.Marks.is_full.Goals as goal

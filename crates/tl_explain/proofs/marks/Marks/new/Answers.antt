@@ -1,4 +1,4 @@
-use Rattle.std.proofs.Common.{◌≡◌, List, Bool, ap, ◌∙◌}
+use Rattle.std.proofs.Common.{List, Bool, ap, ◌∙◌}
 use Rattle.tl_explain.specs.Left.{left}
 use Rattle.tl_explain.proofs.Marking.{none_marked}
 use Rattle.tl_explain.proofs.marks.Marks.new.Goals as goal
