@@ -1,5 +1,5 @@
 #!/usr/bin/env python3
-"""wires.py TLCACHE TLWIRE [TRACES] [SEED]: plays random traces, and writes what a monitor on the links would have seen of each bank.
+"""wires.py TLCACHE TLWIRE [TRACES] [SEED] [--tlgen TLGEN]: plays random traces, and writes what a monitor on the links would have seen of each bank.
 
 Each message is seen at some time between the event that sends it and the one that takes it, each channel in order: as a monitor at either end of
 a buffer, or between two buffers, would see it. Loads and stores are seen when they are made. tlwire must explain each of these records. Prints
@@ -10,6 +10,8 @@ import random
 import sys
 import tempfile
 from concurrent.futures import ThreadPoolExecutor
+
+from soak import GivenTrace, Soak, Trace, places
 
 OPCODES = {
     "AcquireBlock": 6, "ProbeBlock": 6, "ProbeAck": 4, "ProbeAckData": 5, "Release": 6, "ReleaseData": 7, "Grant": 4, "GrantData": 5, "ReleaseAck": 6,
@@ -72,7 +74,7 @@ class Record:
             if call == "take_grant":
                 self.send((client, "E"), block, time, "GrantAck")
             shown = words[4:] if call in ("acquire", "release", "probe") else words[3:]
-            if shown:
+            if shown and call != "take_grant":
                 channel = {"acquire": "A", "probe": "B", "release": "C", "answer_probe": "C", "grant": "D", "take_c": "D"}[call]
                 self.send((client, channel), block, time, *shown)
 
@@ -159,3 +161,48 @@ class Ids:
         if len(it.words) > 2:
             fields.append(f"data={it.words[2]}")
         return " ".join([name, channel, str(OPCODES[kind])] + fields)
+
+
+class Wires(Soak):
+    """Traces, and the answer to what a monitor would have seen of them."""
+
+    def explained(self, seed):
+        ask = lambda text: self.answer([self.tlcache, "trace"], f"trace{seed}", text)
+        trace = GivenTrace(self.given(seed, "trace", "ways=1"), ask) if self.tlgen else Trace(seed, ask)
+        trace.learn(*places(trace.numbers))
+        wrong = trace.grow()
+        if wrong:
+            return [wrong], 0, 0
+        rng, wrong, records, seen = random.Random(f"wires {seed}"), [], 0, 0
+        for number, text in enumerate(trace.records()):
+            record = Record(text)
+            for late in (0, 0.2, 1):
+                records, seen = records + 1, seen + len(record.all)
+                status, output, fault = self.answer([self.tlcheck], f"wires{seed}", record.text(rng, late))
+                if status:
+                    wrong.append(f"trace {seed}, record {number}, late {late}: status {status}, {(output + fault).decode()}")
+        return wrong, records, seen
+
+
+def main():
+    words, tlgen = sys.argv[1:], None
+    if "--tlgen" in words[:-1]:
+        place = words.index("--tlgen")
+        tlgen = os.path.abspath(words[place + 1])
+        del words[place:place + 2]
+    if len(words) < 2:
+        sys.exit(__doc__)
+    traces, seed = ([int(word) for word in words[2:]] + [200, 1][len(words) - 2:])[:2]
+    wrong, records, seen = [], 0, 0
+    with tempfile.TemporaryDirectory() as folder, ThreadPoolExecutor(2) as pool:
+        wires = Wires(os.path.abspath(words[0]), os.path.abspath(words[1]), tlgen, folder)
+        for said, made, lines in pool.map(wires.explained, range(seed, seed + traces)):
+            wrong, records, seen = wrong + said, records + made, seen + lines
+    print(f"{traces} traces: {records} records of {seen} lines, {len(wrong)} not explained")
+    for it in wrong[:20]:
+        print(it)
+    sys.exit(1 if wrong else 0)
+
+
+if __name__ == "__main__":
+    main()

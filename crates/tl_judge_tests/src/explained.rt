@@ -76,7 +76,7 @@ fn line(number: usize, damage: Damage) -> Seen {
     }
 }
 
-fn said(alloc: Global, damage: Damage, order: &[usize]) -> Result<Said, AllocError> {
+fn answer_to(alloc: Global, damage: Damage, order: &[usize]) -> Result<Said, AllocError> {
     let mut seen = Vec::new(alloc);
     for number in order {
         seen.push(line(*number, damage))?;
@@ -97,16 +97,19 @@ const IN_ORDER: [usize; 12] = [0, 1, 2, 3, 4, 5, 6, 7, 8, 9, 10, 11];
 #[test]
 fn what_is_explained(rt: HostRuntime) -> Result<(), Fail> {
     let alloc = rt.alloc();
-    assert_eq!(rt; said(alloc, Damage::Nothing, &[])?, Said::Explained(0));
+    assert_eq!(rt; answer_to(alloc, Damage::Nothing, &[])?, Said::Explained(0));
     assert_eq!(rt;
-        said(alloc, Damage::Nothing, &IN_ORDER)?,
+        answer_to(alloc, Damage::Nothing, &IN_ORDER)?,
         Said::Explained(17)
     );
     for order in [
         [0, 3, 1, 2, 4, 5, 6, 8, 7, 9, 10, 11],
         [0, 1, 2, 4, 5, 3, 6, 9, 7, 8, 10, 11],
     ] {
-        assert_eq!(rt; said(alloc, Damage::Nothing, &order)?, Said::Explained(17));
+        assert_eq!(rt;
+            answer_to(alloc, Damage::Nothing, &order)?,
+            Said::Explained(17)
+        );
     }
     Ok(())
 }
@@ -119,12 +122,12 @@ fn what_is_not(rt: HostRuntime) -> Result<(), Fail> {
         (Damage::GrantsTip, 9),
         (Damage::LoadsOldBytes, 11),
     ] {
-        let found = said(alloc, damage, &IN_ORDER)?;
+        let found = answer_to(alloc, damage, &IN_ORDER)?;
         assert_eq!(rt; found, Said::NotExplained(place), "at {damage:?}");
     }
-    let no_answer = said(alloc, Damage::Nothing, &[0, 1, 2, 3, 4, 5, 6, 7, 9, 10, 11])?;
+    let no_answer = answer_to(alloc, Damage::Nothing, &[0, 1, 2, 3, 4, 5, 6, 7, 9, 10, 11])?;
     assert_eq!(rt; no_answer, Said::NotExplained(8));
-    let no_acquire = said(alloc, Damage::Nothing, &[1, 2, 3, 4])?;
+    let no_acquire = answer_to(alloc, Damage::Nothing, &[1, 2, 3, 4])?;
     assert_eq!(rt; no_acquire, Said::NotExplained(0));
     Ok(())
 }
