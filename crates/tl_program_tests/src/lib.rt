@@ -1,0 +1,12 @@
+//! Tests of the program where no script leads: files, outputs and words that fail, the texts of a run's faults, and gates that show
+//! the threads and locks of a run.
+#![tactic(auto)]
+
+#[cfg(test)]
+mod asked;
+#[cfg(test)]
+mod faults;
+#[cfg(test)]
+mod files;
+#[cfg(test)]
+mod gates;
