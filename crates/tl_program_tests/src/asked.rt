@@ -17,7 +17,7 @@ ways = 1\n\
 registers = 1\n\
 copies = 1\n\
 memory_blocks = 1\n\
-turns = 1\n";
+turns = 1000000\n";
 
 /// The job of a trace or of a run.
 pub fn job_of(alloc: Global, traces: bool) -> Result<Result<Job, JobError>, AllocError> {

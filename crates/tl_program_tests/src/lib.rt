@@ -1,5 +1,5 @@
-//! Tests of the program where no script leads: files, outputs and words that fail, the texts of a run's faults, and gates that show
-//! the threads and locks of a run.
+//! Tests of the program where no script leads: words of its command line, files and outputs that fail, the texts of a run's faults,
+//! and gates that show the threads and locks of a run.
 #![tactic(auto)]
 
 #[cfg(test)]
@@ -10,3 +10,5 @@ mod faults;
 mod files;
 #[cfg(test)]
 mod gates;
+#[cfg(test)]
+mod words;

@@ -137,3 +137,46 @@ pub fn print_row(rt: &HostRuntime, name: &str, is_as_told: bool) -> io::Result<(
     };
     println!(rt; "{name}: {told}")
 }
+
+/// Whether a run of a script is refused with this fault and status 1.
+fn is_refused_so<R: Threads + Wait + Clock + Sync>(
+    rt: &R,
+    alloc: Global,
+    fault: &str,
+    script: &str,
+) -> io::Result<bool> {
+    let answer = answer_of(rt, alloc, false, script.as_bytes())?;
+    let wanted = format!(in alloc; "{fault}\nstatus 1\n")?;
+    Ok(answer.as_slice() == wanted.as_bytes())
+}
+
+/// How many of the scripts of a text are refused with their faults, and the fault of the first that is not. Each script follows a line
+/// with `=== ` and its fault.
+pub fn refused_so<'a, R: Threads + Wait + Clock + Sync>(
+    rt: &R,
+    alloc: Global,
+    text: &'a str,
+) -> io::Result<(u32, Option<&'a str>)> {
+    let mut count = 0u32;
+    for section in text.split("=== ").skip(1) {
+        let (fault, script) = section.split_once('\n').unwrap_or((section, ""));
+        if !is_refused_so(rt, alloc, fault, script)? {
+            return Ok((count, Some(fault)));
+        }
+        count = count.saturating_add(1);
+    }
+    Ok((count, None))
+}
+
+/// The text of `refused.txt`.
+pub fn refused_scripts(rt: &HostRuntime) -> io::Result<String> {
+    fs::read_to_string(rt, "refused.txt")
+}
+
+/// Prints how many scripts are refused with their faults.
+pub fn print_refused(rt: &HostRuntime, count: u32, other: Option<&str>) -> io::Result<()> {
+    if let Some(fault) = other {
+        println!(rt; "refused.txt: another answer after {count} at {fault}")?;
+    }
+    println!(rt; "refused.txt: {count} scripts as told")
+}

@@ -2,7 +2,7 @@
 //!
 //! `data/NAME.toml` is a script; `NAME.1.out`, `NAME.2.out` and on are what `tlcache` may write for it: its output, its fault line,
 //! and its status where that is not 0. There is more than one where they depend on who comes first. `NAME.svg` and `NAME.mmd` are
-//! the pictures of a script.
+//! the pictures of a script. `refused.txt` has scripts that are refused, each after a line with its fault.
 #![tactic(auto)]
 
 mod answers;
@@ -27,6 +27,9 @@ fn main(rt: HostRuntime) -> io::Result<()> {
         let is_so = answers::is_as_told(&rt, alloc, &script, &wanted)?;
         answers::print_row(&rt, name, is_so)?;
     }
+    let refused = answers::refused_scripts(&rt)?;
+    let (count, other) = answers::refused_so(&rt, alloc, &refused)?;
+    answers::print_refused(&rt, count, other)?;
     charts::print_rows(&rt)?;
     if let Some(total) = bells::rows(&rt, alloc) {
         println!(rt; "rung over both seats: {total}")?;

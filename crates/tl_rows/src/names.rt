@@ -1,7 +1,7 @@
 //! The names of the scripts.
 
 /// Traces, and runs that stall or whose script is refused: each has one answer.
-pub const DECIDED: [(&str, bool); 30] = [
+pub const DECIDED: [(&str, bool); 26] = [
     ("both-upgrade", true),
     ("doubled-early-and-foreign-tickets", true),
     ("every-way-is-held", true),
@@ -22,21 +22,18 @@ pub const DECIDED: [(&str, bool); 30] = [
     ("wide-blocks", true),
     ("a-full-channel", true),
     ("the-largest-trace", true),
-    ("nine-clients-in-version-1", false),
-    ("too-many-blocks", false),
-    ("no-value", false),
+    ("forms-of-steps", true),
     ("not-a-text", false),
-    ("no-turns", false),
-    ("a-load-over-the-end-of-a-block", false),
-    ("commands-of-a-second-client", false),
-    ("a-number-with-a-leading-zero", false),
+    ("one-command-too-many", false),
+    ("one-step-too-many", false),
     ("one-turn", false),
     ("more-commands-than-turns", false),
 ];
 
 /// Runs that end, and how many reports each may have.
-pub const RUNS: [(&str, u32); 17] = [
+pub const RUNS: [(&str, u32); 18] = [
     ("two-bytes", 1),
+    ("forms-of-commands", 1),
     ("no-commands", 1),
     ("image", 1),
     ("drop-between", 1),
