@@ -1,7 +1,7 @@
 //! The names of the scripts.
 
 /// Traces, and runs that stall or whose script is refused: each has one answer.
-pub const DECIDED: [(&str, bool); 26] = [
+pub const DECIDED: [(&str, bool); 27] = [
     ("both-upgrade", true),
     ("doubled-early-and-foreign-tickets", true),
     ("every-way-is-held", true),
@@ -22,6 +22,7 @@ pub const DECIDED: [(&str, bool); 26] = [
     ("wide-blocks", true),
     ("a-full-channel", true),
     ("the-largest-trace", true),
+    ("the-victim-was-granted-longest-ago", true),
     ("forms-of-steps", true),
     ("not-a-text", false),
     ("one-command-too-many", false),
