@@ -1,11 +1,11 @@
-//! Small scripts of a bank's calls: each answer, what the views show on the way, and that a call whose growth of the log was refused
-//! changes nothing and answers the same when it is asked again. Answers are worked out from the rules.
+//! What only calls reach: a clock at its end, room made ahead, and that a call whose growth of the log was refused changes nothing and
+//! answers the same when it is asked again. Answers are worked out from the rules.
 use crate::session::{Answer, Session};
 use std::process::Abort;
 use std::test::Fail;
 use tl_bank::{Action, Refusal, When};
 use tl_map::GeometryNumbers;
-use tl_types::{BankNo, BlockNo, Channel, ClientId, Grow, Perm, Prune, Ticket};
+use tl_types::{BankNo, BlockNo, Channel, ClientId, Grow, Ticket};
 
 /// Two clients with two copies each, one bank with one set of two ways, two registers, and four blocks of eight bytes.
 const NUMBERS: GeometryNumbers = GeometryNumbers {
@@ -20,23 +20,14 @@ const NUMBERS: GeometryNumbers = GeometryNumbers {
     memory_blocks: 4,
 };
 
-/// The same with one way and one register.
-const ONE_WAY: GeometryNumbers = GeometryNumbers {
-    ways: 1,
-    registers: 1,
-    ..NUMBERS
-};
-
 const NOW: When = When { clock: 0, index: 0 };
 
 #[derive(Clone, Copy)]
 enum Call {
     Store(u32, u32, u8),
     Acquire(u32, u32, Grow),
-    Release(u32, u32, Prune),
     /// Whichever call takes a message of the ticket's channel: on D, a Grant.
     Take(Ticket),
-    TakeReleaseAck(Ticket),
     Advance(u32),
     ServeMemory(u32),
     TakeMemory(u32),
@@ -76,12 +67,7 @@ impl Session {
             Call::Acquire(number, asked, grow) => {
                 self.acquire(client(number), block(asked), grow).map(Some)
             }
-            Call::Release(number, given, prune) => {
-                let client = client(number);
-                self.release(client, block(given), prune, client).map(Some)
-            }
             Call::Take(ticket) => self.take(ticket),
-            Call::TakeReleaseAck(ticket) => self.take_release_ack(ticket).map(|()| None),
             Call::Advance(asked) => self.step(block(asked)),
             Call::ServeMemory(asked) => self.serve_memory(block(asked)).map(|()| None),
             Call::TakeMemory(asked) => self.take_memory(block(asked)).map(|()| None),
@@ -147,125 +133,6 @@ fn fill_and_store() -> [(Call, Answer); 9] {
         (Call::Take(at(0, Channel::E, 0)), Ok(None)),
         (Call::Store(0, 0, 0xaa), Ok(None)),
     ]
-}
-
-/// Client 1 acquires block 1, for which block 0 has to leave the only way.
-fn evict_and_fill() -> [(Call, Answer); 15] {
-    [
-        (
-            Call::Acquire(1, 1, Grow::NtoT),
-            Ok(Some(at(1, Channel::A, 0))),
-        ),
-        (Call::Take(at(1, Channel::A, 0)), Ok(None)),
-        (Call::Advance(1), Ok(Some(at(0, Channel::B, 0)))),
-        (
-            Call::Take(at(0, Channel::B, 0)),
-            Ok(Some(at(0, Channel::C, 0))),
-        ),
-        (Call::Take(at(0, Channel::C, 0)), Ok(None)),
-        (Call::Advance(1), Ok(None)),
-        (Call::Advance(1), Err(Refusal::NotYet)),
-        (Call::ServeMemory(0), Ok(None)),
-        (Call::TakeMemory(0), Ok(None)),
-        (Call::Advance(1), Ok(None)),
-        (Call::ServeMemory(1), Ok(None)),
-        (Call::TakeMemory(1), Ok(None)),
-        (Call::Advance(1), Ok(Some(at(1, Channel::D, 0)))),
-        (
-            Call::Take(at(1, Channel::D, 0)),
-            Ok(Some(at(1, Channel::E, 0))),
-        ),
-        (Call::Take(at(1, Channel::E, 0)), Ok(None)),
-    ]
-}
-
-#[test]
-fn an_eviction_writes_back(rt: HostRuntime) -> Result<(), Fail> {
-    let mut session = Session::new(rt.alloc(), ONE_WAY)?;
-    session.play(&fill_and_store())?;
-    session.play(&evict_and_fill())?;
-    assert_eq!(rt; session.events(), 23);
-    assert_eq!(rt; session.home(block(0)), None);
-    assert_eq!(rt; session.home(block(1)), Some(false));
-    assert_eq!(rt; session.perm(client(1), block(1)), Perm::Tip);
-    assert_eq!(rt; session.copies().0, 1);
-    assert!(rt; session.is_quiet());
-    Ok(())
-}
-
-#[test]
-fn a_writer_is_shown(rt: HostRuntime) -> Result<(), Fail> {
-    let mut session = Session::new(rt.alloc(), NUMBERS)?;
-    session.play(&fill_and_store())?;
-    assert!(rt; session.writer(block(0)) == Some(client(0)));
-    assert_eq!(rt; session.peek(client(0), 0), Some(0xaa));
-    assert_eq!(rt; session.peek(client(1), 0), None);
-    Ok(())
-}
-
-#[test]
-fn a_grant_on_its_way_is_recorded_and_not_held(rt: HostRuntime) -> Result<(), Fail> {
-    let mut session = Session::new(rt.alloc(), NUMBERS)?;
-    session.play(&fill_and_store())?;
-    session.play(&[
-        (
-            Call::Acquire(1, 0, Grow::NtoB),
-            Ok(Some(at(1, Channel::A, 0))),
-        ),
-        (Call::Take(at(1, Channel::A, 0)), Ok(None)),
-        (Call::Advance(0), Ok(Some(at(0, Channel::B, 0)))),
-        (
-            Call::Take(at(0, Channel::B, 0)),
-            Ok(Some(at(0, Channel::C, 0))),
-        ),
-        (Call::Take(at(0, Channel::C, 0)), Ok(None)),
-        (Call::Advance(0), Ok(Some(at(1, Channel::D, 0)))),
-    ])?;
-    assert_eq!(rt; session.directory(client(1), block(0)), Perm::Branch);
-    assert_eq!(rt; session.perm(client(1), block(0)), Perm::None);
-    assert!(rt; session.writer(block(0)).is_none());
-    assert_eq!(rt; session.copies(), (1, 2));
-    assert!(rt; !session.is_quiet());
-    assert_eq!(rt; session.open_blocks(), 1);
-    Ok(())
-}
-
-#[test]
-fn a_release_on_its_way_is_recorded_and_not_held(rt: HostRuntime) -> Result<(), Fail> {
-    let mut session = Session::new(rt.alloc(), NUMBERS)?;
-    session.play(&fill_and_store())?;
-    session.play(&[
-        (
-            Call::Acquire(1, 0, Grow::NtoT),
-            Ok(Some(at(1, Channel::A, 0))),
-        ),
-        (Call::Take(at(1, Channel::A, 0)), Ok(None)),
-        (
-            Call::Release(0, 0, Prune::TtoN),
-            Ok(Some(at(0, Channel::C, 0))),
-        ),
-    ])?;
-    assert_eq!(rt; session.copies(), (0, 1));
-    session.play(&[
-        (Call::Advance(0), Ok(Some(at(0, Channel::B, 0)))),
-        (
-            Call::Take(at(0, Channel::B, 0)),
-            Err(Refusal::ReleasePending),
-        ),
-        (
-            Call::Take(at(0, Channel::C, 0)),
-            Ok(Some(at(0, Channel::D, 1))),
-        ),
-    ])?;
-    assert_eq!(rt; session.copies(), (0, 0));
-    assert!(rt; !session.is_quiet());
-    session.play(&[
-        (Call::TakeReleaseAck(at(0, Channel::D, 1)), Ok(None)),
-        (
-            Call::Take(at(0, Channel::B, 0)),
-            Ok(Some(at(0, Channel::C, 1))),
-        ),
-    ])
 }
 
 #[test]

@@ -197,11 +197,6 @@ impl Session {
         self.bank.perm(client, block)
     }
 
-    /// What is recorded of a client's copy of a block.
-    pub fn directory(&self, client: ClientId, block: BlockNo) -> Perm {
-        self.bank.directory(client, block)
-    }
-
     /// How many copies a client has.
     pub fn copies_of(&self, client: ClientId) -> Option<u64> {
         self.bank.copies_of(client)
@@ -210,11 +205,6 @@ impl Session {
     /// A client's byte at an address.
     pub fn peek(&self, client: ClientId, address: u32) -> Option<u8> {
         self.bank.peek(client, address)
-    }
-
-    /// The client that may write a block.
-    pub fn writer(&self, block: BlockNo) -> Option<ClientId> {
-        self.bank.writer(block)
     }
 
     /// The block that a client was granted longest ago.
