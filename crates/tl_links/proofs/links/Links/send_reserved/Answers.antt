@@ -1,8 +1,8 @@
-use Rattle.std.proofs.Common.{◌≡◌, ◌≢◌, ◌<◌, ◌∙◌, length, ap, sym, arith}
+use Rattle.std.proofs.Common.{◌≡◌, ◌≢◌, ◌<◌, ◌∙◌, length, ap, arith}
 use Rattle.tl_types.specs.Lane.{Lane, with_message}
 use Rattle.tl_links.specs.Table.{LinkTable, lane_in}
 use Rattle.tl_links.proofs.Counts.{IsCounted-sent, lane-read, number-most}
-use Rattle.tl_links.proofs.links.Links.send.Goals as goal
+use Rattle.tl_links.proofs.links.Links.send_reserved.Goals as goal
 
 pub overflow_add-self : goal.overflow_add-self
 overflow_add-self c = rw c.index.ensures.value (omega (arith, number-most c.self.invariant c.args.channel))
@@ -15,10 +15,8 @@ invariant_of-self c =
     let known : x < c.self.inside.clients = rw (← c.self.view_is) at c.requires.here in
     let lane : c.index_mut.result.now ≡ lane_in t x k =
     lane-read c.self.invariant x k c.place.result c.index_mut.result.now known c.place.ensures c.index_mut.ensures.value in
-    let seen : c.queue-queue.result.now ≡ lane_in t x k =
-    c.queue-queue.ensures ∙ ap (λ (w : LinkTable). lane_in w x k) (sym c.self.view_is) in
-    let room : length (lane_in t x k).messages ≢ 64 =
-    λ full. c.if-waiting-eq-MESSAGES.false (c.waiting.ensures.value ∙ ap (λ (l : Lane). length l.messages) seen ∙ full) in
+    let room : length (lane_in t x k).messages ≢ 64 = let below : length (lane_in t x k).messages < 64 = rw (← c.self.view_is) at c.requires.room in
+    λ full. omega (arith, below, full) in
     rw (c.place.ensures, c.index.ensures.value)
     (IsCounted-sent c.self.invariant x k c.args.message c.push.new.self known
     (c.push.ensures ∙ ap (λ (l : Lane). with_message l c.args.message) lane) room)

@@ -3,7 +3,7 @@ use Rattle.tl_copies.specs.declared.table.Key.{Key}
 use Rattle.tl_copies.specs.Entries.{Entry, found, IsPlace}
 use Rattle.tl_copies.specs.Slots.{entries_of}
 use Rattle.tl_copies.proofs.SlotLaws.{place-found, none-found}
-use Rattle.tl_copies.proofs.table.Table.place_of.Goals as goal
+use Rattle.tl_copies.proofs.table.Table.search.Goals as goal
 
 pub returns-then-eq : goal.returns-then-eq
 returns-then-eq c =
