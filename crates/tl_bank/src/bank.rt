@@ -31,6 +31,7 @@ use tl_types::{BankNo, BlockNo, ClientId, Perm};
 
 mod advance;
 mod client_calls;
+mod contents;
 mod home_calls;
 mod look;
 mod memory_calls;

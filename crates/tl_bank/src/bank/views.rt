@@ -212,7 +212,7 @@ impl Bank {
     }
 
     /// Whether a block is not of the memory, or of another bank.
-    fn is_not_own(&self, block: BlockNo) -> bool
+    pub(super) fn is_not_own(&self, block: BlockNo) -> bool
         ensures { result ≡ not_own self.now block }
     {
         !self.geometry.has(block) || self.is_elsewhere(block)
