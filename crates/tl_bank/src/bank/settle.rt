@@ -161,7 +161,7 @@ impl Bank {
         if self.is_absent(client, block) || self.is_bad_share(client, share) {
             return Err(Refusal::OutOfRange);
         }
-        if self.is_elsewhere(block) || share.bank().number() != self.number.number() {
+        if self.is_elsewhere(block) || share.bank() != self.number {
             return Err(Refusal::WrongBank);
         }
         let held = self.entry(client, block);
@@ -226,6 +226,7 @@ impl Bank {
         requires { IsFirstOn self.now client Channel.B message.now }
         ensures { message.now.body ≡ Body.ProbeBlock result }
     {
+        // For the prover: the clauses alone name the client, and the bank's layers say that the message is a Probe.
         let _ = (client, self.geometry);
         let Body::ProbeBlock(cap) = message.body else {
             unreachable!()

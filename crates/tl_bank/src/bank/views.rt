@@ -83,9 +83,7 @@ impl Bank {
     pub fn in_flight(&self, ticket: Ticket) -> Option<Message>
         ensures { result ≡ in_flight_at self.now ticket }
     {
-        if ticket.client.number() >= self.geometry.clients()
-            || ticket.bank.number() != self.number.number()
-        {
+        if ticket.client.number() >= self.geometry.clients() || ticket.bank != self.number {
             return None;
         }
         Some(self.links.message(ticket)?.copied())
