@@ -11,7 +11,7 @@ ghost use Rattle.tl_copies.specs.Held.{has_copy};
 
 use tl_copies::{Copies, Held};
 use tl_protocol::CachedCopy;
-use tl_types::{AccessBytes, BlockBytes, BlockNo, ClientId, GrantCap, Perm, Wait};
+use tl_types::{ACCESS_BYTES, AccessBytes, BlockBytes, BlockNo, ClientId, GrantCap, Perm, Wait};
 
 /// The copy that an entry keeps.
 pub(crate) fn copy_in(held: Option<&Held>) -> CachedCopy
@@ -90,7 +90,7 @@ pub(crate) fn waits_in(held: Option<&Held>) -> bool
 /// `len` of the entry's bytes, from `offset` on.
 pub(crate) fn read_in(held: Option<&Held>, offset: u32, len: u32) -> AccessBytes
     requires inside { offset + len ≤ length (bytes_in (option_copied held)) }
-    requires few { len ≤ 8 }
+    requires few { len ≤ ACCESS_BYTES }
     ensures { result ≡ slice_range (bytes_in (option_copied held.entry)) offset (offset + len) }
 {
     match held {
@@ -133,7 +133,7 @@ pub(crate) fn granted_in(
 
 /// The bytes of an access, which are at most eight.
 pub(crate) fn access_of(bytes: &[u8]) -> AccessBytes
-    requires { length bytes.now ≤ 8 }
+    requires { length bytes.now ≤ ACCESS_BYTES }
     ensures { result ≡ bytes.now }
 {
     AccessBytes::from_slice(bytes).unwrap()
