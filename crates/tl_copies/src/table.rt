@@ -1,5 +1,5 @@
 //! One client's table: keys in the order of age, beside the slots with what the client holds.
-ghost use Rattle.std.specs.Prelude.{◌≡◌, ◌↔◌, ◌≤◌, ◌<◌, ◌+◌, ◌∷◌, ◌++◌, [], length, count_by, not, None, IfErr, IsErr, OnErr, OnOk, MatchOption, option_copied, slice_index_or, slice_set, if◌then◌else◌};
+ghost use Rattle.std.specs.Prelude.{◌≡◌, ◌↔◌, ◌≤◌, ◌<◌, ◌+◌, ◌∷◌, ◌++◌, [], length, count_by, not, None, Some, IfErr, IsErr, OnErr, OnOk, MatchOption, option_copied, slice_index_or, slice_set, if◌then◌else◌};
 ghost use Rattle.std.specs.List.{list_all, remove};
 ghost use Rattle.tl_copies.specs.declared.held.Held.{Held};
 
@@ -67,7 +67,7 @@ impl Model for Table {
 }
 
 impl Table {
-    ghost use Rattle.tl_copies.specs.Held.{is_copy, waits, stored};
+    ghost use Rattle.tl_copies.specs.Held.{is_copy, waits, stored, waiting};
     ghost use Rattle.tl_copies.specs.Entries.{Entry, found, without_entry, replaced, kept, oldest_in, IsPlace, HasEachOnce};
 
     /// A table with no entry.
@@ -215,6 +215,26 @@ impl Table {
         Ok(())
     }
 
+    /// The client waits for an answer about a block from then on, or for none, and keeps the copy that it has; where it has no
+    /// entry of the block it has a new one.
+    pub(crate) fn wait_for(&mut self, block: BlockNo, wait: Wait)
+        requires once { HasEachOnce self.old }
+        requires room { found block self.old ≡ None → length self.old < COPIES }
+        ensures { self.new ≡ kept block (waiting wait (found block self.old)) self.old }
+    {
+        let Some(place) = self.place_of(block) else {
+            self.add(block, Held::awaiting(wait));
+            self.note_last(block, self.len());
+            return;
+        };
+        let granted = self.held(place).is_granted_with(wait);
+        self.wait_at(place, wait);
+        if granted {
+            self.renew(place);
+            self.note_last(block, place);
+        }
+    }
+
     /// Takes the entry of a block out, if there is one.
     pub(crate) fn clear(&mut self, block: BlockNo)
         requires { HasEachOnce self.old }
@@ -284,6 +304,20 @@ impl Table {
     {
         let slot = self.keys[place].slot as usize;
         self.slots[slot].store(offset, access);
+    }
+
+    /// The client waits for an answer from then on, or for none, by the entry at a place.
+    fn wait_at(&mut self, place: usize, wait: Wait)
+        requires { place < length self.old }
+        ensures { (e : Entry)
+            → self.new
+            ≡ slice_set self.old place (record {
+              block = (slice_index_or self.old place e).block;
+              held = waiting wait (Some (slice_index_or self.old place e).held);
+            }) }
+    {
+        let slot = self.keys[place].slot as usize;
+        self.slots[slot].wait_for(wait);
     }
 
     /// Puts the entry at a place last.
