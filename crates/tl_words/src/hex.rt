@@ -1,6 +1,6 @@
 //! How bytes and addresses print.
 
-ghost use Rattle.std.specs.Prelude.{◌≡◌, ◌++◌, ◌<◌, ◌≤◌, false, length, OnOk, Some, string_bytes};
+ghost use Rattle.std.specs.Prelude.{◌≡◌, ◌++◌, ◌+◌, ◌*◌, ◌<◌, ◌≤◌, false, codes, length, take, IsAscii, OnOk, Some, string_bytes};
 ghost use Rattle.std.specs.Fmt.{digit_glyph};
 ghost use Rattle.tl_words.specs.Hex.{pair, hex_text, address_text};
 
@@ -21,6 +21,30 @@ fn digit(value: u8) -> u8
     }
 }
 
+// Pairs of digits at a place of some room. What stands before it stays.
+fn write_hex(digits: &mut [u8], at: usize, bytes: &[u8])
+    requires { at + 2 * length bytes.now ≤ length digits.old }
+    ensures written { take (at + 2 * length bytes.now) digits.new ≡ take at digits.old ++ hex_text bytes.now }
+    ensures ascii { IsAscii (hex_text bytes.now) }
+    ensures room { length digits.new ≡ length digits.old }
+{
+    for (place, byte) in bytes.iter().enumerate() {
+        digits[at + 2 * place] = digit(byte / 16);
+        digits[at + 2 * place + 1] = digit(byte % 16);
+    }
+}
+
+// ASCII bytes at the end of a text.
+fn push_ascii(text: &mut String, bytes: &[u8]) -> Result<(), AllocError>
+    requires { IsAscii bytes.now }
+    ensures { OnOk result (string_bytes text.new ≡ string_bytes text.old ++ bytes.now) }
+{
+    let Ok(read) = std::str::from_utf8(bytes) else {
+        unreachable!()
+    };
+    text.push_str(read)
+}
+
 // How many bytes are written at once.
 const AT_ONCE: usize = 8;
 
@@ -30,14 +54,8 @@ fn push_few(text: &mut String, bytes: &[u8]) -> Result<(), AllocError>
     ensures { OnOk result (string_bytes text.new ≡ string_bytes text.old ++ hex_text bytes.now) }
 {
     let mut digits = [0; 2 * AT_ONCE];
-    for (place, byte) in bytes.iter().enumerate() {
-        digits[2 * place] = digit(byte / 16);
-        digits[2 * place + 1] = digit(byte % 16);
-    }
-    let Ok(pairs) = std::str::from_utf8(&digits[..2 * bytes.len()]) else {
-        unreachable!()
-    };
-    text.push_str(pairs)
+    write_hex(&mut digits, 0, bytes);
+    push_ascii(text, &digits[..2 * bytes.len()])
 }
 
 /// Bytes as pairs of lower-case hexadecimal digits, at the end of a text.
@@ -59,6 +77,18 @@ pub fn push_address(text: &mut String, address: u32) -> Result<(), AllocError>
 {
     text.push_str("0x")?;
     push_few(text, &address.to_be_bytes())
+}
+
+/// An address, a space, and at most eight bytes, at the end of a text: as `push_address` and `push_hex`, at once.
+pub fn push_bytes_at(text: &mut String, address: u32, bytes: &[u8]) -> Result<(), AllocError>
+    requires { length bytes.now ≤ 8 }
+    ensures { OnOk result (string_bytes text.new ≡ string_bytes text.old ++ address_text address ++ codes " " ++ hex_text bytes.now) }
+{
+    let mut digits = *b"0x                         ";
+    write_hex(&mut digits, 2, &address.to_be_bytes());
+    digits[10] = b' ';
+    write_hex(&mut digits, 11, bytes);
+    push_ascii(text, &digits[..11 + 2 * bytes.len()])
 }
 
 // A byte as two lower-case hexadecimal digits.

@@ -8,8 +8,8 @@ use Rattle.tl_client.specs.Rounds.{Round, all_of, is_on}
 use Rattle.tl_client.specs.declared.home.Home.TheInside.{Inside}
 use Rattle.tl_client.specs.declared.links.Links.TheVariants.{OfBank}
 use Rattle.tl_client.proofs.ServeLaws.{laid}
-use Rattle.tl_client.proofs.home.Home.take_tickets.Goals.{then-take_tickets, else-take_tickets}
-use Rattle.tl_client.proofs.home.Home.take_tickets.Goals as goal
+use Rattle.tl_client.proofs.home.Home.take_mail.Goals.{then-take_tickets, else-take_tickets}
+use Rattle.tl_client.proofs.home.Home.take_mail.Goals as goal
 
 pub returns : goal.returns
 returns g c =
