@@ -112,13 +112,14 @@ enum jv_what { /* what an answer tells */
     JV_TELLS_NOTHING, JV_TELLS_MESSAGE, JV_TELLS_MEMORY, JV_TELLS_DROPPED, JV_TELLS_LOADED, JV_TELLS_NUMBER, JV_TELLS_EVENT,
     JV_TELLS_OUTWARD, JV_TELLS_BYTES
 };
-enum jv_event_kind { /* the kind of an event of a log, which stands in `opcode` */
-    JV_EVENT_LOAD, JV_EVENT_STORE,                                   /* of a client: an access */
-    JV_EVENT_SEND_ACQUIRE, JV_EVENT_SEND_RELEASE, JV_EVENT_ANSWER_PROBE, JV_EVENT_TAKE_GRANT, JV_EVENT_TAKE_RELEASE_ACK,
-    JV_EVENT_ACCEPT_ACQUIRE, JV_EVENT_SEND_PROBE, JV_EVENT_TAKE_C, JV_EVENT_SEND_GRANT, JV_EVENT_TAKE_GRANT_ACK, /* of home, to or
-                                                                        from a client */
-    JV_EVENT_SEND_GET, JV_EVENT_SERVE, JV_EVENT_TAKE_DATA, JV_EVENT_DROP, JV_EVENT_SEND_PUT, JV_EVENT_TAKE_PUT_ACK /* of home and the
-                                                                        memory: no client */
+enum jv_event_kind { /* the kind of an event of a log: `opcode` where an answer tells one */
+    /* of a client */
+    JV_EVENT_LOAD, JV_EVENT_STORE, JV_EVENT_SEND_ACQUIRE, JV_EVENT_SEND_RELEASE, JV_EVENT_ANSWER_PROBE, JV_EVENT_TAKE_GRANT,
+    JV_EVENT_TAKE_RELEASE_ACK,
+    /* of home, and a client */
+    JV_EVENT_ACCEPT_ACQUIRE, JV_EVENT_SEND_PROBE, JV_EVENT_TAKE_C, JV_EVENT_SEND_GRANT, JV_EVENT_TAKE_GRANT_ACK,
+    /* of home and the memory: no client */
+    JV_EVENT_SEND_GET, JV_EVENT_SERVE, JV_EVENT_TAKE_DATA, JV_EVENT_DROP, JV_EVENT_SEND_PUT, JV_EVENT_TAKE_PUT_ACK
 };
 enum jv_limits { /* the most of each number; a log has no limit but the memory */
     JV_MOST_CLIENTS = 16, JV_MOST_BANKS = 8, JV_MOST_BLOCK_BYTES = 64, JV_MOST_SETS = 64, JV_MOST_WAYS = 8, JV_MOST_REGISTERS = 8,
