@@ -1,6 +1,6 @@
 //! What is told of the events of a bank's log.
 ghost use Rattle.std.specs.Prelude.{◌≡◌, slice_get};
-ghost use Rattle.tl_types.specs.Codes.{grow_param, probe_param, prune_param};
+ghost use Rattle.tl_types.specs.Codes.{code_of};
 ghost use Rattle.tl_bank_spec.specs.View.{shape_of};
 ghost use Rattle.tl_embed.specs.Events.{carried, event_number, event_or_none, of_access, of_client};
 
@@ -8,7 +8,7 @@ use crate::answer::Answer;
 use tl_bank::Bank;
 use tl_map::Geometry;
 use tl_protocol::{Access, Event, Shape};
-use tl_types::{ClientId, Grow, ProbeCap, Prune};
+use tl_types::{ClientId, Kind, code};
 
 /// The event at a place of a bank's log, from 0.
 pub fn event_told(bank: &Bank, place: u64) -> Answer
@@ -67,9 +67,9 @@ fn carried(event: &Event) -> Answer
 {
     match event {
         Event::Load(access) | Event::Store(access) => of_access(access),
-        Event::SendAcquire(client, _, grow) => of_client(*client, grow_param(*grow)),
-        Event::SendRelease(client, _, prune) => of_client(*client, prune_param(*prune)),
-        Event::SendProbe(client, _, cap) => of_client(*client, probe_param(*cap)),
+        Event::SendAcquire(client, _, grow) => of_client(*client, param(Kind::AcquireBlock(*grow))),
+        Event::SendRelease(client, _, prune) => of_client(*client, param(Kind::Release(*prune))),
+        Event::SendProbe(client, _, cap) => of_client(*client, param(Kind::ProbeBlock(*cap))),
         Event::AnswerProbe(client, _)
         | Event::TakeGrant(client, _)
         | Event::TakeReleaseAck(client, _)
@@ -110,34 +110,10 @@ fn of_client(client: ClientId, param: u32) -> Answer
     }
 }
 
-/// The param of an AcquireBlock.
-fn grow_param(grow: Grow) -> u32
-    ensures { result ≡ grow_param grow }
+/// The param of a kind of message.
+fn param(kind: Kind) -> u32
+    ensures { result ≡ (code_of kind).1 }
 {
-    match grow {
-        Grow::NtoB => 0,
-        Grow::NtoT => 1,
-        Grow::BtoT => 2,
-    }
-}
-
-/// The param of a Release.
-fn prune_param(prune: Prune) -> u32
-    ensures { result ≡ prune_param prune }
-{
-    match prune {
-        Prune::TtoB => 0,
-        Prune::TtoN => 1,
-        Prune::BtoN => 2,
-    }
-}
-
-/// The param of a ProbeBlock.
-fn probe_param(cap: ProbeCap) -> u32
-    ensures { result ≡ probe_param cap }
-{
-    match cap {
-        ProbeCap::ToB => 1,
-        ProbeCap::ToN => 2,
-    }
+    let (_opcode, param) = code(kind);
+    u32::from(param)
 }
