@@ -1,5 +1,5 @@
 //! The judge of a record.
-ghost use Rattle.std.specs.Prelude.{◌≡◌, ◌↔◌, ◌<◌, ◌≤◌, ◌∷◌, ◌++◌, ℕ, List, [], IsTrue, IfOk, IfErr, OnOk, MatchOption};
+ghost use Rattle.std.specs.Prelude.{◌≡◌, ◌↔◌, ◌<◌, ◌≤◌, ◌∷◌, ◌++◌, ℕ, List, [], drop, IsTrue, IfOk, IfErr, OnOk, MatchOption};
 ghost use Rattle.std.specs.Option.{option_map};
 ghost use Rattle.tl_protocol.specs.declared.event.Event.{Event};
 ghost use Rattle.tl_protocol.specs.declared.shape.Shape.{Shape};
@@ -15,7 +15,7 @@ use crate::sent::{is_shown, sent_by, taken_channel};
 use std::alloc::{AllocError, Global};
 use std::marker::Model;
 use tl_rules::{Event, Plain, Shape};
-use tl_types::{BlockNo, Body, Channel};
+use tl_types::{BlockNo, Body, Channel, ClientId};
 
 /// What an entry of a record breaks.
 #[derive(Clone, Copy, Debug, PartialEq, Eq)]
@@ -57,7 +57,7 @@ impl Model for Judge {
 
 impl Judge {
     ghost use Rattle.tl_judge.specs.Judged.{Allows, Breaks, Carries, Follows, IsPermitted, IsShown, Rejects, own_block};
-    ghost use Rattle.tl_judge.specs.Order.{IsNextIn, post_at};
+    ghost use Rattle.tl_judge.specs.Order.{IsNextIn, post_at, waiting_in};
     ghost use Rattle.tl_judge.specs.Rules.{client_of};
     ghost use Rattle.tl_protocol.specs.Protocol.{May, block_of};
     ghost use Rattle.tl_lanes.specs.Lanes.{post_of, take_of};
@@ -80,6 +80,14 @@ impl Judge {
         &self.plain
     }
 
+    /// The block of the message that is first on a channel.
+    pub fn first_on(&self, client: ClientId, channel: Channel) -> Option<BlockNo>
+        ensures { MatchOption result (waiting_in self.now.order client channel ≡ [])
+            (λ block. waiting_in self.now.order client channel ≡ block ∷ drop 1 (waiting_in self.now.order client channel)) }
+    {
+        self.order.first(client, channel)
+    }
+
     /// Whether the event takes no message, or its block's is the first on the channel.
     fn takes_first(&self, event: &Event) -> bool
         ensures { IsTrue result ↔ IsNextIn self.now.order (block_of self.now.plain.shape event.now) (take_of event.now) }
@@ -93,8 +101,8 @@ impl Judge {
         }
     }
 
-    /// What an event that may come next sends.
-    fn sent(&self, event: &Event) -> Option<(Channel, Body)>
+    /// What an event that may come next sends on a link, with its channel.
+    pub fn sent(&self, event: &Event) -> Option<(Channel, Body)>
         requires { May self.now.plain.shape (own_block self.now event.now) event.now }
         ensures { option_map (λ sent. post_at (client_of event.now) sent.0 sent.1) result
             ≡ post_of self.now.plain.shape (own_block self.now event.now) event.now }

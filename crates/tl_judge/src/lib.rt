@@ -11,4 +11,4 @@ mod sent;
 pub use entry::{Entry, Shown};
 pub use judge::{Breach, Judge, Refusal, every_record};
 pub use keeps::broken_rule;
-pub use rule::{Rule, rules_of};
+pub use rule::{Rule, client_of, rules_of};

@@ -1,0 +1,17 @@
+//! Explains what a monitor on the links saw: finds a run of the protocol that has just these messages, loads and stores.
+#![tactic(auto)]
+
+mod answer;
+mod clients;
+mod marks;
+mod remedy;
+mod search;
+mod seen;
+mod sight;
+mod sooner;
+mod target;
+mod walk;
+mod wires;
+
+pub use answer::{Explanation, explain};
+pub use seen::{Seen, Wire};

@@ -1,0 +1,139 @@
+//! What was seen on each wire, and how much of it a run has sent.
+ghost use Rattle.std.specs.Prelude.{◌<◌};
+
+use crate::seen::{Seen, Wire};
+use std::alloc::{AllocError, Global};
+use tl_rules::Shape;
+use tl_types::{BlockNo, Channel, ClientId, Kind};
+
+/// The places of what was seen on each wire, in order, and how many of them are sent.
+#[derive(Drop)]
+pub(crate) struct Wires {
+    places: Vec<Vec<usize>>,
+    sent: Vec<usize>,
+}
+
+/// A wire's number: the memory's two, then six of each client.
+fn number(wire: &Wire) -> usize {
+    match wire {
+        Wire::Memory(Channel::A) => 0,
+        Wire::Memory(_) => 1,
+        Wire::Link(client, channel) => 2 + client.number() as usize * 6 + channel.index(),
+        Wire::Core(client) => 7 + client.number() as usize * 6,
+    }
+}
+
+/// The block that something seen is of.
+pub(crate) fn block_of(shape: Shape, seen: &Seen) -> BlockNo
+    requires { 0 < shape.block_bytes }
+{
+    match seen {
+        Seen::OnLink(_, block, _) | Seen::OnMemory(block, _) => *block,
+        Seen::Load(_, address, _) | Seen::Store(_, address, _) => BlockNo::new(
+            *address / shape.block_bytes,
+        ),
+    }
+}
+
+impl Wires {
+    /// Nothing is sent.
+    pub(crate) fn new(alloc: Global, clients: u32, seen: &[Seen]) -> Result<Wires, AllocError> {
+        let mut places = Vec::new(alloc);
+        let mut sent = Vec::new(alloc);
+        for _ in 0..2 + clients as usize * 6 {
+            places.push(Vec::new(alloc))?;
+            sent.push(0)?;
+        }
+        for (place, s) in seen.iter().enumerate() {
+            if let Some(on) = places.get_mut(number(&s.wire())) {
+                on.push(place)?;
+            }
+        }
+        Ok(Wires { places, sent })
+    }
+
+    /// The place of what is next on a wire.
+    pub(crate) fn next(&self, wire: Wire) -> Option<usize> {
+        let sent = self.sent.get(number(&wire))?;
+        self.places.get(number(&wire))?.get(*sent).copied()
+    }
+
+    /// The place of what is next of a block on a wire.
+    pub(crate) fn next_of(
+        &self,
+        shape: Shape,
+        seen: &[Seen],
+        wire: Wire,
+        block: BlockNo,
+    ) -> Option<usize>
+        requires { 0 < shape.block_bytes }
+    {
+        let sent = self.sent.get(number(&wire))?;
+        let places = self.places.get(number(&wire))?;
+        for i in *sent..places.len() {
+            if block_of(shape, seen.get(places[i])?) == block {
+                return Some(places[i]);
+            }
+        }
+        None
+    }
+
+    /// Whether what was seen at a place is sent.
+    pub(crate) fn is_sent(&self, seen: &[Seen], place: usize) -> bool {
+        match seen.get(place) {
+            Some(s) => match self.next(s.wire()) {
+                Some(next) => place < next,
+                None => true,
+            },
+            None => true,
+        }
+    }
+
+    /// One more is sent on a wire.
+    pub(crate) fn advance(&mut self, wire: Wire) {
+        if let Some(sent) = self.sent.get_mut(number(&wire)) {
+            if *sent < usize::MAX {
+                *sent += 1;
+            }
+        }
+    }
+
+    /// The place of the next Grant of a block to a client.
+    pub(crate) fn next_grant(&self, seen: &[Seen], c: ClientId, block: BlockNo) -> Option<usize> {
+        let wire = Wire::Link(c, Channel::D);
+        let sent = self.sent.get(number(&wire))?;
+        let places = self.places.get(number(&wire))?;
+        for i in *sent..places.len() {
+            if is_grant_of(seen.get(places[i])?, block) {
+                return Some(places[i]);
+            }
+        }
+        None
+    }
+
+    /// The place of the next Get of a block.
+    pub(crate) fn next_get(&self, seen: &[Seen], block: BlockNo) -> Option<usize> {
+        let sent = self.sent.get(0)?;
+        let places = self.places.get(0)?;
+        for i in *sent..places.len() {
+            if is_get_of(seen.get(places[i])?, block) {
+                return Some(places[i]);
+            }
+        }
+        None
+    }
+}
+
+fn is_grant_of(seen: &Seen, block: BlockNo) -> bool {
+    match seen {
+        Seen::OnLink(_, of, message) => *of == block && message.kind != Kind::ReleaseAck,
+        _ => false,
+    }
+}
+
+fn is_get_of(seen: &Seen, block: BlockNo) -> bool {
+    match seen {
+        Seen::OnMemory(of, message) => *of == block && message.kind == Kind::Get,
+        _ => false,
+    }
+}
