@@ -1,4 +1,5 @@
-//! Rows that are worked out from the rules: scripts with what the program answers, races with their pictures, and bells over threads.
+//! Rows that are worked out from the rules: scripts with what the program answers, races with their pictures, records
+//! of messages with their answers, and bells over threads.
 //!
 //! `data/NAME.toml` is a script; `NAME.1.out`, `NAME.2.out` and on are what `tlcache` may write for it: its output, its fault line,
 //! and its status where that is not 0. There is more than one where they depend on who comes first. `NAME.svg` and `NAME.mmd` are
@@ -8,6 +9,7 @@
 mod answers;
 mod bells;
 mod charts;
+mod messages;
 mod names;
 
 use names::{DECIDED, RUNS};
@@ -31,6 +33,7 @@ fn main(rt: HostRuntime) -> io::Result<()> {
     let (count, other) = answers::refused_so(&rt, alloc, &refused)?;
     answers::print_refused(&rt, count, other)?;
     charts::print_rows(&rt)?;
+    messages::print_rows(&rt)?;
     if let Some(total) = bells::rows(&rt, alloc) {
         println!(rt; "rung over both seats: {total}")?;
     }

@@ -60,3 +60,15 @@ pub const DRAWN: [&str; 4] = [
     "eviction-writes-back",
     "every-mark",
 ];
+
+/// Records of messages.
+pub const RECORDS: [&str; 8] = [
+    "a-miss.txt",
+    "delayed.txt",
+    "grants-old-bytes.txt",
+    "no-such-sink.txt",
+    "outside-the-profile.txt",
+    "release-crosses-probe.txt",
+    "two-readers-and-a-writer.txt",
+    "two-writers.txt",
+];
