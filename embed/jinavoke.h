@@ -10,10 +10,12 @@
  *   jv_call            the named step of the banks, and no other: the first of its refusals whose case holds is the status,
  *                      and nothing changed; or it is done, and the answer tells what it did, all fields (`Calls`). Status 14
  *                      is told only where the log had no room, and nothing changed. A view changes nothing.
- *   jv_echo            the request again (`echoed`); jv_version the number 1.
+ *   jv_echo            the request again (`echoed`); jv_version the number 2.
  * The functions that are `static inline` are C: they fill in a request and call jv_call, and are tested (examples/c), not
- * proved. Of a sequence of calls no theorem is stated here; each bank keeps, by its type, that its log is a run of the protocol
- * and that it holds what the log leaves (tl_bank, `Bank::log`).
+ * proved. After any sequence of calls of an opened cache, each of which met its contract, each bank's log is a run of the protocol
+ * over the image, in which every load got the bytes last stored before it; what the bank shows is what that log leaves; and the
+ * log begins with what it was at any moment before (`EveryHistory`). No more is claimed of sequences: not that there is memory, and
+ * not that C hands each call the cache that the last one left, which is promise 3.
  *
  * WHAT THE CALLER OWES; what is not kept is undefined, as in any C, and nothing here tests it:
  *   1. `room` has jv_size() bytes at an address that jv_align() divides, and lies still: do not copy or move a cache.
@@ -43,7 +45,7 @@
 extern "C" {
 #endif
 
-#define JV_VERSION 1u
+#define JV_VERSION 2u
 
 typedef struct jv_cache jv_cache; /* all banks with their clients; opaque */
 
@@ -86,9 +88,10 @@ enum jv_status { /* the status of an answer, and why a cache is closed */
 enum jv_call_number {
     JV_CALL_CLOSE = 0, JV_CALL_LOAD, JV_CALL_STORE, JV_CALL_ACQUIRE, JV_CALL_RELEASE, JV_CALL_ANSWER_PROBE, JV_CALL_TAKE_GRANT,
     JV_CALL_TAKE_RELEASE_ACK, JV_CALL_ACCEPT, JV_CALL_ADVANCE, JV_CALL_TAKE_C, JV_CALL_TAKE_GRANT_ACK, JV_CALL_EVICT,
-    JV_CALL_SERVE_MEMORY, JV_CALL_TAKE_MEMORY,
+    JV_CALL_SERVE_MEMORY, JV_CALL_TAKE_MEMORY, JV_CALL_RESERVE,
     JV_VIEW_PERM = 20, JV_VIEW_DIRECTORY, JV_VIEW_PEEK, JV_VIEW_HOME, JV_VIEW_OUTWARD, JV_VIEW_HELD, JV_VIEW_RECORDED,
-    JV_VIEW_EVENTS, JV_VIEW_ROOM = 29, JV_VIEW_COPIES, JV_VIEW_IS_QUIET, JV_VIEW_OPEN_BLOCK, JV_VIEW_MESSAGE
+    JV_VIEW_EVENTS, JV_VIEW_EVENT, JV_VIEW_ROOM, JV_VIEW_COPIES, JV_VIEW_IS_QUIET, JV_VIEW_OPEN_BLOCK, JV_VIEW_MESSAGE,
+    JV_VIEW_WAITING, JV_VIEW_MEMORY
 };
 
 enum jv_channel { JV_A, JV_B, JV_C, JV_D, JV_E };
@@ -106,8 +109,21 @@ enum jv_opcode {
     JV_OP_PUT_FULL_DATA = 0, JV_OP_GET = 4, JV_OP_ACCESS_ACK = 0, JV_OP_ACCESS_ACK_DATA = 1      /* the memory's link: A, A, D, D */
 };
 enum jv_what { /* what an answer tells */
-    JV_TELLS_NOTHING, JV_TELLS_MESSAGE, JV_TELLS_MEMORY, JV_TELLS_DROPPED, JV_TELLS_LOADED, JV_TELLS_NUMBER,
-    JV_TELLS_OUTWARD = 7
+    JV_TELLS_NOTHING, JV_TELLS_MESSAGE, JV_TELLS_MEMORY, JV_TELLS_DROPPED, JV_TELLS_LOADED, JV_TELLS_NUMBER, JV_TELLS_EVENT,
+    JV_TELLS_OUTWARD, JV_TELLS_BYTES
+};
+enum jv_event_kind { /* the kind of an event of a log: `opcode` where an answer tells one */
+    /* of a client */
+    JV_EVENT_LOAD, JV_EVENT_STORE, JV_EVENT_SEND_ACQUIRE, JV_EVENT_SEND_RELEASE, JV_EVENT_ANSWER_PROBE, JV_EVENT_TAKE_GRANT,
+    JV_EVENT_TAKE_RELEASE_ACK,
+    /* of home, and a client */
+    JV_EVENT_ACCEPT_ACQUIRE, JV_EVENT_SEND_PROBE, JV_EVENT_TAKE_C, JV_EVENT_SEND_GRANT, JV_EVENT_TAKE_GRANT_ACK,
+    /* of home and the memory: no client */
+    JV_EVENT_SEND_GET, JV_EVENT_SERVE, JV_EVENT_TAKE_DATA, JV_EVENT_DROP, JV_EVENT_SEND_PUT, JV_EVENT_TAKE_PUT_ACK
+};
+enum jv_limits { /* the most of each number; a log has no limit but the memory */
+    JV_MOST_CLIENTS = 16, JV_MOST_BANKS = 8, JV_MOST_BLOCK_BYTES = 64, JV_MOST_SETS = 64, JV_MOST_WAYS = 8, JV_MOST_REGISTERS = 8,
+    JV_MOST_COPIES = 64, JV_MOST_MEMORY_BLOCKS = 65536, JV_MOST_MESSAGES = 64, JV_MOST_ACCESS_BYTES = 8, JV_EVENT_BYTES = 40
 };
 enum jv_outward { JV_QUIET, JV_GET, JV_DATA, JV_PUT, JV_PUT_ACK };     /* what passes of a block to or from the memory */
 enum jv_home { JV_HOME_NONE, JV_HOME_CLEAN, JV_HOME_DIRTY };
@@ -121,22 +137,22 @@ typedef struct { /* what a call does not use it takes no notice of */
     uint32_t bank;
     uint32_t channel; /* of a ticket */
     uint32_t len;     /* of an access: 1 to 8 */
-    uint64_t serial;  /* of a ticket; a place in a list, from 0 */
+    uint64_t serial;  /* of a ticket; a place in a list, from 0; a number of events */
     uint8_t bytes[8]; /* of a store, the first `len` */
 } jv_request;
 
 typedef struct { /* what is not told is 0 */
     uint32_t status;  /* jv_status: where it is not 0 nothing else is told, but that `serial` of 18 says why */
     uint32_t what;    /* jv_what */
-    uint32_t bank, client, channel; /* with `serial` the ticket of a message */
-    uint32_t opcode;  /* jv_opcode of a message */
-    uint32_t param;   /* of a message */
-    uint32_t place;   /* the block of a message of a client's link */
-    uint32_t address; /* of a message between home and the memory */
+    uint32_t bank, client, channel; /* with `serial` the ticket of a message; `client` also of an event */
+    uint32_t opcode;  /* jv_opcode of a message; jv_event_kind of an event */
+    uint32_t param;   /* of a message; of the Acquire, Release or Probe that an event sends */
+    uint32_t place;   /* the block of a message of a client's link, or of an event */
+    uint32_t address; /* of a message between home and the memory, or of an access */
     uint32_t size;    /* of a message between home and the memory: the base-2 logarithm of a block's bytes */
-    uint32_t index;   /* 0, but in an echo */
+    uint32_t index;   /* of an access: the one that its call was given */
     uint32_t len;     /* how many bytes there are */
-    uint64_t serial;  /* of a ticket; a view's number */
+    uint64_t serial;  /* of a ticket; a view's number; the stamp of an access, which rises over all of a bank's log */
     uint8_t bytes[64];
 } jv_answer;
 
@@ -286,6 +302,14 @@ static inline jv_answer jv_serve_memory(jv_cache *c, uint32_t block) { return jv
 /* Home takes the memory's answer. 4, 10 */
 static inline jv_answer jv_take_memory(jv_cache *c, uint32_t block) { return jv_by_block_(c, JV_CALL_TAKE_MEMORY, block); }
 
+/* ---- room for what is to come */
+
+/* Makes room in the bank's log for so many more events: as many steps of that bank then ask for no memory. 10 where there is no such
+   bank; 14 where there was less room and no memory for more, and then nothing changed. */
+static inline jv_answer jv_reserve(jv_cache *c, uint32_t bank, uint64_t events) {
+    jv_request r = jv_asks_(JV_CALL_RESERVE); r.bank = bank; r.serial = events; return jv_call(c, &r);
+}
+
 /* ---- views: they change nothing. `serial` is the number where the answer tells one; status 10 where there is no such client, bank,
    block or address. Those of a client and a block or of a block look at the bank where the block lies. Each costs some tens of
    nanoseconds, and jv_recorded and jv_is_quiet as the bank has ways and copies; none as the memory has blocks. */
@@ -306,16 +330,33 @@ static inline jv_answer jv_directory(const jv_cache *c, uint32_t client, uint32_
 static inline jv_answer jv_peek(const jv_cache *c, uint32_t client, uint32_t address) {
     return jv_of_block_(c, JV_VIEW_PEEK, client, address);
 }
-/* Home's copy of the block: jv_home. */
+/* Home's copy of the block: jv_home, and its bytes where there is one. */
 static inline jv_answer jv_home_copy(const jv_cache *c, uint32_t block) { return jv_of_block_(c, JV_VIEW_HOME, 0, block); }
 /* What passes of the block between home and the memory: jv_outward, with the bytes of JV_DATA and JV_PUT. */
 static inline jv_answer jv_outward_of(const jv_cache *c, uint32_t block) { return jv_of_block_(c, JV_VIEW_OUTWARD, 0, block); }
+/* The memory's bytes of the block (JV_TELLS_BYTES). */
+static inline jv_answer jv_memory_block(const jv_cache *c, uint32_t block) { return jv_of_block_(c, JV_VIEW_MEMORY, 0, block); }
 /* How many copies the clients have in the bank. */
 static inline jv_answer jv_held(const jv_cache *c, uint32_t bank) { return jv_of_bank_(c, JV_VIEW_HELD, bank, 0, 0); }
 /* For how many pairs of client and block home of the bank records a permission. */
 static inline jv_answer jv_recorded(const jv_cache *c, uint32_t bank) { return jv_of_bank_(c, JV_VIEW_RECORDED, bank, 0, 0); }
-/* How many events the bank's log has. It grows by one with each step that is done (evict: none), some 40 bytes, for ever. */
+/* How many events the bank's log has. It grows by one event with each step of the bank that is done (evict: none), 40 bytes, and
+   nothing is ever taken out of it. Where there is no room it asks for room for as many events again, so a call may copy the whole
+   log, and for that moment there are two. jv_reserve asks ahead. */
 static inline jv_answer jv_events(const jv_cache *c, uint32_t bank) { return jv_of_bank_(c, JV_VIEW_EVENTS, bank, 0, 0); }
+/* The whole event at a place of the bank's log, from 0 (JV_TELLS_EVENT): its kind (opcode), its block (place), its client where it
+   has one; of an Acquire, a Release or a Probe the param; of an access also the address, the bytes and len, the index and the stamp
+   (serial). Status 4 past the last. */
+static inline jv_answer jv_event(const jv_cache *c, uint32_t bank, uint64_t place) {
+    return jv_of_bank_(c, JV_VIEW_EVENT, bank, 0, place);
+}
+/* The events from the place *cursor on, at most `most` of them, into `out`; *cursor is then the place behind the last. How many
+   there were: fewer than `most` where the log ends. A place of `out` behind them may be written over. */
+static inline size_t jv_read_events(const jv_cache *c, uint32_t bank, uint64_t *cursor, jv_answer *out, size_t most) {
+    size_t n = 0;
+    while (n < most && (out[n] = jv_event(c, bank, *cursor)).status == JV_OK) { n++; ++*cursor; }
+    return n;
+}
 /* How many more events of the bank need no memory. */
 static inline jv_answer jv_room(const jv_cache *c, uint32_t bank) { return jv_of_bank_(c, JV_VIEW_ROOM, bank, 0, 0); }
 /* How many copies the client has in the bank. */
@@ -328,9 +369,14 @@ static inline jv_answer jv_is_quiet(const jv_cache *c, uint32_t bank) { return j
 static inline jv_answer jv_open_block(const jv_cache *c, uint32_t bank, uint64_t place) {
     return jv_of_bank_(c, JV_VIEW_OPEN_BLOCK, bank, 0, place);
 }
+/* The message at a place among those that wait on a channel, from 0, oldest first, told as when it was sent, with its ticket: the
+   first is the one that may be taken. Status 4 past the last, 17 where there is no such channel. */
+static inline jv_answer jv_waiting(const jv_cache *c, uint32_t bank, uint32_t client, uint32_t channel, uint64_t place) {
+    jv_request r = jv_asks_(JV_VIEW_WAITING); r.bank = bank; r.client = client; r.channel = channel; r.serial = place;
+    return jv_look_(c, &r);
+}
 /* The message that a ticket names, told as when it was sent; status 4 where it is taken or not yet sent. The serials of a channel
-   count its messages from 0, and they are taken in that order: so a bench that has taken n of them finds those that wait at n,
-   n + 1 and so on, until the status is 4. */
+   count its messages from 0, and they are taken in that order. */
 static inline jv_answer jv_message(const jv_cache *c, jv_ticket t) {
     jv_request r = jv_asks_(JV_VIEW_MESSAGE); r.bank = t.bank; r.client = t.client; r.channel = t.channel; r.serial = t.serial;
     return jv_look_(c, &r);

@@ -171,7 +171,7 @@ def main():
         tried.scripts()
         tried.files()
         tried.growth()
-        for words in (["run", f"{TOP}/examples/two-bytes.toml"], ["run", f"{TOP}/crates/tl_run_rows/data/sixteen-clients.toml"],
+        for words in (["run", f"{TOP}/examples/two-bytes.toml"], ["run", f"{TOP}/crates/tl_rows/data/sixteen-clients.toml"],
                       ["trace", f"{TOP}/examples/release-crosses-probe.toml"]):
             tried.limits(words)
     print(f"{tried.number} tried, {tried.wrong} others")

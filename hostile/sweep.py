@@ -13,7 +13,7 @@ import tempfile
 from concurrent.futures import ThreadPoolExecutor
 
 TOP = os.path.dirname(os.path.dirname(os.path.abspath(__file__)))
-ROWS = f"{TOP}/crates/tl_run_rows/data"
+ROWS = f"{TOP}/crates/tl_rows/data"
 SCRIPTS = [
     ("run", f"{ROWS}/two-bytes.toml"),
     ("run", f"{ROWS}/two-clients-one-block.toml"),

@@ -1,6 +1,7 @@
 // A bench in miniature: several clients and banks, random calls, and a scoreboard of its own; then nanoseconds a call.
 //   bench SEED STEPS     the random driver: status 1 where a load or the copies are not what the scoreboard says
 //   bench time ROUNDS    what a call costs
+//   bench record STEPS   the log of a random run's first bank, as `tlcheck` reads it
 #include "jinavoke.h"
 #include <chrono>
 #include <cinttypes>
@@ -12,26 +13,20 @@
 
 static const uint32_t clients = 4, banks = 2, blocks = 8, block_bytes = 8;
 
-struct Board { // what was stored last, by address, and how many messages of each channel were taken
+struct Board { // what was stored last, by address
     std::vector<uint8_t> bytes;
-    uint64_t taken[banks][clients][5];
     long wrong, loads, done;
     std::map<uint32_t, long> refused;
 };
 
 static void count(Board &board, const jv_answer &a) { if (a.status) board.refused[a.status]++; else board.done++; }
 
-// The first message that waits on a channel, if one does.
-static bool first(const jv_cache *c, Board &board, jv_ticket t, jv_answer *message) {
-    t.serial = board.taken[t.bank][t.client][t.channel];
-    *message = jv_message(c, t);
-    return message->status == 0;
-}
-static void take(jv_cache *c, Board &board, jv_ticket where) {
-    jv_answer m, a;
-    if (!first(c, board, where, &m)) return;
+// Takes the first message that waits on a channel, if one does.
+static bool take(jv_cache *c, Board &board, uint32_t bank, uint32_t client, uint32_t channel) {
+    jv_answer m = jv_waiting(c, bank, client, channel, 0), a;
+    if (m.status) return false;
     jv_ticket t = jv_sent(&m);
-    switch (t.channel) {
+    switch (channel) {
     case JV_A: a = jv_accept(c, t); break;
     case JV_B: a = jv_answer_probe(c, t); break;
     case JV_C: a = jv_take_c(c, t); break;
@@ -39,7 +34,7 @@ static void take(jv_cache *c, Board &board, jv_ticket where) {
     default: a = jv_take_grant_ack(c, t);
     }
     count(board, a);
-    if (a.status == 0) board.taken[t.bank][t.client][t.channel]++;
+    return a.status == 0;
 }
 // One writer and no reader, or readers alone; and each copy has the bytes that were stored last.
 static void compare(const jv_cache *c, Board &board) {
@@ -80,7 +75,7 @@ static void step(jv_cache *c, Board &board, std::mt19937 &rng, uint32_t index) {
     case 4: if (r(16) == 0) count(board, jv_evict(c, block)); return;
     case 5: if (jv_outward_of(c, block).serial % 2) count(board, jv_serve_memory(c, block)); else if (jv_outward_of(c, block).serial) count(board, jv_take_memory(c, block)); return;
     case 6: case 7: a = jv_open_block(c, r(banks), r(2)); if (a.status == 0) count(board, jv_advance(c, uint32_t(a.serial))); return;
-    default: jv_ticket t = {r(banks), client, r(5), 0}; take(c, board, t);
+    default: take(c, board, r(banks), client, r(5));
     }
 }
 static jv_cache *fresh(const std::vector<uint8_t> &image) {
@@ -92,18 +87,100 @@ static jv_cache *fresh(const std::vector<uint8_t> &image) {
     if (!c) { std::fprintf(stderr, "jv_new: %u\n", why); std::exit(1); }
     return c;
 }
+// Goes on with all that is under way, until each bank is quiet.
+static void drain(jv_cache *c, Board &board) {
+    for (bool busy = true; busy;) {
+        busy = false;
+        for (uint32_t bank = 0; bank < banks; bank++) {
+            for (uint32_t k = 0; k < clients; k++) for (uint32_t channel = 0; channel < 5; channel++) busy |= take(c, board, bank, k, channel);
+            jv_answer open = jv_open_block(c, bank, 0);
+            if (open.status == 0) busy |= jv_advance(c, uint32_t(open.serial)).status == 0;
+        }
+        for (uint32_t b = 0; b < blocks; b++) {
+            uint64_t way = jv_outward_of(c, b).serial;
+            if (way % 2) busy |= jv_serve_memory(c, b).status == 0; else if (way) busy |= jv_take_memory(c, b).status == 0;
+        }
+    }
+    for (uint32_t bank = 0; bank < banks; bank++) board.wrong += jv_is_quiet(c, bank).serial != 1;
+}
+// Of quiet banks, where no client has a copy: home's bytes, or where home has none the memory's, are those that were stored last.
+// Where home's copy is clean, the memory has its bytes.
+static void compare_home(const jv_cache *c, Board &board) {
+    for (uint32_t b = 0; b < blocks; b++) {
+        jv_answer home = jv_home_copy(c, b), memory = jv_memory_block(c, b);
+        const uint8_t *last = &board.bytes[b * block_bytes];
+        bool copied = false;
+        for (uint32_t k = 0; k < clients; k++) copied |= jv_perm(c, k, b).serial != JV_NONE;
+        board.wrong += memory.len != block_bytes || home.len != (home.serial == JV_HOME_NONE ? 0 : block_bytes);
+        if (home.serial == JV_HOME_CLEAN) board.wrong += memcmp(home.bytes, memory.bytes, block_bytes) != 0;
+        if (!copied) board.wrong += memcmp(home.serial == JV_HOME_NONE ? memory.bytes : home.bytes, last, block_bytes) != 0;
+    }
+}
+// The log of a bank by itself: each load in it got what was stored last before it, the stamps rise, and there are as many events as
+// the bank says.
+static void compare_log(const jv_cache *c, Board &board, std::vector<uint8_t> bytes, uint32_t bank) {
+    jv_answer out[7];
+    uint64_t cursor = 0, stamp = 0;
+    for (size_t n; (n = jv_read_events(c, bank, &cursor, out, 7)) != 0;) for (size_t i = 0; i < n; i++) {
+        const jv_answer &e = out[i];
+        board.wrong += e.what != JV_TELLS_EVENT || e.opcode > JV_EVENT_TAKE_PUT_ACK || e.place >= blocks;
+        if (e.opcode > JV_EVENT_STORE) { board.wrong += e.len != 0 || e.serial != 0; continue; }
+        board.wrong += e.serial <= stamp || e.address / block_bytes != e.place || e.len == 0 || e.len > 8;
+        stamp = e.serial;
+        if (e.opcode == JV_EVENT_STORE) memcpy(&bytes[e.address], e.bytes, e.len);
+        else board.wrong += memcmp(&bytes[e.address], e.bytes, e.len) != 0;
+    }
+    board.wrong += cursor != jv_events(c, bank).serial;
+}
 static int drive(uint32_t seed, long steps) {
     std::mt19937 rng(seed);
     Board board = {};
     board.bytes.resize(blocks * block_bytes);
     for (auto &b : board.bytes) b = uint8_t(rng());
-    jv_cache *c = fresh(board.bytes);
-    for (long i = 0; i < steps; i++) { step(c, board, rng, uint32_t(i)); if (i % 64 == 0) compare(c, board); }
+    const std::vector<uint8_t> image = board.bytes;
+    jv_cache *c = fresh(image);
+    for (long i = 0; i < steps; i++) {
+        step(c, board, rng, uint32_t(i));
+        if (i % 64 == 0) compare(c, board);
+        if (i % 512 == 0) { drain(c, board); compare_home(c, board); }
+    }
+    drain(c, board);
+    compare(c, board);
+    compare_home(c, board);
     uint64_t events = 0;
-    for (uint32_t bank = 0; bank < banks; bank++) events += jv_events(c, bank).serial;
+    for (uint32_t bank = 0; bank < banks; bank++) { compare_log(c, board, image, bank); events += jv_events(c, bank).serial; }
     std::printf("seed %u: %ld calls done, %" PRIu64 " events, %ld loads, %ld wrong; refused", seed, board.done, events, board.loads, board.wrong);
     for (auto &x : board.refused) std::printf(" %u:%ld", x.first, x.second);
     std::printf("\n");
+    jv_free(c);
+    return board.wrong != 0;
+}
+
+// The log of bank 0 of a random run, as `tlcheck` reads it (docs/RECORD.md).
+static void print_event(const jv_answer &e) {
+    static const char *names[] = {"load", "store", "acquire", "release", "answer_probe", "take_grant", "take_release_ack", "accept",
+        "probe", "take_c", "grant", "take_grant_ack", "get", "serve", "take_data", "drop", "put", "take_put_ack"};
+    static const char *grow[] = {"NtoB", "NtoT", "BtoT"}, *prune[] = {"TtoB", "TtoN", "BtoN"}, *cap[] = {"toT", "toB", "toN"};
+    std::printf("%s", names[e.opcode]);
+    if (e.opcode <= JV_EVENT_STORE) {
+        std::printf(" %u 0x%08x ", e.client, e.address);
+        for (uint32_t i = 0; i < e.len; i++) std::printf("%02x", e.bytes[i]);
+    } else if (e.opcode < JV_EVENT_SEND_GET) std::printf(" %u %u", e.client, e.place);
+    else std::printf(" %u", e.place);
+    if (e.opcode == JV_EVENT_SEND_ACQUIRE) std::printf(" %s", grow[e.param]);
+    if (e.opcode == JV_EVENT_SEND_RELEASE) std::printf(" %s", prune[e.param]);
+    if (e.opcode == JV_EVENT_SEND_PROBE) std::printf(" %s", cap[e.param]);
+    std::printf("\n");
+}
+static int record(uint32_t seed, long steps) {
+    std::mt19937 rng(seed);
+    Board board = {};
+    board.bytes.resize(blocks * block_bytes);
+    jv_cache *c = fresh(board.bytes);
+    for (long i = 0; i < steps; i++) { step(c, board, rng, uint32_t(i)); if (i % 64 == 0) drain(c, board); }
+    std::printf("clients %u block_bytes %u memory_blocks %u\n", clients, block_bytes, blocks);
+    jv_answer e;
+    for (uint64_t i = 0; (e = jv_event(c, 0, i)).status == 0; i++) print_event(e);
     jv_free(c);
     return board.wrong != 0;
 }
@@ -143,7 +220,8 @@ static int time_calls(long rounds) { // client 0 and client 1 take block 0 from 
     return 0;
 }
 int main(int argc, char **argv) {
-    if (argc != 3) { std::fprintf(stderr, "usage: bench SEED STEPS, or bench time ROUNDS\n"); return 2; }
+    if (argc != 3) { std::fprintf(stderr, "usage: bench SEED STEPS, bench time ROUNDS, or bench record STEPS\n"); return 2; }
     if (!strcmp(argv[1], "time")) return time_calls(atol(argv[2]));
+    if (!strcmp(argv[1], "record")) return record(1, atol(argv[2]));
     return drive(uint32_t(atol(argv[1])), atol(argv[2]));
 }

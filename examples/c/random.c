@@ -33,7 +33,8 @@ static void judge(const jv_request *r, const jv_answer *a, uint64_t before, uint
     if (a->status) ok = ok && is_zero(a) && (a->serial == 0 || a->status == JV_CLOSED) && after == before;
     if (a->status == 0 && r->call >= 15) ok = ok && after == before;
     if (a->status == 0 && r->call >= 1 && r->call <= 14) ok = ok && after == before + (r->call != JV_CALL_EVICT);
-    if (r->call > 15 && (r->call < 20 || r->call > 33)) ok = ok && a->status == JV_NO_CALL;
+    if (r->call == JV_CALL_RESERVE) ok = ok && (a->status == 0 || a->status == JV_OUT_OF_RANGE || a->status == JV_NO_MEMORY);
+    if (r->call > 15 && (r->call < 20 || r->call > 35)) ok = ok && a->status == JV_NO_CALL;
     if (!ok && ++wrong < 10) printf("call %u: status %u what %u, %llu events, then %llu\n", r->call, a->status, a->what,
         (unsigned long long)before, (unsigned long long)after);
 }
@@ -42,10 +43,11 @@ static void feed(jv_cache *c, long steps) {
     long i; int k;
     for (i = 0; i < steps; i++) {
         jv_request r; jv_answer a; uint64_t before = events(c);
-        r.call = 1 + (uint32_t)some(34); r.index = (uint32_t)some(9); r.client = (uint32_t)some(4); r.place = (uint32_t)some(64);
+        r.call = 1 + (uint32_t)some(36); r.index = (uint32_t)some(9); r.client = (uint32_t)some(4); r.place = (uint32_t)some(64);
         r.param = (uint32_t)some(3); r.bank = (uint32_t)some(2); r.channel = (uint32_t)some(5); r.len = (uint32_t)some(9);
         r.serial = some(8);
         if (r.call == 0) r.call = 1;                         /* not the one that closes */
+        if (r.call == JV_CALL_RESERVE && r.serial > 9999 && r.serial >> 58 == 0) r.serial %= 10000; /* or more than any memory has */
         for (k = 0; k < 8; k++) r.bytes[k] = (uint8_t)next();
         if (next() % 2) { r.bank = last.bank; r.client = last.client; r.channel = last.channel; r.serial = last.serial; }
         a = jv_call(c, &r);

@@ -27,10 +27,11 @@ use tl_log::Log;
 use tl_map::Geometry;
 use tl_protocol::Event;
 use tl_registers::Registers;
-use tl_types::{BankNo, BlockNo, ClientId, Perm};
+use tl_types::{BankNo, BlockNo, CLIENTS, ClientId, Perm};
 
 mod advance;
 mod client_calls;
+mod contents;
 mod home_calls;
 mod look;
 mod memory_calls;
@@ -201,7 +202,7 @@ impl Bank {
 
 /// The shares of all clients in a bank where nobody has a copy.
 fn first_shares(bank: BankNo, clients: u32) -> ArrayVec<Share, 16>
-    requires { clients ≤ 16 }
+    requires { clients ≤ CLIENTS }
     ensures { result.items ≡ first_shares bank clients }
 {
     let mut shares = ArrayVec::new();

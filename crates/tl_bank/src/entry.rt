@@ -1,16 +1,17 @@
 //! The entries of the clients' tables, as copies of the protocol.
-ghost use Rattle.std.specs.Prelude.{◌≡◌, ◌≤◌, ◌+◌, ℕ, length, slice_range, if◌then◌else◌};
+ghost use Rattle.std.specs.Prelude.{◌≡◌, ◌≤◌, ◌<◌, ◌+◌, ℕ, length, slice_range, if◌then◌else◌};
 ghost use Rattle.std.specs.Option.{option_copied};
-ghost use Rattle.tl_bank_laws.specs.Entry.{HasPlace, entry_with, held_as, copy_in, wait_in, perm_in, bytes_in};
+ghost use Rattle.tl_bank_laws.specs.Entry.{HasPlace, ended, entry_with, held_as, copy_in, wait_in, perm_in, bytes_in};
 ghost use Rattle.tl_bank_spec.specs.Tables.{has_entry_for, is_waiting};
 ghost use Rattle.tl_types.specs.Permission.{grant_perm};
 ghost use Rattle.tl_protocol.specs.Client.{bytes_or};
 ghost use Rattle.tl_protocol.specs.Copy.{bytes_of, clean_copy, dirty_bytes, reduced};
-ghost use Rattle.tl_copies.specs.Copies.{held_at, is_cell, SameSize};
+ghost use Rattle.tl_copies.specs.Copies.{clients_of, held_at, is_cell, SameSize};
+ghost use Rattle.tl_copies.specs.Held.{has_copy};
 
 use tl_copies::{Copies, Held};
 use tl_protocol::CachedCopy;
-use tl_types::{AccessBytes, BlockBytes, BlockNo, ClientId, GrantCap, Perm, Wait};
+use tl_types::{ACCESS_BYTES, AccessBytes, BlockBytes, BlockNo, ClientId, GrantCap, Perm, Wait};
 
 /// The copy that an entry keeps.
 pub(crate) fn copy_in(held: Option<&Held>) -> CachedCopy
@@ -89,7 +90,7 @@ pub(crate) fn waits_in(held: Option<&Held>) -> bool
 /// `len` of the entry's bytes, from `offset` on.
 pub(crate) fn read_in(held: Option<&Held>, offset: u32, len: u32) -> AccessBytes
     requires inside { offset + len ≤ length (bytes_in (option_copied held)) }
-    requires few { len ≤ 8 }
+    requires few { len ≤ ACCESS_BYTES }
     ensures { result ≡ slice_range (bytes_in (option_copied held.entry)) offset (offset + len) }
 {
     match held {
@@ -132,7 +133,7 @@ pub(crate) fn granted_in(
 
 /// The bytes of an access, which are at most eight.
 pub(crate) fn access_of(bytes: &[u8]) -> AccessBytes
-    requires { length bytes.now ≤ 8 }
+    requires { length bytes.now ≤ ACCESS_BYTES }
     ensures { result ≡ bytes.now }
 {
     AccessBytes::from_slice(bytes).unwrap()
@@ -165,6 +166,31 @@ pub(crate) fn put(
         let Ok(()) = copies.keep(client, block, held_as(copy, wait)) else {
             unreachable!()
         };
+    } else {
+        copies.clear(client, block);
+    }
+}
+
+/// Whether a table's entry is a copy.
+fn has_copy(held: Option<&Held>) -> bool
+    ensures { result ≡ has_copy (option_copied held.entry) }
+{
+    match held {
+        Some(held) => held.is_copy(),
+        None => false,
+    }
+}
+
+/// A client waits for nothing any more about a block: the copy that it has stays, and an entry that says none goes.
+pub(crate) fn end_wait(copies: &mut Copies, client: ClientId, block: BlockNo)
+    requires client { client < clients_of copies.old }
+    requires block { block < copies.old.blocks }
+    ensures same { SameSize copies.old copies.new }
+    ensures after { (x y : ℕ)
+        → held_at copies.new x y ≡ (if is_cell client block x y then ended (held_at copies.old client block) else held_at copies.old x y) }
+{
+    if has_copy(copies.of(client, block)) {
+        copies.wait_for(client, block, Wait::Nothing);
     } else {
         copies.clear(client, block);
     }

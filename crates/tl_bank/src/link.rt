@@ -24,10 +24,7 @@ pub(crate) fn send(
         → lane_in links.new x k
         ≡ (if is_here client channel x k then with_message (lane_in links.old x k) message else lane_in links.old x k) }
 {
-    let Ok(ticket) = links.send(client, channel, message) else {
-        unreachable!()
-    };
-    ticket
+    links.send_reserved(client, channel, message)
 }
 
 /// Takes the message that a ticket names, which is the first that waits on its channel.

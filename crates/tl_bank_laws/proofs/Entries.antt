@@ -1,5 +1,5 @@
 -- What an entry says is what it was made of.
-use Rattle.std.proofs.Common.{◌≡◌, ℕ, ◌<◌, cond, Option, is_some, refl, ap, ◌∙◌}
+use Rattle.std.proofs.Common.{◌≡◌, ℕ, ◌<◌, cond, true, Option, Some, is_some, refl, ap, ◌∙◌}
 use Rattle.tl_types.specs.Count.{count_below}
 use Rattle.tl_types.proofs.Counts.{count_below-same}
 use Rattle.tl_types.specs.declared.wait.Wait.{Wait}
@@ -10,11 +10,11 @@ use Rattle.tl_protocol.specs.declared.client.Client.{Client}
 use Rattle.tl_protocol.specs.declared.copy.CachedCopy.{CachedCopy}
 use Rattle.tl_protocol.specs.declared.copy.CachedCopy.TheVariants.{Absent, Readable, Writable}
 use Rattle.tl_copies.specs.Copies.{Tables, held_at, is_cell, entries, copies}
-use Rattle.tl_copies.specs.Held.{has_copy as table_has_copy}
+use Rattle.tl_copies.specs.Held.{has_copy as table_has_copy, waiting}
 use Rattle.tl_copies.specs.declared.held.Held.{Held}
 use Rattle.tl_bank_spec.specs.View.{View, client_at, perm_at}
 use Rattle.tl_bank_spec.specs.Tables.{has_entry_for, entries_at, copies_at, has_entry}
-use Rattle.tl_bank_laws.specs.Entry.{entry_with, copy_in, wait_in, perm_in, bytes_in}
+use Rattle.tl_bank_laws.specs.Entry.{ended, entry_with, copy_in, wait_in, perm_in, bytes_in}
 use Rattle.tl_bank_laws.specs.Layers.{Layers}
 use Rattle.tl_bank_laws.specs.Means.{Means}
 
@@ -66,6 +66,27 @@ has_copy-entry k Absent ForReleaseAck = refl
 has_copy-entry k (Readable bytes) wait = refl
 has_copy-entry k (Writable bytes dirty) wait = refl
 
+-- an entry that waits for an answer is made of the same copy
+waiting-entry : (copy : CachedCopy) (before wait : Wait) → has_entry_for copy wait ≡ true
+    → Some (waiting wait (entry_with copy before)) ≡ entry_with copy wait
+waiting-entry Absent before Nothing some = cc
+waiting-entry Absent Nothing ForGrant some = refl
+waiting-entry Absent ForGrant ForGrant some = refl
+waiting-entry Absent ForReleaseAck ForGrant some = refl
+waiting-entry Absent Nothing ForReleaseAck some = refl
+waiting-entry Absent ForGrant ForReleaseAck some = refl
+waiting-entry Absent ForReleaseAck ForReleaseAck some = refl
+waiting-entry (Readable bytes) before wait some = refl
+waiting-entry (Writable bytes dirty) before wait some = refl
+
+-- so is one that waits for nothing any more
+ended-entry : (copy : CachedCopy) (before : Wait) → ended (entry_with copy before) ≡ entry_with copy Nothing
+ended-entry Absent Nothing = refl
+ended-entry Absent ForGrant = refl
+ended-entry Absent ForReleaseAck = refl
+ended-entry (Readable bytes) before = refl
+ended-entry (Writable bytes dirty) before = refl
+
 -- ## What the tables show of a client
 
 -- a client's table has as many entries as the log leaves it
@@ -111,3 +132,24 @@ put-is old new c b copy later wait next e f after x y =
 pub has_entry-is : (v : View) (h : Layers) (c b : ℕ) → Means v h → c < v.geometry.clients → b < v.geometry.memory_blocks
     → is_some (held_at h.copies c b) ≡ has_entry (client_at v c b)
 has_entry-is v h c b m lt l = ap (λ (o : Option Held). is_some o) (m.copies c b lt l) ∙ is_some-entry (client_at v c b).held (client_at v c b).wait
+
+-- the tables after a client that keeps its copy waits for an answer
+pub waits-is : (v : View) (h : Layers) (new : Tables) (c b : ℕ) (wait : Wait) → Means v h
+    → c < v.geometry.clients → b < v.geometry.memory_blocks → has_entry_for (client_at v c b).held wait ≡ true
+    → ((x y : ℕ) → held_at new x y ≡ cond (is_cell c b x y) (Some (waiting wait (held_at h.copies c b))) (held_at h.copies x y))
+    → (x y : ℕ) → held_at new x y ≡ cond (is_cell c b x y) (entry_with (client_at v c b).held wait) (held_at h.copies x y)
+waits-is v h new c b wait m lt l some after x y =
+    let k : Client = client_at v c b in
+    after x y
+    ∙ ap (λ (o : Option Held). cond (is_cell c b x y) o (held_at h.copies x y))
+    (ap (λ (o : Option Held). Some (waiting wait o)) (m.copies c b lt l) ∙ waiting-entry k.held k.wait wait some)
+
+-- the tables after it waits for nothing any more
+pub ended-is : (v : View) (h : Layers) (new : Tables) (c b : ℕ) → Means v h → c < v.geometry.clients → b < v.geometry.memory_blocks
+    → ((x y : ℕ) → held_at new x y ≡ cond (is_cell c b x y) (ended (held_at h.copies c b)) (held_at h.copies x y))
+    → (x y : ℕ) → held_at new x y ≡ cond (is_cell c b x y) (entry_with (client_at v c b).held Nothing) (held_at h.copies x y)
+ended-is v h new c b m lt l after x y =
+    let k : Client = client_at v c b in
+    after x y
+    ∙ ap (λ (o : Option Held). cond (is_cell c b x y) o (held_at h.copies x y))
+    (ap (λ (o : Option Held). ended o) (m.copies c b lt l) ∙ ended-entry k.held k.wait)

@@ -23,11 +23,11 @@ use Rattle.tl_bank_spec.specs.Refusal.{first_of}
 use Rattle.tl_bank_spec.specs.View.{View, client_at}
 use Rattle.tl_bank_spec.specs.Own.{IsOwn}
 use Rattle.tl_bank_spec.specs.Tables.{has_entry_for}
-use Rattle.tl_bank_laws.specs.Entry.{HasPlace, entry_with}
+use Rattle.tl_bank_laws.specs.Entry.{HasPlace, ended, entry_with}
 use Rattle.tl_bank_laws.specs.Layers.{Layers}
 use Rattle.tl_bank_laws.specs.Means.{Means}
 use Rattle.tl_bank_laws.proofs.Allowed.{AllFalse, all-false, client-is}
-use Rattle.tl_bank_laws.proofs.Entries.{put-is}
+use Rattle.tl_bank_laws.proofs.Entries.{ended-is, put-is}
 use Rattle.tl_bank_laws.proofs.Heads.{HeadAllowed, head-allowed, head-first, head-list, head-own}
 use Rattle.tl_bank_laws.proofs.Keep.{means-step}
 use Rattle.tl_bank_laws.proofs.Places.{place-there}
@@ -89,6 +89,18 @@ ack-place v h t block copy m acks =
     place-there v h t.client block copy Nothing m ok.client own.0
     (λ need. fewer-entries (client_at v t.client block).held (client_at v t.client block).wait
     (let P : CachedCopy → Type 0 = λ p. has_entry_for p Nothing ≡ true in subst P acks.copy_is need))
+
+-- the tables once the client waits for nothing
+pub ack-ends : (v : View) (h : Layers) (new : Tables) (t : Ticket) (block : ℕ) (copy : CachedCopy) → Means v h → Acks v t block copy
+    → ((x y : ℕ) → held_at new x y
+    ≡ (if is_cell t.client block x y then ended (held_at h.copies t.client block) else held_at h.copies x y))
+    → (x y : ℕ) → held_at new x y
+    ≡ (if is_cell t.client block x y then entry_with (client_at v t.client block).held Nothing else held_at h.copies x y)
+ack-ends v h new t block copy m acks after =
+    let ok = ack-allowed v t acks.allowed in
+    let own : IsOwn v.geometry v.number block =
+    let P : ℕ → Type 0 = λ b. IsOwn v.geometry v.number b in subst P (sym acks.block_is) (ack-own v h t m acks.allowed) in
+    ended-is v h new t.client block m ok.client own.0 after
 
 -- the bank is kept, told with the very block that the ticket's message speaks of
 ack-core : (v : View) (h : Layers) (t : Ticket) (copy : CachedCopy) (room : ℕ) (links : LinkTable) (tables : Tables)

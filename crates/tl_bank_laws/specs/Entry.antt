@@ -9,6 +9,7 @@ use Rattle.tl_protocol.specs.declared.client.Client.{Client}
 use Rattle.tl_protocol.specs.declared.copy.CachedCopy.{CachedCopy}
 use Rattle.tl_protocol.specs.declared.copy.CachedCopy.TheVariants.{Absent, Readable, Writable}
 use Rattle.tl_copies.specs.Copies.{Tables, clients_of, entries, held_at}
+use Rattle.tl_copies.specs.Held.{is_copy, waiting}
 use Rattle.tl_copies.specs.declared.held.Held.{Held}
 use Rattle.tl_bank_spec.specs.Tables.{has_entry_for}
 
@@ -63,3 +64,8 @@ perm_in (Some held) = held.perm
 abbrev pub bytes_in : Option Held → List ℕ
 bytes_in None = []
 bytes_in (Some held) = held.bytes
+
+-- the entry once its client waits for nothing: it goes where it says no copy
+abbrev pub ended : Option Held → Option Held
+ended None = None
+ended (Some held) = if is_copy held then Some (waiting Nothing (Some held)) else None

@@ -110,7 +110,9 @@ impl<'s> Agent<'s> {
             return Turn::Finished;
         }
         mail.send_again(rt);
-        if !mail.is_rung() && !is_due {
+        if mail.is_rung() {
+            self.requester.hear();
+        } else if !is_due {
             self.rest.after_turn(rt, mail.parker(), false);
             return Turn::Idle;
         }

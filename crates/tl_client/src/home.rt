@@ -31,6 +31,8 @@ pub struct Home {
     may_be_open: bool,
     /// Whether the bank may have changed since it was last asked whether it is quiet.
     has_changed: bool,
+    /// Whether the inbox may have tickets: its bell rang, or the last turn that took some took as many as a turn takes.
+    may_have_mail: bool,
 }
 
 impl Model for Home {
@@ -54,6 +56,7 @@ impl Home {
             rest: Rest::new(),
             may_be_open: true,
             has_changed: true,
+            may_have_mail: true,
         })
     }
 
@@ -89,6 +92,7 @@ impl Home {
             return Turn::Idle;
         }
         self.has_changed = true;
+        self.may_have_mail = self.may_have_mail || is_rung;
         match self.work(rt, port, clients, mail) {
             Ok(()) => Turn::Worked,
             Err(_) => {
@@ -117,7 +121,7 @@ impl Home {
         Ok(())
     }
 
-    /// Takes the tickets of the inbox, at most 64, and lays them behind those that wait: those on E, then C, then A.
+    /// Takes the tickets of the inbox, where there may be some.
     fn take_tickets<R: Wait>(
         &mut self,
         rt: &R,
@@ -127,11 +131,28 @@ impl Home {
         ensures { OnOk result (Takes clients mail.old.inbox self.old mail.new.inbox self.new) }
     {
         self.progress.begin();
+        if !self.may_have_mail {
+            return Ok(());
+        }
+        self.take_mail(rt, clients, mail)
+    }
+
+    /// Takes the tickets of the inbox, at most 64, and lays them behind those that wait: those on E, then C, then A.
+    fn take_mail<R: Wait>(
+        &mut self,
+        rt: &R,
+        clients: u32,
+        mail: &mut Mail<'_>,
+    ) -> Result<(), AllocError>
+        ensures { OnOk result (Takes clients mail.old.inbox self.old mail.new.inbox self.new) }
+    {
         self.taken.clear();
         self.taken.reserve(BATCH)?;
         self.waiting.make_room(3 * BATCH)?;
         let links = Links::OfBank(self.bank, clients as usize);
+        self.may_have_mail = false;
         if mail.take_tickets(rt, &links, &mut self.taken) {
+            self.may_have_mail = true;
             self.progress.go_on();
         }
         self.waiting.push_all(&self.taken, Channel::E);

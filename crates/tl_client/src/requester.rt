@@ -46,6 +46,8 @@ pub(crate) struct Requester {
     probes: Waiting,
     awaited: Awaited,
     pub(crate) progress: Progress,
+    /// Whether the inbox may have tickets: its bell rang, or the last turn that took some took as many as a turn takes.
+    may_have_mail: bool,
 }
 
 impl Requester {
@@ -66,6 +68,7 @@ impl Requester {
             probes: Waiting::new(alloc, room)?,
             awaited: Awaited::Nothing,
             progress: Progress::new(),
+            may_have_mail: true,
         })
     }
 
@@ -84,6 +87,11 @@ impl Requester {
         self.awaited != Awaited::Nothing
     }
 
+    /// The bell of the inbox rang.
+    pub(crate) fn hear(&mut self) {
+        self.may_have_mail = true;
+    }
+
     /// Whether something is to be done but for what the bell brings.
     pub(crate) fn is_due(&self) -> bool {
         self.progress.is_due() || !self.downward.is_empty() || !self.probes.is_empty()
@@ -96,12 +104,16 @@ impl Requester {
         mail: &mut Mail<'_>,
     ) -> Result<(), AllocError> {
         self.progress.begin();
+        if !self.may_have_mail {
+            return Ok(());
+        }
         self.taken.clear();
         self.taken.reserve(BATCH)?;
         self.downward.make_room(BATCH)?;
         self.probes.make_room(BATCH)?;
         let links = Links::OfClient(self.client, self.shares.len());
-        if mail.take_tickets(rt, &links, &mut self.taken) {
+        self.may_have_mail = mail.take_tickets(rt, &links, &mut self.taken);
+        if self.may_have_mail {
             self.progress.go_on();
         }
         self.downward.push_all(&self.taken, Channel::D);

@@ -5,8 +5,9 @@ use Rattle.std.proofs.Common.{Ok, Err}
 use Rattle.std.proofs.lemmas.List.Elements.{All-set}
 use Rattle.std.proofs.lemmas.Bool.{cases_order}
 use Rattle.std.proofs.lemmas.List.{get_or_default, get_or-set_same, get_or-set_other}
+use Rattle.tl_types.specs.declared.wait.Wait.{Wait}
 use Rattle.tl_copies.specs.declared.held.Held.{Held}
-use Rattle.tl_copies.specs.Held.{is_granted}
+use Rattle.tl_copies.specs.Held.{is_granted, waiting}
 use Rattle.tl_copies.specs.Entries.{Entry, found, without_entry, replaced, kept, IsTable}
 use Rattle.tl_copies.specs.Copies.{Tables, clients_of, held_at, order_in, is_cell, entries, order_without, order_after}
 use Rattle.tl_copies.proofs.EntryLaws.{blocks, flipped, found-replaced_here, found-replaced_other, AreApart-replaced, length-replaced, order-replaced, found-kept, found-without, order-kept, order-without, IsTable-kept, IsTable-without}
@@ -190,6 +191,28 @@ module _ {m : Tables} {bank limit n : ℕ} {tables : List (List Entry)} {at clie
   sound-kept result block held new e u f l =
       let inside : block < n = subst (λ (v : Tables). block < v.blocks) (sym r.view) l in
       All-set (λ t. IsTable limit n t) tables at new (kept_sound result limit n block held old new e u f table_sound inside) r.sound
+
+  -- a copy is kept with the answer that is waited for
+  pub kept-waiting : (block : ℕ) (wait : Wait) (new : List Entry) → new ≡ kept block (waiting wait (found block old)) old
+      → new ≡ kept block (waiting wait (held_at m client block)) old
+  kept-waiting block wait new e = e ∙ ap (λ (o : Option Held). kept block (waiting wait o) old) (sym (held_at-row block))
+
+  -- a new entry has room in the client's table where all tables say so
+  pub room-row : (block : ℕ) → (held_at m client block ≡ None → entries m client < m.limit) → found block old ≡ None → length old < limit
+  room-row block room none =
+      let sound : IsTable m.limit m.blocks old = rw (← r.view) table_sound in
+      let count : entries m client ≡ length old = entries-table m client old held_at-row sound in
+      let most : limit ≡ m.limit = ap (λ (v : Tables). v.limit) r.view in
+      let less = room (held_at-row block ∙ none) in
+      omega (arith, less, count, most)
+
+  -- the tables stay ones where a copy is kept for which there is room
+  pub sound-roomy : (block : ℕ) (held : Held) (new : List Entry) → new ≡ kept block held old
+      → (found block old ≡ None → length old < limit) → block < m.blocks
+      → All (λ t. IsTable limit n t) (slice_set tables at new)
+  sound-roomy block held new e room l =
+      let inside : block < n = subst (λ (v : Tables). block < v.blocks) (sym r.view) l in
+      All-set (λ t. IsTable limit n t) tables at new (rw e (IsTable-kept limit n block held old table_sound inside room)) r.sound
 
   -- full is what contracts call full
   pub full-is : (block : ℕ) (Refused : Type 0) → (Refused ↔ IsFull limit block old)

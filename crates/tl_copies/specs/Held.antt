@@ -1,5 +1,5 @@
 -- A client's copy of a block.
-use Rattle.std.specs.Prelude.{ℕ, Bool, true, false, not, ◌&&◌, List, Option, Some, None}
+use Rattle.std.specs.Prelude.{ℕ, Bool, true, false, not, ◌&&◌, List, [], Option, Some, None}
 use Rattle.tl_types.specs.Bytes.{overwrite}
 use Rattle.tl_types.specs.declared.permission.Perm.{Perm}
 use Rattle.tl_types.specs.declared.permission.Perm.TheVariants as perm
@@ -51,3 +51,8 @@ is_awaited (Some held) = waits held.wait
 -- a store writes its bytes over the copy's from an offset on, which is dirty then
 abbrev pub stored : ℕ → List ℕ → Held → Held
 stored offset bytes held = record held { dirty = true; bytes = overwrite offset bytes held.bytes }
+
+-- what a client holds that waits for an answer from then on: what it held, or no copy
+abbrev pub waiting : Wait → Option Held → Held
+waiting wait None = record { perm = perm.None; dirty = false; bytes = []; wait = wait }
+waiting wait (Some held) = record held { wait = wait }

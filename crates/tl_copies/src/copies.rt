@@ -2,7 +2,7 @@
 ghost use Rattle.std.specs.Prelude.{◌≡◌, ◌↔◌, ◌≤◌, ◌<◌, ◌+◌, ℕ, ◌==◌, [], None, Some, IfErr, IfOk, IfSome, IsErr, IsTrue, MatchOption, OnErr, OnOk, true, false, length, map, option_copied, option_map, slice_index_or, if◌then◌else◌};
 ghost use Rattle.std.specs.List.{find};
 ghost use Rattle.tl_copies.specs.Entries.{Entry, found, IsTable};
-ghost use Rattle.tl_copies.specs.Held.{has_copy, is_granted, is_awaited, stored};
+ghost use Rattle.tl_copies.specs.Held.{has_copy, is_granted, is_awaited, stored, waiting};
 ghost use Rattle.tl_copies.specs.Copies.{clients_of, held_at, order_in, is_cell, entries, copies, order_without, order_after, SameSize};
 
 use crate::held::Held;
@@ -10,7 +10,7 @@ use crate::table::{Full, Table};
 use std::alloc::{AllocError, Global};
 use std::marker::Model;
 use tl_map::Geometry;
-use tl_types::{AccessBytes, BLOCK_BYTES, BankNo, BlockNo, COPIES, ClientId};
+use tl_types::{AccessBytes, BLOCK_BYTES, BankNo, BlockNo, COPIES, ClientId, Wait};
 
 /// The copies of one bank's blocks. Each client has at most as many entries as the geometry says.
 #[derive(Drop)]
@@ -171,6 +171,27 @@ impl Copies {
     {
         let limit = self.limit as usize;
         self.tables[client.index()].keep(limit, block, held)
+    }
+
+    /// A client waits for an answer about a block from then on, or for none, and keeps the copy that it has; where its table has no
+    /// entry of the block it has a new one, for which there has to be room. A new entry goes last in the order of age, and so
+    /// does one that waited for a Grant and no longer does.
+    #[tactic(auto, unfolding(crate::specs::Copies::clients_of, crate::specs::Copies::held_at, crate::specs::Copies::order_in))]
+    pub fn wait_for(&mut self, client: ClientId, block: BlockNo, wait: Wait)
+        requires client { client < clients_of self.old }
+        requires block { block < self.old.blocks }
+        requires room { held_at self.old client block ≡ None → entries self.old client < self.old.limit }
+        ensures same { SameSize self.old self.new }
+        ensures after { (x y : ℕ)
+            → held_at self.new x y
+            ≡ (if is_cell client block x y then Some (waiting wait (held_at self.old client block)) else held_at self.old x y) }
+        ensures order { (x : ℕ)
+            → order_in self.new x
+            ≡ (if x == client
+            then order_after (is_granted (held_at self.old client block) (waiting wait (held_at self.old client block))) block (order_in self.old x)
+            else order_in self.old x) }
+    {
+        self.tables[client.index()].wait_for(block, wait);
     }
 
     /// Writes the bytes of a store over what a client holds of a block from `offset` on, which makes it dirty. Nothing changes

@@ -1,6 +1,6 @@
 //! A client's copy of a block.
-ghost use Rattle.std.specs.Prelude.{◌≡◌, ◌≤◌, ◌+◌, length, if◌then◌else◌};
-ghost use Rattle.tl_copies.specs.Held.{is_copy, is_renewed, stored, waits};
+ghost use Rattle.std.specs.Prelude.{◌≡◌, ◌≤◌, ◌+◌, None, Some, length, if◌then◌else◌};
+ghost use Rattle.tl_copies.specs.Held.{is_copy, is_renewed, stored, waiting, waits};
 
 use tl_types::{AccessBytes, BLOCK_BYTES, BlockBytes, Perm, Wait};
 
@@ -42,6 +42,33 @@ impl Held {
     {
         matches!(self.wait, Wait::ForGrant) && !matches!(next.wait, Wait::ForGrant)
     }
+
+    /// Whether this waited for a Grant and `next` is no Grant: the Grant came.
+    pub(crate) fn is_granted_with(&self, next: Wait) -> bool
+        ensures { result ≡ is_renewed self.now (waiting next (Some self.now)) }
+    {
+        matches!(self.wait, Wait::ForGrant) && !matches!(next, Wait::ForGrant)
+    }
+
+    /// What a client holds that has no copy, and waits for an answer.
+    pub(crate) fn awaiting(wait: Wait) -> Held
+        ensures { result ≡ waiting wait None }
+    {
+        Held {
+            perm: Perm::None,
+            dirty: false,
+            bytes: BlockBytes::new(),
+            wait,
+        }
+    }
+
+    /// An answer is waited for from then on, or none.
+    pub(crate) fn wait_for(&mut self, wait: Wait)
+        ensures { self.new ≡ waiting wait (Some self.old) }
+    {
+        self.wait = wait;
+    }
+
     /// Whether an answer is waited for.
     pub(crate) fn waits(&self) -> bool
         ensures { result ≡ waits self.now.wait }

@@ -1,5 +1,5 @@
 //! One client's table: keys in the order of age, beside the slots with what the client holds.
-ghost use Rattle.std.specs.Prelude.{◌≡◌, ◌↔◌, ◌≤◌, ◌<◌, ◌+◌, ◌∷◌, ◌++◌, [], length, count_by, not, None, IfErr, IsErr, OnErr, OnOk, MatchOption, option_copied, slice_index_or, slice_set, if◌then◌else◌};
+ghost use Rattle.std.specs.Prelude.{◌≡◌, ◌↔◌, ◌≤◌, ◌<◌, ◌+◌, ◌∷◌, ◌++◌, [], length, count_by, not, None, Some, IfErr, IsErr, OnErr, OnOk, MatchOption, option_copied, slice_index_or, slice_set, if◌then◌else◌};
 ghost use Rattle.std.specs.List.{list_all, remove};
 ghost use Rattle.tl_copies.specs.declared.held.Held.{Held};
 
@@ -42,13 +42,15 @@ pub struct Full {
     pub held: Held,
 }
 
-/// A client's entries, the one granted longest ago first: a key for each, and the slots that no key has.
+/// A client's entries, the one granted longest ago first: a key for each, and the slots that no key has. The hints are where
+/// entries probably are, by the low bits of their blocks' numbers: an entry that is not there is searched for.
 #[derive(Drop)]
 pub(crate) struct Table {
     keys: ArrayVec<Key, 64>,
     slots: ArrayVec<Held, 64>,
     free: ArrayVec<u32, 64>,
     copies: u32,
+    hints: [u8; 64],
 }
 
 impl Model for Table {
@@ -65,7 +67,7 @@ impl Model for Table {
 }
 
 impl Table {
-    ghost use Rattle.tl_copies.specs.Held.{is_copy, waits, stored};
+    ghost use Rattle.tl_copies.specs.Held.{is_copy, waits, stored, waiting};
     ghost use Rattle.tl_copies.specs.Entries.{Entry, found, without_entry, replaced, kept, oldest_in, IsPlace, HasEachOnce};
 
     /// A table with no entry.
@@ -77,6 +79,7 @@ impl Table {
             slots: ArrayVec::new(),
             free: ArrayVec::new(),
             copies: 0,
+            hints: [0; 64],
         }
     }
 
@@ -136,8 +139,8 @@ impl Table {
         true
     }
 
-    /// Where the entry of a block is.
-    pub(crate) fn place_of(&self, block: BlockNo) -> Option<usize>
+    /// Where the entry of a block is, by a search.
+    fn search(&self, block: BlockNo) -> Option<usize>
         ensures { MatchOption result (found block self.now ≡ None) (λ place. IsPlace block self.now place) }
     {
         for (place, key) in self.keys.as_slice().iter().enumerate() {
@@ -148,14 +151,6 @@ impl Table {
         None
     }
 
-    /// The entry of a block.
-    pub(crate) fn of(&self, block: BlockNo) -> Option<&Held>
-        ensures { option_copied result ≡ found block self.now }
-    {
-        let place = self.place_of(block)?;
-        Some(self.held(place))
-    }
-
     /// Where the entry of a block is: at `place` if that is the block's, and else where a search finds it.
     fn place_near(&self, block: BlockNo, place: usize) -> Option<usize>
         requires { HasEachOnce self.now }
@@ -164,7 +159,25 @@ impl Table {
         if place < self.len() && self.block(place) == block {
             return Some(place);
         }
-        self.place_of(block)
+        self.search(block)
+    }
+
+    /// Where the entry of a block is.
+    pub(crate) fn place_of(&self, block: BlockNo) -> Option<usize>
+        requires { HasEachOnce self.now }
+        ensures { MatchOption result (found block self.now ≡ None) (λ place. IsPlace block self.now place) }
+    {
+        let hint = self.hints[hint_of(block)];
+        self.place_near(block, usize::from(hint))
+    }
+
+    /// The entry of a block.
+    pub(crate) fn of(&self, block: BlockNo) -> Option<&Held>
+        requires { HasEachOnce self.now }
+        ensures { option_copied result ≡ found block self.now }
+    {
+        let place = self.place_of(block)?;
+        Some(self.held(place))
     }
 
     /// The entry of a block, which `place` may be the place of.
@@ -178,7 +191,8 @@ impl Table {
 
     /// Puts a copy into the block's entry, or into a new one where there are fewer than `limit`.
     pub(crate) fn keep(&mut self, limit: usize, block: BlockNo, held: Held) -> Result<(), Full>
-        requires { limit ≤ COPIES }
+        requires limit { limit ≤ COPIES }
+        requires once { HasEachOnce self.old }
         ensures after { OnOk result (self.new ≡ kept block held self.old) }
         ensures full { IsErr result ↔ ((found block self.old ≡ None) × (limit ≤ length self.old)) }
         ensures held { IfErr result (λ full. full.held ≡ held) }
@@ -189,22 +203,46 @@ impl Table {
                 return Err(Full { held });
             }
             self.add(block, held);
+            self.note_last(block, self.len());
             return Ok(());
         };
         let granted = self.held(place).is_granted_as(&held);
         self.write(place, held);
         if granted {
             self.renew(place);
+            self.note_last(block, place);
         }
         Ok(())
     }
 
+    /// The client waits for an answer about a block from then on, or for none, and keeps the copy that it has; where it has no
+    /// entry of the block it has a new one.
+    pub(crate) fn wait_for(&mut self, block: BlockNo, wait: Wait)
+        requires once { HasEachOnce self.old }
+        requires room { found block self.old ≡ None → length self.old < COPIES }
+        ensures { self.new ≡ kept block (waiting wait (found block self.old)) self.old }
+    {
+        let Some(place) = self.place_of(block) else {
+            self.add(block, Held::awaiting(wait));
+            self.note_last(block, self.len());
+            return;
+        };
+        let granted = self.held(place).is_granted_with(wait);
+        self.wait_at(place, wait);
+        if granted {
+            self.renew(place);
+            self.note_last(block, place);
+        }
+    }
+
     /// Takes the entry of a block out, if there is one.
     pub(crate) fn clear(&mut self, block: BlockNo)
+        requires { HasEachOnce self.old }
         ensures { self.new ≡ without_entry block self.old }
     {
         if let Some(place) = self.place_of(block) {
             self.remove(place);
+            self.note_gone(place);
         }
     }
 
@@ -268,6 +306,20 @@ impl Table {
         self.slots[slot].store(offset, access);
     }
 
+    /// The client waits for an answer from then on, or for none, by the entry at a place.
+    fn wait_at(&mut self, place: usize, wait: Wait)
+        requires { place < length self.old }
+        ensures { (e : Entry)
+            → self.new
+            ≡ slice_set self.old place (record {
+              block = (slice_index_or self.old place e).block;
+              held = waiting wait (Some (slice_index_or self.old place e).held);
+            }) }
+    {
+        let slot = self.keys[place].slot as usize;
+        self.slots[slot].wait_for(wait);
+    }
+
     /// Puts the entry at a place last.
     fn renew(&mut self, place: usize)
         requires { place < length self.old }
@@ -285,5 +337,41 @@ impl Table {
         let key = self.keys.remove(place);
         self.copies -= self.slots[key.slot as usize].copies();
         self.free.push(key.slot);
+    }
+
+    /// The entry of a block has gone last, from a place.
+    fn note_last(&mut self, block: BlockNo, from: usize)
+        ensures { self.new ≡ self.old }
+    {
+        let last = self.len().saturating_sub(1);
+        if from < last {
+            self.note_gone(from);
+        }
+        self.hints[hint_of(block)] = last as u8;
+    }
+
+    /// An entry has gone from a place: those behind it have moved up.
+    fn note_gone(&mut self, place: usize)
+        ensures { self.new ≡ self.old }
+    {
+        if place < self.len() {
+            lower(&mut self.hints, place as u8);
+        }
+    }
+}
+
+/// Which hint a block has.
+fn hint_of(block: BlockNo) -> usize
+    ensures { result < 64 }
+{
+    block.index() % 64
+}
+
+/// Lowers by one each number above a bound.
+fn lower(numbers: &mut [u8], bound: u8) {
+    for number in numbers.iter_mut() {
+        if *number > bound {
+            *number -= 1;
+        }
     }
 }

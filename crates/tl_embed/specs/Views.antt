@@ -3,17 +3,21 @@
 use Rattle.std.specs.Prelude.{◌≡◌, ◌≢◌, ◌<◌, ◌≤◌, ℕ, ◌==◌, Bool, true, false, List, length, nat_lt, slice_get, Option, Some, None, if◌then◌else◌}
 use Rattle.std.specs.List.Sorted.{IsNonDecreasing, IsPermutation}
 use Rattle.tl_types.specs.Permission.{rank}
+use Rattle.tl_types.specs.declared.channel.Channel.{Channel}
 use Rattle.tl_types.specs.declared.message.Message.{Message}
 use Rattle.tl_types.specs.declared.ticket.Ticket.{Ticket}
 use Rattle.tl_map.specs.Places.{bank_of, block_of_address, has_block}
 use Rattle.tl_protocol.specs.Ledger.{has_copy, is_recorded}
+use Rattle.tl_protocol.specs.declared.home.Line.{Line}
+use Rattle.tl_bank.specs.Contents.{line_at, memory_at, message_waiting}
 use Rattle.tl_bank_spec.specs.Cases.{no_client}
 use Rattle.tl_bank_spec.specs.Tables.{copies_at}
-use Rattle.tl_bank_spec.specs.View.{View}
-use Rattle.tl_bank_spec.specs.Views.{IsQuiet, copy_perm_at, dirty_at, outward_at, own_blocks, pairs_at, peeked, recorded_at}
+use Rattle.tl_bank_spec.specs.View.{View, shape_of}
+use Rattle.tl_bank_spec.specs.Views.{IsQuiet, copy_perm_at, outward_at, own_blocks, pairs_at, peeked, recorded_at}
 use Rattle.tl_player.specs.NetworkState.{NetworkState, bank_at}
-use Rattle.tl_embed.specs.Asked.{ticket_named}
-use Rattle.tl_embed.specs.Told.{message_of, message_told, number_told, only, outward_told}
+use Rattle.tl_embed.specs.Asked.{channel_at, ticket_named}
+use Rattle.tl_embed.specs.Events.{event_or_none}
+use Rattle.tl_embed.specs.Told.{message_of, message_told, number_told, only, outward_told, with_bytes}
 use Rattle.tl_embed.specs.declared.answer.Answer.{Answer}
 use Rattle.tl_embed.specs.declared.request.Request.{Request}
 
@@ -37,11 +41,20 @@ abbrev pub byte_told : Option ℕ → Answer
 byte_told None = only 1
 byte_told (Some byte) = number_told byte
 
--- 0 where home has no copy, 1 a clean one, 2 a dirty one
-abbrev pub home_number : Option Bool → ℕ
-home_number None = 0
-home_number (Some false) = 1
-home_number (Some true) = 2
+-- 1 for a clean copy of home's, 2 for a dirty one
+abbrev pub dirty_number : Bool → ℕ
+dirty_number false = 1
+dirty_number true = 2
+
+-- 0 where home has no copy; else whether it is dirty, and its bytes
+abbrev pub home_told : Option Line → Answer
+home_told None = number_told 0
+home_told (Some line) = with_bytes line.bytes (number_told (dirty_number line.dirty))
+
+-- the memory's bytes of a block
+abbrev pub memory_told : Option (List ℕ) → Answer
+memory_told None = only 10
+memory_told (Some bytes) = with_bytes bytes (record (only 0) { what = 8 })
 
 -- a view of a block
 abbrev pub block_told : NetworkState → Request → Answer
@@ -50,8 +63,9 @@ block_told network r =
     else if r.call == 21 then shown_by (bank_for network r.client r.place) (λ v. number_told (rank (recorded_at v r.client r.place)))
     else if r.call == 22 then
     shown_by (bank_for network r.client (block_of_address network.geometry r.place)) (λ v. byte_told (peeked v r.client r.place))
-    else if r.call == 23 then shown_by (home_of network r.place) (λ v. number_told (home_number (dirty_at v r.place)))
-    else shown_by (home_of network r.place) (λ v. outward_told (outward_at v r.place))
+    else if r.call == 23 then shown_by (home_of network r.place) (λ v. home_told (line_at v r.place))
+    else if r.call == 24 then shown_by (home_of network r.place) (λ v. outward_told (outward_at v r.place))
+    else shown_by (home_of network r.place) (λ v. memory_told (memory_at v r.place))
 
 -- ## Of a bank
 
@@ -86,11 +100,24 @@ pub record OpenTold (v : View) (place : ℕ) (told : Answer) : Type 0 where
   pub rising : IsNonDecreasing blocks
   pub told_is : told ≡ number_or_none (slice_get blocks place)
 
+-- a message that waits with its ticket, or that none waits at that place
+abbrev pub waiting_or_none : Option (Ticket × Message) → Answer
+waiting_or_none None = only 4
+waiting_or_none (Some waiting) = message_told waiting.0 waiting.1.body waiting.1.block
+
+-- the message at a place among those that wait on a channel, or that there is no such channel or client
+abbrev pub waiting_told : View → ℕ → Option Channel → ℕ → Answer
+waiting_told v client None place = only 17
+waiting_told v client (Some channel) place =
+    if no_client v client then only 10 else waiting_or_none (message_waiting v client channel place)
+
 -- a view of a bank
 pub record BankTells (v : View) (r : Request) (told : Answer) : Type 0 where
+  pub event : r.call ≡ 28 → told ≡ event_or_none (shape_of v.geometry) (slice_get v.log r.serial)
   pub quiet : r.call ≡ 31 → QuietTold v told
   pub open_block : r.call ≡ 32 → OpenTold v r.serial told
-  pub other : r.call ≢ 31 → r.call ≢ 32 → told ≡ bank_told v r
+  pub waiting : r.call ≡ 34 → told ≡ waiting_told v r.client (channel_at r.channel) r.serial
+  pub other : r.call ≢ 28 → r.call ≢ 31 → r.call ≢ 32 → r.call ≢ 34 → told ≡ bank_told v r
 
 -- ## Of a ticket
 
@@ -116,5 +143,7 @@ pub record Views (network : NetworkState) (r : Request) (told : Answer) : Type 0
   pub block : 20 ≤ r.call → r.call ≤ 24 → told ≡ block_told network r
   pub bank : 25 ≤ r.call → r.call ≤ 32 → BankShows (bank_at network r.bank) r told
   pub message : r.call ≡ 33 → told ≡ ticket_told network (ticket_named r)
+  pub waiting : r.call ≡ 34 → BankShows (bank_at network r.bank) r told
+  pub memory : r.call ≡ 35 → told ≡ block_told network r
   pub below : r.call < 20 → told ≡ only 16
-  pub above : 33 < r.call → told ≡ only 16
+  pub above : 35 < r.call → told ≡ only 16

@@ -2,6 +2,7 @@
 ghost use Rattle.std.specs.Prelude.{◌≡◌, None};
 ghost use Rattle.tl_embed.specs.Asked.{asked};
 ghost use Rattle.tl_embed.specs.Calls.{AsksFor, Calls};
+ghost use Rattle.tl_embed.specs.Events.{Reserves};
 ghost use Rattle.tl_embed.specs.Opens.{Opens, as_given, closed};
 ghost use Rattle.tl_embed.specs.Told.{step_told};
 
@@ -12,6 +13,7 @@ use crate::views::view;
 use std::alloc::Global;
 use tl_map::{Geometry, GeometryNumbers};
 use tl_player::Network;
+use tl_types::BankNo;
 
 /// All banks with their clients, until it is closed.
 #[derive(Drop)]
@@ -102,7 +104,7 @@ pub fn call(cache: &mut Cache, request: &Request) -> Answer
     }
 }
 
-/// Carries out a step, or shows something.
+/// Carries out a step, makes room for more, or shows something.
 fn ask(network: &mut Network, request: &Request) -> Answer
     ensures { AsksFor (asked request.now) network.old request.now network.new result }
 {
@@ -112,6 +114,20 @@ fn ask(network: &mut Network, request: &Request) -> Answer
             Err(_) => Answer::only(14),
         },
         Asked::BadArgument => Answer::only(17),
+        Asked::Reserve => reserve(network, BankNo::new(request.bank), request.serial),
         Asked::Other => view(network, request),
+    }
+}
+
+/// Makes room in a bank's log for `count` more events.
+fn reserve(network: &mut Network, bank: BankNo, count: u64) -> Answer
+    ensures { Reserves bank count network.old network.new result }
+{
+    if bank.number() >= network.geometry().banks() {
+        return Answer::only(10);
+    }
+    match network.reserve_steps(bank, count as usize) {
+        Ok(()) => Answer::only(0),
+        Err(_) => Answer::only(14),
     }
 }

@@ -3,7 +3,9 @@
 
 mod answer;
 mod cache;
+mod events;
 mod export;
+mod history;
 mod request;
 mod tell;
 mod views;

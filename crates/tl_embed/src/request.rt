@@ -29,7 +29,7 @@ pub struct Request {
     pub channel: u32,
     /// The length of an access.
     pub len: u32,
-    /// The ticket's serial, or a place in a list.
+    /// The ticket's serial, a place in a list, or a number of events.
     pub serial: u64,
     /// The bytes of a store, the first `len` of them.
     pub bytes: [u8; 8],
@@ -42,7 +42,9 @@ pub enum Asked {
     Step(Step),
     /// A step with a length above 8, or a param or a channel that there is not.
     BadArgument,
-    /// No step.
+    /// Room in a bank's log for more events.
+    Reserve,
+    /// None of these.
     Other,
 }
 
@@ -66,6 +68,7 @@ impl Request {
             12 => Asked::Step(self.by_block(BlockCall::Evict)),
             13 => Asked::Step(self.by_block(BlockCall::ServeMemory)),
             14 => Asked::Step(self.by_block(BlockCall::TakeMemory)),
+            15 => Asked::Reserve,
             _ => Asked::Other,
         }
     }
@@ -175,7 +178,8 @@ fn of_step(step: Option<Step>) -> Asked
     }
 }
 
-fn channel_at(number: u32) -> Option<Channel>
+/// The channel with a number: 0 to 4 for A to E.
+pub fn channel_at(number: u32) -> Option<Channel>
     ensures { result ≡ channel_at number }
 {
     match number {

@@ -2,25 +2,28 @@
 ghost use Rattle.std.specs.Prelude.{◌≡◌};
 ghost use Rattle.std.specs.Option.{option_map};
 ghost use Rattle.tl_types.specs.Permission.{rank};
-ghost use Rattle.tl_embed.specs.Asked.{ticket_named};
+ghost use Rattle.tl_embed.specs.Asked.{channel_at, ticket_named};
 ghost use Rattle.tl_embed.specs.Told.{message_told, number_told};
-ghost use Rattle.tl_embed.specs.Views.{BankTells, OpenTold, QuietTold, Views, bank_for, bank_told, block_told, byte_told, home_number, home_of, ticket_told};
+ghost use Rattle.tl_embed.specs.Views.{BankTells, OpenTold, QuietTold, Views, bank_for, bank_told, block_told, byte_told, dirty_number, home_of, home_told, memory_told, ticket_told, waiting_told};
 
 use crate::answer::Answer;
-use crate::request::Request;
+use crate::events::event_told;
+use crate::request::{Request, channel_at};
 use crate::tell::{message_of, message_told, number_told, outward_told};
 use tl_bank::Bank;
 use tl_player::Network;
-use tl_types::{BankNo, BlockNo, ClientId, Message, Perm, Ticket};
+use tl_protocol::Line;
+use tl_types::{BankNo, BlockBytes, BlockNo, ClientId, Message, Perm, Ticket};
 
 /// What a request that asks for no step is answered: 20 perm, 21 directory, 22 peek, 23 home, 24 outward, 25 held, 26 recorded,
-/// 27 events, 29 room, 30 copies, 31 is_quiet, 32 open block, 33 message; 16 where it is none of these.
+/// 27 events, 28 event, 29 room, 30 copies, 31 is_quiet, 32 open block, 33 message, 34 waiting, 35 memory; 16 where it is none
+/// of these.
 pub fn view(network: &Network, request: &Request) -> Answer
     ensures { Views network.now request.now result }
 {
     match request.call {
-        20..=24 => of_block(network, request),
-        25..=32 => match network.bank(BankNo::new(request.bank)) {
+        20..=24 | 35 => of_block(network, request),
+        25..=32 | 34 => match network.bank(BankNo::new(request.bank)) {
             Some(bank) => of_bank(bank, request),
             None => Answer::only(10),
         },
@@ -49,11 +52,15 @@ fn of_block(network: &Network, request: &Request) -> Answer
             None => Answer::only(10),
         },
         23 => match home_of(network, block) {
-            Some(bank) => number_told(home_number(bank.home(block))),
+            Some(bank) => home_told(bank.line(block)),
+            None => Answer::only(10),
+        },
+        24 => match home_of(network, block) {
+            Some(bank) => outward_told(bank.outward(block)),
             None => Answer::only(10),
         },
         _ => match home_of(network, block) {
-            Some(bank) => outward_told(bank.outward(block)),
+            Some(bank) => memory_told(bank.memory(block)),
             None => Answer::only(10),
         },
     }
@@ -99,13 +106,33 @@ fn byte_told(byte: Option<u8>) -> Answer
     }
 }
 
-fn home_number(dirty: Option<bool>) -> u64
-    ensures { result ≡ home_number dirty }
+/// Home's copy of a block: 0 none, 1 clean, 2 dirty, with its bytes.
+fn home_told(line: Option<Line>) -> Answer
+    ensures { result ≡ home_told line }
 {
-    match dirty {
-        None => 0,
-        Some(false) => 1,
-        Some(true) => 2,
+    match line {
+        None => number_told(0),
+        Some(line) => number_told(dirty_number(line.dirty)).with_bytes(line.bytes.as_slice()),
+    }
+}
+
+fn dirty_number(dirty: bool) -> u64
+    ensures { result ≡ dirty_number dirty }
+{
+    if dirty { 2 } else { 1 }
+}
+
+/// The memory's bytes of a block.
+fn memory_told(bytes: Option<BlockBytes>) -> Answer
+    ensures { result ≡ memory_told bytes }
+{
+    match bytes {
+        None => Answer::only(10),
+        Some(bytes) => Answer {
+            what: 8,
+            ..Answer::only(0)
+        }
+        .with_bytes(bytes.as_slice()),
     }
 }
 
@@ -114,8 +141,10 @@ fn of_bank(bank: &Bank, request: &Request) -> Answer
     ensures { BankTells bank.now request.now result }
 {
     match request.call {
+        28 => event_told(bank, request.serial),
         31 => quiet_told(bank),
         32 => open_told(bank, request.serial),
+        34 => waiting_told(bank, request),
         _ => number_of(bank, request),
     }
 }
@@ -156,6 +185,23 @@ fn open_told(bank: &Bank, place: u64) -> Answer
     }
 }
 
+/// Of the message at a place among those that wait on a channel.
+fn waiting_told(bank: &Bank, request: &Request) -> Answer
+    ensures { result ≡ waiting_told bank.now request.now.client (channel_at request.now.channel) request.now.serial }
+{
+    let Some(channel) = channel_at(request.channel) else {
+        return Answer::only(17);
+    };
+    let client = ClientId::new(request.client);
+    if client.number() >= bank.geometry().clients() {
+        return Answer::only(10);
+    }
+    match bank.waiting(client, channel, request.serial as usize) {
+        Some(waiting) => one_waiting_told(waiting.0, &waiting.1),
+        None => Answer::only(4),
+    }
+}
+
 /// Of the message that a ticket names.
 fn of_ticket(network: &Network, request: &Request) -> Answer
     ensures { result ≡ ticket_told network.now (ticket_named request.now) }
@@ -165,13 +211,13 @@ fn of_ticket(network: &Network, request: &Request) -> Answer
     };
     let named = ticket;
     match message_of(network, named) {
-        Some(message) => waiting_told(ticket, &message),
+        Some(message) => one_waiting_told(ticket, &message),
         None => Answer::only(4),
     }
 }
 
 /// A message that waits.
-fn waiting_told(ticket: Ticket, message: &Message) -> Answer
+fn one_waiting_told(ticket: Ticket, message: &Message) -> Answer
     ensures { result ≡ message_told ticket message.now.body message.now.block }
 {
     message_told(ticket, &message.body, message.block.number())

@@ -144,6 +144,15 @@ impl Home {
         self.directory.recorded(client, block)
     }
 
+    /// The memory's bytes of a block of the bank.
+    pub fn in_memory(&self, block: BlockNo) -> BlockBytes
+        requires block { block < (geometry_in self.now).memory_blocks }
+        requires own { bank_of (geometry_in self.now) block ≡ bank_in self.now }
+        ensures { result ≡ memory_in self.now block }
+    {
+        self.memory.read(block)
+    }
+
     /// What passes of a block between home and the memory, if anything does.
     pub fn outward(&self, block: BlockNo) -> Option<&Outward>
         ensures { MatchOption result (outward_in self.now block ≡ Quiet) (λ outward. outward_in self.now block ≡ outward.now) }

@@ -168,19 +168,34 @@ impl Links {
         ensures message { IfErr result (λ full. full.message ≡ message) }
         ensures unchanged { OnErr result (self.new ≡ self.old) }
     {
-        let queue = self.queue(client, channel);
-        if queue.waiting() == MESSAGES {
+        if self.queue(client, channel).waiting() == MESSAGES {
             return Err(Full { message });
         }
-        let serial = queue.sent();
+        Ok(self.send_reserved(client, channel, message))
+    }
+
+    /// Sends a message on a channel that has room for it. The answer is its ticket.
+    #[tactic(auto, unfolding(crate::specs::Table::lane_in))]
+    pub fn send_reserved(&mut self, client: ClientId, channel: Channel, message: Message) -> Ticket
+        requires here { client < self.old.clients }
+        requires room { length (lane_in self.old client channel).messages < MESSAGES }
+        requires counted { sent (lane_in self.old client channel) < 2 ^ 64 - 1 }
+        ensures ticket { result
+            ≡ record { bank = self.old.bank; client = client; channel = channel; serial = sent (lane_in self.old client channel) } }
+        ensures same { SameSize self.old self.new }
+        ensures after { (x : ℕ) (k : Channel)
+            → lane_in self.new x k
+            ≡ (if is_here client channel x k then with_message (lane_in self.old x k) message else lane_in self.old x k) }
+    {
+        let serial = self.queue(client, channel).sent();
         self.queues[place(client, channel)].push(message);
         self.waiting[channel.index()] += 1;
-        Ok(Ticket {
+        Ticket {
             bank: self.bank,
             client,
             channel,
             serial,
-        })
+        }
     }
 
     /// The message that a ticket names, where it is the first that waits on its channel.

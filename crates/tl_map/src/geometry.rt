@@ -272,9 +272,19 @@ impl Geometry {
             && len <= (self.block_bytes - self.offset(address)) as usize
     }
 
-    /// The exclusive or of the 16 lowest groups of a number's bits that are as wide as the number of a bank: four times the
-    /// groups above the half are folded into those below.
+    /// The exclusive or of the 16 lowest groups of a number's bits that are as wide as the number of a bank: 0 in one bank.
     fn xor_of_groups(self, number: u32) -> u32
+        ensures is { result ≡ xor_of_groups self.banks 16 number }
+        ensures group { result < self.banks }
+    {
+        if self.banks == 1 {
+            return 0;
+        }
+        self.folded(number)
+    }
+
+    /// That exclusive or for any number of banks: four times the groups above the half are folded into those below.
+    fn folded(self, number: u32) -> u32
         ensures is { result ≡ xor_of_groups self.banks 16 number }
         ensures group { result < self.banks }
     {

@@ -47,3 +47,8 @@ any-err (Err e) P h = h
 pub if-done : {T E : Type 0} (result : Result T E) (P Q : Type 0) → (P → Q) → OnOk result P → OnOk result Q
 if-done (Ok answer) P Q f h = f h
 if-done (Err e) P Q f h = tt
+
+-- what follows of want of memory and of less room follows of a call that may have neither
+pub if-short : {V : Type 0} (result : Result V Refusal) (P Q R : Type 0) → (P → Q → R) → OnErr result P → OnErr result Q → OnErr result R
+if-short (Ok v) P Q R f h k = tt
+if-short (Err e) P Q R f h k = f h k

@@ -12,7 +12,7 @@ use Rattle.tl_text.specs.declared.answer.Answer.{Answer}
 use Rattle.tl_player.specs.Answers.{IsStarved}
 use Rattle.tl_player.specs.Steps.{IsStep, cases_of}
 use Rattle.tl_player.specs.NetworkSteps.{IsStarvedAt, IsStarvedNetwork, IsStepAt, IsNetworkStep}
-use Rattle.tl_player.specs.NetworkState.{HasRoom, IsReserved, SharedBankState, NetworkState, bank_asked, client_named, share_place}
+use Rattle.tl_player.specs.NetworkState.{HasRoom, IsReserved, IsShort, SharedBankState, NetworkState, bank_asked, client_named, share_place}
 use Rattle.tl_player.proofs.Starved.{step-room}
 
 -- a list of the same length takes the other's place
@@ -108,4 +108,18 @@ reserved-at number count old new shared_bank other left inside is has made = rec
   is_site = slice_get-get_or old.shared_banks number other inside ∙ ap (λ (s : SharedBankState). Some s) (sym is);
   has_room = has;
   is = made;
+}
+
+-- a bank that found no memory for room, written back
+pub short-at : (number count : ℕ) (old new : NetworkState) (shared_bank other left : SharedBankState)
+    → number < length old.shared_banks → shared_bank ≡ get_or old.shared_banks number other → left ≡ shared_bank
+    → shared_bank.bank.room < count → new ≡ record old { shared_banks = slice_set old.shared_banks number left } → IsShort number count old new
+short-at number count old new shared_bank other left inside is same less made = record {
+  same =
+      made
+      ∙ ap (λ (xs : List SharedBankState). record old { shared_banks = xs })
+      (ap (λ (s : SharedBankState). set old.shared_banks number s) (same ∙ is) ∙ set-get_or old.shared_banks number other);
+  shared_bank = shared_bank;
+  is_site = slice_get-get_or old.shared_banks number other inside ∙ ap (λ (s : SharedBankState). Some s) (sym is);
+  less = less;
 }

@@ -1,5 +1,5 @@
 -- All banks with their clients' shares and clocks, and which of them a step is asked of (this project's own).
-use Rattle.std.specs.Prelude.{◌≡◌, ℕ, suc, ◌≤◌, List, [], ◌∷◌, length, nat_lt, replicate, slice_get, slice_set, Option, Some, None, if◌then◌else◌}
+use Rattle.std.specs.Prelude.{◌≡◌, ℕ, suc, ◌<◌, ◌≤◌, List, [], ◌∷◌, length, nat_lt, replicate, slice_get, slice_set, Option, Some, None, if◌then◌else◌}
 use Rattle.std.specs.List.{All}
 use Rattle.std.specs.Option.{option_map}
 use Rattle.tl_map.specs.Numbers.{Numbers}
@@ -72,6 +72,13 @@ pub record IsReserved (number count : ℕ) (old new : NetworkState) : Type 0 whe
   pub is_site : slice_get old.shared_banks number ≡ Some shared_bank
   pub has_room : HasRoom count shared_bank left
   pub is : new ≡ record old { shared_banks = slice_set old.shared_banks number left }
+
+-- There was no memory for such room: nothing changed, and the log of the bank had less.
+pub record IsShort (number count : ℕ) (old new : NetworkState) : Type 0 where
+  pub same : new ≡ old
+  pub shared_bank : SharedBankState
+  pub is_site : slice_get old.shared_banks number ≡ Some shared_bank
+  pub less : shared_bank.bank.room < count
 
 -- ## Whenever
 

@@ -3,7 +3,7 @@ ghost use Rattle.std.specs.Prelude.{◌≡◌, ◌<◌, ◌≤◌, ◌*◌, IfOk
 ghost use Rattle.tl_player.specs.Closing.{Close};
 ghost use Rattle.tl_player.specs.NetworkSteps.{AreNetworkSteps, IsNetworkStep, IsStarvedNetwork};
 ghost use Rattle.std.specs.Option.{option_map};
-ghost use Rattle.tl_player.specs.NetworkState.{AreCoherent, AreFresh, IsReset, IsReserved, bank_at};
+ghost use Rattle.tl_player.specs.NetworkState.{AreCoherent, AreFresh, IsReset, IsReserved, IsShort, bank_at};
 
 use crate::asked::{bank_asked, client_named};
 use crate::closing::closing;
@@ -78,10 +78,10 @@ impl Network {
     }
 
     /// Makes room in a bank's log for `count` more events, which then need no memory. It is refused only for want of memory, and
-    /// then nothing changed.
+    /// where there was less room; then nothing changed.
     pub fn reserve_steps(&mut self, bank: BankNo, count: usize) -> Result<(), Refusal>
         requires { bank < self.now.geometry.banks }
-        ensures unchanged { OnErr result (self.new ≡ self.old) }
+        ensures short { OnErr result (IsShort bank count self.old self.new) }
         ensures room { OnOk result (IsReserved bank count self.old self.new) }
     {
         self.shared_banks[bank.index()].reserve_steps(count)

@@ -1,5 +1,5 @@
 -- The loop that takes the accesses in the order of their stamps.
-use Rattle.std.proofs.Common.{◌≡◌, ℕ, zero, suc, ◌+◌, ◌<◌, ◌≤◌, List, [], ◌∷◌, ◌++◌, length, get_or, set, take, replicate, All, Option, Some, None, refl, sym, ap, ◌∙◌, subst, arith}
+use Rattle.std.proofs.Common.{◌≡◌, ℕ, zero, suc, ◌+◌, ◌<◌, ◌≤◌, List, [], ◌∷◌, ◌++◌, length, length-drop, get_or, set, drop, take, replicate, All, Option, Some, None, refl, sym, ap, ◌∙◌, subst, arith}
 use native.Mathlib.Numerals.{unary_clauses}
 use Rattle.std.specs.List.{cons_option}
 use Rattle.std.specs.Borrow.{Bor}
@@ -12,7 +12,7 @@ use Rattle.tl_rules.specs.Certified.{accesses_of, all_accesses, events_of, logs_
 use Rattle.tl_rules.specs.Left.{Pairwise}
 use Rattle.tl_rules.specs.Left.{left, stamp_in, IsNext, AreOrdered, FollowsMark}
 use Rattle.std.proofs.lemmas.List.Elements.{All-nil, All-append, All-get_or, All-from_get_or}
-use Rattle.tl_rules.proofs.Cursors.{below_next, Split, split, all_left, read_log, length_logs}
+use Rattle.tl_rules.proofs.Cursors.{below_next, count_left, Split, split, all_left, read_log, length_logs}
 use Rattle.std.proofs.Math.ListN.{length-set}
 use Rattle.tl_rules.proofs.Pairs.{by_place, one_by_one}
 use Rattle.tl_rules.proofs.Merging.{Alike, Follows, mark_of, alike_first, alike_more, alike_last, not_alike, all_without, all_parts, all_ordered, all_apart, all_keep}
@@ -103,6 +103,36 @@ state_more logs cursors last place a state f follows =
           (alike_more last (all_accesses logs) f.front a f.back alike (omega arith) follows
           (all_without (λ (b : Access). a.stamp ≤ b.stamp) f.front a f.back f.least).1);
     }
+
+-- a cursor goes over events that are no accesses
+left_moved : (logs : List (List Event)) (cursors : List ℕ) (place : ℕ) (m n : ℕ)
+    → accesses_of (drop n (get_or logs place [])) ≡ accesses_of (drop m (get_or logs place []))
+    → all_accesses (left logs (set cursors place n)) ≡ all_accesses (left logs (set cursors place m))
+left_moved [] cursors place m n same = refl
+left_moved (log ∷ logs) [] place m n same = refl
+left_moved (log ∷ logs) (cursor ∷ cursors) zero m n same = ap (λ (xs : List Access). xs ++ all_accesses (left logs cursors)) same
+left_moved (log ∷ logs) (cursor ∷ cursors) (suc place) m n same =
+    ap (λ (xs : List Access). accesses_of (drop cursor log) ++ xs) (left_moved logs cursors place m n same)
+
+pub state_moved : (logs : List (List Event)) (cursors : List ℕ) (last : List (Option Mark)) (place : ℕ) (m n : ℕ)
+    → accesses_of (drop n (get_or logs place [])) ≡ accesses_of (drop m (get_or logs place []))
+    → State logs (set cursors place m) last → State logs (set cursors place n) last
+state_moved logs cursors last place m n same state =
+    let is = left_moved logs cursors place m n same in
+    record {
+      wide = length-set cursors place n ∙ (sym (length-set cursors place m) ∙ state.wide);
+      long = state.long;
+      known = subst (λ (xs : List Access). All (λ (a : Access). a.client < 16) xs) (sym is) state.known;
+      alike = subst (λ (xs : List Access). Alike last (all_accesses logs) xs) (sym is) state.alike;
+    }
+
+-- fewer events are left then
+pub fewer_moved : (logs : List (List Event)) (cursors : List ℕ) (place : ℕ) (m n : ℕ) → m ≤ n
+    → count_left (left logs (set cursors place n)) ≤ count_left (left logs (set cursors place m))
+fewer_moved [] cursors place m n le = omega arith
+fewer_moved (log ∷ logs) [] place m n le = omega arith
+fewer_moved (log ∷ logs) (cursor ∷ cursors) zero m n le = omega (arith, length-drop n log, length-drop m log)
+fewer_moved (log ∷ logs) (cursor ∷ cursors) (suc place) m n le = let h = fewer_moved logs cursors place m n le in omega arith
 
 -- an access that does not follow
 pub state_refuted : (logs : List (List Event)) (cursors : List ℕ) (last : List (Option Mark)) (place : ℕ) (a : Access) → State logs cursors last

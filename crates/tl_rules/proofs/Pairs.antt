@@ -1,5 +1,5 @@
 -- Each two elements of a list, as a loop meets them and by their places.
-use Rattle.std.proofs.Common.{ℕ, zero, suc, ◌<◌, List, [], ◌∷◌, AllPairs, arith}
+use Rattle.std.proofs.Common.{zero, suc, List, [], ◌∷◌, AllPairs, arith}
 use Rattle.tl_rules.specs.Left.{Pairwise}
 
 pub by_place : {X : Type 0} (R : X → X → Type 0) (xs : List X) → Pairwise R xs → AllPairs R xs

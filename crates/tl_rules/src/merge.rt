@@ -1,5 +1,5 @@
 //! Whether the accesses of several logs have one order.
-ghost use Rattle.std.specs.Prelude.{◌≡◌, ◌↔◌, ◌+◌, ◌^◌, ◌<◌, ◌≤◌, [], All, IfNone, IfSome, IsTrue, length, slice_index_or};
+ghost use Rattle.std.specs.Prelude.{◌≡◌, ◌↔◌, ◌+◌, ◌^◌, ◌<◌, ◌≤◌, [], All, IfNone, IfSome, IsTrue, drop, length, slice_index_or};
 ghost use Rattle.tl_protocol.specs.OneMemory.{access_of};
 ghost use Rattle.tl_rules.specs.Certified.{accesses_of, all_accesses, events_of, logs_of, IsEarlier, IsCertified};
 ghost use Rattle.tl_rules.specs.Left.{Pairwise};
@@ -106,6 +106,20 @@ fn event_at(log: &[Event], cursor: usize) -> &Event
     &log[cursor]
 }
 
+/// The place of the next access of a log from a cursor on; the log's length where there is none.
+fn next_access(log: &[Event], cursor: usize) -> usize
+    requires { cursor ≤ length log.now }
+    ensures accesses { accesses_of (drop result log.now) ≡ accesses_of (drop cursor log.now) }
+    ensures later { (cursor ≤ result) × (result ≤ length log.now) }
+{
+    for place in cursor..log.len() {
+        if log[place].access().is_some() {
+            return place;
+        }
+    }
+    log.len()
+}
+
 /// Whether the clients of all logs are known, and the stamps of each log rise.
 fn are_lawful(logs: &[&[Event]]) -> bool
     ensures { IsTrue result
@@ -147,7 +161,7 @@ pub fn certify_events(logs: &[&[Event]]) -> bool
                 index: access.index,
             });
         }
-        cursors[place] = cursor + 1;
+        cursors[place] = next_access(log, cursor + 1);
     }
     true
 }

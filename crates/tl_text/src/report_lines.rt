@@ -1,13 +1,13 @@
 //! The lines of a report, at the end of a text.
 
-ghost use Rattle.std.specs.Prelude.{◌≡◌, ◌++◌, OnOk, codes, decimal, string_bytes};
+ghost use Rattle.std.specs.Prelude.{◌≡◌, ◌++◌, ◌≤◌, OnOk, codes, decimal, length, string_bytes};
 ghost use Rattle.tl_text.specs.Report.{lines_from, answered_text, answered_line, client_lines, bank_line};
 ghost use Rattle.tl_words.specs.Hex.{hex_text, address_text};
 
 use crate::report::{Answered, BankLine};
 use itoa::Buffer;
 use std::alloc::AllocError;
-use tl_words::{Command, push_address, push_hex};
+use tl_words::{Command, push_address, push_bytes_at};
 
 /// A whole number in decimal digits.
 fn push_number(text: &mut String, number: u64) -> Result<(), AllocError>
@@ -19,12 +19,11 @@ fn push_number(text: &mut String, number: u64) -> Result<(), AllocError>
 
 /// The verb, the address and the bytes of a load or a store.
 fn push_access(text: &mut String, verb: &str, address: u32, bytes: &[u8]) -> Result<(), AllocError>
+    requires { length bytes.now ≤ 8 }
     ensures { OnOk result (string_bytes text.new ≡ string_bytes text.old ++ verb.now ++ address_text address ++ codes " " ++ hex_text bytes.now) }
 {
     text.push_str(verb)?;
-    push_address(text, address)?;
-    text.push(' ')?;
-    push_hex(text, bytes)
+    push_bytes_at(text, address, bytes)
 }
 
 /// A command that was answered, with the bytes that a load got or a store wrote.

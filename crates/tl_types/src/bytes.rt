@@ -14,7 +14,7 @@ const BLOCK: usize = 64;
 #[derive(Debug, Drop)]
 pub struct AccessBytes {
     bytes: [u8; ACCESS],
-    len: u8,
+    len: u32,
 }
 
 impl Model for AccessBytes {
@@ -61,7 +61,7 @@ impl AccessBytes {
         kept[..len].copy_from_slice(bytes);
         Some(AccessBytes {
             bytes: kept,
-            len: len as u8,
+            len: len as u32,
         })
     }
 

@@ -12,7 +12,7 @@ mod words;
 
 pub use command::Command;
 pub use error::ParseError;
-pub use hex::{Address, Hex, push_address, push_hex};
+pub use hex::{Address, Hex, push_address, push_bytes_at, push_hex};
 pub use laws::{
     addresses_are_read_back, bytes_are_read_back, numbers_are_printed, tickets_are_read_back,
 };

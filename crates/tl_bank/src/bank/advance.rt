@@ -69,6 +69,7 @@ impl Bank {
         requires due { due_at self.now block ≡ Some due.now }
         ensures { result ≡ due_full self.now (Some due.now) }
     {
+        // For the prover: the clauses alone name the block, and the bank's layers say which clients there are.
         let _ = (block, self.geometry);
         match due {
             Due::Probe(client, _, _) => self.is_link_full(*client, Channel::B),
@@ -125,6 +126,7 @@ impl Bank {
         requires room { 0 < self.old.room }
         ensures { Advances self.old self.new own result }
     {
+        // For the prover: no more passes between home and the memory than registers are open.
         let _ = self.home.crossings();
         self.home.send_get(own);
         self.log.append(Event::SendGet(own));
@@ -138,7 +140,9 @@ impl Bank {
         requires room { 0 < self.old.room }
         ensures { Advances self.old self.new own result }
     {
+        // For the prover: the clauses alone name it.
         let _ = own;
+        // For the prover: no more passes between home and the memory than registers are open.
         let _ = self.home.crossings();
         self.home.send_put(victim);
         self.log.append(Event::SendPut(victim));
@@ -152,6 +156,7 @@ impl Bank {
         requires room { 0 < self.old.room }
         ensures { Advances self.old self.new own result }
     {
+        // For the prover: the clauses alone name it.
         let _ = own;
         self.home.drop_line(victim);
         self.registers.end_victim(victim);
@@ -206,6 +211,7 @@ impl Bank {
         requires { (x : ℕ) → (client_at self.now x block).recorded ≡ line_perm entry x }
         ensures { result ≡ is_alone self.now.geometry.clients client (block_at self.now block).client }
     {
+        // For the prover: the clauses alone name it.
         let _ = block;
         if entry.is_unshared() {
             return true;

@@ -119,11 +119,11 @@ impl Bank {
         ensures ticket { IfOk result (λ ticket. ticket ≡ next_ticket self.old client Channel.A) }
         ensures sends { IfOk result (λ ticket. Sends self.old self.new (Event.SendAcquire client block grow) ticket) }
     {
-        let copy = self.settle_acquire(client, block, grow)?;
+        self.settle_acquire(client, block, grow)?;
         self.make_room()?;
         let body = Body::AcquireBlock(grow);
         let ticket = link::send(&mut self.links, client, Channel::A, Message { block, body });
-        entry::put(&mut self.copies, client, block, copy, Wait::ForGrant);
+        self.copies.wait_for(client, block, Wait::ForGrant);
         self.log.append(Event::SendAcquire(client, block, grow));
         Ok(ticket)
     }
@@ -173,17 +173,10 @@ impl Bank {
         ensures appends { OnOk result
             (Appends self.old self.new (Event.TakeReleaseAck ticket.client (block_named self.old ticket Channel.D))) }
     {
-        let found = self.settle_release_ack(&ticket)?;
+        let block = self.settle_release_ack(&ticket)?;
         self.make_room()?;
-        let block = found.block;
         link::discard(&mut self.links, ticket);
-        entry::put(
-            &mut self.copies,
-            ticket.client,
-            block,
-            found.copy,
-            Wait::Nothing,
-        );
+        entry::end_wait(&mut self.copies, ticket.client, block);
         self.log.append(Event::TakeReleaseAck(ticket.client, block));
         Ok(())
     }

@@ -94,7 +94,7 @@ impl Bank {
         requires { block < self.now.geometry.memory_blocks }
         ensures { result ≡ elsewhere self.now block }
     {
-        self.geometry.bank(block).number() != self.number.number()
+        self.geometry.bank(block) != self.number
     }
 
     /// Whether the clocks stand at their end.
@@ -132,7 +132,7 @@ impl Bank {
         requires { client < self.now.geometry.clients }
         ensures { result ≡ bad_share self.now client share.now }
     {
-        share.client().number() != client.number()
-            || share.bank().number() == self.number.number() && share.count() != self.count(client)
+        share.client() != client
+            || share.bank() == self.number && share.count() != self.count(client)
     }
 }

@@ -95,10 +95,10 @@ impl Bank {
         if ticket.client.number() >= self.geometry.clients() {
             return Err(Refusal::OutOfRange);
         }
-        if ticket.bank.number() != self.number.number() {
+        if ticket.bank != self.number {
             return Err(Refusal::WrongBank);
         }
-        if ticket.channel.index() != Channel::A.index() {
+        if ticket.channel != Channel::A {
             return Err(Refusal::NotHead);
         }
         let Some(message) = self.links.first(ticket.client, Channel::A) else {
@@ -199,6 +199,7 @@ impl Bank {
         ensures inside { IfSome result (λ way. way < self.now.geometry.ways) }
         ensures none { is_none result ≡ (lacks self.now block && ways_held self.now (set_of self.now.geometry block)) }
     {
+        // For the prover: the clauses alone name it.
         let _ = block;
         self.home.choose(set, self.busy_ways(set).as_slice())
     }
@@ -223,6 +224,7 @@ impl Bank {
         requires inside { way < self.now.geometry.ways }
         ensures { result ≡ victim_of_way self.now (set_of self.now.geometry block) (way_at self.now block) way }
     {
+        // For the prover: the clauses alone name it.
         let _ = block;
         self.home.block_at(set, way)
     }

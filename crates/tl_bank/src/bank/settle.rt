@@ -32,13 +32,6 @@ pub(super) struct GivenUp {
     pub(super) given: Surrender,
 }
 
-/// What a Release was of that home has answered: its block, and the client's copy.
-#[derive(Drop)]
-pub(super) struct Released {
-    pub(super) block: BlockNo,
-    pub(super) copy: CachedCopy,
-}
-
 /// What a client answers to a Probe of a block, what it is left with, what it waits for, and what it had.
 #[derive(Drop)]
 pub(super) struct Probed {
@@ -119,16 +112,15 @@ impl Bank {
         Ok(place)
     }
 
-    /// The copy of a client that asks for more of a block.
+    /// Nothing but why a client may not ask for more of a block, for want of memory aside.
     pub(super) fn settle_acquire(
         &self,
         client: ClientId,
         block: BlockNo,
         grow: Grow,
-    ) -> Result<CachedCopy, Refusal>
+    ) -> Result<(), Refusal>
         ensures refused { IfErr result (λ r. first_of (acquire_cases self.now client block grow) ≡ Some r) }
         ensures permitted { OnOk result (first_of (acquire_cases self.now client block grow) ≡ None) }
-        ensures copy { IfOk result (λ copy. copy ≡ (client_at self.now client block).held) }
     {
         if self.is_absent(client, block) {
             return Err(Refusal::OutOfRange);
@@ -149,7 +141,7 @@ impl Bank {
         if self.is_link_full(client, Channel::A) {
             return Err(Refusal::LinkFull);
         }
-        Ok(entry::copy_in(held))
+        Ok(())
     }
 
     /// What a Release gives up.
@@ -169,7 +161,7 @@ impl Bank {
         if self.is_absent(client, block) || self.is_bad_share(client, share) {
             return Err(Refusal::OutOfRange);
         }
-        if self.is_elsewhere(block) || share.bank().number() != self.number.number() {
+        if self.is_elsewhere(block) || share.bank() != self.number {
             return Err(Refusal::WrongBank);
         }
         let held = self.entry(client, block);
@@ -190,21 +182,17 @@ impl Bank {
         })
     }
 
-    /// What a ReleaseAck is of.
-    pub(super) fn settle_release_ack(&self, ticket: &Ticket) -> Result<Released, Refusal>
+    /// The block that a ReleaseAck is of.
+    pub(super) fn settle_release_ack(&self, ticket: &Ticket) -> Result<BlockNo, Refusal>
         ensures refused { IfErr result (λ r. first_of (take_release_ack_cases self.now ticket.now) ≡ Some r) }
         ensures permitted { OnOk result (first_of (take_release_ack_cases self.now ticket.now) ≡ None) }
-        ensures block { IfOk result (λ a. a.block ≡ block_named self.now ticket.now Channel.D) }
-        ensures copy { IfOk result (λ a. a.copy ≡ (client_at self.now ticket.now.client a.block).held) }
+        ensures block { IfOk result (λ block. block ≡ block_named self.now ticket.now Channel.D) }
     {
         let message = self.ticket_message(ticket, Channel::D)?;
         if !is_release_ack(&message.body) {
             return Err(Refusal::NotHead);
         }
-        Ok(Released {
-            block: message.block,
-            copy: self.copy(ticket.client, message.block),
-        })
+        Ok(message.block)
     }
 
     /// The answer to a Probe.
@@ -238,6 +226,7 @@ impl Bank {
         requires { IsFirstOn self.now client Channel.B message.now }
         ensures { message.now.body ≡ Body.ProbeBlock result }
     {
+        // For the prover: the clauses alone name the client, and the bank's layers say that the message is a Probe.
         let _ = (client, self.geometry);
         let Body::ProbeBlock(cap) = message.body else {
             unreachable!()

@@ -24,7 +24,7 @@ impl Bank {
         ensures first { IfOk result (λ message. IsFirstOn self.now ticket.now.client channel message.now) }
         ensures inside { IfOk result (λ message. message.now.block < self.now.geometry.memory_blocks) }
     {
-        if ticket.channel.index() != channel.index() {
+        if ticket.channel != channel {
             return Err(Refusal::NotHead);
         }
         let Some(message) = self.links.first(ticket.client, channel) else {
@@ -51,7 +51,7 @@ impl Bank {
         if ticket.client.number() >= self.geometry.clients() {
             return Err(Refusal::OutOfRange);
         }
-        if ticket.bank.number() != self.number.number() {
+        if ticket.bank != self.number {
             return Err(Refusal::WrongBank);
         }
         self.first_message(ticket, channel)
@@ -75,9 +75,7 @@ impl Bank {
         {
             return Err(Refusal::OutOfRange);
         }
-        if ticket.bank.number() != self.number.number()
-            || share.bank().number() != self.number.number()
-        {
+        if ticket.bank != self.number || share.bank() != self.number {
             return Err(Refusal::WrongBank);
         }
         self.first_message(ticket, channel)

@@ -18,7 +18,7 @@ use crate::bank::Bank;
 use arrayvec::ArrayVec;
 use tl_map::Set;
 use tl_protocol::Outward;
-use tl_types::{BlockNo, Channel, ClientId, Message, Perm, Ticket};
+use tl_types::{BlockNo, CLIENTS, Channel, ClientId, Message, Perm, REGISTERS, Ticket};
 use tl_ways::Way;
 
 impl Bank {
@@ -83,9 +83,7 @@ impl Bank {
     pub fn in_flight(&self, ticket: Ticket) -> Option<Message>
         ensures { result ≡ in_flight_at self.now ticket }
     {
-        if ticket.client.number() >= self.geometry.clients()
-            || ticket.bank.number() != self.number.number()
-        {
+        if ticket.client.number() >= self.geometry.clients() || ticket.bank != self.number {
             return None;
         }
         Some(self.links.message(ticket)?.copied())
@@ -212,7 +210,7 @@ impl Bank {
     }
 
     /// Whether a block is not of the memory, or of another bank.
-    fn is_not_own(&self, block: BlockNo) -> bool
+    pub(super) fn is_not_own(&self, block: BlockNo) -> bool
         ensures { result ≡ not_own self.now block }
     {
         !self.geometry.has(block) || self.is_elsewhere(block)
@@ -271,7 +269,7 @@ impl Bank {
     fn sharers(&self, block: BlockNo) -> u32
         requires { IsOwn self.now.geometry self.now.number block }
         ensures value { result ≡ count_clients is_recorded self.now.geometry.clients (block_at self.now block).client }
-        ensures few { result ≤ 16 }
+        ensures few { result ≤ CLIENTS }
     {
         let mut count = 0;
         for number in 0..self.geometry.clients() {
@@ -285,7 +283,7 @@ impl Bank {
 
 /// The blocks with these numbers.
 fn blocks_of(numbers: &[u32]) -> ArrayVec<BlockNo, 8>
-    requires { length numbers.now ≤ 8 }
+    requires { length numbers.now ≤ REGISTERS }
     ensures { result.items ≡ numbers.now }
 {
     let mut blocks = ArrayVec::new();

@@ -1,5 +1,10 @@
-use Rattle.tl_copies.proofs.TableLaws.{row_of, held_at-without, order_in-without, sound-without}
+use Rattle.tl_copies.proofs.TableLaws.{row_of, table_sound, held_at-without, order_in-without, sound-without}
 use Rattle.tl_copies.proofs.copies.Copies.clear.Goals as goal
+
+pub clear-requires : goal.clear-requires
+clear-requires c =
+    let row = row_of c.self.view_is c.index.ensures c.requires c.index_mut.ensures.value c.self.invariant.1 in
+    (c.self.inside.blocks, (table_sound row).apart)
 
 pub invariant_of-self : goal.invariant_of-self
 invariant_of-self c =

@@ -1,6 +1,11 @@
 use Rattle.std.specs.Prelude.{IsErr}
-use Rattle.tl_copies.proofs.TableLaws.{row_of, on_ok, held_at-kept, order_in-kept, sound-kept, full-is}
+use Rattle.tl_copies.proofs.TableLaws.{row_of, table_sound, on_ok, held_at-kept, order_in-kept, sound-kept, full-is}
 use Rattle.tl_copies.proofs.copies.Copies.keep.Goals as goal
+
+pub keep-requires-clause-once : goal.keep-requires-clause-once
+keep-requires-clause-once c =
+    let row = row_of c.self.view_is c.index.ensures c.requires.client c.index_mut.ensures.value c.self.invariant.1 in
+    (c.self.inside.blocks, (table_sound row).apart)
 
 pub invariant_of-self : goal.invariant_of-self
 invariant_of-self c =

@@ -10,7 +10,7 @@ use Rattle.tl_copies.proofs.table.Table.keep.Goals as goal
 use Rattle.tl_copies.proofs.table.Table.keep.Goals.{then-granted, else-granted}
 
 pub returns-in_default-clause-after : goal.returns-in_default-clause-after
-returns-in_default-clause-after c = c.add.ensures ∙ sym (kept-new c.args.block c.args.held c.args.self.now c.in_default.ensures)
+returns-in_default-clause-after c = c.note_last.ensures ∙ c.add.ensures ∙ sym (kept-new c.args.block c.args.held c.args.self.now c.in_default.ensures)
 
 pub renew-requires : goal.renew-requires
 renew-requires c =
@@ -37,6 +37,7 @@ returns-clause-after c =
     elim c.if-granted.branch [
       | then-granted w ↦
           w.self-is
+          ∙ w.note_last-then-granted.ensures
           ∙ w.renew.ensures new
           ∙ ap (λ (xs : List Entry). remove xs place ++ slice_index_or xs place new ∷ []) written
           ∙ rw (remove-set es place new is.inside, get_or-set_same es place new new is.inside)

@@ -1,0 +1,30 @@
+-- What a bank shows of home's copy and of the memory's bytes of a block, and of the messages that wait (this project's own).
+use Rattle.std.specs.Prelude.{ℕ, ◌+◌, List, Option, None, Some, slice_get, if◌then◌else◌}
+use Rattle.std.specs.Option.{option_map}
+use Rattle.tl_types.specs.declared.channel.Channel.{Channel}
+use Rattle.tl_types.specs.declared.message.Message.{Message}
+use Rattle.tl_types.specs.declared.ticket.Ticket.{Ticket}
+use Rattle.tl_protocol.specs.declared.home.Line.{Line}
+use Rattle.tl_bank_spec.specs.Cases.{no_client}
+use Rattle.tl_bank_spec.specs.Channels.{lane_at}
+use Rattle.tl_bank_spec.specs.View.{View, block_at}
+use Rattle.tl_bank_spec.specs.Views.{not_own}
+
+-- home's copy of a block, where home has one; None also of a block that is not there or of another bank
+abbrev pub line_at : View → ℕ → Option Line
+line_at v block = if not_own v block then None else (block_at v block).home
+
+-- the memory's bytes of a block; None of a block that is not there or of another bank
+abbrev pub memory_at : View → ℕ → Option (List ℕ)
+memory_at v block = if not_own v block then None else Some (block_at v block).memory
+
+-- the ticket of the message at a place among those that wait on a channel, from 0
+abbrev pub waiting_ticket : View → ℕ → Channel → ℕ → Ticket
+waiting_ticket v client channel place =
+    record { bank = v.number; client = client; channel = channel; serial = (lane_at v client channel).taken + place }
+
+-- that message with its ticket; None past the last, and of a client that is not there
+abbrev pub message_waiting : View → ℕ → Channel → ℕ → Option (Ticket × Message)
+message_waiting v client channel place =
+    if no_client v client then None
+    else option_map (λ message. (waiting_ticket v client channel place, message)) (slice_get (lane_at v client channel).messages place)

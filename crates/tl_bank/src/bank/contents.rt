@@ -1,0 +1,58 @@
+//! What a bank shows of home's copy and of the memory's bytes of a block, and of the messages that wait. No view takes memory.
+ghost use Rattle.std.specs.Prelude.{◌≡◌};
+ghost use Rattle.tl_bank.specs.Contents.{line_at, memory_at, message_waiting};
+
+use crate::bank::Bank;
+use tl_protocol::Line;
+use tl_types::{BlockBytes, BlockNo, Channel, ClientId, Message, Ticket};
+
+impl Bank {
+    /// Home's copy of a block, where home has one. None also where the block is not of the memory or of another bank.
+    pub fn line(&self, block: BlockNo) -> Option<Line>
+        ensures { result ≡ line_at self.now block }
+    {
+        if self.is_not_own(block) {
+            return None;
+        }
+        let dirty = self.home.is_dirty(block)?;
+        let bytes = self.home.bytes(block)?.copied();
+        Some(Line { bytes, dirty })
+    }
+
+    /// The memory's bytes of a block. None where the block is not of the memory or of another bank.
+    pub fn memory(&self, block: BlockNo) -> Option<BlockBytes>
+        ensures { result ≡ memory_at self.now block }
+    {
+        if self.is_not_own(block) {
+            return None;
+        }
+        Some(self.home.in_memory(block))
+    }
+
+    /// The message at a place among those that wait on a channel, oldest first, with its ticket. None past the last, and of a
+    /// client that is not there.
+    pub fn waiting(
+        &self,
+        client: ClientId,
+        channel: Channel,
+        place: usize,
+    ) -> Option<(Ticket, Message)>
+        ensures { result ≡ message_waiting self.now client channel place }
+    {
+        if client.number() >= self.geometry.clients()
+            || place >= self.links.waiting(client, channel)
+        {
+            return None;
+        }
+        // For the prover: a serial past the last message's fits.
+        let _sent = self.links.sent(client, channel);
+        let ticket = Ticket {
+            bank: self.number,
+            client,
+            channel,
+            serial: self.links.taken(client, channel) + place as u64,
+        };
+        let named = ticket;
+        Some((ticket, self.links.message(named)?.copied()))
+    }
+}

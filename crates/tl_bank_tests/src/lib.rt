@@ -1,0 +1,13 @@
+//! Tests of a bank by its public calls: small scripts of calls, the age of copies, and a random walk beside the plain map.
+#![tactic(auto)]
+
+#[cfg(test)]
+mod bank;
+#[cfg(test)]
+mod calls;
+#[cfg(test)]
+mod oldest;
+#[cfg(test)]
+mod session;
+#[cfg(test)]
+mod walk;

@@ -1,0 +1,262 @@
+//! A bank with its clients' shares, as tests ask it.
+use arrayvec::ArrayVec;
+use std::alloc::Global;
+use std::default::Default;
+use std::marker::Model;
+use std::test::Fail;
+use tl_bank::{Action, Bank, Refusal, Share, When};
+use tl_map::{Geometry, GeometryNumbers};
+use tl_protocol::Event;
+use tl_types::{BankNo, BlockNo, Channel, ClientId, Grow, Perm, Prune, Ticket};
+
+/// What a call answers: the ticket of the message that it sent, if it sent one.
+pub type Answer = Result<Option<Ticket>, Refusal>;
+
+/// A bank and its clients' shares. Its model says nothing, so that a test of many calls has their answers alone to carry along.
+#[derive(Drop)]
+pub struct Session {
+    bank: Bank,
+    shares: ArrayVec<Share, 16>,
+}
+
+impl Model for Session {
+    ghost Value = { Unit {0} };
+
+    ghost view = { λ _. tt };
+}
+
+/// The calls.
+impl Session {
+    /// Bank 0 of a geometry at reset, over a memory of zeros.
+    pub fn new(alloc: Global, numbers: GeometryNumbers) -> Result<Session, Fail> {
+        Session::of(alloc, numbers, 0, &[])
+    }
+
+    /// A bank of a geometry at reset, over a memory that holds an image.
+    pub fn of(
+        alloc: Global,
+        numbers: GeometryNumbers,
+        number: u32,
+        image: &[u8],
+    ) -> Result<Session, Fail> {
+        let geometry = Geometry::new(numbers)?;
+        if number >= geometry.banks() || image.len() > geometry.memory_bytes() as usize {
+            return Err("no such bank".into());
+        }
+        let (bank, shares) = Bank::new(alloc, geometry, BankNo::new(number), image)?;
+        Ok(Session { bank, shares })
+    }
+
+    /// Makes room for so many steps.
+    pub fn reserve_steps(&mut self, count: usize) -> Result<(), Refusal> {
+        self.bank.reserve_steps(count)
+    }
+
+    /// Loads bytes: the stamp.
+    pub fn load(
+        &mut self,
+        client: ClientId,
+        address: u32,
+        len: usize,
+        when: When,
+    ) -> Result<u64, Refusal> {
+        let loaded = self.bank.load(client, address, len, when)?;
+        Ok(loaded.stamp)
+    }
+
+    /// Stores bytes: the stamp.
+    pub fn store(
+        &mut self,
+        client: ClientId,
+        address: u32,
+        bytes: &[u8],
+        when: When,
+    ) -> Result<u64, Refusal> {
+        self.bank.store(client, address, bytes, when)
+    }
+
+    /// Asks for a block.
+    pub fn acquire(
+        &mut self,
+        client: ClientId,
+        block: BlockNo,
+        grow: Grow,
+    ) -> Result<Ticket, Refusal> {
+        self.bank.acquire(client, block, grow)
+    }
+
+    /// Asks the call that takes a message of the ticket's channel: on D, a Grant.
+    pub fn take(&mut self, ticket: Ticket) -> Answer {
+        match ticket.channel {
+            Channel::A => self.accept(ticket),
+            Channel::B => self.answer_probe(ticket, ticket.client).map(Some),
+            Channel::C => self.bank.take_c(ticket),
+            Channel::D => self.take_grant(ticket, ticket.client).map(Some),
+            Channel::E => self.take_grant_ack(ticket),
+        }
+    }
+
+    fn accept(&mut self, ticket: Ticket) -> Answer {
+        self.bank.accept(ticket)?;
+        Ok(None)
+    }
+
+    fn take_grant_ack(&mut self, ticket: Ticket) -> Answer {
+        self.bank.take_grant_ack(ticket)?;
+        Ok(None)
+    }
+
+    /// Answers a Probe, with the share of a client.
+    pub fn answer_probe(&mut self, ticket: Ticket, holder: ClientId) -> Result<Ticket, Refusal> {
+        let Some(share) = self.shares.as_mut_slice().get_mut(holder.number() as usize) else {
+            return Err(Refusal::OutOfRange);
+        };
+        self.bank.answer_probe(ticket, share)
+    }
+
+    /// Takes a Grant, with the share of a client.
+    pub fn take_grant(&mut self, ticket: Ticket, holder: ClientId) -> Result<Ticket, Refusal> {
+        let Some(share) = self.shares.as_mut_slice().get_mut(holder.number() as usize) else {
+            return Err(Refusal::OutOfRange);
+        };
+        self.bank.take_grant(ticket, share)
+    }
+
+    /// Gives up a part of a client's copy, with the share of a client.
+    pub fn release(
+        &mut self,
+        client: ClientId,
+        block: BlockNo,
+        prune: Prune,
+        holder: ClientId,
+    ) -> Result<Ticket, Refusal> {
+        let Some(share) = self.shares.as_mut_slice().get_mut(holder.number() as usize) else {
+            return Err(Refusal::OutOfRange);
+        };
+        self.bank.release(client, block, prune, share)
+    }
+
+    /// Puts a share of no client in place of a client's.
+    pub fn forget_share(&mut self, holder: ClientId) {
+        if let Some(share) = self.shares.as_mut_slice().get_mut(holder.number() as usize) {
+            *share = Share::default();
+        }
+    }
+
+    /// Takes a ReleaseAck.
+    pub fn take_release_ack(&mut self, ticket: Ticket) -> Result<(), Refusal> {
+        self.bank.take_release_ack(ticket)
+    }
+
+    /// Does the next action of a block's register.
+    pub fn advance(&mut self, block: BlockNo) -> Result<Action, Refusal> {
+        self.bank.advance(block)
+    }
+
+    /// Starts to evict a block.
+    pub fn evict(&mut self, block: BlockNo) -> Result<(), Refusal> {
+        self.bank.evict(block)
+    }
+
+    /// The memory serves a request of a block.
+    pub fn serve_memory(&mut self, block: BlockNo) -> Result<(), Refusal> {
+        let _reply = self.bank.serve_memory(block)?;
+        Ok(())
+    }
+
+    /// Home takes what the memory replied.
+    pub fn take_memory(&mut self, block: BlockNo) -> Result<(), Refusal> {
+        self.bank.take_memory(block)
+    }
+}
+
+/// What is shown.
+impl Session {
+    /// How many events were logged.
+    pub fn events(&self) -> usize {
+        self.bank.log().len()
+    }
+
+    /// The last event of the log.
+    pub fn last_event(&self) -> Option<&Event> {
+        self.bank.log().last()
+    }
+
+    /// For how many steps there is room.
+    pub fn room(&self) -> usize {
+        self.bank.room()
+    }
+
+    /// The image of the memory at reset.
+    pub fn image(&self) -> &[u8] {
+        self.bank.image()
+    }
+
+    /// A client's copy of a block.
+    pub fn perm(&self, client: ClientId, block: BlockNo) -> Perm {
+        self.bank.perm(client, block)
+    }
+
+    /// How many copies a client has.
+    pub fn copies_of(&self, client: ClientId) -> Option<u64> {
+        self.bank.copies_of(client)
+    }
+
+    /// A client's byte at an address.
+    pub fn peek(&self, client: ClientId, address: u32) -> Option<u8> {
+        self.bank.peek(client, address)
+    }
+
+    /// The block that a client was granted longest ago.
+    pub fn oldest_copy(&self, client: ClientId) -> Option<BlockNo> {
+        self.bank.oldest_copy(client)
+    }
+
+    /// Whether home's copy of a block is dirty, if home has one.
+    pub fn home(&self, block: BlockNo) -> Option<bool> {
+        self.bank.home(block)
+    }
+
+    /// Whether something of a block is under way between home and memory.
+    pub fn is_outward(&self, block: BlockNo) -> bool {
+        self.bank.outward(block).is_some()
+    }
+
+    /// How many blocks have an open register.
+    pub fn open_blocks(&self) -> usize {
+        self.bank.open_blocks().as_slice().len()
+    }
+
+    /// Whether nothing is under way.
+    pub fn is_quiet(&self) -> bool {
+        self.bank.is_quiet()
+    }
+
+    /// How many copies the clients have, and how many are recorded.
+    pub fn copies(&self) -> (u64, u64) {
+        (self.bank.held(), self.bank.outstanding())
+    }
+
+    /// How many copies the shares count.
+    pub fn shared(&self) -> u64 {
+        let mut counts = 0u64;
+        for share in self.shares.as_slice() {
+            counts = counts.saturating_add(u64::from(share.count()));
+        }
+        counts
+    }
+
+    /// The client, the bank and the count of each share.
+    pub fn shares(&self) -> ArrayVec<(u32, u32, u32), 16> {
+        let mut shown = ArrayVec::new();
+        for share in self.shares.as_slice() {
+            let shares = (
+                share.client().number(),
+                share.bank().number(),
+                share.count(),
+            );
+            let _ = shown.try_push(shares);
+        }
+        shown
+    }
+}

@@ -1,0 +1,276 @@
+-- What a sequence of calls leaves of the logs of all banks.
+use Rattle.std.proofs.Common.{◌≡◌, ◌≢◌, ◌⊎◌, inl, inr, ℕ, zero, suc, ◌+◌, ◌*◌, ◌<◌, ◌≤◌, List, [], ◌∷◌, length, Option, Some, None, slice_get, slice_set, refl, sym, ◌∙◌, ap, subst, arith}
+use Rattle.std.specs.Prelude.{IfSome}
+use Rattle.std.specs.Option.{option_map}
+use Rattle.std.proofs.lemmas.Option.{same_Some}
+use Rattle.tl_map.specs.Numbers.{Numbers as Shape}
+use Rattle.tl_map.specs.Refusals.{numbers_of, refusal_of}
+use Rattle.tl_map.specs.declared.numbers.GeometryError.{GeometryError}
+use Rattle.tl_map.specs.declared.numbers.GeometryNumbers.{GeometryNumbers}
+use Rattle.tl_bank_spec.specs.View.{View}
+use Rattle.tl_words.specs.declared.step.Step.{Step}
+use Rattle.tl_player.specs.NetworkState.{AreFresh, HasRoom, IsFresh, IsReserved, IsReset, NetworkState, SharedBankState, bank_asked, bank_at}
+use Rattle.tl_player.specs.NetworkSteps.{IsNetworkStep}
+use Rattle.tl_text.specs.declared.answer.Answer.{Answer as Shown}
+use Rattle.tl_embed.specs.Asked.{asked}
+use Rattle.tl_embed.specs.Calls.{AsksFor, Calls, CallsOn, GoesOn}
+use Rattle.tl_embed.specs.Events.{Reserves}
+use Rattle.tl_embed.specs.Histories.{AreCalls, EveryHistory, IsLater, IsRunning, RunsOn}
+use Rattle.tl_embed.specs.Told.{only}
+use Rattle.tl_embed.specs.Opens.{OpensBy, OpensOver, as_given, closed}
+use Rattle.tl_embed.specs.declared.answer.Answer.{Answer}
+use Rattle.tl_embed.specs.declared.cache.Cache.{Cache}
+use Rattle.tl_embed.specs.declared.request.Asked.{Asked}
+use Rattle.tl_embed.specs.declared.request.Asked.TheVariants as a
+use Rattle.tl_embed.specs.declared.request.Request.{Request}
+use Rattle.tl_embed.proofs.Later.{later-twice, same-later, step-later}
+
+-- equal options hold equal values
+some-same : {X : Type 0} {x y : X} → Some x ≡ Some y → x ≡ y
+some-same h = same_Some _ _ h
+
+-- ## All banks
+
+-- a bank of a list of them, if it is there
+abbrev bank_in : List SharedBankState → ℕ → Option View
+bank_in xs number = option_map (λ (s : SharedBankState). s.bank) (slice_get xs number)
+
+-- the bank with a number is there, and later than it was
+record IsLaterIn (xs : List SharedBankState) (number : ℕ) (before : View) : Type 0 where
+  after : View
+  is : bank_in xs number ≡ Some after
+  later : IsLater before after
+
+-- each bank that there was is there, and later
+abbrev AreLater : NetworkState → NetworkState → Type 0
+AreLater old new = (number : ℕ) (before : View) → bank_at old number ≡ Some before → IsLaterIn new.shared_banks number before
+
+-- a bank is as it was
+same-in : (xs : List SharedBankState) (number : ℕ) (before : View) → bank_in xs number ≡ Some before → IsLaterIn xs number before
+same-in xs number before is = record { after = before; is = is; later = same-later before before refl }
+
+-- one bank is later, the others are as they were
+set-later : (xs : List SharedBankState) (place number : ℕ) (s left : SharedBankState) (before : View) → slice_get xs place ≡ Some s
+    → IsLater s.bank left.bank → bank_in xs number ≡ Some before → IsLaterIn (slice_set xs place left) number before
+set-later [] place number s left before at later is = cc
+set-later (x ∷ xs) zero zero s left before at later is = record {
+  after = left.bank;
+  is = refl;
+  later =
+      subst (λ (v : View). IsLater v left.bank)
+      (ap (λ (t : SharedBankState). t.bank) (sym (some-same at)) ∙ some-same is) later;
+}
+set-later (x ∷ xs) zero (suc n) s left before at later is = same-in (left ∷ xs) (suc n) before is
+set-later (x ∷ xs) (suc p) zero s left before at later is = same-in (x ∷ slice_set xs p left) zero before is
+set-later (x ∷ xs) (suc p) (suc n) s left before at later is =
+    let rest = set-later xs p n s left before at later is in
+    record { after = rest.after; is = rest.is; later = rest.later }
+
+-- all are as they were
+none-later : (old new : NetworkState) → new ≡ old → AreLater old new
+none-later old new is number before at = same-in new.shared_banks number before (ap (λ (x : NetworkState). bank_at x number) is ∙ at)
+
+-- twice later
+later-then : (x y z : NetworkState) → AreLater x y → AreLater y z → AreLater x z
+later-then x y z h k number before at =
+    let one = h number before at in
+    let two = k number one.after one.is in
+    record { after = two.after; is = two.is; later = later-twice before one.after two.after one.later two.later }
+
+-- ## One call
+
+-- a step
+step-of-network : (index : ℕ) (step : Step) (old new : NetworkState) (shown : Shown) → IsNetworkStep index step old new shown
+    → AreLater old new
+step-of-network index step old new shown h number before at =
+    subst (λ (x : NetworkState). IsLaterIn x.shared_banks number before) (sym h.is)
+    (set-later old.shared_banks (bank_asked old.geometry step) number h.shared_bank h.left before h.is_site
+    (step-later index step _ _ shown h.acts.acts) at)
+
+-- room for more
+room-later : (count : ℕ) (old new : SharedBankState) → HasRoom count old new → IsLater old.bank new.bank
+room-later count old new h =
+    let same : IsLater old.bank old.bank = same-later old.bank old.bank refl in
+    record {
+      geometry = ap (λ (s : SharedBankState). s.bank.geometry) h.is;
+      number = ap (λ (s : SharedBankState). s.bank.number) h.is;
+      image = ap (λ (s : SharedBankState). s.bank.image) h.is;
+      since = same.since;
+      log = ap (λ (s : SharedBankState). s.bank.log) h.is ∙ same.log;
+    }
+
+reserved-later : (bank count : ℕ) (old new : NetworkState) → IsReserved bank count old new → AreLater old new
+reserved-later bank count old new h number before at =
+    subst (λ (x : NetworkState). IsLaterIn x.shared_banks number before) (sym h.is)
+    (set-later old.shared_banks bank number h.shared_bank h.left before h.is_site (room-later count h.shared_bank h.left h.has_room) at)
+
+-- one number is below another or not
+below-or : (a b : ℕ) → (a < b) ⊎ (b ≤ a)
+below-or a zero = inr (omega arith)
+below-or zero (suc b) = inl (omega arith)
+below-or (suc a) (suc b) = elim (below-or a b) [ inl h ↦ inl (omega (arith, h)) | inr h ↦ inr (omega (arith, h)) ]
+
+room-asked : (bank count : ℕ) (old new : NetworkState) (told : Answer) → Reserves bank count old new told → AreLater old new
+room-asked bank count old new told h =
+    elim (below-or bank old.geometry.banks) [
+      | inl there ↦ elim (h.there there) [
+        | inl done ↦ reserved-later bank count old new done.0
+        | inr short ↦ none-later old new short.0.same
+      ]
+      | inr absent ↦ none-later old new (h.absent absent).0
+    ]
+
+-- what a request asks for
+asks-later : (what : Asked) (old new : NetworkState) (r : Request) (told : Answer) → AsksFor what old r new told → AreLater old new
+asks-later (a.Step step) old new r told (inl played) = step-of-network r.index step old new played.shown played.does
+asks-later (a.Step step) old new r told (inr starved) = none-later old new starved.0.same
+asks-later a.BadArgument old new r told h = none-later old new h.0
+asks-later a.Reserve old new r told h = room-asked r.bank r.serial old new told h
+asks-later a.Other old new r told h = none-later old new h.same
+
+-- A cache was open before, and its banks are later now.
+record IsOpenSince (old : Option NetworkState) (now : NetworkState) : Type 0 where
+  before : NetworkState
+  is : old ≡ Some before
+  later : AreLater before now
+
+-- a number is 0 or not
+zero-or : (n : ℕ) (P Q : Type 0) → (n ≡ 0 → P) × (n ≢ 0 → Q) → P ⊎ Q
+zero-or zero P Q h = inl (h.0 refl)
+zero-or (suc n) P Q h = inr (h.1 (λ e. cc))
+
+-- a cache that goes on was open
+goes-on-later : (network next now : NetworkState) (old : Option NetworkState) (what : Asked) (r : Request) (told : Answer)
+    → old ≡ Some network → AsksFor what network r next told → next ≡ now → IsOpenSince old now
+goes-on-later network next now old what r told was asks same = record {
+  before = network;
+  is = was;
+  later = subst (λ (x : NetworkState). AreLater network x) same (asks-later what network next r told asks);
+}
+
+-- a call of an open cache closes it or leaves it open
+open-later : (network now : NetworkState) (old new : Cache) (r : Request) (told : Answer) → old.network ≡ Some network
+    → ((new ≡ closed 18) × (told ≡ only 0)) ⊎ GoesOn network old r new told → new.network ≡ Some now → IsOpenSince old.network now
+open-later network now old new r told was (inl shut) is = let gone : new.network ≡ None = ap (λ (x : Cache). x.network) shut.0 in cc
+open-later network now old new r told was (inr on) is =
+    goes-on-later network on.next now old.network (asked r) r told was on.asks
+    (some-same (sym (ap (λ (x : Cache). x.network) on.is) ∙ is))
+
+-- what holds of an option's cases holds of it
+by-option : {X R : Type 0} (o : Option X) (C : Option X → Type 0) → (C None → o ≡ None → R) → ((x : X) → C (Some x) → o ≡ Some x → R)
+    → C o → R
+by-option None C f g c = f c refl
+by-option (Some x) C f g c = g x c refl
+
+-- a closed cache stays closed
+closed-later : (old new : Cache) (now : NetworkState) → new ≡ old → old.network ≡ None → new.network ≡ Some now → IsOpenSince old.network now
+closed-later old new now same none is =
+    let kept : new.network ≡ old.network = ap (λ (x : Cache). x.network) same in cc
+
+-- a call that leaves a cache open found it open
+call-later : (old new : Cache) (r : Request) (told : Answer) (now : NetworkState) → Calls old r new told → new.network ≡ Some now
+    → IsOpenSince old.network now
+call-later old new r told now h is =
+    by-option old.network (λ o. CallsOn o old r new told) (λ shut none. closed-later old new now shut.0 none is)
+    (λ network asks was. open-later network now old new r told was (zero-or r.call _ _ asks) is) h
+
+-- ## All calls
+
+-- a sequence of calls that leaves a cache open found it open
+calls-later : (calls : List (Request × Answer)) (old new : Cache) (now : NetworkState) → AreCalls old calls new
+    → new.network ≡ Some now → IsOpenSince old.network now
+calls-later [] old new now h is = record {
+  before = now;
+  is = ap (λ (x : Cache). x.network) (sym h) ∙ is;
+  later = none-later now now refl;
+}
+calls-later (call ∷ calls) old new now h is =
+    let rest = calls-later calls h.0 new now h.2 is in
+    let one = call-later old h.0 call.0 call.1 rest.before h.1 rest.is in
+    record { before = one.before; is = one.is; later = later-then one.before rest.before now one.later rest.later }
+
+-- ## The opening
+
+-- the bank at a place among those at reset
+record IsFreshAt (g : Shape) (image : List ℕ) (xs : List SharedBankState) (number place : ℕ) : Type 0 where
+  shared_bank : SharedBankState
+  is : slice_get xs place ≡ Some shared_bank
+  fresh : IsFresh g image number shared_bank
+
+fresh-at : (g : Shape) (image : List ℕ) (xs : List SharedBankState) (from place : ℕ) → AreFresh g image from xs → place < length xs
+    → IsFreshAt g image xs (from + place) place
+fresh-at g image [] from place h below = absurd (omega (arith, below))
+fresh-at g image (x ∷ xs) from zero h below =
+    let at : from ≡ from + 0 = omega arith in
+    record { shared_bank = x; is = refl; fresh = subst (λ (n : ℕ). IsFresh g image n x) at h.0 }
+fresh-at g image (x ∷ xs) from (suc place) h below =
+    let rest = fresh-at g image xs (suc from) place h.1 (omega (arith, below)) in
+    let at : suc from + place ≡ from + suc place = omega arith in
+    record { shared_bank = rest.shared_bank; is = rest.is; fresh = subst (λ (n : ℕ). IsFresh g image n rest.shared_bank) at rest.fresh }
+
+-- a cache that is open was given lawful numbers, and is at reset
+record IsOpened (given : GeometryNumbers) (image : List ℕ) (start : NetworkState) : Type 0 where
+  g : Shape
+  numbers : numbers_of g ≡ given
+  reset : IsReset g image start
+
+opens-over : (g : Shape) (image : List ℕ) (made : Cache) (start : NetworkState) → OpensOver g image made → made.network ≡ Some start
+    → IsReset g image start
+opens-over g image made start h is =
+    elim (below-or (g.memory_blocks * g.block_bytes) (length image)) [
+      | inl long ↦ let none : made.network ≡ None = ap (λ (x : Cache). x.network) (h.long long) in cc
+      | inr fits ↦ elim (h.fits fits) [
+        | inl fresh ↦
+            let same : fresh.network ≡ start = some-same (sym (ap (λ (x : Cache). x.network) fresh.is) ∙ is) in
+            subst (λ (x : NetworkState). IsReset g image x) same fresh.reset
+        | inr shut ↦ let none : made.network ≡ None = ap (λ (x : Cache). x.network) shut in cc
+      ]
+    ]
+
+opens-by : (error : Option GeometryError) (given : GeometryNumbers) (image : List ℕ) (made : Cache) (start : NetworkState)
+    → OpensBy error given image made → made.network ≡ Some start → IsOpened given image start
+opens-by (Some error) given image made start h is =
+    let none : made.network ≡ None = ap (λ (x : Cache). x.network) h in cc
+opens-by None given image made start h is = record { g = h.0; numbers = h.1; reset = opens-over h.0 image made start h.2 is }
+
+-- ## The theorem
+
+-- a bank of a cache that was opened, and went on twice
+runs-on : (g : Shape) (image : List ℕ) (number : ℕ) (start before now : NetworkState) → IsReset g image start → AreLater start before
+    → AreLater before now → IfSome (bank_at now number) IsRunning → number < g.banks → RunsOn g image number before now
+runs-on g image number start before now reset first later running below =
+    let fresh = fresh-at g image start.shared_banks 0 number reset.fresh (rw reset.count below) in
+    let one = first number fresh.shared_bank.bank (ap (λ (o : Option SharedBankState). option_map (λ (s : SharedBankState). s.bank) o) fresh.is) in
+    let two = later number one.after one.is in
+    let all = later-twice fresh.shared_bank.bank one.after two.after one.later two.later in
+    let is : IsFresh g image number fresh.shared_bank =
+    (let at : 0 + number ≡ number = omega arith in subst (λ (n : ℕ). IsFresh g image n fresh.shared_bank) at fresh.fresh) in
+    record {
+      old = one.after;
+      new = two.after;
+      was = one.is;
+      is = two.is;
+      holds = record {
+        geometry = all.geometry ∙ ap (λ (v : View). v.geometry) is.bank;
+        is_number = all.number ∙ ap (λ (v : View). v.number) is.bank;
+        is_image = all.image ∙ ap (λ (v : View). v.image) is.bank;
+        running = subst (λ (o : Option View). IfSome o IsRunning) two.is running;
+      };
+      later = two.later;
+    }
+
+-- the theorem, of an open cache whose bank with the number holds a run
+pub history : (end : Cache) (number : ℕ) (network : NetworkState) → end.network ≡ Some network
+    → IfSome (bank_at network number) IsRunning → EveryHistory end number
+history end number network opened running numbers image made between first later before now opens h k was is =
+    let since = calls-later later between end now k is in
+    let start = calls-later first made between before h was in
+    let given = opens-by (refusal_of (as_given numbers)) (as_given numbers) image made start.before opens start.is in
+    let from : since.before ≡ before = some-same (sym since.is ∙ was) in
+    let end_is : network ≡ now = some-same (sym opened ∙ is) in (
+      given.g,
+      given.numbers,
+      λ below. runs-on given.g image number start.before before now given.reset start.later
+          (subst (λ (x : NetworkState). AreLater x now) from since.later)
+          (subst (λ (x : NetworkState). IfSome (bank_at x number) IsRunning) end_is running) below,
+    )

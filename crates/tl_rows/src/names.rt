@@ -1,0 +1,74 @@
+//! The names of the scripts.
+
+/// Traces, and runs that stall or whose script is refused: each has one answer.
+pub const DECIDED: [(&str, bool); 27] = [
+    ("both-upgrade", true),
+    ("doubled-early-and-foreign-tickets", true),
+    ("every-way-is-held", true),
+    ("eviction-and-return", true),
+    ("eviction-of-a-reader", true),
+    ("eviction-writes-back", true),
+    ("grant-is-decided-when-sent", true),
+    ("reader-beside-a-sole-reader", true),
+    ("record-falls-while-a-probe-is-out", true),
+    ("release-before-the-grant-ack", true),
+    ("release-crosses-probe", true),
+    ("last-client-of-sixteen", true),
+    ("sole-reader-is-granted-tip", true),
+    ("store-and-reader", true),
+    ("strange-steps", true),
+    ("three-readers", true),
+    ("upgrade", true),
+    ("wide-blocks", true),
+    ("a-full-channel", true),
+    ("the-largest-trace", true),
+    ("the-victim-was-granted-longest-ago", true),
+    ("forms-of-steps", true),
+    ("not-a-text", false),
+    ("one-command-too-many", false),
+    ("one-step-too-many", false),
+    ("one-turn", false),
+    ("more-commands-than-turns", false),
+];
+
+/// Runs that end, and how many reports each may have.
+pub const RUNS: [(&str, u32); 18] = [
+    ("two-bytes", 1),
+    ("forms-of-commands", 1),
+    ("no-commands", 1),
+    ("image", 1),
+    ("drop-between", 1),
+    ("drop-at-the-end", 1),
+    ("drop-of-nothing", 1),
+    ("table-of-one-copy", 1),
+    ("two-banks", 1),
+    ("a-client-for-each-bank", 1),
+    ("nine-clients", 1),
+    ("sixteen-clients", 1),
+    ("two-clients-contend", 1),
+    ("eight-clients-contend", 1),
+    ("sixteen-clients-contend", 1),
+    ("two-clients-one-block", 2),
+    ("one-memory-over-two-banks", 3),
+    ("readers-and-a-writer", 4),
+];
+
+/// Traces with pictures.
+pub const DRAWN: [&str; 4] = [
+    "release-crosses-probe",
+    "both-upgrade",
+    "eviction-writes-back",
+    "every-mark",
+];
+
+/// Records of messages.
+pub const RECORDS: [&str; 8] = [
+    "a-miss.txt",
+    "delayed.txt",
+    "grants-old-bytes.txt",
+    "no-such-sink.txt",
+    "outside-the-profile.txt",
+    "release-crosses-probe.txt",
+    "two-readers-and-a-writer.txt",
+    "two-writers.txt",
+];

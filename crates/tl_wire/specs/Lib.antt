@@ -1,0 +1,10 @@
+pub mod Code
+pub mod Fault
+pub mod Fields
+pub mod Header
+pub mod Line
+pub mod Messages
+pub mod Place
+pub mod Read
+pub mod Reading
+pub mod Tables

@@ -1,0 +1,23 @@
+//! The text of a record of messages, as a monitor on the links writes it: its grammar, what its ids stand for, and what was seen.
+#![tactic(auto)]
+
+mod code;
+mod fault;
+mod fields;
+mod header;
+mod line;
+mod messages;
+mod place;
+mod record;
+mod stage;
+mod tables;
+
+pub use code::Role;
+pub use fault::{Fault, WireError};
+pub use fields::{Field, Fields};
+pub use header::{Setting, Sources};
+pub use line::{Line, Link, Said};
+pub use messages::Messages;
+pub use record::{ReadFault, read, split_lines};
+pub use stage::Stage;
+pub use tables::{Open, Tables};

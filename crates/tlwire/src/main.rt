@@ -1,0 +1,69 @@
+//! `tlwire [--run] FILE`: whether a run explains what a monitor on the links saw. `-` stands for standard input.
+#![tactic(auto)]
+
+use std::alloc::Global;
+use std::fs::File;
+use std::io;
+use std::io::{ErrorKind, Read};
+use std::process::ExitCode;
+use tl_monitor::{Ending, Form, answer, show};
+
+/// The words after the program's name.
+fn words(rt: &HostRuntime) -> io::Result<Vec<String>> {
+    let mut words = Vec::new(rt.alloc());
+    for word in std::env::args(rt)?.skip(1) {
+        words.push(word)?;
+    }
+    Ok(words)
+}
+
+fn read_all<R: Read>(alloc: Global, reader: &mut R) -> Result<Vec<u8>, Ending> {
+    let mut bytes = Vec::new(alloc);
+    match reader.read_to_end(&mut bytes) {
+        Ok(_) => Ok(bytes),
+        Err(error) => match error.kind() {
+            ErrorKind::OutOfMemory => Err(Ending::Memory),
+            _ => Err(Ending::File),
+        },
+    }
+}
+
+/// The bytes of a file.
+fn bytes(rt: &HostRuntime, name: &str) -> Result<Vec<u8>, Ending> {
+    if name == "-" {
+        return read_all(rt.alloc(), &mut rt.reader());
+    }
+    match File::open(rt, name) {
+        Ok(mut file) => read_all(rt.alloc(), &mut file),
+        Err(_) => Err(Ending::File),
+    }
+}
+
+/// The answer to a file.
+fn answer_to(rt: &HostRuntime, form: Form, name: &str) -> u8 {
+    match bytes(rt, name) {
+        Ok(bytes) => answer(rt.alloc(), form, &bytes, &mut rt.stdout(), &mut rt.stderr()),
+        Err(ending) => show(&mut rt.stderr(), &ending),
+    }
+}
+
+fn status(rt: &HostRuntime) -> u8 {
+    let Ok(words) = words(rt) else {
+        return show(&mut rt.stderr(), &Ending::Memory);
+    };
+    match words.as_slice() {
+        [name] => answer_to(rt, Form::Summary, name.as_str()),
+        [option, name] => {
+            if option.as_str() == "--run" {
+                answer_to(rt, Form::Run, name.as_str())
+            } else {
+                show(&mut rt.stderr(), &Ending::Usage)
+            }
+        }
+        _ => show(&mut rt.stderr(), &Ending::Usage),
+    }
+}
+
+fn main(rt: HostRuntime) -> ExitCode {
+    ExitCode::from(status(&rt))
+}

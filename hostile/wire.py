@@ -1,0 +1,330 @@
+#!/usr/bin/env python3
+"""wire.py TLCACHE TLWIRE [TRACES] [SEED] [--tlgen TLGEN] [--tlcheck TLCHECK] [--damages N]: the messages of random traces, given to tlwire.
+
+Each bank of a trace is a record of messages: each message that was sent, with a cycle, a source and a sink, and each load and store. Each
+record is given to tlwire twice: with each message at its sending, and with each one later, as buffers would delay it: somewhere before it
+is taken, the messages of a channel in their order. Both must be explained; with --tlcheck the run that `tlwire --run` prints must be lawful.
+Then N damages of each record (10): a line dropped, a byte or a parameter changed, two lines of a channel of a link exchanged. Prints how
+many of these are explained, not explained, and faults, and ends with status 1 where an answer was another.
+"""
+import os
+import random
+import subprocess
+import sys
+import tempfile
+from concurrent.futures import ThreadPoolExecutor
+
+from soak import PATIENCE, GivenTrace, Trace, places
+
+CODES = {
+    "AcquireBlock": ("A", 6, {"NtoB": 0, "NtoT": 1, "BtoT": 2}), "ProbeBlock": ("B", 6, {"toB": 1, "toN": 2}),
+    "ProbeAck": ("C", 4, {"TtoB": 0, "TtoN": 1, "BtoN": 2, "BtoB": 4, "NtoN": 5}), "ProbeAckData": ("C", 5, {"TtoB": 0, "TtoN": 1}),
+    "Release": ("C", 6, {"TtoB": 0, "TtoN": 1, "BtoN": 2}), "ReleaseData": ("C", 7, {"TtoB": 0, "TtoN": 1}),
+    "Grant": ("D", 4, {"toT": 0, "toB": 1}), "GrantData": ("D", 5, {"toT": 0, "toB": 1}), "ReleaseAck": ("D", 6, {}), "GrantAck": ("E", 0, {}),
+}
+# Which channel an event takes its message from.
+TAKES = {"accept": "A", "answer_probe": "B", "take_c": "C", "take_grant": "D", "take_release_ack": "D", "take_grant_ack": "E"}
+
+
+class WithBytes:
+    """A trace whose events between home and the memory have their bytes."""
+
+    def of_memory(self, call, block, answer, kinds, home):
+        entry = super().of_memory(call, block, answer, kinds, home)
+        if entry is not None and answer[0] == "memory" and answer[2] in ("AccessAckData", "PutFullData"):
+            return f"{entry} {answer[-1]}"
+        return entry
+
+
+class RandomTrace(WithBytes, Trace):
+    pass
+
+
+class GeneratedTrace(WithBytes, GivenTrace):
+    pass
+
+
+class Numbers:
+    """Numbers in use, by what uses them: each new one is the lowest that is free, from a first one on."""
+
+    def __init__(self):
+        self.used = {}
+
+    def take(self, key, first=0):
+        number = first
+        while number in self.used.values():
+            number += 1
+        self.used[key] = number
+        return number
+
+    def free(self, key):
+        return self.used.pop(key)
+
+
+class Monitor:
+    """The messages of one home's events: each with its link, its channel, its words, and from when to when it is on its way."""
+
+    def __init__(self, numbers, rng, sources=16):
+        self.numbers, self.rng, self.each = numbers, rng, sources
+        self.base = rng.choice([0, 0, 0x8000_0000])
+        self.size = numbers["block_bytes"].bit_length() - 1
+        self.seen, self.waiting = [], {}
+        self.requests = [Numbers() for _ in range(numbers["clients"])]
+        self.releases = [Numbers() for _ in range(numbers["clients"])]
+        self.sinks, self.outward, self.kind = Numbers(), Numbers(), {}
+
+    def address(self, block):
+        return f"address=0x{self.base + block * self.numbers['block_bytes']:08x}"
+
+    def send(self, time, link, channel, words):
+        message = {"link": link, "channel": channel, "words": words, "from": time, "to": None}
+        self.seen.append(message)
+        self.waiting.setdefault((link, channel), []).append(message)
+
+    def take(self, time, link, channel):
+        self.waiting[link, channel].pop(0)["to"] = time
+
+    def event(self, time, words):
+        call = words[0]
+        if call in ("load", "store"):
+            address = self.base + int(words[2], 16)
+            self.seen.append({"link": f"c{words[1]}", "channel": "core", "words": [call, f"0x{address:08x}", words[3]], "from": time, "to": time})
+        elif call in ("get", "put", "serve", "take_data", "take_put_ack", "drop"):
+            self.memory(time, call, int(words[1]), words[2:])
+        else:
+            client, block = int(words[1]), int(words[2])
+            if call in TAKES:
+                self.take(time, f"c{client}", TAKES[call])
+            shown = words[4:] if call in ("acquire", "release", "probe") else words[3:]
+            if shown:
+                self.message(time, client, block, *shown)
+            self.close(call, client, block)
+
+    def close(self, call, client, block):
+        """Which numbers are free once an event has taken its message."""
+        if call == "take_grant":
+            self.requests[client].free(block)
+        elif call == "take_release_ack":
+            self.releases[client].free(block)
+        elif call == "take_grant_ack":
+            self.sinks.free(block)
+
+    def message(self, time, client, block, kind, param=None, data=None):
+        channel, opcode, params = CODES[kind]
+        words = [channel, str(opcode)]
+        if channel != "E":
+            words += [f"param={params.get(param, 0)}", f"size={self.size}"]
+        if channel == "A":
+            words.append(f"source={self.requests[client].take(block, client * self.each)}")
+        elif kind in ("Release", "ReleaseData"):
+            words.append(f"source={self.releases[client].take(block, client * self.each)}")
+        elif channel in "BC":
+            words.append(f"source={client * self.each}")
+        elif kind == "ReleaseAck":
+            words.append(f"source={self.releases[client].used[block]}")
+        elif channel == "D":
+            words += [f"source={self.requests[client].used[block]}", f"sink={self.sinks.take(block)}"]
+        else:
+            words.append(f"sink={self.sinks.used[block]}")
+        if channel in "ABC":
+            words.append(self.address(block))
+        if data is not None:
+            words.append(f"data={data}")
+        self.send(time, f"c{client}", channel, words)
+
+    def memory(self, time, call, block, data):
+        data = [f"data={data[0]}"] if data else []
+        if call in ("get", "put"):
+            self.kind[block] = call
+            source = self.outward.take(block)
+            opcode = "4" if call == "get" else "0"
+            self.send(time, "m", "A", ["A", opcode, f"size={self.size}", f"source={source}", self.address(block), *data])
+        elif call == "serve":
+            # (the memory answers blocks in any order, so what it takes need not be the first)
+            opcode = "1" if self.kind[block] == "get" else "0"
+            self.answered(time, "A", block)
+            self.send(time, "m", "D", ["D", opcode, f"size={self.size}", f"source={self.outward.used[block]}", *data])
+        elif call in ("take_data", "take_put_ack"):
+            self.answered(time, "D", block)
+            self.outward.free(block)
+
+    def answered(self, time, channel, block):
+        source = f"source={self.outward.used[block]}"
+        waiting = self.waiting["m", channel]
+        message = next(it for it in waiting if source in it["words"])
+        waiting.remove(message)
+        message["to"] = time
+
+    def lines(self, delayed):
+        """The messages in the order in which a monitor sees them, each with its cycle."""
+        last = self.seen[-1]["from"] + 1 if self.seen else 0
+        # (from the last on, so that none is seen behind one that is sent after it on its channel)
+        latest, timed = {}, []
+        for place, it in reversed(list(enumerate(self.seen))):
+            wire, to = (it["link"], it["channel"]), last if it["to"] is None else it["to"]
+            at = it["from"]
+            if delayed and it["channel"] != "core":
+                at += self.rng.random() * (min(to, latest.get(wire, to)) - at) * 0.99
+            latest[wire] = at
+            timed.append((at, place, it))
+        return [[str(int(at * 10)), it["link"], *it["words"]] for at, place, it in sorted(timed, key=lambda one: one[:2])]
+
+
+def record(trace, entries, rng, delayed, monitor=None):
+    """The lines of a record, the first lines and those of the messages."""
+    numbers = trace.numbers
+    if monitor is None:
+        monitor = Monitor(numbers, rng)
+        for time, line in enumerate(entries):
+            monitor.event(time, line.split(" "))
+    head = ["jvwire 1", f"shape clients={numbers['clients']} block={numbers['block_bytes']} blocks={numbers['memory_blocks']} base=0x{monitor.base:08x}"]
+    head += [f"source client={c} from={c * monitor.each} to={c * monitor.each + monitor.each - 1}" for c in range(numbers["clients"])]
+    head += [f"image {trace.image.hex()}"] if trace.image else []
+    return head, monitor.lines(delayed)
+
+
+def text(head, lines):
+    return "\n".join(head + [" ".join(line) for line in lines]) + "\n"
+
+
+def damaged(rng, lines):
+    """A record with one thing changed, and what; None where there is nothing of it."""
+    lines = [list(line) for line in lines]
+    what = rng.choice(["dropped", "byte", "param", "exchanged"])
+    if what == "dropped":
+        del lines[rng.randrange(len(lines))]
+        return what, lines
+    if what == "byte":
+        places = [(i, k) for i, line in enumerate(lines) for k, word in enumerate(line)
+                  if word.startswith("data=") or line[2] in ("load", "store") and k == 4]
+        if not places:
+            return None
+        i, k = rng.choice(places)
+        key, _, data = lines[i][k].rpartition("=")
+        at = 2 * rng.randrange(len(data) // 2)
+        byte = (int(data[at:at + 2], 16) + rng.randrange(1, 256)) % 256
+        lines[i][k] = (key + "=" if key else "") + data[:at] + f"{byte:02x}" + data[at + 2:]
+        return what, lines
+    if what == "param":
+        places = [(i, k) for i, line in enumerate(lines) for k, word in enumerate(line) if word.startswith("param=")]
+        if not places:
+            return None
+        i, k = rng.choice(places)
+        old = int(lines[i][k].removeprefix("param="))
+        lines[i][k] = f"param={rng.choice([p for p in range(6) if p != old])}"
+        return what, lines
+    i = rng.randrange(len(lines))
+    others = [j for j, line in enumerate(lines) if line[1:3] == lines[i][1:3] and line[3:] != lines[i][3:]]
+    if not others:
+        return None
+    j = rng.choice(others)
+    lines[i][3:], lines[j][3:] = lines[j][3:], lines[i][3:]
+    return what, lines
+
+
+class Wire:
+    def __init__(self, tlcache, tlwire, tlgen, tlcheck, damages, folder):
+        self.tlcache, self.tlwire, self.tlgen, self.tlcheck = tlcache, tlwire, tlgen, tlcheck
+        self.damages, self.folder = damages, folder
+
+    def ask(self, words, given):
+        try:
+            ran = subprocess.run([*words, "-"], input=given.encode(), capture_output=True, timeout=PATIENCE)
+        except subprocess.TimeoutExpired:
+            return "no answer", b"", b""
+        return ran.returncode, ran.stdout, ran.stderr
+
+    def trace_of(self, name, given):
+        path = os.path.join(self.folder, name)
+        with open(path, "w", encoding="utf-8") as it:
+            it.write(given)
+        ran = subprocess.run([self.tlcache, "trace", path], capture_output=True, timeout=PATIENCE)
+        os.remove(path)
+        return ran.returncode, ran.stdout, ran.stderr
+
+    def grown(self, seed):
+        ask = lambda given: self.trace_of(f"trace{seed}", given)
+        if self.tlgen:
+            words = [self.tlgen, str(seed), "trace", "ways=1"]
+            script = subprocess.run(words, capture_output=True, timeout=PATIENCE, check=True).stdout.decode()
+            trace = GeneratedTrace(script, ask)
+        else:
+            trace = RandomTrace(seed, ask)
+        trace.learn(*places(trace.numbers))
+        return trace, trace.grow()
+
+    def explained(self, head, lines):
+        """What is wrong with the answer to a record that has an explanation, if anything is."""
+        status, output, fault = self.ask([self.tlwire], text(head, lines))
+        if status != 0 or not output.startswith(f"explained: {len(lines)} seen, ".encode()):
+            return f"status {status}: {output.decode()}{fault.decode()}"
+        if self.tlcheck:
+            _, run, _ = self.ask([self.tlwire, "--run"], text(head, lines))
+            status, output, fault = self.ask([self.tlcheck], run.decode())
+            # (a run of no events over no image is no record)
+            if status != 0 and lines:
+                return f"the run: status {status}: {output.decode()}{fault.decode()}"
+        return None
+
+    def trace(self, seed):
+        rng = random.Random(f"wire {seed}")
+        trace, wrong = self.grown(seed)
+        if wrong:
+            return [f"trace {seed}: {wrong}"], 0, 0, {}
+        said, records, messages, counts = [], 0, 0, {}
+        for bank, given in enumerate(trace.records()):
+            entries = [line for line in given.splitlines() if not line.startswith(("clients", "image"))]
+            for delayed in (False, True):
+                head, lines = record(trace, entries, rng, delayed)
+                wrong = self.explained(head, lines)
+                records, messages = records + 1, messages + len(lines)
+                if wrong:
+                    said.append(f"trace {seed}, bank {bank}, delayed {delayed}: {wrong}")
+            for _ in range(self.damages):
+                self.damage(rng, head, lines, counts)
+        return said, records, messages, counts
+
+    def damage(self, rng, head, lines, counts):
+        if not lines:
+            return
+        changed = damaged(rng, lines)
+        if changed is None:
+            return
+        status, output, fault = self.ask([self.tlwire], text(head, changed[1]))
+        told = {0: "explained", 6: "not explained", 3: fault.decode()[:8]}.get(status, f"status {status}")
+        counts[changed[0], told] = counts.get((changed[0], told), 0) + 1
+
+
+def option(words, name):
+    if name not in words[:-1]:
+        return None
+    place = words.index(name)
+    value = words[place + 1]
+    del words[place:place + 2]
+    return value
+
+
+def main():
+    words = sys.argv[1:]
+    tlgen, tlcheck, damages = option(words, "--tlgen"), option(words, "--tlcheck"), option(words, "--damages")
+    if len(words) < 2:
+        sys.exit(__doc__)
+    traces, seed = ([int(word) for word in words[2:]] + [200, 1][len(words) - 2:])[:2]
+    tools = [it and os.path.abspath(it) for it in (words[0], words[1], tlgen, tlcheck)]
+    wrong, records, messages, counts = [], 0, 0, {}
+    with tempfile.TemporaryDirectory() as folder, ThreadPoolExecutor(2) as pool:
+        wire = Wire(*tools, int(damages or 10), folder)
+        for said, some, more, told in pool.map(wire.trace, range(seed, seed + traces)):
+            wrong, records, messages = wrong + said, records + some, messages + more
+            for key, count in told.items():
+                counts[key] = counts.get(key, 0) + count
+    print(f"{traces} traces: {records} records of {messages} lines, {len(wrong)} of them not explained")
+    for (what, told), count in sorted(counts.items()):
+        print(f"{what}: {count} {told}")
+    for it in wrong[:20]:
+        print(it)
+    sys.exit(1 if wrong or any(told.startswith("status") for _, told in counts) else 0)
+
+
+if __name__ == "__main__":
+    main()
