@@ -1,5 +1,5 @@
-//! Tests of records by the public calls: whole records and their verdicts, each damage of one, entries and states as lines,
-//! and readers that fail.
+//! Tests of records by the public calls: whole records and their verdicts, each damage of one, entries and states as lines, messages that
+//! are explained or not, and readers that fail.
 #![tactic(auto)]
 
 #[cfg(test)]
@@ -8,6 +8,8 @@ mod brief;
 mod damages;
 #[cfg(test)]
 mod examples;
+#[cfg(test)]
+mod explained;
 #[cfg(test)]
 mod readers;
 #[cfg(test)]
