@@ -58,15 +58,46 @@ fn client_step(
     }
 }
 
-/// A client whose Acquire of a block is first on A, else one that has it on A.
-fn asking(judge: &Judge, state: &BlockState, clients: u32, block: BlockNo) -> Option<ClientId> {
+/// Whether a client is to be granted a block that home does not serve it yet.
+fn is_before_a_grant(judge: &Judge, wires: &Wires, seen: &[Seen], c: ClientId) -> bool {
+    let Some(granted) = wires.next_granted(seen, c) else {
+        return false;
+    };
+    match judge.plain().block(granted.number()) {
+        Some(state) => match state.accepted() {
+            Some(acquire) => acquire.client != c,
+            None => true,
+        },
+        None => false,
+    }
+}
+
+/// A client whose Acquire of a block is first on A, and stands before one that is granted, if there is such a client; else one whose
+/// Acquire is first, else one that has it on A.
+fn asking(
+    judge: &Judge,
+    wires: &Wires,
+    seen: &[Seen],
+    state: &BlockState,
+    clients: u32,
+    block: BlockNo,
+) -> Option<ClientId> {
+    let mut first = None;
     for number in 0..clients {
         let c = ClientId::new(number);
         if judge.first_on(c, Channel::A) == Some(block) {
-            return Some(c);
+            if is_before_a_grant(judge, wires, seen, c) {
+                return Some(c);
+            }
+            if first.is_none() {
+                first = Some(c);
+            }
         }
     }
-    in_way(state, clients, Which::Asking)
+    match first {
+        Some(c) => Some(c),
+        None => in_way(state, clients, Which::Asking),
+    }
 }
 
 /// What a client does first.
@@ -138,7 +169,7 @@ fn home_before(
                 Some(Event::AcceptAcquire(
                     match granted_first(clients, wires, seen, block) {
                         Some(first) => first,
-                        None => asking(judge, state, clients, block)?,
+                        None => asking(judge, wires, seen, state, clients, block)?,
                     },
                     block,
                 ))

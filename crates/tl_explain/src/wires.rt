@@ -111,6 +111,19 @@ impl Wires {
         None
     }
 
+    /// The block of the next Grant to a client.
+    pub(crate) fn next_granted(&self, seen: &[Seen], c: ClientId) -> Option<BlockNo> {
+        let wire = Wire::Link(c, Channel::D);
+        let sent = self.sent.get(number(&wire))?;
+        let places = self.places.get(number(&wire))?;
+        for i in *sent..places.len() {
+            if let Some(block) = granted_block(seen.get(places[i])?) {
+                return Some(block);
+            }
+        }
+        None
+    }
+
     /// The place of the next Get of a block.
     pub(crate) fn next_get(&self, seen: &[Seen], block: BlockNo) -> Option<usize> {
         let sent = self.sent.get(0)?;
@@ -128,6 +141,13 @@ fn is_grant_of(seen: &Seen, block: BlockNo) -> bool {
     match seen {
         Seen::OnLink(_, of, message) => *of == block && message.kind != Kind::ReleaseAck,
         _ => false,
+    }
+}
+
+fn granted_block(seen: &Seen) -> Option<BlockNo> {
+    match seen {
+        Seen::OnLink(_, of, message) if message.kind != Kind::ReleaseAck => Some(*of),
+        _ => None,
     }
 }
 
