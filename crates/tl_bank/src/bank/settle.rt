@@ -112,7 +112,7 @@ impl Bank {
         Ok(place)
     }
 
-    /// Nothing but why a client may not ask for more of a block, for want of memory aside.
+    /// Why a client may not ask for more of a block. Want of memory is asked after this.
     pub(super) fn settle_acquire(
         &self,
         client: ClientId,
