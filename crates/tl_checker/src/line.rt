@@ -12,6 +12,7 @@ use std::alloc::Global;
 use tl_judge::{Breach, Entry, Judge, Refusal};
 use tl_record::{is_blank, read_entry, read_image, read_shape};
 use tl_rules::Shape;
+use tl_types::{BLOCK_BYTES, BLOCKS};
 use tl_words::ParseError;
 
 /// A line that could not be read is outside the grammar, or there was no memory.
@@ -79,8 +80,8 @@ fn entry_line(alloc: Global, judge: Judge, count: u64, text: &str) -> Result<Sta
 
 /// Takes the line after the geometry.
 fn second_line(alloc: Global, shape: Shape, text: &str) -> Result<Stage, LineFault>
-    requires bytes { (0 < shape.block_bytes) × (shape.block_bytes ≤ 64) }
-    requires blocks { shape.blocks ≤ 65536 }
+    requires bytes { (0 < shape.block_bytes) × (shape.block_bytes ≤ BLOCK_BYTES) }
+    requires blocks { shape.blocks ≤ BLOCKS }
     ensures takes { (reading : Reading) → Agrees reading (Stage.Shaped shape) → Takes (next reading text.now) result }
     ensures fit { IfOk result IsFit }
 {

@@ -7,6 +7,7 @@ use crate::seen::Seen;
 use crate::walk::explained_by;
 use std::alloc::{AllocError, Global};
 use tl_rules::{Event, Shape};
+use tl_types::{BLOCK_BYTES, BLOCKS};
 
 /// What is said of what was seen.
 #[derive(Drop)]
@@ -25,8 +26,8 @@ pub fn explain(
     image: &[u8],
     seen: &[Seen],
 ) -> Result<Explanation, AllocError>
-    requires bytes { (0 < shape.block_bytes) × (shape.block_bytes ≤ 64) }
-    requires blocks { shape.blocks ≤ 65536 }
+    requires bytes { (0 < shape.block_bytes) × (shape.block_bytes ≤ BLOCK_BYTES) }
+    requires blocks { shape.blocks ≤ BLOCKS }
     ensures { IfOk result (IsExplanation shape image.now seen.now) }
 {
     if seen.len() == 0 {

@@ -12,7 +12,7 @@ use crate::wires::Wires;
 use std::alloc::{AllocError, Global};
 use tl_judge::{Entry, Judge, Refusal, client_of};
 use tl_rules::{Event, Shape};
-use tl_types::{Channel, Upward};
+use tl_types::{BLOCK_BYTES, BLOCKS, Channel, Upward};
 
 /// How many events may come before one that something seen stands for.
 const EVENTS: u32 = 4096;
@@ -99,8 +99,8 @@ fn ready_for(judge: &Judge, wires: &Wires, seen: &[Seen], wanted: Event) -> Opti
 
 impl Attempt {
     fn new(alloc: Global, shape: Shape, image: &[u8], seen: &[Seen]) -> Result<Attempt, AllocError>
-        requires bytes { (0 < shape.block_bytes) × (shape.block_bytes ≤ 64) }
-        requires blocks { shape.blocks ≤ 65536 }
+        requires bytes { (0 < shape.block_bytes) × (shape.block_bytes ≤ BLOCK_BYTES) }
+        requires blocks { shape.blocks ≤ BLOCKS }
     {
         Ok(Attempt {
             judge: Judge::new(alloc, shape, image)?,
@@ -157,8 +157,8 @@ pub(crate) fn search(
     image: &[u8],
     seen: &[Seen],
 ) -> Result<Found, AllocError>
-    requires bytes { (0 < shape.block_bytes) × (shape.block_bytes ≤ 64) }
-    requires blocks { shape.blocks ≤ 65536 }
+    requires bytes { (0 < shape.block_bytes) × (shape.block_bytes ≤ BLOCK_BYTES) }
+    requires blocks { shape.blocks ≤ BLOCKS }
 {
     let mut attempt = Attempt::new(alloc, shape, image, seen)?;
     for place in 0..seen.len() {

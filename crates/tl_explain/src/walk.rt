@@ -11,6 +11,7 @@ use crate::sight::seen_of;
 use std::alloc::{AllocError, Global};
 use tl_judge::{Entry, Judge, Refusal};
 use tl_rules::{Event, Shape};
+use tl_types::{BLOCK_BYTES, BLOCKS};
 
 /// Takes one more event, where it is permitted and what is seen of it was seen next.
 fn goes_on(
@@ -47,8 +48,8 @@ pub(crate) fn explained_by(
     seen: &[Seen],
     events: Vec<Event>,
 ) -> Result<Option<Vec<Event>>, AllocError>
-    requires bytes { (0 < shape.block_bytes) × (shape.block_bytes ≤ 64) }
-    requires blocks { shape.blocks ≤ 65536 }
+    requires bytes { (0 < shape.block_bytes) × (shape.block_bytes ≤ BLOCK_BYTES) }
+    requires blocks { shape.blocks ≤ BLOCKS }
     ensures { IfOk result (λ found. IfSome found (λ run. Explains shape image.now seen.now run.items)) }
 {
     let mut judge = Judge::new(alloc, shape, image)?;

@@ -15,7 +15,7 @@ use crate::sent::{is_shown, sent_by, taken_channel};
 use std::alloc::{AllocError, Global};
 use std::marker::Model;
 use tl_rules::{Event, Plain, Shape};
-use tl_types::{BlockNo, Body, Channel, ClientId};
+use tl_types::{BLOCK_BYTES, BLOCKS, BlockNo, Body, Channel, ClientId};
 
 /// What an entry of a record breaks.
 #[derive(Clone, Copy, Debug, PartialEq, Eq)]
@@ -64,8 +64,8 @@ impl Judge {
 
     /// A judge of a record from reset over an image.
     pub fn new(alloc: Global, shape: Shape, image: &[u8]) -> Result<Judge, AllocError>
-        requires bytes { (0 < shape.block_bytes) × (shape.block_bytes ≤ 64) }
-        requires blocks { shape.blocks ≤ 65536 }
+        requires bytes { (0 < shape.block_bytes) × (shape.block_bytes ≤ BLOCK_BYTES) }
+        requires blocks { shape.blocks ≤ BLOCKS }
         ensures { IfOk result (λ j. Follows shape image.now [] j) }
     {
         let plain = Plain::new(alloc, shape, image)?;

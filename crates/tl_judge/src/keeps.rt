@@ -9,10 +9,10 @@ ghost use Rattle.tl_judge.specs.Rules.{IsFirstBroken, Keeps};
 
 use crate::rule::{Rule, access_of, cap_of, client_of, from_of, rules_of};
 use tl_rules::{Access, BlockState, Client, Event, Plain, Shape};
-use tl_types::{Perm, ProbeCap, Wait};
+use tl_types::{BLOCK_BYTES, Perm, ProbeCap, Wait};
 
 fn has_its_bytes(client: &Client, shape: Shape, access: Option<&Access>) -> bool
-    requires { (0 < shape.block_bytes) × (shape.block_bytes ≤ 64) }
+    requires { (0 < shape.block_bytes) × (shape.block_bytes ≤ BLOCK_BYTES) }
     ensures { IsTrue result ↔ IfSome access.entry (λ a. MayLoad shape client.now a.now) }
 {
     match access {
@@ -42,7 +42,7 @@ fn is_above(client: &Client, cap: Option<ProbeCap>) -> bool
 /// Whether an event on a block of the memory keeps a rule.
 fn keeps(block: &BlockState, shape: Shape, event: &Event, rule: Rule) -> bool
     requires size { length block.now.clients ≡ shape.clients }
-    requires bytes { (0 < shape.block_bytes) × (shape.block_bytes ≤ 64) }
+    requires bytes { (0 < shape.block_bytes) × (shape.block_bytes ≤ BLOCK_BYTES) }
     requires there { block_of shape event.now < shape.blocks }
     ensures { IsTrue result ↔ Keeps shape (block_state block.now) event.now rule }
 {

@@ -6,6 +6,7 @@ ghost use Rattle.tl_record.specs.Header.{blocks_in, bytes_in, field_of, image_in
 
 use std::alloc::Global;
 use tl_rules::Shape;
+use tl_types::{BLOCK_BYTES, BLOCKS};
 use tl_words::{ParseError, parse_bytes, parse_number, split_words};
 
 /// Whether a line says nothing: it is empty, or begins with `#`.
@@ -25,14 +26,14 @@ fn is_in_range(shape: Shape) -> bool
             || shape.block_bytes == 32
             || shape.block_bytes == 64)
         && 1 <= shape.blocks
-        && shape.blocks <= 65_536
+        && shape.blocks as usize <= BLOCKS
 }
 
 /// The geometry that a line writes: `clients N block_bytes N memory_blocks N`.
 pub fn read_shape(alloc: Global, line: &str) -> Result<Shape, ParseError>
     ensures value { Reads (λ x. x) result (shape_of line.now) }
-    ensures bytes { IfOk result (λ shape. (0 < shape.block_bytes) × (shape.block_bytes ≤ 64)) }
-    ensures blocks { IfOk result (λ shape. shape.blocks ≤ 65536) }
+    ensures bytes { IfOk result (λ shape. (0 < shape.block_bytes) × (shape.block_bytes ≤ BLOCK_BYTES)) }
+    ensures blocks { IfOk result (λ shape. shape.blocks ≤ BLOCKS) }
 {
     let words = split_words(alloc, line)?;
     shape(&words)
@@ -52,8 +53,8 @@ fn field(name: &str, key: &str, value: &str) -> Result<u32, ParseError>
 /// The geometry, where it is in range and nothing follows it.
 fn in_range(rest: &[&str], shape: Shape) -> Result<Shape, ParseError>
     ensures value { Reads (λ x. x) result (in_range (texts rest.now) shape) }
-    ensures bytes { IfOk result (λ shape. (0 < shape.block_bytes) × (shape.block_bytes ≤ 64)) }
-    ensures blocks { IfOk result (λ shape. shape.blocks ≤ 65536) }
+    ensures bytes { IfOk result (λ shape. (0 < shape.block_bytes) × (shape.block_bytes ≤ BLOCK_BYTES)) }
+    ensures blocks { IfOk result (λ shape. shape.blocks ≤ BLOCKS) }
 {
     match rest {
         [] => {
@@ -70,8 +71,8 @@ fn in_range(rest: &[&str], shape: Shape) -> Result<Shape, ParseError>
 #[tactic(auto, unfolding(crate::specs::Header::blocks_in))]
 fn blocks(clients: u32, block_bytes: u32, words: &[&str]) -> Result<Shape, ParseError>
     ensures value { Reads (λ x. x) result (blocks_in clients block_bytes (texts words.now)) }
-    ensures bytes { IfOk result (λ shape. (0 < shape.block_bytes) × (shape.block_bytes ≤ 64)) }
-    ensures blocks { IfOk result (λ shape. shape.blocks ≤ 65536) }
+    ensures bytes { IfOk result (λ shape. (0 < shape.block_bytes) × (shape.block_bytes ≤ BLOCK_BYTES)) }
+    ensures blocks { IfOk result (λ shape. shape.blocks ≤ BLOCKS) }
 {
     match words {
         [] | [_] => Err(ParseError::Malformed),
@@ -92,8 +93,8 @@ fn blocks(clients: u32, block_bytes: u32, words: &[&str]) -> Result<Shape, Parse
 #[tactic(auto, unfolding(crate::specs::Header::bytes_in))]
 fn bytes(clients: u32, words: &[&str]) -> Result<Shape, ParseError>
     ensures value { Reads (λ x. x) result (bytes_in clients (texts words.now)) }
-    ensures bytes { IfOk result (λ shape. (0 < shape.block_bytes) × (shape.block_bytes ≤ 64)) }
-    ensures blocks { IfOk result (λ shape. shape.blocks ≤ 65536) }
+    ensures bytes { IfOk result (λ shape. (0 < shape.block_bytes) × (shape.block_bytes ≤ BLOCK_BYTES)) }
+    ensures blocks { IfOk result (λ shape. shape.blocks ≤ BLOCKS) }
 {
     match words {
         [] | [_] => Err(ParseError::Malformed),
@@ -107,8 +108,8 @@ fn bytes(clients: u32, words: &[&str]) -> Result<Shape, ParseError>
 #[tactic(auto, unfolding(crate::specs::Header::shape_in))]
 fn shape(words: &[&str]) -> Result<Shape, ParseError>
     ensures value { Reads (λ x. x) result (shape_in (texts words.now)) }
-    ensures bytes { IfOk result (λ shape. (0 < shape.block_bytes) × (shape.block_bytes ≤ 64)) }
-    ensures blocks { IfOk result (λ shape. shape.blocks ≤ 65536) }
+    ensures bytes { IfOk result (λ shape. (0 < shape.block_bytes) × (shape.block_bytes ≤ BLOCK_BYTES)) }
+    ensures blocks { IfOk result (λ shape. shape.blocks ≤ BLOCKS) }
 {
     match words {
         [] | [_] => Err(ParseError::Malformed),

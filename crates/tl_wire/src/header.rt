@@ -10,7 +10,7 @@ use crate::fields::{address, number, split_pair};
 use std::alloc::Global;
 use std::marker::Model;
 use tl_rules::Shape;
-use tl_types::ClientId;
+use tl_types::{BLOCK_BYTES, BLOCKS, ClientId};
 use tl_words::parse_bytes;
 
 /// The source ids from one to another, both with them, which are a client's.
@@ -69,8 +69,8 @@ impl Setting {
     /// The numbers of the memory and the clients.
     pub fn shape(&self) -> Shape
         ensures shape { result ≡ self.now.shape }
-        ensures bytes { (0 < result.block_bytes) × (result.block_bytes ≤ 64) }
-        ensures blocks { result.blocks ≤ 65536 }
+        ensures bytes { (0 < result.block_bytes) × (result.block_bytes ≤ BLOCK_BYTES) }
+        ensures blocks { result.blocks ≤ BLOCKS }
     {
         self.shape
     }
