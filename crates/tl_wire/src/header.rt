@@ -164,7 +164,7 @@ fn is_fit(shape: Shape, base: u32) -> bool
             || shape.block_bytes == 32
             || shape.block_bytes == 64)
         && 1 <= shape.blocks
-        && shape.blocks <= 65_536
+        && shape.blocks as usize <= BLOCKS
         && base % shape.block_bytes == 0
 }
 
