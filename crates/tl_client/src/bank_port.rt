@@ -72,7 +72,7 @@ impl<'a, R: Wait, G: Gate> BankPort<'a, R, G> {
 
     /// Takes the bank's lock.
     fn enter(&self) -> MutexGuard<'a, Bank> {
-        let bank = self.locked.bank.lock(self.rt);
+        let bank = self.locked.lock(self.rt);
         self.gate.locked(self.locked.number, Who::Home);
         bank
     }

@@ -44,7 +44,7 @@ impl<'a, R: Wait, G: Gate> ClientPort<'a, R, G> {
     /// Takes the lock of a bank, if there is one with this number.
     fn enter(&self, number: BankNo) -> Result<MutexGuard<'a, Bank>, Refusal> {
         let locked = self.locked.bank(number).ok_or(Refusal::OutOfRange)?;
-        let bank = locked.bank.lock(self.rt);
+        let bank = locked.lock(self.rt);
         self.gate.locked(number, Who::Client(self.client));
         Ok(bank)
     }

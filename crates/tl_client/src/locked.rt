@@ -7,17 +7,35 @@ use crate::bank_port::BankPort;
 use crate::client_port::ClientPort;
 use crate::gate::Gate;
 use std::alloc::{AllocError, Global};
+use std::hint;
 use std::marker::Model;
-use std::sync::{Mutex, Wait};
+use std::sync::{Mutex, MutexGuard, Wait};
 use tl_bank::Bank;
 use tl_map::Geometry;
 use tl_types::{BankNo, BlockNo, ClientId};
+
+// How often a thread asks for a bank's lock before it sleeps at it. A call holds the lock for less than a microsecond, and to sleep and
+// to be woken takes many; a lock at which somebody sleeps would send each other thread to sleep at once.
+const LOOKS: u32 = 300;
 
 /// A bank behind its lock, with its number.
 #[derive(Drop)]
 pub(crate) struct LockedBank {
     pub(crate) number: BankNo,
     pub(crate) bank: Mutex<Bank>,
+}
+
+impl LockedBank {
+    /// Takes the bank's lock: asks for it some times before it sleeps at it.
+    pub(crate) fn lock<R: Wait>(&self, rt: &R) -> MutexGuard<'_, Bank> {
+        for _ in 0..LOOKS {
+            if let Some(bank) = self.bank.try_lock() {
+                return bank;
+            }
+            hint::spin_loop();
+        }
+        self.bank.lock(rt)
+    }
 }
 
 /// The banks of a geometry, each behind a lock of its own. Contracts see the geometry, and the number beside each lock:
