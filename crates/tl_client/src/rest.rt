@@ -4,7 +4,7 @@ use std::sync::Wait;
 use std::thread;
 use std::time::{Clock, Duration, Instant};
 
-// After so many barren turns in a row comes a rest, and then after each 64th.
+// After so many barren turns in a row each 64th rests.
 const PATIENCE: u32 = 4_096;
 
 const BETWEEN: u32 = 64;
