@@ -1,5 +1,5 @@
 -- Taking a Grant, and what it leaves.
-use Rattle.std.proofs.Common.{◌≡◌, ℕ, ◌<◌, ◌^◌, ◌==◌, not, true, false, cond, List, [], ◌∷◌, ◌++◌, map, Option, None, if◌then◌else◌, refl, sym, ◌∙◌, ap, subst}
+use Rattle.std.proofs.Common.{◌≡◌, ℕ, ◌<◌, ◌^◌, ◌==◌, not, true, false, cond, length, List, [], ◌∷◌, ◌++◌, map, Option, None, if◌then◌else◌, refl, sym, ◌∙◌, ap, subst, eq-eqb}
 use Rattle.std.proofs.lemmas.Bool.{or_parts}
 use Rattle.tl_types.specs.Bodies.{is_a_grant}
 use Rattle.tl_types.specs.Lane.{IsFirst, Lane, is_here, with_message, without_first, bodies_of}
@@ -28,7 +28,7 @@ use Rattle.tl_lanes.proofs.Logs.{first_heads_its_list}
 use Rattle.tl_links.specs.Table.{LinkTable, lane_in, SameSize as SameLinks}
 use Rattle.tl_copies.specs.Copies.{Tables, held_at, is_cell, SameSize as SameCopies}
 use Rattle.tl_bank_spec.specs.Calls.{take_grant_cases}
-use Rattle.tl_bank_spec.specs.Cases.{bad_share, block_named, first_block, no_client, other_share}
+use Rattle.tl_bank_spec.specs.Cases.{bad_share, block_named, first_block, link_full, no_client, other_share}
 use Rattle.tl_bank_spec.specs.Refusal.{first_of}
 use Rattle.tl_bank_spec.specs.Share.{Holding, recount}
 use Rattle.tl_bank_spec.specs.View.{View, shape_of, client_at, perm_at}
@@ -37,14 +37,16 @@ use Rattle.tl_bank_spec.specs.Tables.{has_entry_for, is_waiting, copies_at}
 use Rattle.tl_bank_spec.specs.Channels.{lane_at}
 use Rattle.tl_bank_laws.specs.Entry.{HasPlace, entry_with}
 use Rattle.tl_bank_laws.specs.Layers.{Layers}
+use Rattle.tl_bank_laws.specs.Link.{HasRoom, IsHead}
 use Rattle.tl_bank_laws.specs.Means.{Means}
 use Rattle.tl_bank_laws.specs.Settled.{FindsGrant}
 use Rattle.tl_bank_laws.proofs.Allowed.{AllFalse, all-false, client-is, share-is}
 use Rattle.tl_bank_laws.proofs.Counts.{step-perm}
 use Rattle.tl_bank_laws.proofs.Entries.{put-is}
-use Rattle.tl_bank_laws.proofs.Heads.{HeadAllowed, head-allowed, head-first, head-own}
+use Rattle.tl_bank_laws.proofs.Heads.{HeadAllowed, head-allowed, head-first, head-own, is-head}
 use Rattle.tl_bank_laws.proofs.Keep.{ClientStep, means-step}
 use Rattle.tl_bank_laws.proofs.Places.{place-there}
+use Rattle.tl_bank_laws.proofs.SendProbe.{channel-room}
 use Rattle.tl_bank_laws.proofs.Shares.{share-count, share-enough}
 
 -- ## The Grant that is there
@@ -138,6 +140,35 @@ waiting-entry : (copy : CachedCopy) (wait : Wait) → wait ≡ ForGrant → has_
 waiting-entry Absent wait e = ap is_waiting e
 waiting-entry (Readable bytes) wait e = refl
 waiting-entry (Writable bytes dirty) wait e = refl
+
+-- the Grant heads its channel
+pub grant-head : (v : View) (h : Layers) (t : Ticket) (share : Holding) → Means v h → first_of (take_grant_cases v t share) ≡ None
+    → IsHead h.links t
+grant-head v h t share m none = is-head v h t D is_a_grant m (grant-allowed v t share none).0
+
+-- channel E has a place for the GrantAck
+pub grant-room : (v : View) (h : Layers) (t : Ticket) (share : Holding) (between : LinkTable) → Means v h
+    → first_of (take_grant_cases v t share) ≡ None → length v.log < 2 ^ 63 → SameLinks h.links between
+    → ((x : ℕ) (l : Channel) → lane_in between x l
+    ≡ (if is_here t.client t.channel x l then without_first (lane_in h.links x l) else lane_in h.links x l))
+    → HasRoom between t.client E
+grant-room v h t share between m none small same took =
+    let ok = (grant-allowed v t share none).0 in
+    let f : AllFalse (take_grant_cases v t share) = all-false (take_grant_cases v t share) none in
+    let free : link_full v t.client E ≡ false = f.1.1.1.1.1.0 in
+    let Took : Channel → Type 0 = λ k. (x : ℕ) (l : Channel) → lane_in between x l
+    ≡ (if is_here t.client k x l then without_first (lane_in h.links x l) else lane_in h.links x l) in
+    let from_d : Took D = subst Took ok.channel took in
+    let elsewhere : is_here t.client D t.client E ≡ false = rw (eq-eqb t.client t.client refl) refl in
+    let lane : lane_in between t.client E ≡ lane_in h.links t.client E =
+    from_d t.client E
+    ∙ ap (λ here. cond here (without_first (lane_in h.links t.client E)) (lane_in h.links t.client E)) elsewhere in
+    let before : HasRoom h.links t.client E = channel-room v h t.client E m ok.client free small in
+    record {
+      client = rw same.clients before.client;
+      place = rw lane before.place;
+      counted = rw lane before.counted;
+    }
 
 -- so its table has a place for the copy that the Grant makes
 pub grant-place : (v : View) (h : Layers) (t : Ticket) (share : Holding) (block : ℕ) (before : Perm) (copy : CachedCopy) → Means v h

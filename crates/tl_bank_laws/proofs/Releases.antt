@@ -27,13 +27,14 @@ use Rattle.tl_bank_spec.specs.Refusal.{first_of}
 use Rattle.tl_bank_spec.specs.Share.{Holding, recount}
 use Rattle.tl_bank_spec.specs.View.{View, client_at, perm_at}
 use Rattle.tl_bank_spec.specs.Tables.{copies_at}
-use Rattle.tl_bank_laws.specs.Entry.{entry_with}
+use Rattle.tl_bank_laws.specs.Entry.{HasPlace, entry_with}
 use Rattle.tl_bank_laws.specs.Layers.{Layers}
 use Rattle.tl_bank_laws.specs.Means.{Means}
 use Rattle.tl_bank_laws.proofs.Allowed.{ReleaseAllowed, release-allowed}
 use Rattle.tl_bank_laws.proofs.Counts.{step-count, step-perm, counts-one, copies-few}
 use Rattle.tl_bank_laws.proofs.Entries.{put-is}
 use Rattle.tl_bank_laws.proofs.Keep.{ClientStep, means-step}
+use Rattle.tl_bank_laws.proofs.Places.{entry-there, place-there}
 
 -- each Release starts from a permission above None
 some-from : (prune : Prune) → prune_from prune ≢ p_None
@@ -56,6 +57,14 @@ release-step v c b prune share none =
       client = λ x. refl;
       recorded = refl;
     }
+
+-- the client's table has a place for what is left of the copy, as it has an entry for the block
+pub release-place : (v : View) (h : Layers) (c b : ℕ) (prune : Prune) (share : Holding) (copy : CachedCopy) → Means v h
+    → first_of (release_cases v c b prune share) ≡ None → HasPlace h.copies c b copy ForReleaseAck
+release-place v h c b prune share copy m none =
+    let ok : ReleaseAllowed v c b prune share = release-allowed v c b prune share none in
+    place-there v h c b copy ForReleaseAck m ok.client ok.block
+    (λ need. entry-there (client_at v c b).held (client_at v c b).wait (λ e. some-from prune (sym ok.from ∙ e)))
 
 -- what a Release shows of the bank before it
 pub record GivesUp (v : View) (c b : ℕ) (prune : Prune) (share : Holding) (copy : CachedCopy) (given : Surrender) : Type 0 where

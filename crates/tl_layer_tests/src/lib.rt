@@ -1,5 +1,5 @@
-//! Tests of the codes of TileLink, of where blocks lie, and of the memory, by their public calls: numbers that are worked out outside,
-//! and the memory as a whole, which no bank makes.
+//! Tests of the lower layers by their public calls: the codes of TileLink and copies of messages, where blocks lie, the memory as a
+//! whole, which no bank makes, and inboxes and bells between threads.
 #![tactic(auto)]
 
 #[cfg(test)]
@@ -8,3 +8,7 @@ mod codes;
 mod map;
 #[cfg(test)]
 mod memory;
+#[cfg(test)]
+mod messages;
+#[cfg(test)]
+mod tickets;

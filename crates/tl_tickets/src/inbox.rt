@@ -74,7 +74,8 @@ impl Pass {
         }
     }
 
-    pub(crate) fn number(&self) -> usize
+    /// Whose pass it is: 0 the receiver's, and from 1 on a sender's.
+    pub fn number(&self) -> usize
         ensures { result ≡ self.now.number }
     {
         self.number

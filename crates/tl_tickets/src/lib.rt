@@ -17,6 +17,3 @@ pub use error::{Full, Missing};
 pub use inbox::{Inbox, Pass};
 pub use sent::Sent;
 pub use shares::gather;
-
-#[cfg(test)]
-mod tests;

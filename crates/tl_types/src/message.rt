@@ -369,6 +369,3 @@ fn copied_bytes(bytes: &Option<BlockBytes>) -> Option<BlockBytes>
         None => None,
     }
 }
-
-#[cfg(test)]
-mod tests;

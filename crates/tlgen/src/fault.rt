@@ -28,7 +28,7 @@ impl fmt::Display for Fault {
             Fault::File => f.write_str("error file"),
             Fault::Memory => f.write_str("error 41 memory"),
             Fault::Script(error) => write!(f, "{error}"),
-            Fault::Refusals => f.write_str("error 60 refusals"),
+            Fault::Refusals => f.write_str("error 61 refusals"),
         }
     }
 }

@@ -1,7 +1,7 @@
 use Rattle.std.proofs.Common.{List, sym, ap, subst, length, arith}
 use Rattle.std.specs.List.{All}
 use Rattle.tl_tickets.specs.Bell.{SeatView, IsSeatOf}
-use Rattle.tl_machine.proofs.Fresh.{fresh_are_seats, seats_are}
+use Rattle.tl_tickets.proofs.Fresh.{fresh_are_seats, seats_are}
 use Rattle.tl_machine.proofs.mailbox.open_bell.Goals as goal
 
 pub returns-clause-seats : goal.returns-clause-seats

@@ -1,7 +1,7 @@
 use Rattle.std.proofs.Common.{◌≡◌, ◌+◌, List, ap, sym, subst, ◌∙◌, length, arith}
 use Rattle.std.specs.List.{All, remove}
 use Rattle.tl_tickets.specs.Inbox.{PassView, IsSenderOf, fresh_passes}
-use Rattle.tl_machine.proofs.Fresh.{fresh_are_senders, senders_are}
+use Rattle.tl_tickets.proofs.Fresh.{fresh_are_senders, senders_are}
 use Rattle.tl_machine.proofs.mailbox.open_inbox.Goals as goal
 
 pub returns-clause-senders : goal.returns-clause-senders

@@ -1,16 +1,41 @@
-use Rattle.std.proofs.Common.{rules, ◌≡◌, ◌∙◌, sym, subst, ap}
+use Rattle.std.proofs.Common.{rules, ◌≡◌, ◌<◌, ◌^◌, ◌∙◌, None, length, sym, subst, ap}
 use Rattle.tl_map.specs.Limits.{IsLawful}
 use Rattle.tl_types.specs.Message.{surrender}
+use Rattle.tl_types.specs.declared.channel.Channel.TheVariants.{C}
 use Rattle.tl_protocol.specs.Copy.{dirty_bytes, reduced}
 use Rattle.tl_protocol.specs.Protocol.{is_none}
+use Rattle.tl_bank_spec.specs.Calls.{release_cases}
+use Rattle.tl_bank_spec.specs.Refusal.{first_of}
 use Rattle.tl_bank_spec.specs.Share.{Holding, recount, recounted}
 use Rattle.tl_bank_spec.specs.View.{View, client_at, perm_at}
 use Rattle.tl_bank_spec.proofs.Counted.{others-keep}
 use Rattle.tl_bank_spec.proofs.Logged.{extends-appends}
 use Rattle.tl_bank_spec.proofs.Sent.{sends-release, sends-as}
 use Rattle.tl_bank.specs.Shown.{shown, layers}
-use Rattle.tl_bank_laws.proofs.Releases.{GivesUp, release-keeps, release-count, release-counted, release-later}
+use Rattle.tl_bank_laws.proofs.Allowed.{all-false, release-allowed}
+use Rattle.tl_bank_laws.proofs.SendProbe.{channel-room}
+use Rattle.tl_bank_laws.proofs.Releases.{GivesUp, release-keeps, release-count, release-counted, release-later, release-place}
 use Rattle.tl_bank.proofs.bank.Bank.release.Goals as goal
+
+pub send-ticket-requires : goal.send-ticket-requires
+send-ticket-requires c =
+    let v : View = shown c.self.inside in
+    let permitted : first_of (release_cases v c.args.client c.args.block c.args.prune c.args.share.now) ≡ None =
+    subst (λ (w : View). first_of (release_cases w c.args.client c.args.block c.args.prune c.args.share.now) ≡ None)
+    (sym (c.self.view_is ∙ c.make_room.ensures.same)) c.in_ok-found.ensures.permitted in
+    let few = all-false (release_cases v c.args.client c.args.block c.args.prune c.args.share.now) permitted in
+    channel-room v (layers c.self.inside) c.args.client C c.self.invariant
+    (release-allowed v c.args.client c.args.block c.args.prune c.args.share.now permitted).client few.1.1.1.1.0
+    (subst (λ (w : View). length w.log < 2 ^ 63) (sym c.self.view_is) c.make_room.ensures.small)
+
+pub put-requires : goal.put-requires
+put-requires c =
+    let v : View = shown c.self.inside in
+    let permitted : first_of (release_cases v c.args.client c.args.block c.args.prune c.args.share.now) ≡ None =
+    subst (λ (w : View). first_of (release_cases w c.args.client c.args.block c.args.prune c.args.share.now) ≡ None)
+    (sym (c.self.view_is ∙ c.make_room.ensures.same)) c.in_ok-found.ensures.permitted in
+    release-place v (layers c.self.inside) c.args.client c.args.block c.args.prune c.args.share.now c.in_ok-found.found.copy
+    c.self.invariant permitted
 
 pub recount-requires-clause-counted : goal.recount-requires-clause-counted
 recount-requires-clause-counted c = λ some.

@@ -1,11 +1,26 @@
-use Rattle.std.proofs.Common.{rules, ◌∙◌, ap}
+use Rattle.std.proofs.Common.{rules, ◌<◌, ◌^◌, ◌∙◌, length, sym, subst, ap}
 use Rattle.tl_bank_spec.specs.Share.{Holding, recount, recounted}
-use Rattle.tl_bank_spec.specs.View.{perm_at}
+use Rattle.tl_bank_spec.specs.View.{View, perm_at}
 use Rattle.tl_bank_spec.proofs.Counted.{others-keep}
 use Rattle.tl_bank_spec.proofs.Logged.{extends-appends}
 use Rattle.tl_bank_spec.proofs.Sent.{sends-grant-ack, sends-as}
-use Rattle.tl_bank_laws.proofs.Grants.{grant-count, grant-enough, grant-keeps, grant-later, grant-named, grant-place, takes-with-room}
+use Rattle.tl_bank_laws.proofs.Grants.{grant-count, grant-enough, grant-head, grant-keeps, grant-later, grant-named, grant-place, grant-room, takes-with-room}
 use Rattle.tl_bank.proofs.bank.Bank.take_grant.Goals as goal
+
+pub discard-requires : goal.discard-requires
+discard-requires c =
+    let found = c.in_ok-found.ensures in
+    let takes = takes-with-room _ c.args.self.now c.args.ticket c.args.share.now c.make_room.new.self.room _ _ _
+    (c.self.view_is ∙ c.make_room.ensures.same) found.permitted found.finds in
+    grant-head _ _ _ _ c.self.invariant takes.allowed
+
+pub send-sent-requires : goal.send-sent-requires
+send-sent-requires c =
+    let found = c.in_ok-found.ensures in
+    let takes = takes-with-room _ c.args.self.now c.args.ticket c.args.share.now c.make_room.new.self.room _ _ _
+    (c.self.view_is ∙ c.make_room.ensures.same) found.permitted found.finds in
+    let small = subst (λ (w : View). length w.log < 2 ^ 63) (sym c.self.view_is) c.make_room.ensures.small in
+    grant-room _ _ _ _ _ c.self.invariant takes.allowed small c.discard.ensures.same c.discard.ensures.after
 
 pub put-requires : goal.put-requires
 put-requires c =

@@ -3,12 +3,12 @@ ghost use Rattle.std.specs.List.{All};
 ghost use Rattle.tl_tickets.specs.Inbox.{IsPassOf, IsSenderOf, IsReceiverOf};
 ghost use Rattle.tl_tickets.specs.Bell.{IsSeatOf};
 
-use super::*;
 use std::alloc::{AllocError, Global};
 use std::sync::Wait;
 use std::test::*;
 use std::thread;
 use std::thread::Threads;
+use tl_tickets::{Bell, Full, Inbox, Missing, Pass, Receiver, Ringer, Seat, Sender};
 use tl_types::{BankNo, Channel, ClientId, Ticket};
 
 // A ticket of this client, on channel A of bank 0.

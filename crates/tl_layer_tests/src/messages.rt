@@ -1,4 +1,4 @@
-use super::*;
+use tl_types::{BlockBytes, BlockNo, Body, Downward, GrantCap, Kind, Message};
 
 #[test]
 fn a_copied_grant_has_the_same_block_and_bytes(rt: HostRuntime) {

@@ -2,7 +2,7 @@ use Rattle.std.proofs.Common.{sym, subst}
 use Rattle.std.specs.List.{All}
 use Rattle.tl_tickets.specs.Bell.{IsSeatOf}
 use Rattle.tl_tickets.proofs.Fresh.{fresh_are_seats}
-use Rattle.tl_tickets.proofs.tests.open_seats.Goals as goal
+use Rattle.tl_layer_tests.proofs.tickets.open_seats.Goals as goal
 
 pub returns : goal.returns
 returns c =

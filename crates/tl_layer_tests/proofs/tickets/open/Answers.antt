@@ -2,7 +2,7 @@ use Rattle.std.proofs.Common.{List, refl, ap, sym, subst, ◌∙◌, get_or}
 use Rattle.std.specs.List.{All, remove}
 use Rattle.tl_tickets.specs.Inbox.{PassView, IsReceiverOf, IsSenderOf}
 use Rattle.tl_tickets.proofs.Fresh.{fresh_are_senders}
-use Rattle.tl_tickets.proofs.tests.open.Goals as goal
+use Rattle.tl_layer_tests.proofs.tickets.open.Goals as goal
 
 pub returns : goal.returns
 returns c =
