@@ -1,6 +1,6 @@
 //! What is concluded from a few banks: each cause of a refusal, and reports.
 use crate::setting::{Setting, read};
-use std::alloc::Global;
+use std::alloc::{AllocError, Global};
 use std::process::Abort;
 use std::test::Fail;
 use tl_bank::When;
@@ -17,11 +17,16 @@ const TWO_BANKS: &str =
 const IDLE: &str =
     "version = 1\nclients = 1\nbanks = 2\nblock_bytes = 8\nsets = 1\nways = 2\nregisters = 2\ncopies = 2\nmemory_blocks = 4\nturns = 10\ncommands = [[\"drop 0x0\"]]\n";
 
+/// Two texts as one.
+fn joined(alloc: Global, head: &str, tail: &str) -> Result<String, AllocError> {
+    let mut text = String::from_str(alloc, head)?;
+    text.push_str(tail)?;
+    Ok(text)
+}
+
 /// The script of one client and one bank with these commands.
 fn small(alloc: Global, commands: &str) -> Result<Script, Fail> {
-    let mut text = String::new(alloc);
-    text.push_str(SMALL)?;
-    text.push_str(commands)?;
+    let text = joined(alloc, SMALL, commands)?;
     read(alloc, text.as_str())
 }
 

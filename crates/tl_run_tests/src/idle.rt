@@ -1,9 +1,7 @@
 //! Idle turns of an agent: they ask nothing, and take nothing of the inbox.
-ghost use Rattle.std.specs.Prelude.{◌≡◌, IfSome};
-ghost use Rattle.tl_tickets.specs.Inbox.{IsPassOf, IsReceiverOf};
-
 use crate::counts::{Counts, count};
 use crate::mails::{mail, open, open_bell};
+use crate::turns::agent_turn;
 use std::alloc::Global;
 use std::cell::Cell;
 use std::process::Abort;
@@ -11,9 +9,9 @@ use std::sync::Wait;
 use std::test::Fail;
 use std::time::Clock;
 use tl_bank::{Loaded, Refusal, Share, When};
-use tl_client::{Agent, Command, Mail, Port, Success, Turn};
+use tl_client::{Agent, Command, Port, Success, Turn};
 use tl_map::{Geometry, GeometryNumbers};
-use tl_tickets::{Inbox, Pass, Receiver, Ringer, Sender};
+use tl_tickets::{Receiver, Ringer, Sender};
 use tl_types::{BankNo, BlockNo, Channel, ClientId, Grow, Perm, Prune, Ticket};
 
 /// One client, and one bank with one block.
@@ -113,83 +111,50 @@ impl Port for Refuser {
     }
 }
 
-/// How many tickets wait in an inbox, once the receiver's pass and its one sender's are back.
-fn settle(alloc: Global, inbox: Inbox, receiver: Pass, sender: Pass) -> Option<u64>
-    requires { IsPassOf inbox receiver × IsPassOf inbox sender }
-{
-    let mut passes = Vec::new(alloc);
-    passes.push(receiver).ok()?;
-    passes.push(sender).ok()?;
-    inbox.settle(passes).ok()
-}
-
 /// Puts a Grant to client 0, without a ring. Whether there was room.
-fn put_grant<R: Wait>(rt: &R, sender: &mut Sender<'_>) -> bool
-    ensures { sender.new.inbox ≡ sender.old.inbox }
-{
+fn put_grant<R: Wait>(rt: &R, mut sender: Sender<'_>) -> bool {
     let grant = Ticket {
         bank: BankNo::new(0),
         client: ClientId::new(0),
         channel: Channel::D,
         serial: 0,
     };
-    sender.put(rt, grant).is_ok()
-}
-
-/// An idle turn, and the receiver's pass after it; `None` where it was no idle turn.
-fn idle_turn<R: Wait + Clock>(
-    rt: &R,
-    agent: &mut Agent<'_>,
-    port: &mut Refuser,
-    gate: &Counts,
-    mut mail: Mail<'_>,
-) -> Option<Pass>
-    ensures { IfSome result (λ pass. IsReceiverOf mail.entry.inbox.inbox pass) }
-{
-    let Turn::Idle = agent.turn(rt, port, gate, 1, &mut mail) else {
-        return None;
-    };
-    Some(mail.into_receiver().into_pass())
-}
-
-/// A turn over inboxes and bells of its own, in whose inbox a ticket waits that nobody rang for. How many tickets wait after it;
-/// `None` also where it was no idle turn.
-fn tickets_left<R: Wait + Clock>(
-    rt: &R,
-    alloc: Global,
-    agent: &mut Agent<'_>,
-    port: &mut Refuser,
-    gate: &Counts,
-) -> Option<u64> {
-    let (inbox, bell, receiver, sender, own, _other) = open(alloc, 8)?;
-    let (away, away_bell, _receiver, to_away, _own, rings_away) = open(alloc, 8)?;
-    let (done, rings, _hears) = open_bell(alloc)?;
-    let mut put = Sender::new(&inbox, sender);
-    if !put_grant(rt, &mut put) {
-        return None;
+    match sender.put(rt, grant) {
+        Ok(()) => true,
+        Err(_) => false,
     }
-    let mail = mail(
-        alloc,
-        Receiver::new(&inbox, receiver),
-        Ringer::new(&bell, own),
-        Sender::new(&away, to_away),
-        Ringer::new(&away_bell, rings_away),
-        Ringer::new(&done, rings),
-    )?;
-    let receiver = idle_turn(rt, agent, port, gate, mail)?;
-    let sender = put.into_pass();
-    settle(alloc, inbox, receiver, sender)
 }
 
-/// A turn over inboxes and bells of its own.
-fn turn<R: Wait + Clock>(
+/// How many tickets wait in an inbox of eight.
+fn waiting<R: Wait>(rt: &R, mut receiver: Receiver<'_>) -> u32 {
+    let mut waiting = 0u32;
+    for _ in 0..8 {
+        if let Some(_ticket) = receiver.take(rt) {
+            waiting = waiting.saturating_add(1);
+        }
+    }
+    waiting
+}
+
+/// What is seen of two turns: which they were, how many calls the port had after each, and how many tickets wait at the end.
+#[derive(Clone, Copy)]
+struct Seen {
+    first: Turn,
+    asked: u32,
+    second: Turn,
+    asked_again: u32,
+    left: u32,
+}
+
+/// Two turns over inboxes and bells, and before the second a ticket that nobody rings for. `None` where a request for memory was refused.
+fn two_turns<R: Wait + Clock>(
     rt: &R,
     alloc: Global,
     agent: &mut Agent<'_>,
     port: &mut Refuser,
     gate: &Counts,
-) -> Option<Turn> {
-    let (inbox, bell, receiver, _sender, own, _other) = open(alloc, 8)?;
+) -> Option<Seen> {
+    let (inbox, bell, receiver, sender, own, _other) = open(alloc, 8)?;
     let (away, away_bell, _receiver, to_away, _own, rings_away) = open(alloc, 8)?;
     let (done, rings, _hears) = open_bell(alloc)?;
     let mut mail = mail(
@@ -200,28 +165,48 @@ fn turn<R: Wait + Clock>(
         Ringer::new(&away_bell, rings_away),
         Ringer::new(&done, rings),
     )?;
-    Some(agent.turn(rt, port, gate, 1, &mut mail))
+    let first = agent_turn(rt, agent, port, gate, 1, &mut mail);
+    let asked = port.calls.get();
+    let was_put = put_grant(rt, Sender::new(&inbox, sender));
+    let second = agent_turn(rt, agent, port, gate, 1, &mut mail);
+    let asked_again = port.calls.get();
+    let left = waiting(rt, mail.into_receiver());
+    if !was_put {
+        return None;
+    }
+    Some(Seen {
+        first,
+        asked,
+        second,
+        asked_again,
+        left,
+    })
+}
+
+/// The two turns of an agent with one load to do.
+fn observed<R: Wait + Clock>(rt: &R, alloc: Global, gate: &Counts) -> Result<Seen, Fail> {
+    let geometry = Geometry::new(NUMBERS)?;
+    let commands = [Command::Load { address: 0, len: 1 }];
+    let shares = Vec::new(alloc);
+    let mut agent = Agent::new(alloc, ClientId::new(0), geometry, &commands, shares)?;
+    let mut port = Refuser {
+        calls: Cell::new(0),
+    };
+    let seen = two_turns(rt, alloc, &mut agent, &mut port, gate);
+    Ok(seen.ok_or("no memory")?)
 }
 
 #[test]
 fn an_idle_agent_asks_nothing_and_takes_nothing(rt: HostRuntime) -> Result<(), Fail> {
-    let geometry = Geometry::new(NUMBERS)?;
-    let commands = [Command::Load { address: 0, len: 1 }];
-    let shares = Vec::new(rt.alloc());
-    let mut agent = Agent::new(rt.alloc(), ClientId::new(0), geometry, &commands, shares)?;
-    let mut port = Refuser {
-        calls: Cell::new(0),
-    };
     let gate = Counts::new();
+    let seen = observed(&rt, rt.alloc(), &gate)?;
     // The first turn tries the load, and asks for the copy that it needs.
-    let first = turn(&rt, rt.alloc(), &mut agent, &mut port, &gate);
-    assert_eq!(rt; first, Some(Turn::Worked));
-    assert_eq!(rt; port.calls.get(), 2);
-    assert_eq!(rt; gate.before.get(), 1);
+    assert_eq!(rt; seen.first, Turn::Worked);
+    assert_eq!(rt; seen.asked, 2);
     // The second finds its bell silent. The ticket stays.
-    let left = tickets_left(&rt, rt.alloc(), &mut agent, &mut port, &gate);
-    assert_eq!(rt; left, Some(1));
-    assert_eq!(rt; port.calls.get(), 2);
+    assert_eq!(rt; seen.second, Turn::Idle);
+    assert_eq!(rt; seen.asked_again, 2);
+    assert_eq!(rt; seen.left, 1);
     assert_eq!(rt; gate.before.get(), 1);
     assert_eq!(rt; gate.locked.get(), 0);
     Ok(())

@@ -33,4 +33,6 @@ mod setting;
 #[cfg(test)]
 mod silent;
 #[cfg(test)]
+mod turns;
+#[cfg(test)]
 mod words;

