@@ -76,7 +76,7 @@ fn block(text: &str) -> Result<BlockNo, ParseError>
 }
 
 #[tactic(auto, unfolding(crate::specs::Entry::access_in))]
-fn access(alloc: Global, arguments: &[&str]) -> Result<Access, ParseError>
+fn access(arguments: &[&str]) -> Result<Access, ParseError>
     ensures { Reads (λ x. x) result (access_in (texts arguments.now)) }
 {
     match arguments {
@@ -85,7 +85,7 @@ fn access(alloc: Global, arguments: &[&str]) -> Result<Access, ParseError>
             [bytes] => {
                 let client = client(who)?;
                 let address = parse_address(address).ok_or(ParseError::Malformed)?;
-                let bytes = parse_access(alloc, bytes)?;
+                let bytes = parse_access(bytes).ok_or(ParseError::Malformed)?;
                 Ok(Access {
                     client,
                     address,
@@ -201,8 +201,8 @@ fn entry_by(alloc: Global, verb: &str, arguments: &[&str]) -> Result<Entry, Pars
     ensures { Reads (λ x. x) result (entry_by verb.now (texts arguments.now)) }
 {
     match verb {
-        "load" => Ok(quiet(Event::Load(access(alloc, arguments)?))),
-        "store" => Ok(quiet(Event::Store(access(alloc, arguments)?))),
+        "load" => Ok(quiet(Event::Load(access(arguments)?))),
+        "store" => Ok(quiet(Event::Store(access(arguments)?))),
         "acquire" => acquire(alloc, arguments),
         "release" => release(alloc, arguments),
         "probe" => probe(alloc, arguments),

@@ -13,7 +13,7 @@ use crate::error::ScriptError;
 use crate::key::Key;
 use std::alloc::Global;
 use tl_map::Geometry;
-use tl_words::{COMMANDS, Command, ParseError};
+use tl_words::{COMMANDS, Command};
 use toml::{Table, Value};
 
 /// The texts of each client's commands.
@@ -92,14 +92,13 @@ fn client_commands(
 {
     let mut commands = Vec::new(alloc);
     for (index, text) in all.iter().enumerate() {
-        commands.push(command_at(alloc, geometry, client, index, text)?)?;
+        commands.push(command_at(geometry, client, index, text)?)?;
     }
     Ok(commands)
 }
 
 #[tactic(auto, unfolding(crate::specs::Commands::command_at))]
 fn command_at(
-    alloc: Global,
     geometry: Geometry,
     client: usize,
     index: usize,
@@ -107,15 +106,14 @@ fn command_at(
 ) -> Result<Command, ScriptError>
     ensures { Gives (λ c. c) result (command_at geometry client index text.now) }
 {
-    match Command::parse(alloc, text) {
-        Ok(command) => {
+    match Command::parse(text) {
+        Some(command) => {
             if !fits(geometry, &command) {
                 return Err(ScriptError::Command { client, index });
             }
             Ok(command)
         }
-        Err(ParseError::Malformed) => Err(ScriptError::Command { client, index }),
-        Err(ParseError::Memory) => Err(ScriptError::Memory),
+        None => Err(ScriptError::Command { client, index }),
     }
 }
 

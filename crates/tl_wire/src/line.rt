@@ -107,13 +107,13 @@ fn parse_channel(text: &str) -> Result<Channel, Fault>
 
 /// An address, and the bytes from it on.
 #[tactic(auto, unfolding(crate::specs::Line::access_in))]
-fn parse_words_of_access(alloc: Global, words: &[&str]) -> Result<(u32, AccessBytes), WireError>
+fn parse_words_of_access(words: &[&str]) -> Result<(u32, AccessBytes), WireError>
     ensures { Gives (λ x. x) result (access_in (texts words.now)) }
 {
     match *words {
         [place, bytes] => {
             let address = address(place)?;
-            let bytes = parse_access(alloc, bytes)?;
+            let bytes = parse_access(bytes).ok_or(WireError::Wrong(Fault::Bytes))?;
             Ok((address, bytes))
         }
         _ => Err(WireError::Wrong(Fault::Words)),
@@ -141,11 +141,11 @@ fn parse_said(alloc: Global, verb: &str, words: &[&str]) -> Result<Said, WireErr
 {
     match verb {
         "load" => {
-            let (address, bytes) = parse_words_of_access(alloc, words)?;
+            let (address, bytes) = parse_words_of_access(words)?;
             Ok(Said::Load(address, bytes))
         }
         "store" => {
-            let (address, bytes) = parse_words_of_access(alloc, words)?;
+            let (address, bytes) = parse_words_of_access(words)?;
             Ok(Said::Store(address, bytes))
         }
         _ => {

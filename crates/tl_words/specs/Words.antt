@@ -20,11 +20,6 @@ abbrev pub words_in : Option (Bor (List ℕ)) → List (List ℕ)
 words_in None = []
 words_in (Some text) = words_of text.now
 
--- the words, where they are just two
-abbrev pub two_of : List (List ℕ) → Option (List ℕ × List ℕ)
-two_of (first ∷ second ∷ []) = Some (first, second)
-two_of _ = None
-
 -- decimal digits, with no leading 0 unless it is the only one
 abbrev pub is_plain : List ℕ → Bool
 is_plain text =

@@ -83,7 +83,7 @@ impl Step {
     {
         match verb {
             "load" => Step::load(arguments),
-            "store" => Step::store(alloc, arguments),
+            "store" => Step::store(arguments),
             "acquire" => Step::acquire(arguments),
             "release" => Step::release(arguments),
             "answer_probe" => Step::ticket(alloc, TicketCall::AnswerProbe, arguments),
@@ -120,14 +120,14 @@ impl Step {
     }
 
     #[tactic(auto, unfolding(crate::specs::Step::store_of))]
-    fn store(alloc: Global, arguments: &[&str]) -> Result<Step, ParseError>
+    fn store(arguments: &[&str]) -> Result<Step, ParseError>
         ensures { Reads (λ step. step) result (store_of (texts arguments.now)) }
     {
         match *arguments {
             [client, address, bytes] => {
                 let client = ClientId::new(parse_number(client).ok_or(ParseError::Malformed)?);
                 let address = parse_address(address).ok_or(ParseError::Malformed)?;
-                let bytes = parse_access(alloc, bytes)?;
+                let bytes = parse_access(bytes).ok_or(ParseError::Malformed)?;
                 Ok(Step::Store {
                     client,
                     address,

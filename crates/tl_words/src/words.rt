@@ -1,14 +1,15 @@
 //! The words that a text of a script is made of.
 
-ghost use Rattle.std.specs.Prelude.{◌≡◌, ◌∷◌, ◌<◌, ◌==◌, [], None, true, IfOk, MatchOption};
+ghost use Rattle.std.specs.Prelude.{◌≡◌, ◌∷◌, ◌<◌, ◌==◌, [], None, true, IfOk};
 ghost use Rattle.std.specs.Char.{is_ascii_digit, digit_value};
 ghost use Rattle.std.specs.List.{list_all, slice_split};
 ghost use Rattle.tl_words.specs.Reads.{Reads};
-ghost use Rattle.tl_words.specs.Words.{words_of, words_in, two_of, texts, is_plain, number_of, is_lower_hex, address_of, len_of, byte_of, bytes_of, access_of};
+ghost use Rattle.tl_words.specs.Words.{words_of, words_in, texts, is_plain, number_of, is_lower_hex, address_of, len_of, byte_of, bytes_of, access_of};
 
 use crate::error::ParseError;
+use arrayvec::ArrayVec;
 use std::alloc::{AllocError, Global};
-use tl_types::AccessBytes;
+use tl_types::{ACCESS_BYTES, AccessBytes};
 
 /// The words of a text, which stand apart by one space each.
 pub fn split_words(alloc: Global, text: &str) -> Result<Vec<&str>, AllocError>
@@ -25,18 +26,6 @@ pub(crate) fn split_word(text: &str) -> (&str, Option<&str>)
     match text.split_once(' ') {
         Some((first, rest)) => (first, Some(rest)),
         None => (text, None),
-    }
-}
-
-/// The words of a text that has just two.
-pub(crate) fn two_words(text: &str) -> Option<(&str, &str)>
-    ensures { MatchOption result (two_of (words_of text.now) ≡ None) (λ two. words_of text.now ≡ two.0.now ∷ two.1.now ∷ []) }
-{
-    let (first, rest) = split_word(text);
-    let (second, more) = split_word(rest?);
-    match more {
-        None => Some((first, second)),
-        Some(_) => None,
     }
 }
 
@@ -151,12 +140,19 @@ pub fn parse_bytes(alloc: Global, text: &str) -> Result<Vec<u8>, ParseError>
 
 /// The bytes of an access: one to eight.
 #[tactic(auto, unfolding(crate::specs::Words::access_of))]
-pub fn parse_access(alloc: Global, text: &str) -> Result<AccessBytes, ParseError>
-    ensures { Reads (λ bytes. bytes) result (access_of text.now) }
+pub fn parse_access(text: &str) -> Option<AccessBytes>
+    ensures { result ≡ access_of text.now }
 {
-    let bytes = parse_bytes(alloc, text)?;
-    if bytes.is_empty() {
-        return Err(ParseError::Malformed);
+    let mut bytes = ArrayVec::<u8, ACCESS_BYTES>::new();
+    let mut rest = text.as_bytes();
+    while let [high, low, after @ ..] = rest {
+        if bytes.try_push(parse_byte(*high, *low)?).is_err() {
+            return None;
+        }
+        rest = after;
     }
-    AccessBytes::from_slice(&bytes).ok_or(ParseError::Malformed)
+    if !rest.is_empty() || bytes.is_empty() {
+        return None;
+    }
+    AccessBytes::from_slice(&bytes)
 }
