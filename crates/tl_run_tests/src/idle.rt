@@ -1,6 +1,6 @@
 //! Idle turns of an agent: they ask nothing, and take nothing of the inbox.
 use crate::counts::{Counts, count};
-use crate::mails::{mail, open, open_bell};
+use crate::mails::{Ends, Opened, mail, open, open_bell};
 use crate::turns::agent_turn;
 use std::alloc::Global;
 use std::cell::Cell;
@@ -154,16 +154,34 @@ fn two_turns<R: Wait + Clock>(
     port: &mut Refuser,
     gate: &Counts,
 ) -> Option<Seen> {
-    let (inbox, bell, receiver, sender, own, _other) = open(alloc, 8)?;
-    let (away, away_bell, _receiver, to_away, _own, rings_away) = open(alloc, 8)?;
+    let here = open(alloc, 8)?;
+    let away = open(alloc, 8)?;
     let (done, rings, _hears) = open_bell(alloc)?;
+    let Opened {
+        inbox,
+        bell,
+        receiver,
+        sender,
+        own,
+        other: _other,
+    } = here;
+    let Opened {
+        inbox: away_inbox,
+        bell: away_bell,
+        receiver: _away_receiver,
+        sender: away_sender,
+        own: _away_own,
+        other: away_other,
+    } = away;
     let mut mail = mail(
         alloc,
-        Receiver::new(&inbox, receiver),
-        Ringer::new(&bell, own),
-        Sender::new(&away, to_away),
-        Ringer::new(&away_bell, rings_away),
-        Ringer::new(&done, rings),
+        Ends {
+            inbox: Receiver::new(&inbox, receiver),
+            bell: Ringer::new(&bell, own),
+            to: Sender::new(&away_inbox, away_sender),
+            rings: Ringer::new(&away_bell, away_other),
+            done: Ringer::new(&done, rings),
+        },
     )?;
     let first = agent_turn(rt, agent, port, gate, 1, &mut mail);
     let asked = port.calls.get();

@@ -10,7 +10,25 @@ use tl_client::{Mail, Sending};
 use tl_tickets::{Bell, Inbox, Pass, Receiver, Ringer, Seat, Sender};
 
 /// An inbox with its receiver's pass and one sender's, and a bell with two seats.
-pub type Opened = (Inbox, Bell, Pass, Pass, Seat, Seat);
+#[derive(Drop)]
+pub struct Opened {
+    pub inbox: Inbox,
+    pub bell: Bell,
+    pub receiver: Pass,
+    pub sender: Pass,
+    pub own: Seat,
+    pub other: Seat,
+}
+
+/// The ends that one worker's mail is made of.
+#[derive(Drop)]
+pub struct Ends<'a> {
+    pub inbox: Receiver<'a>,
+    pub bell: Ringer<'a>,
+    pub to: Sender<'a>,
+    pub rings: Ringer<'a>,
+    pub done: Ringer<'a>,
+}
 
 /// One of a bell's seats.
 fn next_seat(bell: &Bell, seats: &mut Vec<Seat>) -> Option<Seat>
@@ -47,37 +65,61 @@ fn open_inbox(alloc: Global, capacity: usize) -> Option<(Inbox, Pass, Pass)>
 pub fn open(alloc: Global, capacity: usize) -> Option<Opened>
     requires { (0 < capacity) × (capacity ≤ 4096) }
     ensures { IfSome result
-        (λ made. IsReceiverOf made.0 made.2 × IsSenderOf made.0 made.3 × IsSeatOf made.1 made.4 × IsSeatOf made.1 made.5) }
+        (λ made. IsReceiverOf made.inbox made.receiver × IsSenderOf made.inbox made.sender × IsSeatOf made.bell made.own × IsSeatOf made.bell made.other) }
 {
     let (inbox, receiver, sender) = open_inbox(alloc, capacity)?;
     let (bell, own, other) = open_bell(alloc)?;
-    Some((inbox, bell, receiver, sender, own, other))
+    Some(Opened {
+        inbox,
+        bell,
+        receiver,
+        sender,
+        own,
+        other,
+    })
 }
 
 /// The way to one other.
-fn ways<'a>(
+pub fn way<'a>(
     alloc: Global,
     to: Sender<'a>,
     rings: Ringer<'a>,
-    rest: Unparker,
-) -> Option<Vec<Sending<'a>>> {
+    rest: &Unparker,
+) -> Option<Sending<'a>> {
+    let rest = rest.clone().ok()?;
+    Sending::new(alloc, to, rings, rest).ok()
+}
+
+/// One way alone.
+fn only<'a>(alloc: Global, way: Sending<'a>) -> Option<Vec<Sending<'a>>> {
     let mut ways = Vec::new(alloc);
-    ways.push(Sending::new(alloc, to, rings, rest).ok()?).ok()?;
+    ways.push(way).ok()?;
     Some(ways)
 }
 
 /// The mail of a worker that sends to one other. One thread plays all workers, so that a ring need wake nobody: each way
 /// wakes the sender.
-pub fn mail<'a>(
-    alloc: Global,
-    inbox: Receiver<'a>,
-    bell: Ringer<'a>,
-    to: Sender<'a>,
-    rings: Ringer<'a>,
-    done: Ringer<'a>,
-) -> Option<Mail<'a>> {
+pub fn mail<'a>(alloc: Global, ends: Ends<'a>) -> Option<Mail<'a>> {
+    let Ends {
+        inbox,
+        bell,
+        to,
+        rings,
+        done,
+    } = ends;
     let parker = Parker::new(alloc).ok()?;
-    let rest = parker.unparker().clone().ok()?;
-    let ways = ways(alloc, to, rings, rest)?;
+    let way = way(alloc, to, rings, parker.unparker())?;
+    let ways = only(alloc, way)?;
     Some(Mail::new(inbox, bell, ways, done, parker))
+}
+
+/// The mails of two workers.
+pub fn two_mails<'a>(
+    alloc: Global,
+    one: Ends<'a>,
+    other: Ends<'a>,
+) -> Option<(Mail<'a>, Mail<'a>)> {
+    let first = mail(alloc, one)?;
+    let second = mail(alloc, other)?;
+    Some((first, second))
 }

@@ -3,7 +3,7 @@ ghost use Rattle.std.specs.Prelude.{◌≡◌, ◌++◌, ◌∷◌, [], MatchRes
 ghost use Rattle.tl_bank_spec.specs.declared.refusal.Refusal.TheVariants.{Memory as NoMemory};
 ghost use Rattle.tl_client.specs.Homes.{asked};
 
-use crate::mails::{mail, open, open_bell};
+use crate::mails::{Ends, Opened, mail, open, open_bell};
 use crate::turns::home_turn;
 use arrayvec::ArrayVec;
 use std::alloc::Global;
@@ -237,16 +237,34 @@ fn take_turns<R: Wait + Clock + Abort>(
     home: &mut Home,
     port: &mut Recorder,
 ) -> Option<()> {
-    let (inbox, bell, receiver, sender, own, other) = open(alloc, 8)?;
-    let (away, away_bell, _receiver, to_away, _own, rings_away) = open(alloc, 8)?;
+    let here = open(alloc, 8)?;
+    let away = open(alloc, 8)?;
     let (done, hears, rings) = open_bell(alloc)?;
+    let Opened {
+        inbox,
+        bell,
+        receiver,
+        sender,
+        own,
+        other,
+    } = here;
+    let Opened {
+        inbox: away_inbox,
+        bell: away_bell,
+        receiver: _away_receiver,
+        sender: away_sender,
+        own: _away_own,
+        other: away_other,
+    } = away;
     let mut mail = mail(
         alloc,
-        Receiver::new(&inbox, receiver),
-        Ringer::new(&bell, own),
-        Sender::new(&away, to_away),
-        Ringer::new(&away_bell, rings_away),
-        Ringer::new(&done, hears),
+        Ends {
+            inbox: Receiver::new(&inbox, receiver),
+            bell: Ringer::new(&bell, own),
+            to: Sender::new(&away_inbox, away_sender),
+            rings: Ringer::new(&away_bell, away_other),
+            done: Ringer::new(&done, hears),
+        },
     )?;
     starts(rt, home, port, &mut mail);
     let mut put = Sender::new(&inbox, sender);

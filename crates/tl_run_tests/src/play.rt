@@ -1,14 +1,14 @@
 //! One client and one bank, turn by turn in one thread.
 use crate::counts::Counts;
-use crate::mails::{mail, open, open_bell};
-use crate::turns::take_turns;
+use crate::mails::{Ends, Opened, open, open_bell, two_mails};
+use crate::turns::play_out;
 use std::alloc::Global;
 use std::process::Abort;
 use std::sync::Wait;
 use std::test::Fail;
 use std::time::Clock;
 use tl_bank::{Bank, Share};
-use tl_client::{Agent, Command, Home, Locked, Mail, Turn};
+use tl_client::{Agent, Command, Locked, Turn};
 use tl_map::{Geometry, GeometryNumbers};
 use tl_text::Answered;
 use tl_tickets::{Receiver, Ringer, Sender};
@@ -27,11 +27,15 @@ const NUMBERS: GeometryNumbers = GeometryNumbers {
     memory_blocks: 4,
 };
 
-/// How many turns of both a script takes at most.
-const TURNS: u32 = 1000;
-
-/// What was answered, and the bank afterwards.
-type Played = (Vec<Answered>, Bank);
+/// What is seen of a script that ended: how many commands were answered, the first byte that the last one has, how many copies the client
+/// holds, and what it may do with block 2.
+#[derive(Clone, Copy)]
+struct Outcome {
+    answered: usize,
+    last: Option<u8>,
+    held: u64,
+    of_block_2: Perm,
+}
 
 /// The bank behind its lock, and the client's share.
 fn lock(alloc: Global, geometry: Geometry) -> Option<(Locked, Vec<Share>)> {
@@ -44,86 +48,88 @@ fn lock(alloc: Global, geometry: Geometry) -> Option<(Locked, Vec<Share>)> {
     Some((locked, shares))
 }
 
-/// Turns of the agent and of the home, one after another, until both have finished; what was answered.
-fn answered<R: Wait + Clock>(
-    rt: &R,
-    locked: &Locked,
-    gate: &Counts,
-    mut agent: Agent<'_>,
-    alloc: Global,
-    client_mail: &mut Mail<'_>,
-    home_mail: &mut Mail<'_>,
-) -> Option<Vec<Answered>> {
-    let client = ClientId::new(0);
-    let mut home = Home::new(alloc, BankNo::new(0)).ok()?;
-    let mut port = locked.client_port(rt, alloc, gate, client, 4).ok()?;
-    let mut home_port = locked.home_port(rt, gate, BankNo::new(0))?;
-    let last = take_turns(
-        rt,
-        (&mut agent, &mut port, client_mail),
-        (&mut home, &mut home_port, home_mail),
-        gate,
-        1,
-        TURNS,
-    );
-    let (answered, _shares) = agent.into_parts();
-    match last {
-        (Turn::Finished, Turn::Finished) => Some(answered),
-        _ => None,
-    }
-}
-
-/// The agent's and the home's mail, and their turns until both have finished.
+/// The turns of the agent and of the home over inboxes and bells, and whether both finished.
 fn exchange<R: Wait + Clock>(
     rt: &R,
     alloc: Global,
     locked: &Locked,
     gate: &Counts,
-    agent: Agent<'_>,
-) -> Option<Vec<Answered>> {
-    let (inbox, bell, receiver, sender, own, other) = open(alloc, 8)?;
-    let (home_inbox, home_bell, home_receiver, home_sender, home_own, home_other) = open(alloc, 8)?;
+    agent: &mut Agent<'_>,
+) -> Option<bool> {
+    let client = open(alloc, 8)?;
+    let home = open(alloc, 8)?;
     let (done, rings, hears) = open_bell(alloc)?;
-    let mut client_mail = mail(
+    let Opened {
+        inbox,
+        bell,
+        receiver,
+        sender,
+        own,
+        other,
+    } = client;
+    let Opened {
+        inbox: home_inbox,
+        bell: home_bell,
+        receiver: home_receiver,
+        sender: home_sender,
+        own: home_own,
+        other: home_other,
+    } = home;
+    let (mut client_mail, mut home_mail) = two_mails(
         alloc,
-        Receiver::new(&inbox, receiver),
-        Ringer::new(&bell, own),
-        Sender::new(&home_inbox, home_sender),
-        Ringer::new(&home_bell, home_other),
-        Ringer::new(&done, rings),
+        Ends {
+            inbox: Receiver::new(&inbox, receiver),
+            bell: Ringer::new(&bell, own),
+            to: Sender::new(&home_inbox, home_sender),
+            rings: Ringer::new(&home_bell, home_other),
+            done: Ringer::new(&done, rings),
+        },
+        Ends {
+            inbox: Receiver::new(&home_inbox, home_receiver),
+            bell: Ringer::new(&home_bell, home_own),
+            to: Sender::new(&inbox, sender),
+            rings: Ringer::new(&bell, other),
+            done: Ringer::new(&done, hears),
+        },
     )?;
-    let mut home_mail = mail(
-        alloc,
-        Receiver::new(&home_inbox, home_receiver),
-        Ringer::new(&home_bell, home_own),
-        Sender::new(&inbox, sender),
-        Ringer::new(&bell, other),
-        Ringer::new(&done, hears),
-    )?;
-    answered(
-        rt,
-        locked,
-        gate,
-        agent,
-        alloc,
-        &mut client_mail,
-        &mut home_mail,
-    )
+    let client = ClientId::new(0);
+    let agent = (&mut *agent, client, &mut client_mail);
+    let last = play_out(rt, alloc, locked, gate, agent, &mut home_mail, 1)?;
+    Some(last == (Turn::Finished, Turn::Finished))
 }
 
-/// Plays a script with its client's agent and its bank's home.
+fn first_byte(answered: &Answered) -> Option<u8> {
+    answered.bytes.as_slice().first().copied()
+}
+
+/// What is seen of the answers and of the bank afterwards.
+fn seen_of(answered: &[Answered], bank: &Bank) -> Outcome {
+    Outcome {
+        answered: answered.len(),
+        last: answered.last().and_then(first_byte),
+        held: bank.held(),
+        of_block_2: bank.perm(ClientId::new(0), BlockNo::new(2)),
+    }
+}
+
+/// Plays a script with its client's agent and its bank's home. `None` where it did not end, or memory was refused.
 fn play<R: Wait + Clock>(
     rt: &R,
     alloc: Global,
     gate: &Counts,
     commands: &[Command],
-) -> Option<Played> {
+) -> Option<Outcome> {
     let geometry = Geometry::new(NUMBERS).ok()?;
     let (locked, shares) = lock(alloc, geometry)?;
-    let agent = Agent::new(alloc, ClientId::new(0), geometry, commands, shares).ok()?;
-    let answered = exchange(rt, alloc, &locked, gate, agent)?;
+    let mut agent = Agent::new(alloc, ClientId::new(0), geometry, commands, shares).ok()?;
+    let has_finished = exchange(rt, alloc, &locked, gate, &mut agent)?;
+    let (answered, _shares) = agent.into_parts();
     let bank = locked.into_banks(alloc).ok()?.pop()?;
-    Some((answered, bank))
+    if has_finished {
+        Some(seen_of(&answered, &bank))
+    } else {
+        None
+    }
 }
 
 fn load(address: u32) -> Command {
@@ -135,27 +141,23 @@ fn store(address: u32, byte: u8) -> Option<Command> {
     Some(Command::Store { address, bytes })
 }
 
-fn last_bytes(answered: &Vec<Answered>) -> Option<u8> {
-    answered.last()?.bytes.as_slice().first().copied()
-}
-
 #[test]
 fn a_dropped_block_is_read_again(rt: HostRuntime) -> Result<(), Fail> {
     let gate = Counts::new();
     let mut commands = Vec::new(rt.alloc());
     commands.push(store(0, 0xab).ok_or("one byte")?)?;
     commands.push(Command::Drop { address: 0 })?;
-    let Some((answered, bank)) = play(&rt, rt.alloc(), &gate, &commands) else {
+    let Some(outcome) = play(&rt, rt.alloc(), &gate, &commands) else {
         panic!(rt; "the script did not end");
     };
-    assert_eq!(rt; answered.len(), 2);
-    assert_eq!(rt; bank.held(), 0);
+    assert_eq!(rt; outcome.answered, 2);
+    assert_eq!(rt; outcome.held, 0);
     commands.push(load(0))?;
-    let Some((answered, bank)) = play(&rt, rt.alloc(), &gate, &commands) else {
+    let Some(outcome) = play(&rt, rt.alloc(), &gate, &commands) else {
         panic!(rt; "the script did not end");
     };
-    assert_eq!(rt; last_bytes(&answered), Some(0xab));
-    assert_eq!(rt; bank.held(), 1);
+    assert_eq!(rt; outcome.last, Some(0xab));
+    assert_eq!(rt; outcome.held, 1);
     Ok(())
 }
 
@@ -166,12 +168,12 @@ fn a_full_table_gives_up_the_oldest(rt: HostRuntime) -> Result<(), Fail> {
     for address in [16, 0, 8] {
         commands.push(load(address))?;
     }
-    let Some((answered, bank)) = play(&rt, rt.alloc(), &gate, &commands) else {
+    let Some(outcome) = play(&rt, rt.alloc(), &gate, &commands) else {
         panic!(rt; "the script did not end");
     };
-    assert_eq!(rt; answered.len(), 3);
-    assert_eq!(rt; bank.held(), 2);
-    assert_eq!(rt; bank.perm(ClientId::new(0), BlockNo::new(2)), Perm::None);
+    assert_eq!(rt; outcome.answered, 3);
+    assert_eq!(rt; outcome.held, 2);
+    assert_eq!(rt; outcome.of_block_2, Perm::None);
     Ok(())
 }
 
@@ -181,7 +183,7 @@ fn a_gate_sees_each_try_and_one_answer(rt: HostRuntime) -> Result<(), Fail> {
     let mut commands = Vec::new(rt.alloc());
     commands.push(load(0))?;
     commands.push(load(0))?;
-    let Some((_answered, _bank)) = play(&rt, rt.alloc(), &gate, &commands) else {
+    let Some(_outcome) = play(&rt, rt.alloc(), &gate, &commands) else {
         panic!(rt; "the script did not end");
     };
     // The first load is tried before its Acquire and after its Grant, the second once.

@@ -1,14 +1,14 @@
 //! A client that holds a block and has no thread: the others wait for ever, and nothing is broken.
-use crate::mails::{mail, open, open_bell};
-use crate::turns::take_turns;
-use crossbeam_utils::sync::{Parker, Unparker};
+use crate::mails::{Ends, Opened, mail, open, open_bell, way};
+use crate::turns::play_out;
+use crossbeam_utils::sync::Parker;
 use std::alloc::Global;
 use std::process::Abort;
 use std::sync::Wait;
 use std::test::Fail;
 use std::time::Clock;
 use tl_bank::{Action, Bank, Refusal, Share};
-use tl_client::{Agent, Command, Free, Home, Locked, Mail, Sending, Turn};
+use tl_client::{Agent, Command, Free, Locked, Mail, Sending, Turn};
 use tl_map::{Geometry, GeometryNumbers};
 use tl_protocol::Shape;
 use tl_rules::Plain;
@@ -27,9 +27,6 @@ const NUMBERS: GeometryNumbers = GeometryNumbers {
     copies: 1,
     memory_blocks: 2,
 };
-
-/// How many turns each worker takes.
-const TURNS: u32 = 1000;
 
 const SHAPE: Shape = Shape {
     clients: 2,
@@ -98,117 +95,148 @@ fn lock(alloc: Global, geometry: Geometry) -> Option<(Locked, Vec<Share>)> {
     Some((locked, shares))
 }
 
-/// The ways of a home to its two clients. One thread plays both, so that a ring need wake nobody: each way wakes the home.
-fn two_ways<'a>(
-    alloc: Global,
-    to_first: Sender<'a>,
-    rings_first: Ringer<'a>,
-    to_second: Sender<'a>,
-    rings_second: Ringer<'a>,
-    rest: &Unparker,
-) -> Option<Vec<Sending<'a>>> {
+/// The ends that a home's mail to two clients is made of.
+#[derive(Drop)]
+struct HomeEnds<'a> {
+    inbox: Receiver<'a>,
+    bell: Ringer<'a>,
+    to_silent: Sender<'a>,
+    rings_silent: Ringer<'a>,
+    to_waiting: Sender<'a>,
+    rings_waiting: Ringer<'a>,
+    done: Ringer<'a>,
+}
+
+/// Two ways, in order.
+fn both<'a>(alloc: Global, first: Sending<'a>, second: Sending<'a>) -> Option<Vec<Sending<'a>>> {
     let mut ways = Vec::new(alloc);
-    ways.push(Sending::new(alloc, to_first, rings_first, rest.clone().ok()?).ok()?)
-        .ok()?;
-    ways.push(Sending::new(alloc, to_second, rings_second, rest.clone().ok()?).ok()?)
-        .ok()?;
+    ways.push(first).ok()?;
+    ways.push(second).ok()?;
     Some(ways)
 }
 
-/// So many turns of client 1's agent and of the home, on a load of block 0; how many answers there are.
-fn answered<R: Wait + Clock>(
-    rt: &R,
-    alloc: Global,
-    locked: &Locked,
-    gate: &Free,
-    geometry: Geometry,
-    shares: Vec<Share>,
-    client_mail: &mut Mail<'_>,
-    home_mail: &mut Mail<'_>,
-) -> Option<usize> {
-    let client = ClientId::new(1);
-    let commands = [Command::Load { address: 0, len: 1 }];
-    let mut agent = Agent::new(alloc, client, geometry, &commands, shares).ok()?;
-    let mut home = Home::new(alloc, BankNo::new(0)).ok()?;
-    let mut port = locked.client_port(rt, alloc, gate, client, 1).ok()?;
-    let mut home_port = locked.home_port(rt, gate, BankNo::new(0))?;
-    let (ours, theirs) = take_turns(
-        rt,
-        (&mut agent, &mut port, client_mail),
-        (&mut home, &mut home_port, home_mail),
-        gate,
-        2,
-        TURNS,
-    );
-    let (answered, _shares) = agent.into_parts();
-    if ours == Turn::Finished || theirs == Turn::Finished {
-        return None;
-    }
-    Some(answered.len())
+/// The mail of a home to its two clients. One thread plays both, so that a ring need wake nobody: each way wakes the home.
+fn home_mail<'a>(alloc: Global, ends: HomeEnds<'a>) -> Option<Mail<'a>> {
+    let parker = Parker::new(alloc).ok()?;
+    let HomeEnds {
+        inbox,
+        bell,
+        to_silent,
+        rings_silent,
+        to_waiting,
+        rings_waiting,
+        done,
+    } = ends;
+    let first = way(alloc, to_silent, rings_silent, parker.unparker())?;
+    let second = way(alloc, to_waiting, rings_waiting, parker.unparker())?;
+    let ways = both(alloc, first, second)?;
+    Some(Mail::new(inbox, bell, ways, done, parker))
 }
 
-/// What client 1 was answered while client 0 was silent.
+/// The mails of the client that waits and of the home.
+fn mails<'a>(alloc: Global, waiting: Ends<'a>, home: HomeEnds<'a>) -> Option<(Mail<'a>, Mail<'a>)> {
+    let first = mail(alloc, waiting)?;
+    let second = home_mail(alloc, home)?;
+    Some((first, second))
+}
+
+/// The turns of client 1's agent and of the home, while client 0 is silent.
 fn wait_for_the_silent<R: Wait + Clock>(
     rt: &R,
     alloc: Global,
     locked: &Locked,
-    geometry: Geometry,
-    shares: Vec<Share>,
-) -> Option<usize> {
-    let (silent, silent_bell, _receiver, to_silent, _own, rings_silent) = open(alloc, 8)?;
-    let (inbox, bell, receiver, sender, own, other) = open(alloc, 8)?;
-    let (home_inbox, home_bell, home_receiver, home_sender, home_own, home_other) = open(alloc, 8)?;
+    agent: &mut Agent<'_>,
+) -> Option<(Turn, Turn)> {
+    let silent = open(alloc, 8)?;
+    let waiting = open(alloc, 8)?;
+    let home = open(alloc, 8)?;
     let (done, rings, hears) = open_bell(alloc)?;
-    let mut client_mail = mail(
+    let Opened {
+        inbox: silent_inbox,
+        bell: silent_bell,
+        receiver: _silent_receiver,
+        sender: silent_sender,
+        own: _silent_own,
+        other: silent_other,
+    } = silent;
+    let Opened {
+        inbox,
+        bell,
+        receiver,
+        sender,
+        own,
+        other,
+    } = waiting;
+    let Opened {
+        inbox: home_inbox,
+        bell: home_bell,
+        receiver: home_receiver,
+        sender: home_sender,
+        own: home_own,
+        other: home_other,
+    } = home;
+    let (mut client_mail, mut home_mail) = mails(
         alloc,
-        Receiver::new(&inbox, receiver),
-        Ringer::new(&bell, own),
-        Sender::new(&home_inbox, home_sender),
-        Ringer::new(&home_bell, home_other),
-        Ringer::new(&done, rings),
+        Ends {
+            inbox: Receiver::new(&inbox, receiver),
+            bell: Ringer::new(&bell, own),
+            to: Sender::new(&home_inbox, home_sender),
+            rings: Ringer::new(&home_bell, home_other),
+            done: Ringer::new(&done, rings),
+        },
+        HomeEnds {
+            inbox: Receiver::new(&home_inbox, home_receiver),
+            bell: Ringer::new(&home_bell, home_own),
+            to_silent: Sender::new(&silent_inbox, silent_sender),
+            rings_silent: Ringer::new(&silent_bell, silent_other),
+            to_waiting: Sender::new(&inbox, sender),
+            rings_waiting: Ringer::new(&bell, other),
+            done: Ringer::new(&done, hears),
+        },
     )?;
-    let parker = Parker::new(alloc).ok()?;
-    let ways = two_ways(
-        alloc,
-        Sender::new(&silent, to_silent),
-        Ringer::new(&silent_bell, rings_silent),
-        Sender::new(&inbox, sender),
-        Ringer::new(&bell, other),
-        parker.unparker(),
-    )?;
-    let mut home_mail = Mail::new(
-        Receiver::new(&home_inbox, home_receiver),
-        Ringer::new(&home_bell, home_own),
-        ways,
-        Ringer::new(&done, hears),
-        parker,
-    );
-    answered(
-        rt,
-        alloc,
-        locked,
-        &Free,
-        geometry,
-        shares,
-        &mut client_mail,
-        &mut home_mail,
-    )
+    let agent = (&mut *agent, ClientId::new(1), &mut client_mail);
+    play_out(rt, alloc, locked, &Free, agent, &mut home_mail, 2)
+}
+
+/// What is seen once client 1 has waited: whether its agent or the home finished, how many answers it got, what each client may do with
+/// block 0, whether the bank is quiet, and whether its log replays to what it shows.
+#[derive(Clone, Copy)]
+struct Seen {
+    has_finished: bool,
+    answered: usize,
+    of_the_silent: Perm,
+    of_the_waiting: Perm,
+    is_quiet: bool,
+    replays: bool,
+}
+
+/// What is seen of a load of block 0 by client 1, for which the home waits for client 0.
+fn observed<R: Wait + Clock>(rt: &R, alloc: Global) -> Result<Seen, Fail> {
+    let geometry = Geometry::new(NUMBERS)?;
+    let (locked, shares) = lock(alloc, geometry).ok_or("no memory")?;
+    let commands = [Command::Load { address: 0, len: 1 }];
+    let mut agent = Agent::new(alloc, ClientId::new(1), geometry, &commands, shares)?;
+    let last = wait_for_the_silent(rt, alloc, &locked, &mut agent).ok_or("no memory")?;
+    let (answered, _shares) = agent.into_parts();
+    let bank = locked.into_banks(alloc)?.pop().ok_or("no bank")?;
+    Ok(Seen {
+        has_finished: last.0 == Turn::Finished || last.1 == Turn::Finished,
+        answered: answered.len(),
+        of_the_silent: bank.perm(ClientId::new(0), BlockNo::new(0)),
+        of_the_waiting: bank.perm(ClientId::new(1), BlockNo::new(0)),
+        is_quiet: bank.is_quiet(),
+        replays: replays(alloc, &bank)?,
+    })
 }
 
 #[test]
 fn nothing_is_answered_and_nothing_broken(rt: HostRuntime) -> Result<(), Fail> {
-    let geometry = Geometry::new(NUMBERS)?;
-    let Some((locked, shares)) = lock(rt.alloc(), geometry) else {
-        panic!(rt; "no memory");
-    };
-    let answered = wait_for_the_silent(&rt, rt.alloc(), &locked, geometry, shares);
-    assert_eq!(rt; answered, Some(0));
-    let Some(bank) = locked.into_banks(rt.alloc())?.pop() else {
-        panic!(rt; "no bank");
-    };
-    assert!(rt; replays(rt.alloc(), &bank)?);
-    assert_eq!(rt; bank.perm(ClientId::new(0), BlockNo::new(0)), Perm::Tip);
-    assert_eq!(rt; bank.perm(ClientId::new(1), BlockNo::new(0)), Perm::None);
-    assert!(rt; !bank.is_quiet());
+    let seen = observed(&rt, rt.alloc())?;
+    assert!(rt; !seen.has_finished);
+    assert_eq!(rt; seen.answered, 0);
+    assert!(rt; seen.replays);
+    assert_eq!(rt; seen.of_the_silent, Perm::Tip);
+    assert_eq!(rt; seen.of_the_waiting, Perm::None);
+    assert!(rt; !seen.is_quiet);
     Ok(())
 }

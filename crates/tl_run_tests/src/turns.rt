@@ -1,8 +1,10 @@
 //! Turns without their contracts, which are long: a test of many turns compares plain answers alone. What takes the turns owns nothing,
 //! since each way out of a loop carries all that is dropped there.
+use std::alloc::Global;
 use std::sync::Wait;
 use std::time::Clock;
-use tl_client::{Agent, Gate, Home, HomePort, Mail, Port, Turn};
+use tl_client::{Agent, Gate, Home, HomePort, Locked, Mail, Port, Turn};
+use tl_types::{BankNo, ClientId};
 
 /// A turn of an agent.
 pub fn agent_turn<P: Port, G: Gate, R: Wait + Clock>(
@@ -49,4 +51,32 @@ pub fn take_turns<P: Port, Q: HomePort, G: Gate, R: Wait + Clock>(
         }
     }
     last
+}
+
+/// How many turns of both a script takes at most.
+const TURNS: u32 = 1000;
+
+/// The turns of a client's agent and of a bank's home, until both have finished or 1,000 times. What the last one of each was. `None`
+/// where a request for memory was refused.
+pub fn play_out<G: Gate, R: Wait + Clock>(
+    rt: &R,
+    alloc: Global,
+    locked: &Locked,
+    gate: &G,
+    agent: (&mut Agent<'_>, ClientId, &mut Mail<'_>),
+    home_mail: &mut Mail<'_>,
+    clients: u32,
+) -> Option<(Turn, Turn)> {
+    let (agent, client, client_mail) = agent;
+    let mut home = Home::new(alloc, BankNo::new(0)).ok()?;
+    let mut port = locked.client_port(rt, alloc, gate, client, 4).ok()?;
+    let mut home_port = locked.home_port(rt, gate, BankNo::new(0))?;
+    Some(take_turns(
+        rt,
+        (agent, &mut port, client_mail),
+        (&mut home, &mut home_port, home_mail),
+        gate,
+        clients,
+        TURNS,
+    ))
 }
