@@ -21,10 +21,8 @@ turns = 1000000\n";
 
 /// The job of a trace or of a run.
 pub fn job_of(alloc: Global, traces: bool) -> Result<Result<Job, JobError>, AllocError> {
-    Ok(Ok(Job {
-        traces,
-        file: String::from_str(alloc, "script")?,
-    }))
+    let file = String::from_str(alloc, "script")?;
+    Ok(Ok(Job { traces, file }))
 }
 
 /// The status alone: that function's contract, which is long, ends here, so that a test of several calls does not carry it along.

@@ -90,8 +90,14 @@ pub fn way<'a>(
     Sending::new(alloc, to, rings, rest).ok()
 }
 
-/// One way alone.
-fn only<'a>(alloc: Global, way: Sending<'a>) -> Option<Vec<Sending<'a>>> {
+/// The only way of a worker that sends to one other.
+fn only_way<'a>(
+    alloc: Global,
+    to: Sender<'a>,
+    rings: Ringer<'a>,
+    rest: &Unparker,
+) -> Option<Vec<Sending<'a>>> {
+    let way = way(alloc, to, rings, rest)?;
     let mut ways = Vec::new(alloc);
     ways.push(way).ok()?;
     Some(ways)
@@ -100,6 +106,7 @@ fn only<'a>(alloc: Global, way: Sending<'a>) -> Option<Vec<Sending<'a>>> {
 /// The mail of a worker that sends to one other. One thread plays all workers, so that a ring need wake nobody: each way
 /// wakes the sender.
 pub fn mail<'a>(alloc: Global, ends: Ends<'a>) -> Option<Mail<'a>> {
+    let parker = Parker::new(alloc).ok()?;
     let Ends {
         inbox,
         bell,
@@ -107,9 +114,7 @@ pub fn mail<'a>(alloc: Global, ends: Ends<'a>) -> Option<Mail<'a>> {
         rings,
         done,
     } = ends;
-    let parker = Parker::new(alloc).ok()?;
-    let way = way(alloc, to, rings, parker.unparker())?;
-    let ways = only(alloc, way)?;
+    let ways = only_way(alloc, to, rings, parker.unparker())?;
     Some(Mail::new(inbox, bell, ways, done, parker))
 }
 

@@ -1,7 +1,7 @@
 //! One client and one bank, turn by turn in one thread.
 use crate::counts::Counts;
 use crate::mails::{Ends, Opened, open, open_bell, two_mails};
-use crate::turns::play_out;
+use crate::turns::{bank_of, play_out};
 use std::alloc::Global;
 use std::process::Abort;
 use std::sync::Wait;
@@ -102,13 +102,23 @@ fn first_byte(answered: &Answered) -> Option<u8> {
     answered.bytes.as_slice().first().copied()
 }
 
-/// What is seen of the answers and of the bank afterwards.
-fn seen_of(answered: &[Answered], bank: &Bank) -> Outcome {
-    Outcome {
-        answered: answered.len(),
-        last: answered.last().and_then(first_byte),
-        held: bank.held(),
-        of_block_2: bank.perm(ClientId::new(0), BlockNo::new(2)),
+/// How many commands were answered, and the first byte that the last one has. `None` where not both finished, or memory was refused.
+fn answers<R: Wait + Clock>(
+    rt: &R,
+    alloc: Global,
+    locked: &Locked,
+    gate: &Counts,
+    geometry: Geometry,
+    commands: &[Command],
+    shares: Vec<Share>,
+) -> Option<(usize, Option<u8>)> {
+    let mut agent = Agent::new(alloc, ClientId::new(0), geometry, commands, shares).ok()?;
+    let has_finished = exchange(rt, alloc, locked, gate, &mut agent)?;
+    let (answered, _shares) = agent.into_parts();
+    if has_finished {
+        Some((answered.len(), answered.last().and_then(first_byte)))
+    } else {
+        None
     }
 }
 
@@ -121,15 +131,14 @@ fn play<R: Wait + Clock>(
 ) -> Option<Outcome> {
     let geometry = Geometry::new(NUMBERS).ok()?;
     let (locked, shares) = lock(alloc, geometry)?;
-    let mut agent = Agent::new(alloc, ClientId::new(0), geometry, commands, shares).ok()?;
-    let has_finished = exchange(rt, alloc, &locked, gate, &mut agent)?;
-    let (answered, _shares) = agent.into_parts();
-    let bank = locked.into_banks(alloc).ok()?.pop()?;
-    if has_finished {
-        Some(seen_of(&answered, &bank))
-    } else {
-        None
-    }
+    let (answered, last) = answers(rt, alloc, &locked, gate, geometry, commands, shares)?;
+    let bank = bank_of(alloc, locked)?;
+    Some(Outcome {
+        answered,
+        last,
+        held: bank.held(),
+        of_block_2: bank.perm(ClientId::new(0), BlockNo::new(2)),
+    })
 }
 
 fn load(address: u32) -> Command {

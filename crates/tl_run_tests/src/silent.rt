@@ -1,7 +1,7 @@
 //! A client that holds a block and has no thread: the others wait for ever, and nothing is broken.
 use crate::mails::{Ends, Opened, mail, open, open_bell, way};
-use crate::turns::play_out;
-use crossbeam_utils::sync::Parker;
+use crate::turns::{bank_of, play_out};
+use crossbeam_utils::sync::{Parker, Unparker};
 use std::alloc::Global;
 use std::process::Abort;
 use std::sync::Wait;
@@ -100,15 +100,20 @@ fn lock(alloc: Global, geometry: Geometry) -> Option<(Locked, Vec<Share>)> {
 struct HomeEnds<'a> {
     inbox: Receiver<'a>,
     bell: Ringer<'a>,
-    to_silent: Sender<'a>,
-    rings_silent: Ringer<'a>,
-    to_waiting: Sender<'a>,
-    rings_waiting: Ringer<'a>,
+    to_silent: (Sender<'a>, Ringer<'a>),
+    to_waiting: (Sender<'a>, Ringer<'a>),
     done: Ringer<'a>,
 }
 
-/// Two ways, in order.
-fn both<'a>(alloc: Global, first: Sending<'a>, second: Sending<'a>) -> Option<Vec<Sending<'a>>> {
+/// The ways of a home to its two clients, in order.
+fn both_ways<'a>(
+    alloc: Global,
+    first: (Sender<'a>, Ringer<'a>),
+    second: (Sender<'a>, Ringer<'a>),
+    rest: &Unparker,
+) -> Option<Vec<Sending<'a>>> {
+    let first = way(alloc, first.0, first.1, rest)?;
+    let second = way(alloc, second.0, second.1, rest)?;
     let mut ways = Vec::new(alloc);
     ways.push(first).ok()?;
     ways.push(second).ok()?;
@@ -122,14 +127,10 @@ fn home_mail<'a>(alloc: Global, ends: HomeEnds<'a>) -> Option<Mail<'a>> {
         inbox,
         bell,
         to_silent,
-        rings_silent,
         to_waiting,
-        rings_waiting,
         done,
     } = ends;
-    let first = way(alloc, to_silent, rings_silent, parker.unparker())?;
-    let second = way(alloc, to_waiting, rings_waiting, parker.unparker())?;
-    let ways = both(alloc, first, second)?;
+    let ways = both_ways(alloc, to_silent, to_waiting, parker.unparker())?;
     Some(Mail::new(inbox, bell, ways, done, parker))
 }
 
@@ -187,10 +188,11 @@ fn wait_for_the_silent<R: Wait + Clock>(
         HomeEnds {
             inbox: Receiver::new(&home_inbox, home_receiver),
             bell: Ringer::new(&home_bell, home_own),
-            to_silent: Sender::new(&silent_inbox, silent_sender),
-            rings_silent: Ringer::new(&silent_bell, silent_other),
-            to_waiting: Sender::new(&inbox, sender),
-            rings_waiting: Ringer::new(&bell, other),
+            to_silent: (
+                Sender::new(&silent_inbox, silent_sender),
+                Ringer::new(&silent_bell, silent_other),
+            ),
+            to_waiting: (Sender::new(&inbox, sender), Ringer::new(&bell, other)),
             done: Ringer::new(&done, hears),
         },
     )?;
@@ -210,22 +212,37 @@ struct Seen {
     replays: bool,
 }
 
+/// Whether client 1's agent or the home finished over a load of block 0, and how many answers the agent had.
+fn waited<R: Wait + Clock>(
+    rt: &R,
+    alloc: Global,
+    locked: &Locked,
+    geometry: Geometry,
+    shares: Vec<Share>,
+) -> Option<(bool, usize)> {
+    let commands = [Command::Load { address: 0, len: 1 }];
+    let mut agent = Agent::new(alloc, ClientId::new(1), geometry, &commands, shares).ok()?;
+    let (ours, theirs) = wait_for_the_silent(rt, alloc, locked, &mut agent)?;
+    let (answered, _shares) = agent.into_parts();
+    let has_finished = ours == Turn::Finished || theirs == Turn::Finished;
+    Some((has_finished, answered.len()))
+}
+
 /// What is seen of a load of block 0 by client 1, for which the home waits for client 0.
 fn observed<R: Wait + Clock>(rt: &R, alloc: Global) -> Result<Seen, Fail> {
     let geometry = Geometry::new(NUMBERS)?;
     let (locked, shares) = lock(alloc, geometry).ok_or("no memory")?;
-    let commands = [Command::Load { address: 0, len: 1 }];
-    let mut agent = Agent::new(alloc, ClientId::new(1), geometry, &commands, shares)?;
-    let last = wait_for_the_silent(rt, alloc, &locked, &mut agent).ok_or("no memory")?;
-    let (answered, _shares) = agent.into_parts();
-    let bank = locked.into_banks(alloc)?.pop().ok_or("no bank")?;
+    let waited = waited(rt, alloc, &locked, geometry, shares);
+    let bank = bank_of(alloc, locked).ok_or("no bank")?;
+    let replays = replays(alloc, &bank)?;
+    let (has_finished, answered) = waited.ok_or("no memory")?;
     Ok(Seen {
-        has_finished: last.0 == Turn::Finished || last.1 == Turn::Finished,
-        answered: answered.len(),
+        has_finished,
+        answered,
         of_the_silent: bank.perm(ClientId::new(0), BlockNo::new(0)),
         of_the_waiting: bank.perm(ClientId::new(1), BlockNo::new(0)),
         is_quiet: bank.is_quiet(),
-        replays: replays(alloc, &bank)?,
+        replays,
     })
 }
 

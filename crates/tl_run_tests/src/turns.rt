@@ -3,6 +3,7 @@
 use std::alloc::Global;
 use std::sync::Wait;
 use std::time::Clock;
+use tl_bank::Bank;
 use tl_client::{Agent, Gate, Home, HomePort, Locked, Mail, Port, Turn};
 use tl_types::{BankNo, ClientId};
 
@@ -79,4 +80,9 @@ pub fn play_out<G: Gate, R: Wait + Clock>(
         clients,
         TURNS,
     ))
+}
+
+/// The bank behind its lock, where there is one.
+pub fn bank_of(alloc: Global, locked: Locked) -> Option<Bank> {
+    locked.into_banks(alloc).ok()?.pop()
 }
