@@ -162,6 +162,24 @@ fn one_of_each<'x>(
     Ok((taken, rest))
 }
 
+/// What a worker uses.
+fn post_of<'x>(
+    own: Receiving<'x>,
+    ways: Vec<Sending<'x>>,
+    done: Ringer<'x>,
+    stop: Ringer<'x>,
+) -> Post<'x> {
+    let Receiving {
+        inbox,
+        bell,
+        parker,
+    } = own;
+    Post {
+        mail: Mail::new(inbox, bell, ways, done, parker),
+        stop,
+    }
+}
+
 /// What each worker uses: its mailbox, one way to each of its receivers, and a seat at each of the two bells.
 pub(crate) fn posts<'x>(
     alloc: Global,
@@ -177,18 +195,9 @@ pub(crate) fn posts<'x>(
 {
     let mut posts = Vec::with_capacity(alloc, receiving.len())?;
     for own in receiving {
-        let Receiving {
-            inbox,
-            bell,
-            parker,
-        } = own;
         let (ways, rest) = one_of_each(alloc, sending, done.len())?;
         sending = rest;
-        let mail = Mail::new(inbox, bell, ways, done.remove(0), parker);
-        posts.push(Post {
-            mail,
-            stop: stop.remove(0),
-        })?;
+        posts.push(post_of(own, ways, done.remove(0), stop.remove(0)))?;
     }
     Ok(posts)
 }

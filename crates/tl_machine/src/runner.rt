@@ -96,16 +96,55 @@ fn run_locked<R: Threads + Wait + Clock + Sync, G: Gate + Sync>(
         turns: script.turns,
     };
     let (mailroom, keys) = open_mailroom(alloc, geometry, capacity)?;
+    let posts = deal_out(alloc, geometry, &mailroom, keys);
+    run_posts(rt, script, &shared, posts, shares)
+}
+
+/// Runs the threads with what each uses, where there was memory for that. The shares of each bank come back.
+fn run_posts<R: Threads + Wait + Clock + Sync, G: Gate + Sync>(
+    rt: &R,
+    script: &Script,
+    shared: &Shared<'_, G>,
+    posts: Result<Posts<'_>, AllocError>,
+    shares: Vec<Vec<Share>>,
+) -> Result<Vec<Vec<Share>>, RunError>
+    requires shares { vec_len shares ≡ length script.now.commands.items }
+    requires clients { IfOk posts (λ p. vec_len p.clients ≡ script.now.geometry.clients) }
+    requires homes { IfOk posts (λ p. vec_len p.homes ≡ script.now.geometry.banks) }
+    ensures { IfErr result (TellsTurns script.now.turns) }
+{
+    let geometry = script.geometry();
     let Posts {
         clients,
         homes,
         stop,
-    } = deal_out(alloc, geometry, &mailroom, keys)?;
-    let clients = client_workers(&shared, geometry, &script.commands, clients, shares)?;
-    let homes = home_workers(&shared, homes)?;
-    let joined = run_threads(rt, alloc, stop, clients, homes)?;
+    } = posts?;
+    let clients = client_workers(shared, geometry, &script.commands, clients, shares)?;
+    let homes = home_workers(shared, homes)?;
+    let joined = run_threads(rt, shared.alloc, stop, clients, homes)?;
     end_of(&joined, script.turns)?;
-    Ok(given_back(alloc, geometry.banks(), joined.clients)?)
+    Ok(given_back(shared.alloc, geometry.banks(), joined.clients)?)
+}
+
+/// The worker of a client, with its commands and shares.
+fn client_worker<'s, 'x, 'y, G: Gate>(
+    shared: &'y Shared<'y, G>,
+    geometry: Geometry,
+    client: ClientId,
+    commands: &'s [Command],
+    post: Post<'x>,
+    own: Vec<Share>,
+) -> Result<ClientWorker<'s, 'x, 'y, G>, AllocError> {
+    let agent = Agent::new(shared.alloc, client, geometry, commands, own)?;
+    Ok(ClientWorker {
+        shared,
+        client,
+        commands: commands.len(),
+        agent,
+        mail: post.mail,
+        stop: post.stop,
+        end: End::Stopped,
+    })
 }
 
 /// The workers of the clients, with their commands and shares.
@@ -120,25 +159,34 @@ fn client_workers<'s, 'x, 'y, G: Gate>(
     requires posts { vec_len posts ≡ length commands.now }
     requires few { length commands.now ≤ CLIENTS }
 {
-    let alloc = shared.alloc;
-    let mut workers = Vec::with_capacity(alloc, shares.len())?;
+    let mut workers = Vec::with_capacity(shared.alloc, shares.len())?;
     let mut number: u32 = 0;
     for own in shares {
-        let Post { mail, stop } = posts.remove(0);
+        let post = posts.remove(0);
         let commands = commands[number as usize].as_slice();
         let client = ClientId::new(number);
-        workers.push(ClientWorker {
-            shared,
-            client,
-            commands: commands.len(),
-            agent: Agent::new(alloc, client, geometry, commands, own)?,
-            mail,
-            stop,
-            end: End::Stopped,
-        })?;
+        let worker = client_worker(shared, geometry, client, commands, post, own)?;
+        workers.push(worker)?;
         number += 1;
     }
     Ok(workers)
+}
+
+/// The worker of a bank's home.
+fn home_worker<'x, 'y, G: Gate>(
+    shared: &'y Shared<'y, G>,
+    bank: BankNo,
+    post: Post<'x>,
+) -> Result<HomeWorker<'x, 'y, G>, AllocError> {
+    let home = Home::new(shared.alloc, bank)?;
+    Ok(HomeWorker {
+        shared,
+        number: bank,
+        home,
+        mail: post.mail,
+        stop: post.stop,
+        end: End::Stopped,
+    })
 }
 
 /// The workers of the homes.
@@ -148,20 +196,11 @@ fn home_workers<'x, 'y, G: Gate>(
 ) -> Result<Vec<HomeWorker<'x, 'y, G>>, AllocError>
     requires { vec_len posts ≤ BANKS }
 {
-    let alloc = shared.alloc;
-    let mut workers = Vec::with_capacity(alloc, posts.len())?;
+    let mut workers = Vec::with_capacity(shared.alloc, posts.len())?;
     let mut number: u32 = 0;
     for post in posts {
-        let Post { mail, stop } = post;
-        let bank = BankNo::new(number);
-        workers.push(HomeWorker {
-            shared,
-            number: bank,
-            home: Home::new(alloc, bank)?,
-            mail,
-            stop,
-            end: End::Stopped,
-        })?;
+        let worker = home_worker(shared, BankNo::new(number), post)?;
+        workers.push(worker)?;
         number += 1;
     }
     Ok(workers)
@@ -196,6 +235,16 @@ fn end_of<G>(
     }
 }
 
+/// Lays each share to those of its bank.
+fn sort_by_bank(shares: &mut Vec<Vec<Share>>, own: Vec<Share>) -> Result<(), AllocError> {
+    for share in own {
+        if let Some(list) = shares.get_mut(share.bank().index()) {
+            list.push(share)?;
+        }
+    }
+    Ok(())
+}
+
 /// The shares of each bank, as the agents give them back.
 fn given_back<G>(
     alloc: Global,
@@ -205,11 +254,7 @@ fn given_back<G>(
     let mut shares = no_shares(alloc, banks)?;
     for worker in workers {
         let (_, own) = worker.agent.into_parts();
-        for share in own {
-            if let Some(list) = shares.get_mut(share.bank().index()) {
-                list.push(share)?;
-            }
-        }
+        sort_by_bank(&mut shares, own)?;
     }
     Ok(shares)
 }

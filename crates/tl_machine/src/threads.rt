@@ -1,5 +1,5 @@
 //! A thread for each worker.
-ghost use Rattle.std.specs.Prelude.{◌≤◌, ◌+◌, vec_len, vec_capacity};
+ghost use Rattle.std.specs.Prelude.{◌≡◌, ◌≤◌, ◌+◌, IfOk, vec_len, vec_capacity};
 ghost use Rattle.std.specs.Thread.{IsSend, IsSync};
 
 use std::alloc::{AllocError, Global};
@@ -56,6 +56,32 @@ fn join_each<R: Threads, W: Work + Send>(rt: &R, threads: Vec<JoinHandle<W>>, en
     }
 }
 
+/// Room for the threads that are started and for the workers that end.
+#[derive(Drop)]
+struct Places<C: Work + Send, H: Work + Send> {
+    client_threads: Vec<JoinHandle<C>>,
+    home_threads: Vec<JoinHandle<H>>,
+    ended_clients: Vec<C>,
+    ended_homes: Vec<H>,
+}
+
+/// Room for so many clients and homes.
+fn open_places<C: Work + Send, H: Work + Send>(
+    alloc: Global,
+    clients: usize,
+    homes: usize,
+) -> Result<Places<C, H>, AllocError>
+    ensures clients { IfOk result (λ p. (vec_len p.client_threads ≡ 0) × (clients ≤ vec_capacity p.client_threads) × (vec_len p.ended_clients ≡ 0) × (clients ≤ vec_capacity p.ended_clients)) }
+    ensures homes { IfOk result (λ p. (vec_len p.home_threads ≡ 0) × (homes ≤ vec_capacity p.home_threads) × (vec_len p.ended_homes ≡ 0) × (homes ≤ vec_capacity p.ended_homes)) }
+{
+    Ok(Places {
+        client_threads: Vec::with_capacity(alloc, clients)?,
+        home_threads: Vec::with_capacity(alloc, homes)?,
+        ended_clients: Vec::with_capacity(alloc, clients)?,
+        ended_homes: Vec::with_capacity(alloc, homes)?,
+    })
+}
+
 /// Runs each worker in a thread of its own, joins all threads and gives the workers back. Where a thread could not be started, no other
 /// is, and those that run are stopped and joined.
 pub(crate) fn run_threads<R: Threads + Wait + Clock + Sync, C: Work + Send, H: Work + Send>(
@@ -71,10 +97,12 @@ pub(crate) fn run_threads<R: Threads + Wait + Clock + Sync, C: Work + Send, H: W
         move |scope| -> Result<Joined<C, H>, AllocError>
             requires { IsSync R.row × IsSend C.row × IsSend H.row }
         {
-            let mut client_threads = Vec::with_capacity(alloc, clients.len())?;
-            let mut home_threads = Vec::with_capacity(alloc, homes.len())?;
-            let mut ended_clients = Vec::with_capacity(alloc, clients.len())?;
-            let mut ended_homes = Vec::with_capacity(alloc, homes.len())?;
+            let Places {
+                mut client_threads,
+                mut home_threads,
+                mut ended_clients,
+                mut ended_homes,
+            } = open_places(alloc, clients.len(), homes.len())?;
             let are_started = start(scope, rt, clients, &mut client_threads)
                 && start(scope, rt, homes, &mut home_threads);
             if !are_started {

@@ -1,6 +1,6 @@
 //! Idle turns of an agent: they ask nothing, and take nothing of the inbox.
 use crate::counts::{Counts, count};
-use crate::mails::{Ends, Opened, mail, open, open_bell};
+use crate::mails::{inside, mail, open, open_bell, outside};
 use crate::turns::agent_turn;
 use std::alloc::Global;
 use std::cell::Cell;
@@ -9,7 +9,7 @@ use std::sync::Wait;
 use std::test::Fail;
 use std::time::Clock;
 use tl_bank::{Loaded, Refusal, Share, When};
-use tl_client::{Agent, Command, Port, Success, Turn};
+use tl_client::{Agent, Command, Mail, Port, Success, Turn};
 use tl_map::{Geometry, GeometryNumbers};
 use tl_tickets::{Receiver, Ringer, Sender};
 use tl_types::{BankNo, BlockNo, Channel, ClientId, Grow, Perm, Prune, Ticket};
@@ -146,46 +146,19 @@ struct Seen {
     left: u32,
 }
 
-/// Two turns over inboxes and bells, and before the second a ticket that nobody rings for. `None` where a request for memory was refused.
+/// Two turns, and before the second a ticket that nobody rings for.
 fn two_turns<R: Wait + Clock>(
     rt: &R,
-    alloc: Global,
     agent: &mut Agent<'_>,
     port: &mut Refuser,
     gate: &Counts,
+    mail: Option<Mail<'_>>,
+    put: Sender<'_>,
 ) -> Option<Seen> {
-    let here = open(alloc, 8)?;
-    let away = open(alloc, 8)?;
-    let (done, rings, _hears) = open_bell(alloc)?;
-    let Opened {
-        inbox,
-        bell,
-        receiver,
-        sender,
-        own,
-        other: _other,
-    } = here;
-    let Opened {
-        inbox: away_inbox,
-        bell: away_bell,
-        receiver: _away_receiver,
-        sender: away_sender,
-        own: _away_own,
-        other: away_other,
-    } = away;
-    let mut mail = mail(
-        alloc,
-        Ends {
-            inbox: Receiver::new(&inbox, receiver),
-            bell: Ringer::new(&bell, own),
-            to: Sender::new(&away_inbox, away_sender),
-            rings: Ringer::new(&away_bell, away_other),
-            done: Ringer::new(&done, rings),
-        },
-    )?;
+    let mut mail = mail?;
     let first = agent_turn(rt, agent, port, gate, 1, &mut mail);
     let asked = port.calls.get();
-    let was_put = put_grant(rt, Sender::new(&inbox, sender));
+    let was_put = put_grant(rt, put);
     let second = agent_turn(rt, agent, port, gate, 1, &mut mail);
     let asked_again = port.calls.get();
     let left = waiting(rt, mail.into_receiver());
@@ -201,6 +174,23 @@ fn two_turns<R: Wait + Clock>(
     })
 }
 
+/// The same over inboxes and bells of their own. `None` where a request for memory was refused.
+fn two_turns_by_mail<R: Wait + Clock>(
+    rt: &R,
+    alloc: Global,
+    agent: &mut Agent<'_>,
+    port: &mut Refuser,
+    gate: &Counts,
+) -> Option<Seen> {
+    let (here, key, put_key) = open(alloc, 8)?;
+    let (away, _away_key, to_away) = open(alloc, 8)?;
+    let (done, rings, _hears) = open_bell(alloc)?;
+    let done = Ringer::new(&done, rings);
+    let mail = mail(alloc, inside(&here, key), outside(&away, to_away), done);
+    let (put, _bell) = outside(&here, put_key);
+    two_turns(rt, agent, port, gate, mail, put)
+}
+
 /// The two turns of an agent with one load to do.
 fn observed<R: Wait + Clock>(rt: &R, alloc: Global, gate: &Counts) -> Result<Seen, Fail> {
     let geometry = Geometry::new(NUMBERS)?;
@@ -210,7 +200,7 @@ fn observed<R: Wait + Clock>(rt: &R, alloc: Global, gate: &Counts) -> Result<See
     let mut port = Refuser {
         calls: Cell::new(0),
     };
-    let seen = two_turns(rt, alloc, &mut agent, &mut port, gate);
+    let seen = two_turns_by_mail(rt, alloc, &mut agent, &mut port, gate);
     Ok(seen.ok_or("no memory")?)
 }
 

@@ -9,25 +9,18 @@ use std::alloc::Global;
 use tl_client::{Mail, Sending};
 use tl_tickets::{Bell, Inbox, Pass, Receiver, Ringer, Seat, Sender};
 
-/// An inbox with its receiver's pass and one sender's, and a bell with two seats.
+/// A worker's inbox and bell. Its ends lend them.
 #[derive(Drop)]
-pub struct Opened {
+pub struct Room {
     pub inbox: Inbox,
     pub bell: Bell,
-    pub receiver: Pass,
-    pub sender: Pass,
-    pub own: Seat,
-    pub other: Seat,
 }
 
-/// The ends that one worker's mail is made of.
+/// A pass of a room's inbox and a seat at its bell.
 #[derive(Drop)]
-pub struct Ends<'a> {
-    pub inbox: Receiver<'a>,
-    pub bell: Ringer<'a>,
-    pub to: Sender<'a>,
-    pub rings: Ringer<'a>,
-    pub done: Ringer<'a>,
+pub struct Key {
+    pub pass: Pass,
+    pub seat: Seat,
 }
 
 /// One of a bell's seats.
@@ -61,43 +54,66 @@ fn open_inbox(alloc: Global, capacity: usize) -> Option<(Inbox, Pass, Pass)>
     Some((inbox, receiver, sender))
 }
 
-/// A receiver's inbox and bell, for one sender.
-pub fn open(alloc: Global, capacity: usize) -> Option<Opened>
+/// A room, the key of its own worker, and that of the one who sends to it.
+pub fn open(alloc: Global, capacity: usize) -> Option<(Room, Key, Key)>
     requires { (0 < capacity) × (capacity ≤ 4096) }
-    ensures { IfSome result
-        (λ made. IsReceiverOf made.inbox made.receiver × IsSenderOf made.inbox made.sender × IsSeatOf made.bell made.own × IsSeatOf made.bell made.other) }
+    ensures own { IfSome result (λ made. IsReceiverOf made.0.inbox made.1.pass × IsSeatOf made.0.bell made.1.seat) }
+    ensures other { IfSome result (λ made. IsSenderOf made.0.inbox made.2.pass × IsSeatOf made.0.bell made.2.seat) }
 {
     let (inbox, receiver, sender) = open_inbox(alloc, capacity)?;
     let (bell, own, other) = open_bell(alloc)?;
-    Some(Opened {
-        inbox,
-        bell,
-        receiver,
-        sender,
-        own,
-        other,
-    })
+    Some((
+        Room { inbox, bell },
+        Key {
+            pass: receiver,
+            seat: own,
+        },
+        Key {
+            pass: sender,
+            seat: other,
+        },
+    ))
+}
+
+/// The ends of a room's own worker.
+pub fn inside<'a>(room: &'a Room, key: Key) -> (Receiver<'a>, Ringer<'a>)
+    requires { IsReceiverOf room.now.inbox key.pass × IsSeatOf room.now.bell key.seat }
+{
+    let Key { pass, seat } = key;
+    (
+        Receiver::new(&room.inbox, pass),
+        Ringer::new(&room.bell, seat),
+    )
+}
+
+/// The ends of the one who sends to a room.
+pub fn outside<'a>(room: &'a Room, key: Key) -> (Sender<'a>, Ringer<'a>)
+    requires { IsSenderOf room.now.inbox key.pass × IsSeatOf room.now.bell key.seat }
+{
+    let Key { pass, seat } = key;
+    (
+        Sender::new(&room.inbox, pass),
+        Ringer::new(&room.bell, seat),
+    )
 }
 
 /// The way to one other.
 pub fn way<'a>(
     alloc: Global,
-    to: Sender<'a>,
-    rings: Ringer<'a>,
+    to: (Sender<'a>, Ringer<'a>),
     rest: &Unparker,
 ) -> Option<Sending<'a>> {
     let rest = rest.clone().ok()?;
-    Sending::new(alloc, to, rings, rest).ok()
+    Sending::new(alloc, to.0, to.1, rest).ok()
 }
 
 /// The only way of a worker that sends to one other.
 fn only_way<'a>(
     alloc: Global,
-    to: Sender<'a>,
-    rings: Ringer<'a>,
+    to: (Sender<'a>, Ringer<'a>),
     rest: &Unparker,
 ) -> Option<Vec<Sending<'a>>> {
-    let way = way(alloc, to, rings, rest)?;
+    let way = way(alloc, to, rest)?;
     let mut ways = Vec::new(alloc);
     ways.push(way).ok()?;
     Some(ways)
@@ -105,26 +121,37 @@ fn only_way<'a>(
 
 /// The mail of a worker that sends to one other. One thread plays all workers, so that a ring need wake nobody: each way
 /// wakes the sender.
-pub fn mail<'a>(alloc: Global, ends: Ends<'a>) -> Option<Mail<'a>> {
+pub fn mail<'a>(
+    alloc: Global,
+    own: (Receiver<'a>, Ringer<'a>),
+    to: (Sender<'a>, Ringer<'a>),
+    done: Ringer<'a>,
+) -> Option<Mail<'a>> {
     let parker = Parker::new(alloc).ok()?;
-    let Ends {
-        inbox,
-        bell,
-        to,
-        rings,
-        done,
-    } = ends;
-    let ways = only_way(alloc, to, rings, parker.unparker())?;
-    Some(Mail::new(inbox, bell, ways, done, parker))
+    let ways = only_way(alloc, to, parker.unparker())?;
+    Some(Mail::new(own.0, own.1, ways, done, parker))
 }
 
-/// The mails of two workers.
+/// The mails of two workers that send to one another: over each one's room, with the keys of the room's own worker and of the one
+/// who sends to it, and over the done bell.
 pub fn two_mails<'a>(
     alloc: Global,
-    one: Ends<'a>,
-    other: Ends<'a>,
-) -> Option<(Mail<'a>, Mail<'a>)> {
-    let first = mail(alloc, one)?;
-    let second = mail(alloc, other)?;
+    one: (&'a Room, Key, Key),
+    other: (&'a Room, Key, Key),
+    done: (&'a Bell, Seat, Seat),
+) -> Option<(Mail<'a>, Mail<'a>)>
+    requires own { IsReceiverOf one.0.now.inbox one.1.pass × IsSeatOf one.0.now.bell one.1.seat }
+    requires to_one { IsSenderOf one.0.now.inbox one.2.pass × IsSeatOf one.0.now.bell one.2.seat }
+    requires others { IsReceiverOf other.0.now.inbox other.1.pass × IsSeatOf other.0.now.bell other.1.seat }
+    requires to_other { IsSenderOf other.0.now.inbox other.2.pass × IsSeatOf other.0.now.bell other.2.seat }
+    requires done { IsSeatOf done.0.now done.1 × IsSeatOf done.0.now done.2 }
+{
+    let (one, one_key, to_one) = one;
+    let (other, other_key, to_other) = other;
+    let (bell, rings, hears) = done;
+    let done = Ringer::new(bell, rings);
+    let first = mail(alloc, inside(one, one_key), outside(other, to_other), done)?;
+    let done = Ringer::new(bell, hears);
+    let second = mail(alloc, inside(other, other_key), outside(one, to_one), done)?;
     Some((first, second))
 }

@@ -3,7 +3,7 @@ ghost use Rattle.std.specs.Prelude.{◌≡◌, ◌++◌, ◌∷◌, [], MatchRes
 ghost use Rattle.tl_bank_spec.specs.declared.refusal.Refusal.TheVariants.{Memory as NoMemory};
 ghost use Rattle.tl_client.specs.Homes.{asked};
 
-use crate::mails::{Ends, Opened, mail, open, open_bell};
+use crate::mails::{inside, mail, open, open_bell, outside};
 use crate::turns::home_turn;
 use arrayvec::ArrayVec;
 use std::alloc::Global;
@@ -14,7 +14,7 @@ use std::test::Fail;
 use std::time::Clock;
 use tl_bank::{Action, Refusal, Reply};
 use tl_client::{Asked, Free, Home, HomePort, Mail, Turn};
-use tl_tickets::{Receiver, Ringer, Sender};
+use tl_tickets::{Ringer, Sender};
 use tl_types::{BankNo, BlockNo, Channel, ClientId, Ticket};
 
 /// A port to no bank: it counts its calls, keeps what was asked, and on channel A refuses, or has no memory, as long as
@@ -230,56 +230,59 @@ fn asks_once_at_the_end<R: Wait + Clock + Abort>(
     assert_eq!(rt; port.calls.get(), calls.saturating_add(1));
 }
 
-/// All turns of a home over inboxes and bells of its own, in order. `None` where a request for memory was refused.
-fn take_turns<R: Wait + Clock + Abort>(
+/// All turns of a home, in order.
+fn all_turns<R: Wait + Clock + Abort>(
+    rt: &R,
+    home: &mut Home,
+    port: &mut Recorder,
+    mail: &mut Mail<'_>,
+    put: &mut Sender<'_>,
+    bell: &mut Ringer<'_>,
+    done: &mut Ringer<'_>,
+) {
+    starts(rt, home, port, mail);
+    let all_were_put = put_all(rt, put);
+    assert!(rt; all_were_put);
+    // Tickets that nobody rang for stay in the inbox.
+    assert_eq!(rt; take_turn(rt, home, port, mail), Turn::Idle);
+    assert_eq!(rt; port.calls.get(), 1);
+    bell.ring();
+    serves_in_order(rt, home, port, mail);
+    goes_on_after_memory(rt, home, port, mail, put, bell);
+    done.ring();
+    asks_once_at_the_end(rt, home, port, mail);
+}
+
+/// The turns of a home with its mail.
+fn turns_with<R: Wait + Clock + Abort>(
+    rt: &R,
+    home: &mut Home,
+    port: &mut Recorder,
+    mail: Option<Mail<'_>>,
+    put: (Sender<'_>, Ringer<'_>),
+    done: Ringer<'_>,
+) -> Option<()> {
+    let mut mail = mail?;
+    let (mut put, mut bell) = put;
+    let mut done = done;
+    all_turns(rt, home, port, &mut mail, &mut put, &mut bell, &mut done);
+    Some(())
+}
+
+/// The turns of a home over inboxes and bells of its own. `None` where a request for memory was refused.
+fn turns_by_mail<R: Wait + Clock + Abort>(
     rt: &R,
     alloc: Global,
     home: &mut Home,
     port: &mut Recorder,
 ) -> Option<()> {
-    let here = open(alloc, 8)?;
-    let away = open(alloc, 8)?;
+    let (here, key, put_key) = open(alloc, 8)?;
+    let (away, _away_key, to_away) = open(alloc, 8)?;
     let (done, hears, rings) = open_bell(alloc)?;
-    let Opened {
-        inbox,
-        bell,
-        receiver,
-        sender,
-        own,
-        other,
-    } = here;
-    let Opened {
-        inbox: away_inbox,
-        bell: away_bell,
-        receiver: _away_receiver,
-        sender: away_sender,
-        own: _away_own,
-        other: away_other,
-    } = away;
-    let mut mail = mail(
-        alloc,
-        Ends {
-            inbox: Receiver::new(&inbox, receiver),
-            bell: Ringer::new(&bell, own),
-            to: Sender::new(&away_inbox, away_sender),
-            rings: Ringer::new(&away_bell, away_other),
-            done: Ringer::new(&done, hears),
-        },
-    )?;
-    starts(rt, home, port, &mut mail);
-    let mut put = Sender::new(&inbox, sender);
-    let all_were_put = put_all(rt, &mut put);
-    assert!(rt; all_were_put);
-    // Tickets that nobody rang for stay in the inbox.
-    assert_eq!(rt; take_turn(rt, home, port, &mut mail), Turn::Idle);
-    assert_eq!(rt; port.calls.get(), 1);
-    let mut bell = Ringer::new(&bell, other);
-    bell.ring();
-    serves_in_order(rt, home, port, &mut mail);
-    goes_on_after_memory(rt, home, port, &mut mail, &mut put, &mut bell);
-    Ringer::new(&done, rings).ring();
-    asks_once_at_the_end(rt, home, port, &mut mail);
-    Some(())
+    let hears = Ringer::new(&done, hears);
+    let mail = mail(alloc, inside(&here, key), outside(&away, to_away), hears);
+    let put = outside(&here, put_key);
+    turns_with(rt, home, port, mail, put, Ringer::new(&done, rings))
 }
 
 #[test]
@@ -293,7 +296,7 @@ fn a_home_asks_in_order_and_idles_quietly(rt: HostRuntime) -> Result<(), Fail> {
         advanced: Vec::new(rt.alloc()),
     };
     let mut home = Home::new(rt.alloc(), BankNo::new(0))?;
-    let all = take_turns(&rt, rt.alloc(), &mut home, &mut port);
+    let all = turns_by_mail(&rt, rt.alloc(), &mut home, &mut port);
     assert!(rt; all.is_some());
     Ok(())
 }

@@ -1,6 +1,6 @@
 //! One client and one bank, turn by turn in one thread.
 use crate::counts::Counts;
-use crate::mails::{Ends, Opened, open, open_bell, two_mails};
+use crate::mails::{open, open_bell, two_mails};
 use crate::turns::{bank_of, play_out};
 use std::alloc::Global;
 use std::process::Abort;
@@ -8,10 +8,9 @@ use std::sync::Wait;
 use std::test::Fail;
 use std::time::Clock;
 use tl_bank::{Bank, Share};
-use tl_client::{Agent, Command, Locked, Turn};
+use tl_client::{Agent, Command, Locked, Mail, Turn};
 use tl_map::{Geometry, GeometryNumbers};
 use tl_text::Answered;
-use tl_tickets::{Receiver, Ringer, Sender};
 use tl_types::{AccessBytes, BankNo, BlockNo, ClientId, Perm};
 
 /// One client with one copy, one bank with one way and one register, and four blocks of eight bytes.
@@ -48,54 +47,39 @@ fn lock(alloc: Global, geometry: Geometry) -> Option<(Locked, Vec<Share>)> {
     Some((locked, shares))
 }
 
-/// The turns of the agent and of the home over inboxes and bells, and whether both finished.
+/// The turns of the agent and of the home with their mails, and whether both finished.
 fn exchange<R: Wait + Clock>(
     rt: &R,
     alloc: Global,
     locked: &Locked,
     gate: &Counts,
     agent: &mut Agent<'_>,
+    mails: Option<(Mail<'_>, Mail<'_>)>,
 ) -> Option<bool> {
-    let client = open(alloc, 8)?;
-    let home = open(alloc, 8)?;
-    let (done, rings, hears) = open_bell(alloc)?;
-    let Opened {
-        inbox,
-        bell,
-        receiver,
-        sender,
-        own,
-        other,
-    } = client;
-    let Opened {
-        inbox: home_inbox,
-        bell: home_bell,
-        receiver: home_receiver,
-        sender: home_sender,
-        own: home_own,
-        other: home_other,
-    } = home;
-    let (mut client_mail, mut home_mail) = two_mails(
-        alloc,
-        Ends {
-            inbox: Receiver::new(&inbox, receiver),
-            bell: Ringer::new(&bell, own),
-            to: Sender::new(&home_inbox, home_sender),
-            rings: Ringer::new(&home_bell, home_other),
-            done: Ringer::new(&done, rings),
-        },
-        Ends {
-            inbox: Receiver::new(&home_inbox, home_receiver),
-            bell: Ringer::new(&home_bell, home_own),
-            to: Sender::new(&inbox, sender),
-            rings: Ringer::new(&bell, other),
-            done: Ringer::new(&done, hears),
-        },
-    )?;
-    let client = ClientId::new(0);
-    let agent = (&mut *agent, client, &mut client_mail);
+    let (mut client_mail, mut home_mail) = mails?;
+    let agent = (&mut *agent, ClientId::new(0), &mut client_mail);
     let last = play_out(rt, alloc, locked, gate, agent, &mut home_mail, 1)?;
     Some(last == (Turn::Finished, Turn::Finished))
+}
+
+/// The same over inboxes and bells of their own.
+fn exchange_by_mail<R: Wait + Clock>(
+    rt: &R,
+    alloc: Global,
+    locked: &Locked,
+    gate: &Counts,
+    agent: &mut Agent<'_>,
+) -> Option<bool> {
+    let (client, client_key, to_client) = open(alloc, 8)?;
+    let (home, home_key, to_home) = open(alloc, 8)?;
+    let (done, rings, hears) = open_bell(alloc)?;
+    let mails = two_mails(
+        alloc,
+        (&client, client_key, to_client),
+        (&home, home_key, to_home),
+        (&done, rings, hears),
+    );
+    exchange(rt, alloc, locked, gate, agent, mails)
 }
 
 fn first_byte(answered: &Answered) -> Option<u8> {
@@ -113,7 +97,7 @@ fn answers<R: Wait + Clock>(
     shares: Vec<Share>,
 ) -> Option<(usize, Option<u8>)> {
     let mut agent = Agent::new(alloc, ClientId::new(0), geometry, commands, shares).ok()?;
-    let has_finished = exchange(rt, alloc, locked, gate, &mut agent)?;
+    let has_finished = exchange_by_mail(rt, alloc, locked, gate, &mut agent)?;
     let (answered, _shares) = agent.into_parts();
     if has_finished {
         Some((answered.len(), answered.last().and_then(first_byte)))

@@ -1,5 +1,8 @@
 //! A client that holds a block and has no thread: the others wait for ever, and nothing is broken.
-use crate::mails::{Ends, Opened, mail, open, open_bell, way};
+ghost use Rattle.tl_tickets.specs.Inbox.{IsReceiverOf, IsSenderOf};
+ghost use Rattle.tl_tickets.specs.Bell.{IsSeatOf};
+
+use crate::mails::{Key, Room, inside, mail, open, open_bell, outside, way};
 use crate::turns::{bank_of, play_out};
 use crossbeam_utils::sync::{Parker, Unparker};
 use std::alloc::Global;
@@ -12,7 +15,7 @@ use tl_client::{Agent, Command, Free, Locked, Mail, Sending, Turn};
 use tl_map::{Geometry, GeometryNumbers};
 use tl_protocol::Shape;
 use tl_rules::Plain;
-use tl_tickets::{Receiver, Ringer, Sender};
+use tl_tickets::{Bell, Receiver, Ringer, Seat, Sender};
 use tl_types::{BankNo, BlockNo, ClientId, Grow, Perm};
 
 /// Two clients, one bank with one way and one register, and two blocks of eight bytes.
@@ -55,12 +58,13 @@ fn fetch(bank: &mut Bank, share: &mut Share) -> Result<(), Refusal> {
     Ok(())
 }
 
-/// Whether the bank's log, applied to the plain map, leaves what the bank shows of both clients and blocks.
-fn replays(alloc: Global, bank: &Bank) -> Result<bool, Fail> {
-    let mut plain = Plain::new(alloc, SHAPE, &[])?;
+/// Whether the bank's log, applied to the plain map, leaves what the bank shows of both clients and blocks. `None` where
+/// a request for memory was refused.
+fn replays(alloc: Global, bank: &Bank) -> Option<bool> {
+    let mut plain = Plain::new(alloc, SHAPE, &[]).ok()?;
     for event in bank.log() {
         if plain.apply(event).is_err() {
-            return Ok(false);
+            return Some(false);
         }
     }
     for client in 0..2 {
@@ -68,11 +72,11 @@ fn replays(alloc: Global, bank: &Bank) -> Result<bool, Fail> {
             let client = ClientId::new(client);
             let block = BlockNo::new(block);
             if plain.perm(client, block) != bank.perm(client, block) {
-                return Ok(false);
+                return Some(false);
             }
         }
     }
-    Ok(true)
+    Some(true)
 }
 
 /// The bank at reset, and the shares of client 0 and client 1.
@@ -95,16 +99,6 @@ fn lock(alloc: Global, geometry: Geometry) -> Option<(Locked, Vec<Share>)> {
     Some((locked, shares))
 }
 
-/// The ends that a home's mail to two clients is made of.
-#[derive(Drop)]
-struct HomeEnds<'a> {
-    inbox: Receiver<'a>,
-    bell: Ringer<'a>,
-    to_silent: (Sender<'a>, Ringer<'a>),
-    to_waiting: (Sender<'a>, Ringer<'a>),
-    done: Ringer<'a>,
-}
-
 /// The ways of a home to its two clients, in order.
 fn both_ways<'a>(
     alloc: Global,
@@ -112,8 +106,8 @@ fn both_ways<'a>(
     second: (Sender<'a>, Ringer<'a>),
     rest: &Unparker,
 ) -> Option<Vec<Sending<'a>>> {
-    let first = way(alloc, first.0, first.1, rest)?;
-    let second = way(alloc, second.0, second.1, rest)?;
+    let first = way(alloc, first, rest)?;
+    let second = way(alloc, second, rest)?;
     let mut ways = Vec::new(alloc);
     ways.push(first).ok()?;
     ways.push(second).ok()?;
@@ -121,24 +115,64 @@ fn both_ways<'a>(
 }
 
 /// The mail of a home to its two clients. One thread plays both, so that a ring need wake nobody: each way wakes the home.
-fn home_mail<'a>(alloc: Global, ends: HomeEnds<'a>) -> Option<Mail<'a>> {
+fn home_mail<'a>(
+    alloc: Global,
+    own: (Receiver<'a>, Ringer<'a>),
+    to_silent: (Sender<'a>, Ringer<'a>),
+    to_waiting: (Sender<'a>, Ringer<'a>),
+    done: Ringer<'a>,
+) -> Option<Mail<'a>> {
     let parker = Parker::new(alloc).ok()?;
-    let HomeEnds {
-        inbox,
-        bell,
-        to_silent,
-        to_waiting,
-        done,
-    } = ends;
     let ways = both_ways(alloc, to_silent, to_waiting, parker.unparker())?;
-    Some(Mail::new(inbox, bell, ways, done, parker))
+    Some(Mail::new(own.0, own.1, ways, done, parker))
 }
 
 /// The mails of the client that waits and of the home.
-fn mails<'a>(alloc: Global, waiting: Ends<'a>, home: HomeEnds<'a>) -> Option<(Mail<'a>, Mail<'a>)> {
-    let first = mail(alloc, waiting)?;
-    let second = home_mail(alloc, home)?;
+fn mails<'a>(
+    alloc: Global,
+    silent: (&'a Room, Key),
+    waiting: (&'a Room, Key, Key),
+    home: (&'a Room, Key, Key),
+    done: (&'a Bell, Seat, Seat),
+) -> Option<(Mail<'a>, Mail<'a>)>
+    requires to_silent { IsSenderOf silent.0.now.inbox silent.1.pass × IsSeatOf silent.0.now.bell silent.1.seat }
+    requires waiting { IsReceiverOf waiting.0.now.inbox waiting.1.pass × IsSeatOf waiting.0.now.bell waiting.1.seat }
+    requires to_waiting { IsSenderOf waiting.0.now.inbox waiting.2.pass × IsSeatOf waiting.0.now.bell waiting.2.seat }
+    requires home { IsReceiverOf home.0.now.inbox home.1.pass × IsSeatOf home.0.now.bell home.1.seat }
+    requires to_home { IsSenderOf home.0.now.inbox home.2.pass × IsSeatOf home.0.now.bell home.2.seat }
+    requires done { IsSeatOf done.0.now done.1 × IsSeatOf done.0.now done.2 }
+{
+    let (waiting, waiting_key, to_waiting) = waiting;
+    let (home, home_key, to_home) = home;
+    let (bell, rings, hears) = done;
+    let done = Ringer::new(bell, rings);
+    let first = mail(
+        alloc,
+        inside(waiting, waiting_key),
+        outside(home, to_home),
+        done,
+    )?;
+    let second = home_mail(
+        alloc,
+        inside(home, home_key),
+        outside(silent.0, silent.1),
+        outside(waiting, to_waiting),
+        Ringer::new(bell, hears),
+    )?;
     Some((first, second))
+}
+
+/// The turns of client 1's agent and of the home with their mails.
+fn wait<R: Wait + Clock>(
+    rt: &R,
+    alloc: Global,
+    locked: &Locked,
+    agent: &mut Agent<'_>,
+    mails: Option<(Mail<'_>, Mail<'_>)>,
+) -> Option<(Turn, Turn)> {
+    let (mut client_mail, mut home_mail) = mails?;
+    let agent = (&mut *agent, ClientId::new(1), &mut client_mail);
+    play_out(rt, alloc, locked, &Free, agent, &mut home_mail, 2)
 }
 
 /// The turns of client 1's agent and of the home, while client 0 is silent.
@@ -148,56 +182,18 @@ fn wait_for_the_silent<R: Wait + Clock>(
     locked: &Locked,
     agent: &mut Agent<'_>,
 ) -> Option<(Turn, Turn)> {
-    let silent = open(alloc, 8)?;
-    let waiting = open(alloc, 8)?;
-    let home = open(alloc, 8)?;
+    let (silent, _silent_key, to_silent) = open(alloc, 8)?;
+    let (waiting, waiting_key, to_waiting) = open(alloc, 8)?;
+    let (home, home_key, to_home) = open(alloc, 8)?;
     let (done, rings, hears) = open_bell(alloc)?;
-    let Opened {
-        inbox: silent_inbox,
-        bell: silent_bell,
-        receiver: _silent_receiver,
-        sender: silent_sender,
-        own: _silent_own,
-        other: silent_other,
-    } = silent;
-    let Opened {
-        inbox,
-        bell,
-        receiver,
-        sender,
-        own,
-        other,
-    } = waiting;
-    let Opened {
-        inbox: home_inbox,
-        bell: home_bell,
-        receiver: home_receiver,
-        sender: home_sender,
-        own: home_own,
-        other: home_other,
-    } = home;
-    let (mut client_mail, mut home_mail) = mails(
+    let mails = mails(
         alloc,
-        Ends {
-            inbox: Receiver::new(&inbox, receiver),
-            bell: Ringer::new(&bell, own),
-            to: Sender::new(&home_inbox, home_sender),
-            rings: Ringer::new(&home_bell, home_other),
-            done: Ringer::new(&done, rings),
-        },
-        HomeEnds {
-            inbox: Receiver::new(&home_inbox, home_receiver),
-            bell: Ringer::new(&home_bell, home_own),
-            to_silent: (
-                Sender::new(&silent_inbox, silent_sender),
-                Ringer::new(&silent_bell, silent_other),
-            ),
-            to_waiting: (Sender::new(&inbox, sender), Ringer::new(&bell, other)),
-            done: Ringer::new(&done, hears),
-        },
-    )?;
-    let agent = (&mut *agent, ClientId::new(1), &mut client_mail);
-    play_out(rt, alloc, locked, &Free, agent, &mut home_mail, 2)
+        (&silent, to_silent),
+        (&waiting, waiting_key, to_waiting),
+        (&home, home_key, to_home),
+        (&done, rings, hears),
+    );
+    wait(rt, alloc, locked, agent, mails)
 }
 
 /// What is seen once client 1 has waited: whether its agent or the home finished, how many answers it got, what each client may do with
@@ -228,15 +224,20 @@ fn waited<R: Wait + Clock>(
     Some((has_finished, answered.len()))
 }
 
+/// The bank once client 1 has waited, whether its agent or the home finished, and how many answers the agent had.
+fn bank_after<R: Wait + Clock>(rt: &R, alloc: Global) -> Option<(Bank, bool, usize)> {
+    let geometry = Geometry::new(NUMBERS).ok()?;
+    let (locked, shares) = lock(alloc, geometry)?;
+    let (has_finished, answered) = waited(rt, alloc, &locked, geometry, shares)?;
+    let bank = bank_of(alloc, locked)?;
+    Some((bank, has_finished, answered))
+}
+
 /// What is seen of a load of block 0 by client 1, for which the home waits for client 0.
-fn observed<R: Wait + Clock>(rt: &R, alloc: Global) -> Result<Seen, Fail> {
-    let geometry = Geometry::new(NUMBERS)?;
-    let (locked, shares) = lock(alloc, geometry).ok_or("no memory")?;
-    let waited = waited(rt, alloc, &locked, geometry, shares);
-    let bank = bank_of(alloc, locked).ok_or("no bank")?;
+fn observed<R: Wait + Clock>(rt: &R, alloc: Global) -> Option<Seen> {
+    let (bank, has_finished, answered) = bank_after(rt, alloc)?;
     let replays = replays(alloc, &bank)?;
-    let (has_finished, answered) = waited.ok_or("no memory")?;
-    Ok(Seen {
+    Some(Seen {
         has_finished,
         answered,
         of_the_silent: bank.perm(ClientId::new(0), BlockNo::new(0)),
@@ -248,7 +249,7 @@ fn observed<R: Wait + Clock>(rt: &R, alloc: Global) -> Result<Seen, Fail> {
 
 #[test]
 fn nothing_is_answered_and_nothing_broken(rt: HostRuntime) -> Result<(), Fail> {
-    let seen = observed(&rt, rt.alloc())?;
+    let seen = observed(&rt, rt.alloc()).ok_or("no memory")?;
     assert!(rt; !seen.has_finished);
     assert_eq!(rt; seen.answered, 0);
     assert!(rt; seen.replays);
