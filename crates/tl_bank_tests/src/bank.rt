@@ -39,9 +39,8 @@ fn ticket(bank: u32, number: u32, channel: Channel, serial: u64) -> Ticket {
     }
 }
 
-#[test]
-fn a_bank_starts_with_nothing(rt: HostRuntime) -> Result<(), Fail> {
-    let session = Session::of(rt.alloc(), NUMBERS, 0, &[1, 2, 3])?;
+/// What a new bank shows.
+fn starts<R: Abort>(rt: &R, session: &Session) {
     assert_eq!(rt; session.events(), 0);
     assert_eq!(rt; session.image(), [1, 2, 3].as_slice());
     assert_eq!(rt; session.perm(client(1), block(3)), Perm::None);
@@ -51,12 +50,17 @@ fn a_bank_starts_with_nothing(rt: HostRuntime) -> Result<(), Fail> {
         session.shares().as_slice(),
         [(0, 0, 0), (1, 0, 0)].as_slice()
     );
-    Ok(())
 }
 
 #[test]
-fn acquires_are_asked_once_and_fill_the_table(rt: HostRuntime) -> Result<(), Fail> {
-    let mut session = Session::new(rt.alloc(), NUMBERS)?;
+fn a_bank_starts_with_nothing(rt: HostRuntime) -> Result<(), Fail> {
+    let session = Session::of(rt.alloc(), NUMBERS, 0, &[1, 2, 3])?;
+    starts(&rt, &session);
+    Ok(())
+}
+
+/// Acquires that are refused, and three that are sent.
+fn acquire_all<R: Abort>(rt: &R, session: &mut Session) {
     assert!(rt; session.reserve_steps(2).is_ok());
     assert!(rt; session.room() >= 2);
     for (number, wanted, grow, answer) in [
@@ -76,6 +80,12 @@ fn acquires_are_asked_once_and_fill_the_table(rt: HostRuntime) -> Result<(), Fai
     }
     assert_eq!(rt; session.events(), 3);
     assert_eq!(rt; session.perm(client(0), block(0)), Perm::None);
+}
+
+#[test]
+fn acquires_are_asked_once_and_fill_the_table(rt: HostRuntime) -> Result<(), Fail> {
+    let mut session = Session::new(rt.alloc(), NUMBERS)?;
+    acquire_all(&rt, &mut session);
     Ok(())
 }
 
@@ -135,9 +145,8 @@ fn another_bank_refuses_blocks_and_tickets(rt: HostRuntime) -> Result<(), Fail> 
     Ok(())
 }
 
-#[test]
-fn tickets_are_looked_at_in_order(rt: HostRuntime) -> Result<(), Fail> {
-    let mut session = Session::new(rt.alloc(), NUMBERS)?;
+/// Tickets that are refused, each for the first thing that is wrong with it.
+fn show_tickets<R: Abort>(rt: &R, session: &mut Session) {
     for (named, refusal) in [
         (ticket(0, 2, Channel::D, 0), Refusal::OutOfRange),
         (ticket(1, 0, Channel::D, 0), Refusal::WrongBank),
@@ -159,12 +168,17 @@ fn tickets_are_looked_at_in_order(rt: HostRuntime) -> Result<(), Fail> {
         [(0, 0, 0), (1, 0, 0)].as_slice()
     );
     assert_eq!(rt; session.events(), 0);
-    Ok(())
 }
 
 #[test]
-fn shares_are_looked_at_in_order(rt: HostRuntime) -> Result<(), Fail> {
+fn tickets_are_looked_at_in_order(rt: HostRuntime) -> Result<(), Fail> {
     let mut session = Session::new(rt.alloc(), NUMBERS)?;
+    show_tickets(&rt, &mut session);
+    Ok(())
+}
+
+/// Shares that are refused, and one that is not.
+fn show_shares<R: Abort>(rt: &R, session: &mut Session) {
     for (holder, refusal) in [(0, Refusal::NothingThere), (1, Refusal::OutOfRange)] {
         assert_eq!(rt;
             session.take_grant(ticket(0, 0, Channel::D, 0), client(holder)),
@@ -187,6 +201,12 @@ fn shares_are_looked_at_in_order(rt: HostRuntime) -> Result<(), Fail> {
         [(0, 0, 0), (1, 0, 0)].as_slice()
     );
     assert_eq!(rt; session.events(), 1);
+}
+
+#[test]
+fn shares_are_looked_at_in_order(rt: HostRuntime) -> Result<(), Fail> {
+    let mut session = Session::new(rt.alloc(), NUMBERS)?;
+    show_shares(&rt, &mut session);
     Ok(())
 }
 

@@ -135,10 +135,8 @@ fn fill_and_store() -> [(Call, Answer); 9] {
     ]
 }
 
-#[test]
-fn a_clock_at_its_end_is_refused(rt: HostRuntime) -> Result<(), Fail> {
-    let mut session = Session::new(rt.alloc(), NUMBERS)?;
-    session.play(&fill_and_store())?;
+/// Accesses at the end of the clock are refused and change nothing; one before it is not.
+fn access_at_the_end<R: Abort>(rt: &R, session: &mut Session) {
     let before = session.shown();
     let end = When {
         clock: u64::MAX,
@@ -159,26 +157,37 @@ fn a_clock_at_its_end_is_refused(rt: HostRuntime) -> Result<(), Fail> {
         index: 7,
     };
     assert_eq!(rt; session.store(client(0), 0, &[1], last), Ok(42));
+}
+
+#[test]
+fn a_clock_at_its_end_is_refused(rt: HostRuntime) -> Result<(), Fail> {
+    let mut session = Session::new(rt.alloc(), NUMBERS)?;
+    session.play(&fill_and_store())?;
+    access_at_the_end(&rt, &mut session);
     Ok(())
 }
 
-/// Two steps need no memory where there is room for them; the first later one whose growth is refused changes nothing.
-#[test]
-fn room_for_two_steps(rt: HostRuntime) -> Result<(), Fail> {
-    let mut session = Session::new(rt.alloc(), NUMBERS)?;
-    if session.reserve_steps(2).is_err() {
-        return Ok(());
-    }
+/// Makes the calls up to the first whose growth is refused: none of the first two is, and that one changes nothing.
+fn call_in_room<R: Abort>(rt: &R, session: &mut Session) {
     let mut made = 0u32;
     for (call, answer) in &fill_and_store() {
         let before = session.shown();
         let given = session.ask(*call);
         if made >= 2 && given == Err(Refusal::Memory) {
             assert_eq!(rt; session.shown(), before);
-            return Ok(());
+            return;
         }
         assert!(rt; given == *answer);
         made = made.saturating_add(1);
+    }
+}
+
+/// Two steps need no memory where there is room for them; the first later one whose growth is refused changes nothing.
+#[test]
+fn room_for_two_steps(rt: HostRuntime) -> Result<(), Fail> {
+    let mut session = Session::new(rt.alloc(), NUMBERS)?;
+    if session.reserve_steps(2).is_ok() {
+        call_in_room(&rt, &mut session);
     }
     Ok(())
 }
