@@ -1,10 +1,9 @@
 //! A client's port to the locked banks.
-ghost use Rattle.std.specs.Prelude.{◌≡◌, [], IfOk};
+ghost use Rattle.std.specs.Prelude.{◌≡◌, []};
 
 use crate::gate::{Gate, Who};
 use crate::locked::Locked;
 use crate::port::{Port, Success};
-use std::alloc::{AllocError, Global};
 use std::sync::{MutexGuard, Wait};
 use tl_bank::{Bank, Loaded, Refusal, Share, When};
 use tl_types::{AccessBytes, BankNo, BlockNo, ClientId, Grow, Perm, Prune, Ticket};
@@ -20,25 +19,24 @@ pub struct ClientPort<'a, R: Wait, G: Gate> {
 }
 
 impl<'a, R: Wait, G: Gate> ClientPort<'a, R, G> {
-    /// A port at which nothing has succeeded yet, with room for so many successes.
+    /// A port at which nothing has succeeded yet. Its successes take the place of what the list holds.
     pub(crate) fn new(
         rt: &'a R,
-        alloc: Global,
         locked: &'a Locked,
         gate: &'a G,
         client: ClientId,
-        commands: usize,
-    ) -> Result<ClientPort<'a, R, G>, AllocError>
-        ensures { IfOk result (λ p. p.successes.items ≡ []) }
+        mut successes: Vec<Success>,
+    ) -> ClientPort<'a, R, G>
+        ensures { result.successes.items ≡ [] }
     {
-        let successes = Vec::with_capacity(alloc, commands)?;
-        Ok(ClientPort {
+        successes.clear();
+        ClientPort {
             rt,
             locked,
             gate,
             client,
             successes,
-        })
+        }
     }
 
     /// Takes the lock of a bank, if there is one with this number.

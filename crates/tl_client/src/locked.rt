@@ -6,6 +6,7 @@ ghost use Rattle.tl_map.specs.Places.{block_of_address, has_block, place_of};
 use crate::bank_port::BankPort;
 use crate::client_port::ClientPort;
 use crate::gate::Gate;
+use crate::port::Success;
 use std::alloc::{AllocError, Global};
 use std::hint;
 use std::marker::Model;
@@ -106,16 +107,15 @@ impl Locked {
         }
     }
 
-    /// A port for a client, with room for the successes of so many commands.
+    /// A port for a client, at which nothing has succeeded yet. It keeps its successes in this list, which is emptied.
     pub fn client_port<'a, R: Wait, G: Gate>(
         &'a self,
         rt: &'a R,
-        alloc: Global,
         gate: &'a G,
         client: ClientId,
-        commands: usize,
-    ) -> Result<ClientPort<'a, R, G>, AllocError> {
-        ClientPort::new(rt, alloc, self, gate, client, commands)
+        successes: Vec<Success>,
+    ) -> ClientPort<'a, R, G> {
+        ClientPort::new(rt, self, gate, client, successes)
     }
 
     /// A port for the home of a bank, if there is one with this number, at which nothing was asked yet.

@@ -58,7 +58,7 @@ impl Requester {
         geometry: Geometry,
         shares: Vec<Share>,
     ) -> Result<Requester, AllocError> {
-        let room = BATCH.saturating_mul(shares.len()).saturating_add(BATCH);
+        let room = 2 * BATCH;
         Ok(Requester {
             client,
             geometry,

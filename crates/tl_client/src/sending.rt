@@ -10,8 +10,8 @@ use std::sync::Wait;
 use tl_tickets::{Ringer, Sender};
 use tl_types::Ticket;
 
-/// How many tickets one worker sends to another at most before they are served: 64 on each of three channels.
-pub const MOST_TICKETS: usize = 192;
+/// For how many tickets that are handed back a way has room from its making. An inbox hands back only what it has no room for.
+pub const BACK: usize = 8;
 
 /// The way to one receiver: its inbox, its bell, what ends its rest, and the tickets that the inbox handed back, oldest first.
 #[derive(Drop)]
@@ -32,20 +32,20 @@ impl<'a> Model for Sending<'a> {
 }
 
 impl<'a> Sending<'a> {
-    /// A way on which nothing was handed back, with room for all tickets that may be.
+    /// A way on which nothing was handed back. Room for more than so many tickets is made before they are sent.
     pub fn new(
         alloc: Global,
         inbox: Sender<'a>,
         bell: Ringer<'a>,
         rest: Unparker,
     ) -> Result<Sending<'a>, AllocError>
-        ensures { IfOk result (λ way. way ≡ record { inbox = inbox.entry; bell = bell.entry; back = []; room = MOST_TICKETS }) }
+        ensures { IfOk result (λ way. way ≡ record { inbox = inbox.entry; bell = bell.entry; back = []; room = BACK }) }
     {
         Ok(Sending {
             inbox,
             bell,
             rest,
-            back: VecDeque::with_capacity(alloc, MOST_TICKETS)?,
+            back: VecDeque::with_capacity(alloc, BACK)?,
         })
     }
 

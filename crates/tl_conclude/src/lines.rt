@@ -33,7 +33,7 @@ fn empty_lines(alloc: Global, commands: &[Command]) -> Result<Vec<Answered>, All
     ensures commands { IfOk result (λ lines. map (λ (line : Answered). line.command) lines.items ≡ commands.now) }
     ensures bytes { IfOk result (λ lines. map (λ (line : Answered). line.bytes) lines.items ≡ replicate (length commands.now) []) }
 {
-    let mut lines = Vec::new(alloc);
+    let mut lines = Vec::with_capacity(alloc, commands.len())?;
     for command in commands {
         lines.push(Answered {
             command: copied(command),

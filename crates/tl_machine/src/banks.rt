@@ -24,11 +24,12 @@ pub(crate) fn no_shares(alloc: Global, count: u32) -> Result<Vec<Vec<Share>>, Al
     Ok(lists)
 }
 
-/// The banks at reset over an image, and the shares of each client.
+/// The banks at reset over an image, each with room for so many events where there is memory for them, and the shares of each client.
 pub(crate) fn open_banks(
     alloc: Global,
     geometry: Geometry,
     image: &[u8],
+    events: usize,
 ) -> Result<Opened, AllocError>
     requires { length image.now ≤ geometry.memory_blocks * geometry.block_bytes }
     ensures { IfOk result (λ opened. vec_len opened.shares ≡ geometry.clients) }
@@ -36,7 +37,9 @@ pub(crate) fn open_banks(
     let mut banks = Vec::with_capacity(alloc, geometry.banks() as usize)?;
     let mut shares = no_shares(alloc, geometry.clients())?;
     for number in 0..geometry.banks() {
-        let (bank, given) = Bank::new(alloc, geometry, BankNo::new(number), image)?;
+        let (mut bank, given) = Bank::new(alloc, geometry, BankNo::new(number), image)?;
+        // Where this is refused, the log asks again as it grows.
+        let _ = bank.reserve_steps(events);
         banks.push(bank)?;
         for share in given {
             if let Some(list) = shares.get_mut(share.client().index()) {

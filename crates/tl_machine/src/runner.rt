@@ -23,6 +23,10 @@ use tl_types::{BANKS, BankNo, CLIENTS, ClientId};
 /// How many tickets an inbox of `run` holds.
 pub const CAPACITY: usize = 512;
 
+// So many events a command's share of a bank's log has room for ahead: one for a hit. A miss takes some twelve, and a log that lacks
+// room grows.
+const EVENTS: usize = 4;
+
 /// Runs a script's commands, with a thread for each client and one for each bank's home, and answers the report of their banks: all
 /// shares were given back, the banks' accesses carry out the script, and they are one memory's.
 pub fn run<R: Threads + Wait + Clock + Sync, G: Gate + Sync>(
@@ -53,11 +57,25 @@ pub fn run_sized<R: Threads + Wait + Clock + Sync, G: Gate + Sync>(
     ensures stalled { IfErr result (TellsTurns script.now.turns) }
 {
     let geometry = script.geometry();
-    let Opened { banks, shares } = open_banks(alloc, geometry, &script.image)?;
+    let Opened { banks, shares } = open_banks(
+        alloc,
+        geometry,
+        &script.image,
+        events_ahead(script),
+    )?;
     let locked = Locked::new(alloc, geometry, banks)?;
     let shares = run_locked(rt, alloc, script, gate, capacity, &locked, shares)?;
     let banks = locked.into_banks(alloc)?;
     concluded(alloc, script, &banks, &shares)
+}
+
+/// For how many events of a script's commands each bank makes room ahead.
+fn events_ahead(script: &Script) -> usize {
+    let mut commands: usize = 0;
+    for list in &script.commands {
+        commands = commands.saturating_add(list.len());
+    }
+    commands.saturating_mul(EVENTS) / (script.geometry().banks() as usize)
 }
 
 /// What `conclude` answers, as a run: it says nothing of which banks and shares these are.
@@ -139,7 +157,7 @@ fn client_worker<'s, 'x, 'y, G: Gate>(
     Ok(ClientWorker {
         shared,
         client,
-        commands: commands.len(),
+        successes: Vec::with_capacity(shared.alloc, commands.len())?,
         agent,
         mail: post.mail,
         stop: post.stop,

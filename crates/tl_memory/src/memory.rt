@@ -8,6 +8,7 @@ use crate::burst::Burst;
 use crate::request::{Reply, Request};
 use std::alloc::{AllocError, Global};
 use std::marker::Model;
+use std::mem;
 use tl_map::Geometry;
 use tl_types::{BankNo, BlockBytes, BlockNo};
 
@@ -245,7 +246,19 @@ fn lay_down(bytes: &mut Vec<u8>, len: usize)
     ensures items { bytes.new.items ≡ filled_up len bytes.old.items }
     ensures room { vec_capacity bytes.new ≡ vec_capacity bytes.old }
 {
+    let none = Vec::new(*bytes.allocator());
+    let owned = mem::replace(bytes, none);
+    *bytes = laid_down(owned, len);
+}
+
+// The bytes are owned, so that no other can be seen through them while they grow, and a row of them is laid down at once.
+fn laid_down(mut bytes: Vec<u8>, len: usize) -> Vec<u8>
+    requires { len ≤ vec_capacity bytes }
+    ensures items { result.items ≡ filled_up len bytes.items }
+    ensures room { vec_capacity result ≡ vec_capacity bytes }
+{
     'laying: while bytes.len() < len {
         bytes.push_reserved(0);
     }
+    bytes
 }

@@ -38,6 +38,16 @@ fn read_all<R: Read>(alloc: Global, reader: &mut R) -> Result<Vec<u8>, Fault>
     }
 }
 
+// The C library's allocator gives blocks back to the system as soon as they are free, but for those no larger than the largest that was
+// ever given back. So one of this many bytes is asked for and given back: what the reading of a script leaves free then serves the
+// run, whose pages the system need not lay down anew.
+const KEPT: usize = 480 * 1024;
+
+/// Has the allocator keep free blocks of up to `KEPT` bytes. Nothing depends on it but time.
+fn keep_free_blocks(alloc: Global) {
+    let _ = Vec::<u8>::with_capacity(alloc, KEPT);
+}
+
 /// The text of the answer: the words, the file, the script, the run or the trace, in this order.
 fn text<T: Threads + Wait + Clock + Sync, G: Gate + Sync, R: Read + Drop>(
     rt: &T,
@@ -53,9 +63,11 @@ fn text<T: Threads + Wait + Clock + Sync, G: Gate + Sync, R: Read + Drop>(
     ensures fault { IfErr result (λ fault. IsFaultOf job (option_map R.remaining file) fault) }
 {
     let job = job?;
+    keep_free_blocks(alloc);
     let mut reader = file.ok_or(Fault::File)?;
     let bytes = read_all(alloc, &mut reader)?;
     let script = read_script(alloc, &bytes)?;
+    drop(bytes);
     if job.traces {
         return Ok(trace(alloc, &script)?);
     }

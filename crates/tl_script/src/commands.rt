@@ -90,7 +90,7 @@ fn client_commands(
 ) -> Result<Vec<Command>, ScriptError>
     ensures { Gives (λ v. v.items) result (commands_of_client geometry client (texts all.now)) }
 {
-    let mut commands = Vec::new(alloc);
+    let mut commands = Vec::with_capacity(alloc, all.len())?;
     for (index, text) in all.iter().enumerate() {
         commands.push(command_at(geometry, client, index, text)?)?;
     }

@@ -69,7 +69,7 @@ pub fn texts_in(alloc: Global, key: Key, value: &Value) -> Result<Vec<&str>, Scr
 fn texts(alloc: Global, key: Key, items: &[Value]) -> Result<Vec<&str>, ScriptError>
     ensures { Gives (λ v. texts v.items) result (each (λ _ e. text_in key e) 0 (map view items.now)) }
 {
-    let mut texts = Vec::new(alloc);
+    let mut texts = Vec::with_capacity(alloc, items.len())?;
     for item in items {
         texts.push(text_in(key, item)?)?;
     }

@@ -5,6 +5,10 @@ use std::alloc::{AllocError, Global};
 use tl_types::AccessBytes;
 use tl_words::Command;
 
+// About how many bytes a line takes: four digits of a command's number, the verb, the address, eight bytes, and what lies between.
+// Room for the whole text is asked for at once, so that it is not moved as it grows.
+const LINE: usize = 40;
+
 /// A command that was answered, with the bytes that a load got or a store wrote; none for a drop.
 #[derive(Debug, Drop)]
 pub struct Answered {
@@ -31,11 +35,20 @@ impl Report {
     ghost use Rattle.std.specs.Prelude.{◌≡◌, IfOk, string_bytes};
     ghost use Rattle.tl_text.specs.Report.{report_text};
 
+    /// How many lines its text has, or about as many.
+    fn line_count(&self) -> usize {
+        let mut count = self.banks.len().saturating_add(1);
+        for answers in &self.clients {
+            count = count.saturating_add(answers.len()).saturating_add(1);
+        }
+        count
+    }
+
     /// The report as text, each line with a line feed at its end.
     pub fn text(&self, alloc: Global) -> Result<String, AllocError>
         ensures { IfOk result (λ text. string_bytes text ≡ report_text self.now) }
     {
-        let mut text = String::new(alloc);
+        let mut text = String::with_capacity(alloc, self.line_count().saturating_mul(LINE))?;
         report_lines::push_clients(&mut text, &self.clients)?;
         report_lines::push_banks(&mut text, &self.banks)?;
         text.push_str("ok\n")?;

@@ -1,5 +1,5 @@
 use Rattle.std.proofs.Common.{◌≡◌, ◌≤◌, ◌-◌, ◌++◌, max, replicate, vec_capacity, vec_len}
-use Rattle.tl_memory.proofs.memory.lay_down.Given as goal
+use Rattle.tl_memory.proofs.memory.laid_down.Given as goal
 
 abbrev pub invariant-laying : goal.invariant-laying
 invariant-laying l = record {
