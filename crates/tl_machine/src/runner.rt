@@ -23,9 +23,8 @@ use tl_types::{BANKS, BankNo, CLIENTS, ClientId};
 /// How many tickets an inbox of `run` holds.
 pub const CAPACITY: usize = 512;
 
-// So many events a command's share of a bank's log has room for ahead: one for a hit. A miss takes some twelve, and a log that lacks
-// room grows.
-const EVENTS: usize = 4;
+// For how many events of each command the banks' logs have room ahead. A hit is one; a miss that sends another block away some fifteen.
+const EVENTS: usize = 16;
 
 /// Runs a script's commands, with a thread for each client and one for each bank's home, and answers the report of their banks: all
 /// shares were given back, the banks' accesses carry out the script, and they are one memory's.
