@@ -38,8 +38,8 @@ fn read_all<R: Read>(alloc: Global, reader: &mut R) -> Result<Vec<u8>, Fault>
     }
 }
 
-// The C library's allocator gives blocks back to the system as soon as they are free, but for those no larger than the largest that was
-// ever given back. So one of this many bytes is asked for and given back: what the reading of a script leaves free then serves the
+// The C library's allocator gives a free block of 128 kilobytes and more back to the system, but for those no larger than the largest that
+// it gave back before. So one of this many bytes is asked for and given back: what the reading of a script leaves free then serves the
 // run, whose pages the system need not lay down anew.
 const KEPT: usize = 480 * 1024;
 
