@@ -24,7 +24,7 @@ word_in : (text : List ℕ) → 0 < length (words_of text)
 word_in text = omega (arith, length-slice_split (λ b. eqb b 32) text)
 
 -- a place that is not before the end is the end
-all_of : (text : List ℕ) → length text ≤ position_or_len (λ b. eqb b 32) text → position_or_len (λ b. eqb b 32) text ≡ length text
+pub all_of : (text : List ℕ) → length text ≤ position_or_len (λ b. eqb b 32) text → position_or_len (λ b. eqb b 32) text ≡ length text
 all_of text h = omega (arith, h, prefix_len-le-length (λ b. not (eqb b 32)) text)
 
 -- three tests that choose the same

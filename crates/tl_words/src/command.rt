@@ -1,6 +1,6 @@
 //! The commands of a client.
 
-use crate::words::{parse_access, parse_address, parse_len, split_word};
+use crate::words::{access_in, address_in, len_in, split_word};
 use tl_types::AccessBytes;
 
 /// What a client is to do.
@@ -24,46 +24,46 @@ impl Command {
     pub fn parse(text: &str) -> Option<Command>
         ensures { result ≡ command_of text.now }
     {
-        let (verb, arguments) = split_word(text);
+        let (verb, arguments) = split_word(text.as_bytes());
         let arguments = arguments?;
         match verb {
-            "load" => Command::load(arguments),
-            "store" => Command::store(arguments),
-            "drop" => Command::drop_copy(arguments),
+            b"load" => Command::load(arguments),
+            b"store" => Command::store(arguments),
+            b"drop" => Command::drop_copy(arguments),
             _ => None,
         }
     }
 
     // All that stands behind the address is read as the length: a text with a further space is none, nor is it bytes.
     #[tactic(auto, unfolding(crate::specs::Command::load_of))]
-    fn load(arguments: &str) -> Option<Command>
+    fn load(arguments: &[u8]) -> Option<Command>
         ensures { result ≡ load_of (words_of arguments.now) }
     {
         let (address, len) = split_word(arguments);
         let len = len?;
-        let address = parse_address(address)?;
-        let len = parse_len(len)?;
+        let address = address_in(address)?;
+        let len = len_in(len)?;
         Some(Command::Load { address, len })
     }
 
     #[tactic(auto, unfolding(crate::specs::Command::store_of))]
-    fn store(arguments: &str) -> Option<Command>
+    fn store(arguments: &[u8]) -> Option<Command>
         ensures { result ≡ store_of (words_of arguments.now) }
     {
         let (address, bytes) = split_word(arguments);
         let bytes = bytes?;
-        let address = parse_address(address)?;
-        let bytes = parse_access(bytes)?;
+        let address = address_in(address)?;
+        let bytes = access_in(bytes)?;
         Some(Command::Store { address, bytes })
     }
 
     #[tactic(auto, unfolding(crate::specs::Command::drop_of))]
-    fn drop_copy(arguments: &str) -> Option<Command>
+    fn drop_copy(arguments: &[u8]) -> Option<Command>
         ensures { result ≡ drop_of (words_of arguments.now) }
     {
         match split_word(arguments) {
             (address, None) => {
-                let address = parse_address(address)?;
+                let address = address_in(address)?;
                 Some(Command::Drop { address })
             }
             (_, Some(_)) => None,

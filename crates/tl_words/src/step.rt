@@ -2,7 +2,7 @@
 
 use crate::error::ParseError;
 use crate::ticket::{parse_grow, parse_prune, parse_ticket};
-use crate::words::{parse_access, parse_address, parse_len, parse_number, split_words};
+use crate::words::{len_in, parse_access, parse_address, parse_number, split_words};
 use std::alloc::Global;
 use tl_types::{AccessBytes, BlockNo, ClientId, Grow, Prune, Ticket};
 
@@ -108,7 +108,7 @@ impl Step {
             [client, address, len] => {
                 let client = ClientId::new(parse_number(client).ok_or(ParseError::Malformed)?);
                 let address = parse_address(address).ok_or(ParseError::Malformed)?;
-                let len = parse_len(len).ok_or(ParseError::Malformed)?;
+                let len = len_in(len.as_bytes()).ok_or(ParseError::Malformed)?;
                 Ok(Step::Load {
                     client,
                     address,

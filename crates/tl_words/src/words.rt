@@ -1,8 +1,9 @@
 //! The words that a text of a script is made of.
 
-ghost use Rattle.std.specs.Prelude.{◌≡◌, ◌∷◌, ◌<◌, ◌==◌, [], None, true, IfOk};
+ghost use Rattle.std.specs.Prelude.{◌≡◌, ◌∷◌, ◌<◌, ◌≤◌, ◌==◌, [], length, Some, None, true, if◌then◌else◌, IfOk};
 ghost use Rattle.std.specs.Char.{is_ascii_digit, digit_value};
-ghost use Rattle.std.specs.List.{list_all, slice_split};
+ghost use Rattle.std.specs.List.{list_all, position_or_len, slice_split};
+ghost use Rattle.std.specs.Str.Parse.{digits_value};
 ghost use Rattle.tl_words.specs.Reads.{Reads};
 ghost use Rattle.tl_words.specs.Words.{words_of, words_in, texts, is_plain, number_of, is_lower_hex, address_of, len_of, byte_of, bytes_of, access_of};
 
@@ -18,14 +19,23 @@ pub fn split_words(alloc: Global, text: &str) -> Result<Vec<&str>, AllocError>
     text.split(' ').collect(alloc)
 }
 
+/// How many bytes stand before the first space, or in all.
+fn first_len(text: &[u8]) -> usize
+    ensures { result ≡ position_or_len (λ b. b == 32) text.now }
+{
+    text.iter().take_while(|byte| **byte != b' ').count()
+}
+
 /// The first word of a text, and what stands behind the space after it, where there is a space.
-#[tactic(auto, using(crate::proofs::SpaceLaws::first_word, crate::proofs::SpaceLaws::only_word))]
-pub(crate) fn split_word(text: &str) -> (&str, Option<&str>)
+#[tactic(auto, using(crate::proofs::SpaceLaws::first_word, crate::proofs::SpaceLaws::all_of, crate::proofs::SpaceLaws::only_word))]
+pub(crate) fn split_word(text: &[u8]) -> (&[u8], Option<&[u8]>)
     ensures { words_of text.now ≡ result.0.now ∷ words_in result.1 }
 {
-    match text.split_once(' ') {
-        Some((first, rest)) => (first, Some(rest)),
-        None => (text, None),
+    let space = first_len(text);
+    if space < text.len() {
+        (&text[..space], Some(&text[space + 1..]))
+    } else {
+        (text, None)
     }
 }
 
@@ -68,37 +78,6 @@ fn is_lower_hex(digit: u8) -> bool
     matches!(digit, b'0'..=b'9' | b'a'..=b'f')
 }
 
-fn are_lower_hex(text: &str) -> bool
-    ensures { result ≡ list_all is_lower_hex text.now }
-{
-    text.bytes().all(|digit| is_lower_hex(digit))
-}
-
-/// An address: `0x` and one to eight lower-case hexadecimal digits.
-pub fn parse_address(text: &str) -> Option<u32>
-    ensures { result ≡ address_of text.now }
-{
-    if !text.starts_with("0x") || text.len() < 3 || text.len() > 10 {
-        return None;
-    }
-    let digits = &text[2..];
-    if are_lower_hex(digits) {
-        u32::from_str_radix(digits, 16).ok()
-    } else {
-        None
-    }
-}
-
-/// A length: one digit from 1 to 8.
-pub fn parse_len(text: &str) -> Option<u8>
-    ensures { result ≡ len_of text.now }
-{
-    match text.as_bytes() {
-        [digit @ b'1'..=b'8'] => Some(digit - b'0'),
-        _ => None,
-    }
-}
-
 fn parse_digit(digit: u8) -> u8
     requires { is_lower_hex digit ≡ true }
     ensures value { result ≡ digit_value digit }
@@ -108,6 +87,50 @@ fn parse_digit(digit: u8) -> u8
         digit - b'0'
     } else {
         digit - b'a' + 10
+    }
+}
+
+/// The number that at most eight lower-case hexadecimal digits write. None where there is another byte.
+fn parse_digits(digits: &[u8]) -> Option<u32>
+    requires { length digits.now ≤ 8 }
+    ensures { result ≡ (if list_all is_lower_hex digits.now then Some (digits_value 16 digits.now) else None) }
+{
+    let mut value: u32 = 0;
+    let mut rest = digits;
+    while let [digit, after @ ..] = rest {
+        if !is_lower_hex(*digit) {
+            return None;
+        }
+        value = value * 16 + u32::from(parse_digit(*digit));
+        rest = after;
+    }
+    Some(value)
+}
+
+/// An address: `0x` and one to eight lower-case hexadecimal digits.
+pub fn parse_address(text: &str) -> Option<u32>
+    ensures { result ≡ address_of text.now }
+{
+    address_in(text.as_bytes())
+}
+
+/// The address that a word writes.
+pub(crate) fn address_in(word: &[u8]) -> Option<u32>
+    ensures { result ≡ address_of word.now }
+{
+    if !word.starts_with(b"0x") || word.len() < 3 || word.len() > 10 {
+        return None;
+    }
+    parse_digits(&word[2..])
+}
+
+/// A length: one digit from 1 to 8.
+pub(crate) fn len_in(word: &[u8]) -> Option<u8>
+    ensures { result ≡ len_of word.now }
+{
+    match word {
+        [digit @ b'1'..=b'8'] => Some(digit - b'0'),
+        _ => None,
     }
 }
 
@@ -139,12 +162,19 @@ pub fn parse_bytes(alloc: Global, text: &str) -> Result<Vec<u8>, ParseError>
 }
 
 /// The bytes of an access: one to eight.
-#[tactic(auto, unfolding(crate::specs::Words::access_of))]
 pub fn parse_access(text: &str) -> Option<AccessBytes>
     ensures { result ≡ access_of text.now }
 {
+    access_in(text.as_bytes())
+}
+
+/// The bytes of an access that a word writes.
+#[tactic(auto, unfolding(crate::specs::Words::access_of))]
+pub(crate) fn access_in(word: &[u8]) -> Option<AccessBytes>
+    ensures { result ≡ access_of word.now }
+{
     let mut bytes = ArrayVec::<u8, ACCESS_BYTES>::new();
-    let mut rest = text.as_bytes();
+    let mut rest = word;
     while let [high, low, after @ ..] = rest {
         if bytes.try_push(parse_byte(*high, *low)?).is_err() {
             return None;
