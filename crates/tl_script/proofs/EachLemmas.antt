@@ -1,18 +1,17 @@
 -- Reading each element, as a loop does.
 use Rattle.std.proofs.Common.{◌≡◌, ℕ, ◌+◌, ◌<◌, ◌≤◌, List, [], ◌∷◌, ◌++◌, length, get_or, drop, map, Bool, Result, Ok, Err, refl, sym, ap, ◌∙◌, append_assoc, arith}
-use Rattle.std.proofs.lemmas.List.{append-nil, drop_more, drop_all, length-map, map_push}
-use Rattle.std.proofs.Common.{Vec, Global, Bor, nat_lt}
+use Rattle.std.proofs.lemmas.List.{append-nil, drop_more, drop_all, map_push}
+use Rattle.std.proofs.Common.{Vec, Global}
 use Rattle.tl_words.specs.declared.command.Command.{Command}
 use Rattle.std.proofs.Common.{suc, ◌-◌, replicate, length-append, Option, Some, None, true, false, cond}
 use Rattle.std.proofs.lemmas.Str.{IsUtf8-from_is_utf8, is_utf8-from_IsUtf8}
 use Rattle.std.specs.Str.{IsUtf8, is_utf8}
 use Rattle.toml.specs.Data.{Members}
 use Rattle.toml.specs.Parse.{parse_document}
-use Rattle.std.specs.List.{list_any}
 use Rattle.toml.specs.Data.{Data}
 use Rattle.toml.specs.View.{items_of}
 use Rattle.tl_script.specs.Document.{list_of, document_of}
-use Rattle.tl_script.specs.Commands.{is_long, lists, commands}
+use Rattle.tl_script.specs.Commands.{commands}
 use Rattle.tl_script.specs.declared.error.ScriptError.{ScriptError}
 use Rattle.tl_script.specs.declared.error.ScriptError.TheVariants as error
 use Rattle.tl_script.specs.Each.{◌>>=◌, Fails, each}
@@ -59,11 +58,6 @@ module _ {V A B : Type 0} (view : V → A) (f : ℕ → A → Result B ScriptErr
 pub list_of-items_of : (ds : List Data) → list_of (items_of ds) ≡ ds
 list_of-items_of [] = refl
 list_of-items_of (d ∷ ds) = ap (λ (es : List Data). d ∷ es) (list_of-items_of ds)
-
--- some list of words is too long just where that of its texts is
-pub list_any-long : (vs : List (Vec (Bor (List ℕ)) Global)) → list_any (λ v. nat_lt 4096 (length v.items)) vs ≡ list_any is_long (lists vs)
-list_any-long [] = refl
-list_any-long (v ∷ vs) = rw (length-map, list_any-long vs)
 
 -- no document is read where the bytes are a text that writes none, or no text
 if_utf8 : (b : Bool) (parsed document : Option Members) → (b ≡ true → parsed ≡ document) → document ≡ None → cond b parsed None ≡ document

@@ -1,3 +1,4 @@
 pub mod EachLemmas
 pub mod GeometryLemmas
 pub mod ScriptLemmas
+pub mod TextLemmas

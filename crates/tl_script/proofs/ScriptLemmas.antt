@@ -1,23 +1,19 @@
 -- What a document that is read says of its values.
-use Rattle.std.proofs.Common.{◌≡◌, ℕ, zero, suc, map, ◌+◌, ◌-◌, ◌*◌, ◌≤◌, Bool, true, false, nat_lt, cond, List, [], ◌∷◌, ◌++◌, length, replicate, Option, Some, None, Result, Ok, Err, Vec, Global, refl, sym, subst, ◌∙◌, arith, length-append}
+use Rattle.std.proofs.Common.{◌≡◌, ℕ, zero, suc, ◌+◌, ◌-◌, ◌*◌, ◌≤◌, Bool, true, false, nat_lt, cond, List, [], ◌∷◌, ◌++◌, length, replicate, Option, Some, None, Result, Ok, Err, Vec, Global, refl, sym, subst, ◌∙◌, arith, length-append}
 use Rattle.std.proofs.lemmas.Bool.{and_from, ltb-false}
 use Rattle.std.proofs.lemmas.List.Folds.{list_all-append}
 use Rattle.std.specs.List.{list_all, list_any}
 use Rattle.tl_words.specs.Command.{command_of}
 use Rattle.std.proofs.lemmas.List.{length-replicate, length-map}
-use Rattle.std.specs.Prelude.{unsigned_abs, ◌||◌}
+use Rattle.std.specs.Prelude.{◌||◌}
 use Rattle.toml.specs.Data.{Data, Members, get_member}
-use Rattle.tl_map.specs.declared.numbers.GeometryError.{GeometryError}
-use Rattle.tl_map.specs.declared.numbers.GeometryNumbers.{GeometryNumbers}
 use Rattle.tl_map.specs.Numbers.{Numbers}
-use Rattle.tl_map.specs.Refusals.{refusal_of}
 use Rattle.tl_words.specs.declared.command.Command.{Command}
 use Rattle.tl_script.specs.declared.key.Key.TheVariants as key
 use Rattle.tl_script.specs.declared.error.ScriptError.{ScriptError}
 use Rattle.tl_script.specs.declared.error.ScriptError.TheVariants as error
 use Rattle.tl_script.specs.Key.{name_of}
 use Rattle.tl_script.specs.Each.{◌>>=◌, each}
-use Rattle.tl_script.specs.Numbers.{unsigned_of, unless_refused, geometry_of}
 use Rattle.tl_script.specs.Image.{bytes_in, image_in, image_of}
 use Rattle.tl_script.specs.Commands.{fits, all_fit, if_fits, is_long, command_at, commands_of_client, commands, commands_of}
 use Rattle.tl_script.specs.Steps.{step_at, steps_of}

@@ -1,6 +1,5 @@
 -- The commands of a script (this project's own format).
 use Rattle.std.specs.Prelude.{ℕ, ◌-◌, nat_lt, Bool, List, [], ◌++◌, length, map, replicate, Option, Some, None, Result, Ok, Err, Vec, if◌then◌else◌}
-use Rattle.std.specs.Borrow.{Bor}
 use Rattle.std.specs.List.{list_all}
 use Rattle.std.specs.declared.alloc.Global.{Global}
 use Rattle.toml.specs.Data.{Data, Members, as_array, get_member}
@@ -8,7 +7,6 @@ use Rattle.tl_map.specs.Numbers.{Numbers}
 use Rattle.tl_map.specs.Places.{has_bytes}
 use Rattle.tl_words.specs.declared.command.Command.{Command}
 use Rattle.tl_words.specs.declared.command.Command.TheVariants.{Load, Store, Drop}
-use Rattle.tl_words.specs.Words.{texts}
 use Rattle.tl_words.specs.Command.{command_of}
 use Rattle.tl_script.specs.declared.key.Key.TheVariants as key
 use Rattle.tl_script.specs.declared.error.ScriptError.{ScriptError}
@@ -20,10 +18,6 @@ use Rattle.tl_script.specs.Document.{or_missing, list_of, texts_in}
 -- the commands of some lists
 abbrev pub commands : List (Vec Command Global) → List (List Command)
 commands vs = map (λ v. v.items) vs
-
--- the texts of some lists of words
-abbrev pub lists : List (Vec (Bor (List ℕ)) Global) → List (List (List ℕ))
-lists vs = map (λ v. texts v.items) vs
 
 -- the texts of each client's commands, in an array of arrays
 unfoldable pub lists_in : Data → Result (List (List (List ℕ))) ScriptError

@@ -2,6 +2,7 @@ pub mod Key
 pub mod ScriptError
 pub mod Each
 pub mod Document
+pub mod Values
 pub mod Numbers
 pub mod Image
 pub mod Commands

@@ -3,12 +3,12 @@
 ghost use Rattle.std.specs.Prelude.{◌≡◌, map, Ok, ◌++◌, ◌-◌, replicate, length, []};
 ghost use Rattle.std.specs.List.{list_any};
 ghost use Rattle.toml.specs.View.{view, table_view};
-ghost use Rattle.tl_words.specs.Words.{texts};
 ghost use Rattle.tl_script.specs.Each.{Gives, each};
 ghost use Rattle.tl_script.specs.Document.{texts_in};
-ghost use Rattle.tl_script.specs.Commands.{lists_in, command_texts_of, is_long, fits, command_at, commands_of_client, commands_of, lists, commands};
+ghost use Rattle.tl_script.specs.Values.{texts_of, lists};
+ghost use Rattle.tl_script.specs.Commands.{lists_in, command_texts_of, is_long, fits, command_at, commands_of_client, commands_of, commands};
 
-use crate::document::{texts_in, value_at};
+use crate::document::{are_texts, text_of, value_at, values_of};
 use crate::error::ScriptError;
 use crate::key::Key;
 use std::alloc::Global;
@@ -16,42 +16,48 @@ use tl_map::Geometry;
 use tl_words::{COMMANDS, Command};
 use toml::{Table, Value};
 
-/// The texts of each client's commands.
+/// The list of each client's commands: each an array of texts.
 #[tactic(auto, unfolding(crate::specs::Commands::command_texts_of))]
-pub fn command_texts(alloc: Global, table: &Table) -> Result<Vec<Vec<&str>>, ScriptError>
-    ensures { Gives (λ v. lists v.items) result (command_texts_of (table_view table.now)) }
+pub fn command_lists(table: &Table) -> Result<&[Value], ScriptError>
+    ensures { Gives (λ v. lists v.now) result (command_texts_of (table_view table.now)) }
 {
     match value_at(table, Key::Commands) {
-        None => Ok(Vec::new(alloc)),
-        Some(value) => lists_in(alloc, value),
+        None => Ok(&[]),
+        Some(value) => lists_in(value),
     }
 }
 
 #[tactic(auto, unfolding(crate::specs::Commands::lists_in))]
-fn lists_in(alloc: Global, value: &Value) -> Result<Vec<Vec<&str>>, ScriptError>
-    ensures { Gives (λ v. lists v.items) result (lists_in (view value.now)) }
+fn lists_in(value: &Value) -> Result<&[Value], ScriptError>
+    ensures { Gives (λ v. lists v.now) result (lists_in (view value.now)) }
 {
     match value.as_array() {
-        Some(items) => lists(alloc, items),
+        Some(items) => lists(items),
         None => Err(ScriptError::Missing(Key::Commands)),
     }
 }
 
-fn lists(alloc: Global, items: &[Value]) -> Result<Vec<Vec<&str>>, ScriptError>
-    ensures { Gives (λ v. lists v.items) result (each (λ _ e. texts_in Key.Commands e) 0 (map view items.now)) }
+fn lists(items: &[Value]) -> Result<&[Value], ScriptError>
+    ensures { Gives (λ v. lists v.now) result (each (λ _ e. texts_in Key.Commands e) 0 (map view items.now)) }
 {
-    let mut lists = Vec::new(alloc);
-    for item in items {
-        lists.push(texts_in(alloc, Key::Commands, item)?)?;
+    if items.iter().all(are_texts) {
+        Ok(items)
+    } else {
+        Err(ScriptError::Missing(Key::Commands))
     }
-    Ok(lists)
 }
 
 /// Whether a client has more than 4,096 commands.
-pub fn is_any_long(commands: &[Vec<&str>]) -> bool
-    ensures { result ≡ list_any is_long (lists commands.now) }
+pub fn is_any_long(all: &[Value]) -> bool
+    ensures { result ≡ list_any is_long (lists all.now) }
 {
-    commands.iter().any(|texts| texts.len() > COMMANDS)
+    all.iter().any(is_long)
+}
+
+fn is_long(list: &Value) -> bool
+    ensures { result ≡ is_long (texts_of (view list.now)) }
+{
+    values_of(list).len() > COMMANDS
 }
 
 /// The commands of all clients, in the grammar and in the memory.
@@ -59,7 +65,7 @@ pub fn is_any_long(commands: &[Vec<&str>]) -> bool
 pub fn commands(
     alloc: Global,
     geometry: Geometry,
-    all: &[Vec<&str>],
+    all: &[Value],
 ) -> Result<Vec<Vec<Command>>, ScriptError>
     ensures { Gives (λ v. commands v.items) result (commands_of geometry (lists all.now)) }
 {
@@ -70,13 +76,13 @@ pub fn commands(
 fn given_commands(
     alloc: Global,
     geometry: Geometry,
-    all: &[Vec<&str>],
+    all: &[Value],
 ) -> Result<Vec<Vec<Command>>, ScriptError>
     ensures { Gives (λ v. commands v.items) result (each (commands_of_client geometry) 0 (lists all.now)) }
 {
     let mut commands = Vec::new(alloc);
-    for (client, texts) in all.iter().enumerate() {
-        commands.push(client_commands(alloc, geometry, client, texts)?)?;
+    for (client, list) in all.iter().enumerate() {
+        commands.push(client_commands(alloc, geometry, client, list)?)?;
     }
     Ok(commands)
 }
@@ -86,13 +92,14 @@ fn client_commands(
     alloc: Global,
     geometry: Geometry,
     client: usize,
-    all: &[&str],
+    list: &Value,
 ) -> Result<Vec<Command>, ScriptError>
-    ensures { Gives (λ v. v.items) result (commands_of_client geometry client (texts all.now)) }
+    ensures { Gives (λ v. v.items) result (commands_of_client geometry client (texts_of (view list.now))) }
 {
-    let mut commands = Vec::with_capacity(alloc, all.len())?;
-    for (index, text) in all.iter().enumerate() {
-        commands.push(command_at(geometry, client, index, text)?)?;
+    let values = values_of(list);
+    let mut commands = Vec::with_capacity(alloc, values.len())?;
+    for (index, value) in values.iter().enumerate() {
+        commands.push(command_at(geometry, client, index, text_of(value))?)?;
     }
     Ok(commands)
 }

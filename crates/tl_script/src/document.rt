@@ -7,6 +7,7 @@ ghost use Rattle.tl_words.specs.Words.{texts};
 ghost use Rattle.tl_script.specs.Each.{Gives, each, or_fault};
 ghost use Rattle.tl_script.specs.Key.{name_of};
 ghost use Rattle.tl_script.specs.Document.{document_of, integer_at, text_in, texts_in};
+ghost use Rattle.tl_script.specs.Values.{values_of, are_texts, text_of};
 
 use crate::error::ScriptError;
 use crate::key::Key;
@@ -74,4 +75,28 @@ fn texts(alloc: Global, key: Key, items: &[Value]) -> Result<Vec<&str>, ScriptEr
         texts.push(text_in(key, item)?)?;
     }
     Ok(texts)
+}
+
+/// Whether a value is an array of texts.
+pub fn are_texts(value: &Value) -> bool
+    ensures { result ≡ are_texts (view value.now) }
+{
+    value.is_array() && values_of(value).iter().all(|item| item.is_str())
+}
+
+/// The values in an array. None where the value is another.
+pub fn values_of(value: &Value) -> &[Value]
+    ensures { map view result.now ≡ values_of (view value.now) }
+{
+    match value.as_array() {
+        Some(items) => items,
+        None => &[],
+    }
+}
+
+/// The text that a value is. Empty where it is none.
+pub fn text_of(value: &Value) -> &str
+    ensures { result.now ≡ text_of (view value.now) }
+{
+    value.as_str().unwrap_or("")
 }

@@ -4,10 +4,11 @@ ghost use Rattle.std.specs.Prelude.{◌≡◌};
 ghost use Rattle.toml.specs.View.{table_view};
 ghost use Rattle.tl_words.specs.Words.{texts};
 ghost use Rattle.tl_script.specs.Each.{Gives};
-ghost use Rattle.tl_script.specs.Commands.{lists, commands};
+ghost use Rattle.tl_script.specs.Values.{lists};
+ghost use Rattle.tl_script.specs.Commands.{commands};
 ghost use Rattle.tl_script.specs.Script.{are_too_many, counted_of, script_of, read_of, value_of};
 
-use crate::commands::{command_texts, commands, is_any_long};
+use crate::commands::{command_lists, commands, is_any_long};
 use crate::document::document;
 use crate::error::ScriptError;
 use crate::image::image;
@@ -17,7 +18,7 @@ use crate::steps::{step_texts, steps};
 use std::alloc::Global;
 use tl_map::Geometry;
 use tl_words::{Command, STEPS};
-use toml::Table;
+use toml::{Table, Value};
 
 /// The script that the bytes write, or the first thing that is wrong with them. Memory only where a request for memory
 /// was refused.
@@ -37,9 +38,9 @@ fn script(alloc: Global, table: &Table) -> Result<Script, ScriptError>
     let turns = turns(table)?;
     let geometry = geometry(numbers)?;
     let image = image(alloc, table, geometry)?;
-    let texts = command_texts(alloc, table)?;
+    let lists = command_lists(table)?;
     let step_texts = step_texts(alloc, table)?;
-    let commands = counted(alloc, geometry, &texts, &step_texts)?;
+    let commands = counted(alloc, geometry, lists, &step_texts)?;
     let steps = steps(alloc, &step_texts)?;
     Ok(Script {
         geometry,
@@ -55,7 +56,7 @@ fn script(alloc: Global, table: &Table) -> Result<Script, ScriptError>
 fn counted(
     alloc: Global,
     geometry: Geometry,
-    all: &[Vec<&str>],
+    all: &[Value],
     steps: &[&str],
 ) -> Result<Vec<Vec<Command>>, ScriptError>
     ensures { Gives (λ v. commands v.items) result (counted_of geometry (lists all.now) (texts steps.now)) }
@@ -66,7 +67,7 @@ fn counted(
     commands(alloc, geometry, all)
 }
 
-fn are_too_many(clients: usize, commands: &[Vec<&str>], steps: &[&str]) -> bool
+fn are_too_many(clients: usize, commands: &[Value], steps: &[&str]) -> bool
     ensures { result ≡ are_too_many clients (lists commands.now) (texts steps.now) }
 {
     commands.len() > clients || is_any_long(commands) || steps.len() > STEPS

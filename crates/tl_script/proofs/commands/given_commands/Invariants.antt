@@ -1,6 +1,7 @@
 use Rattle.std.proofs.Common.{◌≡◌, drop}
 use Rattle.tl_script.specs.Each.{each}
-use Rattle.tl_script.specs.Commands.{lists, commands, commands_of_client}
+use Rattle.tl_script.specs.Values.{lists}
+use Rattle.tl_script.specs.Commands.{commands, commands_of_client}
 use Rattle.tl_script.proofs.EachLemmas.{with_front}
 use Rattle.tl_script.proofs.commands.given_commands.Given as goal
 

@@ -11,5 +11,5 @@ invariant_of-result c = record {
   each_client = each_client c.in_ok-geometry.geometry _ _ c.in_ok-commands.commands.items c.in_ok-commands.ensures;
   placed = all_fit_of c.in_ok-geometry.geometry _ _ (commands c.in_ok-commands.commands.items) c.in_ok-commands.ensures;
   few = few c.in_ok-geometry.geometry _ _ _ c.in_ok-steps.steps.items c.in_ok-commands.ensures
-      (ap (λ all. steps_of (texts all)) (c.deref-2.ensures.value ∙ sym c.deref-3.ensures.value) ∙ c.in_ok-steps.ensures);
+      (ap (λ all. steps_of (texts all)) (c.deref.ensures.value ∙ sym c.deref-2.ensures.value) ∙ c.in_ok-steps.ensures);
 }
