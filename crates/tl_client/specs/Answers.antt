@@ -24,6 +24,12 @@ HasItsBytes (Drop address) bytes = bytes ≡ []
 abbrev pub IsAnswer : Answered → Type 0
 IsAnswer a = HasItsBytes a.command a.bytes
 
+-- the first commands of a script, answered with these bytes
+abbrev pub answered_of : List (List ℕ) → List Command → List Answered
+answered_of [] script = []
+answered_of (bytes ∷ rest) [] = []
+answered_of (bytes ∷ rest) (command ∷ script) = record { command = command; bytes = bytes } ∷ answered_of rest script
+
 -- the commands of a list of answered commands
 abbrev pub commands_of : List Answered → List Command
 commands_of answered = map (λ (a : Answered). a.command) answered

@@ -46,12 +46,10 @@ in_order tickets =
     filter (λ (t : Ticket). is_on (place_of E) t) tickets
     ++ (filter (λ (t : Ticket). is_on (place_of C) t) tickets ++ filter (λ (t : Ticket). is_on (place_of A) t) tickets)
 
--- what contracts see of a home's port: the number of its bank, the tickets that were asked in the turn, each with whether it was served, and
--- room for so many of them
+-- what contracts see of a home's port: the number of its bank, and the tickets that were asked in the turn, each with whether it was served
 pub record ToBank : Type 0 where
   pub bank : ℕ
   pub asked : List Asked
-  pub room : ℕ
 
 -- what contracts see of a home: its bank, and the tickets that wait
 pub record Waits : Type 0 where

@@ -1,4 +1,5 @@
 pub mod Answers
+pub mod History
 pub mod Ways
 pub mod Rounds
 pub mod Lanes

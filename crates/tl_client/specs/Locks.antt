@@ -1,5 +1,5 @@
 -- The banks behind their locks (this project's own).
-use Rattle.std.specs.Prelude.{◌≡◌, ◌<◌, ℕ, List, length, map}
+use Rattle.std.specs.Prelude.{ℕ, List, map}
 use Rattle.tl_map.specs.Numbers.{Numbers}
 use Rattle.tl_bank_spec.specs.View.{View}
 

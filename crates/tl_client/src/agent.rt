@@ -1,9 +1,9 @@
 //! A client's agent.
 ghost use Rattle.std.specs.Prelude.{◌≡◌, ◌≤◌, [], IfOk};
-ghost use Rattle.tl_client.specs.Answers.{Gains, IsBeginning};
+ghost use Rattle.tl_client.specs.Answers.{Gains, IsBeginning, answered_of};
 ghost use Rattle.tl_client.specs.declared.turn.Turn.{Turn};
 
-use crate::carry_out::{carry_out, copied};
+use crate::carry_out::carry_out;
 use crate::gate::Gate;
 use crate::mail::Mail;
 use crate::port::Port;
@@ -16,16 +16,16 @@ use std::sync::Wait;
 use std::time::Clock;
 use tl_bank::{Refusal, Share, When};
 use tl_map::Geometry;
-use tl_text::Answered;
-use tl_types::ClientId;
+use tl_types::{AccessBytes, ClientId};
 use tl_words::Command;
 
-/// A client's agent. Contracts see its client, its script, what it answered, and its clock: the last stamp that it got.
+/// A client's agent. Contracts see its client, its script, what it answered, and its clock: the last stamp that it got. Of what it
+/// answered it keeps the bytes: the commands are the script's.
 #[derive(Drop)]
 pub struct Agent<'s> {
     client: ClientId,
     script: &'s [Command],
-    answered: Vec<Answered>,
+    bytes: Vec<AccessBytes>,
     clock: u64,
     requester: Requester,
     rest: Rest,
@@ -35,13 +35,13 @@ pub struct Agent<'s> {
 
 impl<'s> Model for Agent<'s> {
     ghost use Rattle.std.specs.Prelude.{◌≤◌, ◌<◌, ◌^◌, length, vec_capacity};
-    ghost use Rattle.tl_client.specs.Answers.{Told, IsBeginning};
+    ghost use Rattle.tl_client.specs.Answers.{Told, IsBeginning, answered_of};
 
     ghost Value = { Told };
 
-    ghost view = { λ a. record { client = a.client; script = a.script.now; answered = a.answered.items; clock = a.clock } };
+    ghost view = { λ a. record { client = a.client; script = a.script.now; answered = answered_of a.bytes.items a.script.now; clock = a.clock } };
 
-    ghost invariant = { λ a. IsBeginning (record { client = a.client; script = a.script.now; answered = a.answered.items; clock = a.clock }) × (length a.script.now ≤ vec_capacity a.answered) × (length a.script.now < 2 ^ 32) };
+    ghost invariant = { λ a. IsBeginning (record { client = a.client; script = a.script.now; answered = answered_of a.bytes.items a.script.now; clock = a.clock }) × (length a.bytes.items ≤ length a.script.now) × (length a.script.now ≤ vec_capacity a.bytes) × (length a.script.now < 2 ^ 32) };
 }
 
 impl<'s> Agent<'s> {
@@ -59,11 +59,11 @@ impl<'s> Agent<'s> {
         if commands.len() > u32::MAX as usize {
             return Err(AllocError);
         }
-        let answered = Vec::with_capacity(alloc, commands.len())?;
+        let bytes = Vec::with_capacity(alloc, commands.len())?;
         Ok(Agent {
             client,
             script: commands,
-            answered,
+            bytes,
             clock: 0,
             requester: Requester::new(alloc, client, geometry, shares)?,
             rest: Rest::new(),
@@ -71,21 +71,21 @@ impl<'s> Agent<'s> {
         })
     }
 
-    /// What was answered, and the shares. The answers are a beginning of the script's, each with its bytes.
-    pub fn into_parts(self) -> (Vec<Answered>, Vec<Share>)
-        ensures answered { result.0.items ≡ self.entry.answered }
+    /// The bytes of each command that was answered, and the shares. The answers are a beginning of the script's, each with its bytes.
+    pub fn into_parts(self) -> (Vec<AccessBytes>, Vec<Share>)
+        ensures answered { answered_of result.0.items self.entry.script ≡ self.entry.answered }
         ensures beginning { IsBeginning self.entry }
     {
         let Agent {
             client: _,
             script: _,
-            answered,
+            bytes,
             clock: _,
             requester,
             rest: _,
             has_rung: _,
         } = self;
-        (answered, requester.into_shares())
+        (bytes, requester.into_shares())
     }
 
     /// One turn, over any port and gate. The answers are a beginning of the script's; those that were there stay, and the loads and
@@ -147,7 +147,6 @@ impl<'s> Agent<'s> {
     }
 
     /// Tries the present command once, unless it waits for an answer of home.
-    #[tactic(auto, using(crate::proofs::AnswerLaws::answers))]
     fn try_command<P: Port, G: Gate, R: Wait>(
         &mut self,
         rt: &R,
@@ -158,7 +157,7 @@ impl<'s> Agent<'s> {
         ensures gains { Gains self.old (P.successes port.old) self.new (P.successes port.new) }
         ensures beginning { IsBeginning self.new }
     {
-        let index = self.answered.len();
+        let index = self.bytes.len();
         if index >= self.script.len() || self.requester.is_waiting() {
             return Ok(());
         }
@@ -173,10 +172,7 @@ impl<'s> Agent<'s> {
         match carry_out(port, self.client, block, command, when) {
             Ok(done) => {
                 self.clock = done.clock;
-                self.answered.push_reserved(Answered {
-                    command: copied(command),
-                    bytes: done.bytes,
-                });
+                self.bytes.push_reserved(done.bytes);
                 self.requester.progress.succeed();
                 gate.answered(self.client, index);
                 Ok(())
@@ -190,7 +186,7 @@ impl<'s> Agent<'s> {
     fn finish(&mut self, mail: &mut Mail<'_>)
         ensures { self.new ≡ self.old }
     {
-        if self.has_rung || self.answered.len() < self.script.len() {
+        if self.has_rung || self.bytes.len() < self.script.len() {
             return;
         }
         if !mail.has_back() && !self.requester.is_waiting() {

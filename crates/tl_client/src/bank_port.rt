@@ -1,73 +1,53 @@
 //! A home's port to its bank.
-ghost use Rattle.std.specs.Prelude.{◌≡◌, ◌<◌, ◌++◌, ◌∷◌, [], length, IfErr, OnOk};
-ghost use Rattle.tl_bank_spec.specs.declared.refusal.Refusal.TheVariants.{Memory as NoMemory};
+ghost use Rattle.std.specs.Prelude.{◌≡◌, ◌++◌, ◌∷◌, []};
 ghost use Rattle.tl_client.specs.Homes.{asked};
 
 use crate::gate::{Gate, Who};
+use crate::history::History;
 use crate::locked::LockedBank;
 use crate::port::{Asked, HomePort};
 use arrayvec::ArrayVec;
-use std::alloc::Global;
 use std::marker::Model;
 use std::sync::{MutexGuard, Wait};
 use tl_bank::{Action, Bank, Refusal, Reply};
 use tl_types::{BlockNo, Ticket};
 
-/// A home's port: each call locks its bank. The tickets that were asked in this turn are kept. Contracts see the number
-/// of the bank, and those tickets.
+/// A home's port: each call locks its bank. Contracts see the number of the bank, and the tickets that were asked in this
+/// turn.
 #[derive(Drop)]
 pub struct BankPort<'a, R: Wait, G: Gate> {
     rt: &'a R,
     locked: &'a LockedBank,
     gate: &'a G,
-    asked: Vec<Asked>,
+    asked: History<Asked>,
 }
 
 impl<'a, R: Wait, G: Gate> Model for BankPort<'a, R, G> {
-    ghost use Rattle.std.specs.Prelude.{vec_capacity};
     ghost use Rattle.tl_client.specs.Homes.{ToBank};
 
     ghost Value = { ToBank };
 
-    ghost view = { λ p. record { bank = p.locked.now.number; asked = p.asked.items; room = vec_capacity p.asked } };
+    ghost view = { λ p. record { bank = p.locked.now.number; asked = p.asked } };
 }
 
 impl<'a, R: Wait, G: Gate> BankPort<'a, R, G> {
     /// A port to a bank, at which nothing was asked yet.
-    pub(crate) fn new(
-        rt: &'a R,
-        alloc: Global,
-        locked: &'a LockedBank,
-        gate: &'a G,
-    ) -> BankPort<'a, R, G>
+    pub(crate) fn new(rt: &'a R, locked: &'a LockedBank, gate: &'a G) -> BankPort<'a, R, G>
         ensures { (result.bank ≡ locked.now.number) × (result.asked ≡ []) }
     {
         BankPort {
             rt,
             locked,
             gate,
-            asked: Vec::new(alloc),
+            asked: History::new(),
         }
     }
 
-    /// Makes room for one more ticket that is asked.
-    fn make_room(&mut self) -> Result<(), Refusal>
-        ensures room { OnOk result (length self.new.asked < self.new.room) }
-        ensures same { self.new ≡ record self.old { room = self.new.room } }
-        ensures memory { IfErr result (λ refusal. refusal ≡ NoMemory) }
-    {
-        if self.asked.reserve(1).is_err() {
-            return Err(Refusal::Memory);
-        }
-        Ok(())
-    }
-
-    /// Keeps a ticket that was asked, and whether it was served.
-    fn keep(&mut self, ticket: Ticket, served: bool)
-        requires { length self.old.asked < self.old.room }
+    /// Notes a ticket that was asked, and whether it was served.
+    fn note(&mut self, ticket: Ticket, served: bool)
         ensures { self.new ≡ record self.old { asked = self.old.asked ++ asked ticket served ∷ [] } }
     {
-        self.asked.push_reserved(Asked { ticket, served });
+        self.asked.push(Asked { ticket, served });
     }
 
     /// Takes the bank's lock.
@@ -88,36 +68,33 @@ impl<'a, R: Wait, G: Gate> HomePort for BankPort<'a, R, G> {
     ghost asked = { λ p. p.asked };
 
     fn begin(&mut self) {
-        self.asked.clear();
+        self.asked = History::new();
     }
 
     fn accept(&mut self, ticket: Ticket) -> Result<(), Refusal> {
-        self.make_room()?;
         let again = ticket;
         let mut bank = self.enter();
         let answer = bank.accept(ticket);
         self.leave(bank);
-        self.keep(again, answer.is_ok());
+        self.note(again, answer.is_ok());
         answer
     }
 
     fn take_c(&mut self, ticket: Ticket) -> Result<Option<Ticket>, Refusal> {
-        self.make_room()?;
         let again = ticket;
         let mut bank = self.enter();
         let answer = bank.take_c(ticket);
         self.leave(bank);
-        self.keep(again, answer.is_ok());
+        self.note(again, answer.is_ok());
         answer
     }
 
     fn take_grant_ack(&mut self, ticket: Ticket) -> Result<(), Refusal> {
-        self.make_room()?;
         let again = ticket;
         let mut bank = self.enter();
         let answer = bank.take_grant_ack(ticket);
         self.leave(bank);
-        self.keep(again, answer.is_ok());
+        self.note(again, answer.is_ok());
         answer
     }
 

@@ -16,23 +16,6 @@ pub(crate) struct Done {
     pub(crate) clock: u64,
 }
 
-/// The same command again.
-pub(crate) fn copied(command: &Command) -> Command
-    ensures { result ≡ command.now }
-{
-    match command {
-        Command::Load { address, len } => Command::Load {
-            address: *address,
-            len: *len,
-        },
-        Command::Store { address, bytes } => Command::Store {
-            address: *address,
-            bytes: bytes.copied(),
-        },
-        Command::Drop { address } => Command::Drop { address: *address },
-    }
-}
-
 /// The address of a command.
 pub(crate) fn address_of(command: &Command) -> u32 {
     match command {

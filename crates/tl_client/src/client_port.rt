@@ -2,40 +2,40 @@
 ghost use Rattle.std.specs.Prelude.{◌≡◌, []};
 
 use crate::gate::{Gate, Who};
+use crate::history::History;
 use crate::locked::Locked;
 use crate::port::{Port, Success};
 use std::sync::{MutexGuard, Wait};
 use tl_bank::{Bank, Loaded, Refusal, Share, When};
 use tl_types::{AccessBytes, BankNo, BlockNo, ClientId, Grow, Perm, Prune, Ticket};
 
-/// A client's port: each call locks the bank that it asks, and no other. The loads and stores that succeeded are kept.
+/// A client's port: each call locks the bank that it asks, and no other. Contracts see the loads and stores that
+/// succeeded.
 #[derive(Drop)]
 pub struct ClientPort<'a, R: Wait, G: Gate> {
     rt: &'a R,
     locked: &'a Locked,
     gate: &'a G,
     client: ClientId,
-    successes: Vec<Success>,
+    successes: History<Success>,
 }
 
 impl<'a, R: Wait, G: Gate> ClientPort<'a, R, G> {
-    /// A port at which nothing has succeeded yet. Its successes take the place of what the list holds.
+    /// A port at which nothing has succeeded yet.
     pub(crate) fn new(
         rt: &'a R,
         locked: &'a Locked,
         gate: &'a G,
         client: ClientId,
-        mut successes: Vec<Success>,
     ) -> ClientPort<'a, R, G>
-        ensures { result.successes.items ≡ [] }
+        ensures { result.successes ≡ [] }
     {
-        successes.clear();
         ClientPort {
             rt,
             locked,
             gate,
             client,
-            successes,
+            successes: History::new(),
         }
     }
 
@@ -55,7 +55,7 @@ impl<'a, R: Wait, G: Gate> ClientPort<'a, R, G> {
 }
 
 impl<'a, R: Wait, G: Gate> Port for ClientPort<'a, R, G> {
-    ghost successes = { λ p. p.successes.items };
+    ghost successes = { λ p. p.successes };
 
     fn load(
         &mut self,
@@ -64,15 +64,12 @@ impl<'a, R: Wait, G: Gate> Port for ClientPort<'a, R, G> {
         len: usize,
         when: When,
     ) -> Result<Loaded, Refusal> {
-        if self.successes.reserve(1).is_err() {
-            return Err(Refusal::Memory);
-        }
         let number = self.locked.bank_at(address);
         let mut bank = self.enter(number)?;
         let answer = bank.load(client, address, len, when);
         self.leave(number, bank);
         let loaded = answer?;
-        self.successes.push_reserved(Success::Loaded {
+        self.successes.push(Success::Loaded {
             client,
             address,
             len,
@@ -90,9 +87,6 @@ impl<'a, R: Wait, G: Gate> Port for ClientPort<'a, R, G> {
         bytes: &[u8],
         when: When,
     ) -> Result<u64, Refusal> {
-        if self.successes.reserve(1).is_err() {
-            return Err(Refusal::Memory);
-        }
         let Some(stored) = AccessBytes::from_slice(bytes) else {
             return Err(Refusal::OutOfRange);
         };
@@ -101,7 +95,7 @@ impl<'a, R: Wait, G: Gate> Port for ClientPort<'a, R, G> {
         let answer = bank.store(client, address, bytes, when);
         self.leave(number, bank);
         let stamp = answer?;
-        self.successes.push_reserved(Success::Stored {
+        self.successes.push(Success::Stored {
             client,
             address,
             bytes: stored,
@@ -172,9 +166,5 @@ impl<'a, R: Wait, G: Gate> Port for ClientPort<'a, R, G> {
         let oldest = bank.oldest_copy(client);
         self.leave(number, bank);
         oldest
-    }
-
-    fn succeeded(&self) -> &[Success] {
-        &self.successes
     }
 }

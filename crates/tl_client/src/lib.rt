@@ -6,6 +6,7 @@ mod bank_port;
 mod carry_out;
 mod client_port;
 mod gate;
+mod history;
 mod home;
 mod links;
 mod locked;

@@ -6,7 +6,6 @@ ghost use Rattle.tl_map.specs.Places.{block_of_address, has_block, place_of};
 use crate::bank_port::BankPort;
 use crate::client_port::ClientPort;
 use crate::gate::Gate;
-use crate::port::Success;
 use std::alloc::{AllocError, Global};
 use std::hint;
 use std::marker::Model;
@@ -45,8 +44,6 @@ impl LockedBank {
 pub struct Locked {
     geometry: Geometry,
     banks: Vec<LockedBank>,
-    /// For the ports of homes.
-    alloc: Global,
 }
 
 impl Model for Locked {
@@ -73,7 +70,6 @@ impl Locked {
         Ok(Locked {
             geometry,
             banks: locks,
-            alloc,
         })
     }
 
@@ -107,15 +103,14 @@ impl Locked {
         }
     }
 
-    /// A port for a client, at which nothing has succeeded yet. It keeps its successes in this list, which is emptied.
+    /// A port for a client, at which nothing has succeeded yet.
     pub fn client_port<'a, R: Wait, G: Gate>(
         &'a self,
         rt: &'a R,
         gate: &'a G,
         client: ClientId,
-        successes: Vec<Success>,
     ) -> ClientPort<'a, R, G> {
-        ClientPort::new(rt, self, gate, client, successes)
+        ClientPort::new(rt, self, gate, client)
     }
 
     /// A port for the home of a bank, if there is one with this number, at which nothing was asked yet.
@@ -128,7 +123,7 @@ impl Locked {
         ensures { MatchOption result (slice_get self.now.numbers number ≢ Some number) (λ p. (p.bank ≡ number) × (p.asked ≡ [])) }
     {
         let bank = self.bank(number)?;
-        Some(BankPort::new(rt, self.alloc, bank, gate))
+        Some(BankPort::new(rt, bank, gate))
     }
 
     /// The banks again, as many as there are locks.

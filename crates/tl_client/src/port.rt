@@ -38,7 +38,7 @@ pub struct Asked {
     pub served: bool,
 }
 
-/// A client's calls. `successes` is the list of the loads and stores that succeeded at this port.
+/// A client's calls. `successes` is the list of the loads and stores that succeeded at this port, in order; contracts alone see it.
 pub trait Port {
     ghost successes: { Self → List Success };
 
@@ -90,10 +90,6 @@ pub trait Port {
 
     /// Of a client's copies in a bank, the one that was granted longest ago.
     fn oldest_copy(&self, client: ClientId, bank: BankNo) -> Option<BlockNo>;
-
-    /// The loads and stores that succeeded at this port, in order.
-    fn succeeded(&self) -> &[Success]
-        ensures { result.now ≡ successes self.now };
 }
 
 /// The calls of a bank's home. `asked` is the list of the tickets that were asked in a turn, in order, each with

@@ -156,7 +156,6 @@ fn client_worker<'s, 'x, 'y, G: Gate>(
     Ok(ClientWorker {
         shared,
         client,
-        successes: Vec::with_capacity(shared.alloc, commands.len())?,
         agent,
         mail: post.mail,
         stop: post.stop,

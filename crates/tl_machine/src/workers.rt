@@ -3,7 +3,7 @@ use crate::threads::Work;
 use std::alloc::Global;
 use std::sync::Wait;
 use std::time::Clock;
-use tl_client::{Agent, Gate, Home, HomePort, Locked, Mail, Port, Success, Turn};
+use tl_client::{Agent, Gate, Home, HomePort, Locked, Mail, Port, Turn};
 use tl_tickets::Ringer;
 use tl_types::{BankNo, ClientId};
 
@@ -35,7 +35,6 @@ pub(crate) struct Shared<'y, G> {
 pub(crate) struct ClientWorker<'s, 'x, 'y, G> {
     pub(crate) shared: &'y Shared<'y, G>,
     pub(crate) client: ClientId,
-    pub(crate) successes: Vec<Success>,
     pub(crate) agent: Agent<'s>,
     pub(crate) mail: Mail<'x>,
     pub(crate) stop: Ringer<'x>,
@@ -117,21 +116,17 @@ impl<'s, 'x, 'y, G: Gate> Work for ClientWorker<'s, 'x, 'y, G> {
         let ClientWorker {
             shared,
             client,
-            successes,
             mut agent,
             mut mail,
             mut stop,
             end: _,
         } = self;
-        let mut port = shared
-            .locked
-            .client_port(rt, shared.gate, client, successes);
+        let mut port = shared.locked.client_port(rt, shared.gate, client);
         let end = client_turns(rt, shared, &mut port, &mut agent, &mut mail, &mut stop);
         stop_if_known(end, &mut stop);
         ClientWorker {
             shared,
             client,
-            successes: Vec::new(shared.alloc),
             agent,
             mail,
             stop,

@@ -9,7 +9,7 @@ use std::sync::Wait;
 use std::test::Fail;
 use std::time::Clock;
 use tl_bank::{Loaded, Refusal, Share, When};
-use tl_client::{Agent, Command, Mail, Port, Success, Turn};
+use tl_client::{Agent, Command, Mail, Port, Turn};
 use tl_map::{Geometry, GeometryNumbers};
 use tl_tickets::{Receiver, Ringer, Sender};
 use tl_types::{BankNo, BlockNo, Channel, ClientId, Grow, Perm, Prune, Ticket};
@@ -104,10 +104,6 @@ impl Port for Refuser {
     fn oldest_copy(&self, _client: ClientId, _bank: BankNo) -> Option<BlockNo> {
         count(&self.calls);
         None
-    }
-
-    fn succeeded(&self) -> &[Success] {
-        &[]
     }
 }
 

@@ -10,7 +10,6 @@ use std::time::Clock;
 use tl_bank::{Bank, Share};
 use tl_client::{Agent, Command, Locked, Mail, Turn};
 use tl_map::{Geometry, GeometryNumbers};
-use tl_text::Answered;
 use tl_types::{AccessBytes, BankNo, BlockNo, ClientId, Perm};
 
 /// One client with one copy, one bank with one way and one register, and four blocks of eight bytes.
@@ -82,8 +81,8 @@ fn exchange_by_mail<R: Wait + Clock>(
     exchange(rt, alloc, locked, gate, agent, mails)
 }
 
-fn first_byte(answered: &Answered) -> Option<u8> {
-    answered.bytes.as_slice().first().copied()
+fn first_byte(bytes: &AccessBytes) -> Option<u8> {
+    bytes.as_slice().first().copied()
 }
 
 /// How many commands were answered, and the first byte that the last one has. `None` where not both finished, or memory was refused.

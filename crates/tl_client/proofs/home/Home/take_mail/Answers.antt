@@ -1,4 +1,4 @@
-use Rattle.std.proofs.Common.{◌≡◌, [], ◌++◌, List, sym, ◌∙◌, ap, subst}
+use Rattle.std.proofs.Common.{◌≡◌, [], ◌++◌, List, ◌∙◌, ap, subst}
 use Rattle.std.specs.List.{filter}
 use Rattle.tl_types.specs.Channel.{place_of}
 use Rattle.tl_types.specs.declared.channel.Channel.TheVariants.{A, C, E}
