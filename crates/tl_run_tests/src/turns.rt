@@ -70,7 +70,7 @@ pub fn play_out<G: Gate, R: Wait + Clock>(
 ) -> Option<(Turn, Turn)> {
     let (agent, client, client_mail) = agent;
     let mut home = Home::new(alloc, BankNo::new(0)).ok()?;
-    let mut port = locked.client_port(rt, gate, client, Vec::with_capacity(alloc, 4).ok()?);
+    let mut port = locked.client_port(rt, gate, client);
     let mut home_port = locked.home_port(rt, gate, BankNo::new(0))?;
     Some(take_turns(
         rt,
