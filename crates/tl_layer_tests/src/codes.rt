@@ -1,7 +1,7 @@
 use std::process::Abort;
 use tl_types::{Channel, code, decode};
 
-/// How many kinds have codes of this channel with this opcode, each asserted to have the codes that it was decoded from.
+/// How many kinds have this channel and opcode, each asserted to have the codes that it was decoded from.
 fn count_kinds<R: Abort>(rt: &R, channel: Channel, opcode: u8) -> u32 {
     let mut found = 0u32;
     for param in 0..=255u8 {

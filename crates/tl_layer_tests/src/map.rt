@@ -83,7 +83,7 @@ fn four_banks(rt: HostRuntime) -> Result<(), Fail> {
     Ok(())
 }
 
-/// What a geometry says of bytes: how many there are, the size of a block, and the block and the offset of the address 0x1f.
+/// How many bytes there are, the size of a block, and the block and the offset of the address 0x1f.
 fn bytes_of(geometry: Geometry) -> [u32; 4] {
     [
         geometry.memory_bytes(),

@@ -153,8 +153,7 @@ fn a_put_is_read_back(rt: HostRuntime) -> Result<(), Fail> {
     Ok(())
 }
 
-/// Whether a bank's part has the blocks at 0 and at 24, which are the other bank's, and what its own blocks hold once the second was
-/// put.
+/// Whether a bank's part has the other bank's blocks, and what its own hold once the second was put.
 fn bank_after_put<R: Abort>(rt: &R, alloc: Global) -> Result<([bool; 2], [Option<Ends>; 2]), Fail> {
     let image = [1, 2, 3, 4, 5, 6, 7, 8, 9, 10, 11, 12];
     let mut blocks = Blocks::of_bank(rt, alloc, &image)?;

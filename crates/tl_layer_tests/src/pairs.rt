@@ -1,5 +1,5 @@
-//! An inbox with two senders, and a bell with two seats, each with what belongs to it. Their models say nothing, so that a test of many
-//! calls has their answers alone to carry along.
+//! An inbox with two senders, and a bell with two seats, each with what belongs to it. Their models say nothing, so that
+//! a test of many calls has their answers alone to carry along.
 use crate::tickets::{open_bell, open_two};
 use std::alloc::Global;
 use std::marker::Model;
