@@ -11,4 +11,6 @@ mod memory;
 #[cfg(test)]
 mod messages;
 #[cfg(test)]
+mod pairs;
+#[cfg(test)]
 mod tickets;

@@ -23,6 +23,9 @@ fn four_blocks(banks: i64, block_bytes: i64) -> Result<Geometry, Fail> {
     })?)
 }
 
+/// The first byte of a block, its last one, and how many it has.
+type Ends = (u8, u8, usize);
+
 /// Beats with the bytes 0x80, 0x81 and so on.
 fn counted(beats: u8) -> Burst {
     let mut burst = Burst::new();
@@ -42,6 +45,11 @@ fn counted(beats: u8) -> Burst {
         }
     }
     burst
+}
+
+/// The first and the last of some bytes, and how many there are.
+fn ends(bytes: &[u8]) -> Option<Ends> {
+    Some((*bytes.first()?, *bytes.last()?, bytes.len()))
 }
 
 /// A memory. Its model says nothing, so that a test of many calls has their answers alone to carry along.
@@ -94,57 +102,70 @@ impl Blocks {
     }
 
     /// The first and the last byte of the block at an address, and how many bytes it has.
-    fn get(&mut self, rt: &impl Abort, size: u32, address: u32) -> Option<(u8, u8, usize)> {
+    fn get(&mut self, rt: &impl Abort, size: u32, address: u32) -> Option<Ends> {
         let request = Request::Get { size, address };
         assert!(rt; self.memory.has(&request));
         match self.memory.serve(request) {
             Reply::AccessAckData {
                 size: answered,
                 burst,
-            } if answered == size => {
-                let block = burst.block();
-                let bytes = block.as_slice();
-                Some((*bytes.first()?, *bytes.last()?, bytes.len()))
-            }
+            } if answered == size => { ends(burst.block().as_slice()) }
             _ => None,
         }
     }
 }
 
+/// What blocks 2, 0 and 3 of a memory hold once the first of these was put.
+fn blocks_after_put<R: Abort>(
+    rt: &R,
+    alloc: Global,
+    size: u32,
+    bytes: u32,
+    beats: u8,
+) -> Result<[Option<Ends>; 3], Fail> {
+    let mut blocks = Blocks::new(rt, alloc, bytes, &[1, 2, 3, 4, 5, 6, 7, 8, 9])?;
+    blocks.put(rt, size, bytes.saturating_mul(2), counted(beats));
+    Ok([
+        blocks.get(rt, size, bytes.saturating_mul(2)),
+        blocks.get(rt, size, 0),
+        blocks.get(rt, size, bytes.saturating_mul(3)),
+    ])
+}
+
 #[test]
 fn a_put_is_read_back(rt: HostRuntime) -> Result<(), Fail> {
-    for (size, bytes, beats, last) in [
-        (3, 8, 1, 0x87),
-        (4, 16, 2, 0x8f),
-        (5, 32, 4, 0x9f),
-        (6, 64, 8, 0xbf),
+    for (size, bytes, beats, last, rest) in [
+        (3, 8, 1, 0x87, 8),
+        (4, 16, 2, 0x8f, 0),
+        (5, 32, 4, 0x9f, 0),
+        (6, 64, 8, 0xbf, 0),
     ] {
-        let mut blocks = Blocks::new(&rt, rt.alloc(), bytes, &[1, 2, 3, 4, 5, 6, 7, 8, 9])?;
-        blocks.put(&rt, size, bytes.saturating_mul(2), counted(beats));
         let len = bytes as usize;
         assert_eq!(rt;
-            blocks.get(&rt, size, bytes.saturating_mul(2)),
-            Some((0x80, last, len))
-        );
-        let rest = if bytes == 8 { 8 } else { 0 };
-        assert_eq!(rt; blocks.get(&rt, size, 0), Some((1, rest, len)));
-        assert_eq!(rt;
-            blocks.get(&rt, size, bytes.saturating_mul(3)),
-            Some((0, 0, len))
+            blocks_after_put(&rt, rt.alloc(), size, bytes, beats)?,
+            [
+                Some((0x80, last, len)),
+                Some((1, rest, len)),
+                Some((0, 0, len))
+            ]
         );
     }
     Ok(())
 }
 
+/// Whether a bank's part has the other bank's blocks, and what its own hold once the second was put.
+fn bank_after_put<R: Abort>(rt: &R, alloc: Global) -> Result<([bool; 2], [Option<Ends>; 2]), Fail> {
+    let image = [1, 2, 3, 4, 5, 6, 7, 8, 9, 10, 11, 12];
+    let mut blocks = Blocks::of_bank(rt, alloc, &image)?;
+    let others = [blocks.has(3, 0), blocks.has(3, 24)];
+    blocks.put(rt, 3, 16, counted(1));
+    Ok((others, [blocks.get(rt, 3, 8), blocks.get(rt, 3, 16)]))
+}
+
 #[test]
 fn a_bank_keeps_its_own_blocks(rt: HostRuntime) -> Result<(), Fail> {
-    let image = [1, 2, 3, 4, 5, 6, 7, 8, 9, 10, 11, 12];
-    let mut blocks = Blocks::of_bank(&rt, rt.alloc(), &image)?;
-    for address in [0, 24] {
-        assert!(rt; !blocks.has(3, address));
-    }
-    blocks.put(&rt, 3, 16, counted(1));
-    assert_eq!(rt; blocks.get(&rt, 3, 8), Some((9, 0, 8)));
-    assert_eq!(rt; blocks.get(&rt, 3, 16), Some((0x80, 0x87, 8)));
+    let (others, own) = bank_after_put(&rt, rt.alloc())?;
+    assert_eq!(rt; others, [false, false]);
+    assert_eq!(rt; own, [Some((9, 0, 8)), Some((0x80, 0x87, 8))]);
     Ok(())
 }

@@ -3,9 +3,11 @@ ghost use Rattle.std.specs.List.{All};
 ghost use Rattle.tl_tickets.specs.Inbox.{IsPassOf, IsSenderOf, IsReceiverOf};
 ghost use Rattle.tl_tickets.specs.Bell.{IsSeatOf};
 
+use crate::pairs::{BellCall, Call, settled_after, total_after};
 use std::alloc::{AllocError, Global};
+use std::marker::Model;
+use std::process::Abort;
 use std::sync::Wait;
-use std::test::*;
 use std::thread;
 use std::thread::Threads;
 use tl_tickets::{Bell, Full, Inbox, Missing, Pass, Receiver, Ringer, Seat, Sender};
@@ -47,7 +49,7 @@ fn next_sender(inbox: &Inbox, senders: &mut Vec<Pass>) -> Option<Pass>
 }
 
 // An inbox with room for two, the receiver's pass and two senders'.
-fn open_two(alloc: Global) -> Option<(Inbox, Pass, Pass, Pass)>
+pub(crate) fn open_two(alloc: Global) -> Option<(Inbox, Pass, Pass, Pass)>
     ensures { IfSome result (λ made. IsReceiverOf made.0 made.1 × IsSenderOf made.0 made.2 × IsSenderOf made.0 made.3) }
 {
     let (inbox, receiver, mut senders) = open(alloc, 2, 2).ok()?;
@@ -56,33 +58,17 @@ fn open_two(alloc: Global) -> Option<(Inbox, Pass, Pass, Pass)>
     Some((inbox, receiver, first, second))
 }
 
-// Settles an inbox with these passes.
-fn settle_three(
-    alloc: Global,
-    inbox: Inbox,
-    receiver: Pass,
-    first: Pass,
-    second: Pass,
-) -> Option<Result<u64, Missing>>
-    requires { IsPassOf inbox receiver × IsPassOf inbox first × IsPassOf inbox second }
-{
-    let mut passes = Vec::new(alloc);
-    passes.push(second).ok()?;
-    passes.push(first).ok()?;
-    passes.push(receiver).ok()?;
-    Some(inbox.settle(passes))
-}
-
-// Settles an inbox with all senders' passes and the receiver's.
+// Settles an inbox with all senders' passes and the receiver's. `None` is want of memory.
 fn settle_all(
     inbox: Inbox,
-    mut passes: Vec<Pass>,
+    senders: Result<Vec<Pass>, AllocError>,
     receiver: Pass,
-) -> Result<Result<u64, Missing>, AllocError>
-    requires { All (IsPassOf inbox) passes.items × IsPassOf inbox receiver }
+) -> Option<Result<u64, Missing>>
+    requires { IfOk senders (λ v. All (IsPassOf inbox) v.items) × IsPassOf inbox receiver }
 {
-    passes.push(receiver)?;
-    Ok(inbox.settle(passes))
+    let mut passes = senders.ok()?;
+    passes.push(receiver).ok()?;
+    Some(inbox.settle(passes))
 }
 
 // Puts this many tickets of one client, each again until there is room.
@@ -151,7 +137,7 @@ fn take_all<R: Wait>(
 }
 
 // A bell with two seats.
-fn open_bell(alloc: Global) -> Result<(Bell, Seat, Seat), AllocError>
+pub(crate) fn open_bell(alloc: Global) -> Result<(Bell, Seat, Seat), AllocError>
     ensures { IfOk result (λ made. IsSeatOf made.0 made.1 × IsSeatOf made.0 made.2) }
 {
     let (bell, mut seats) = Bell::new(alloc, 2)?;
@@ -162,55 +148,57 @@ fn open_bell(alloc: Global) -> Result<(Bell, Seat, Seat), AllocError>
 }
 
 #[test]
-fn a_full_inbox_hands_back(rt: HostRuntime) -> Result<(), Fail> {
-    let Some((inbox, mut receiver, mut first, mut second)) = open_two(rt.alloc()) else {
-        panic!(rt; "no memory");
-    };
-    assert!(rt; inbox.put(&rt, &mut first, ticket(1, 0)).is_ok());
-    assert!(rt; inbox.put(&rt, &mut first, ticket(1, 1)).is_ok());
-    assert_eq!(rt;
-        inbox.put(&rt, &mut first, ticket(1, 2)),
-        Err(Full(ticket(1, 2)))
+fn a_full_inbox_hands_back(rt: HostRuntime) {
+    let settled = settled_after(
+        &rt,
+        rt.alloc(),
+        &[
+            (Call::First(ticket(1, 0)), Ok(None)),
+            (Call::First(ticket(1, 1)), Ok(None)),
+            (Call::First(ticket(1, 2)), Err(Full(ticket(1, 2)))),
+            (Call::Take, Ok(Some(ticket(1, 0)))),
+            (Call::First(ticket(1, 2)), Ok(None)),
+            (Call::Second(ticket(2, 3)), Err(Full(ticket(2, 3)))),
+            (Call::Take, Ok(Some(ticket(1, 1)))),
+            (Call::Take, Ok(Some(ticket(1, 2)))),
+            (Call::Take, Ok(None)),
+        ],
     );
-    assert_eq!(rt; inbox.take(&rt, &mut receiver), Some(ticket(1, 0)));
-    assert!(rt; inbox.put(&rt, &mut first, ticket(1, 2)).is_ok());
-    assert_eq!(rt;
-        inbox.put(&rt, &mut second, ticket(2, 3)),
-        Err(Full(ticket(2, 3)))
-    );
-    assert_eq!(rt; inbox.take(&rt, &mut receiver), Some(ticket(1, 1)));
-    assert_eq!(rt; inbox.take(&rt, &mut receiver), Some(ticket(1, 2)));
-    assert_eq!(rt; inbox.take(&rt, &mut receiver), None);
-    let left = settle_three(rt.alloc(), inbox, receiver, first, second);
-    assert_eq!(rt; left, Some(Ok(0)));
-    Ok(())
+    assert_eq!(rt; settled, Some(Ok(0)));
 }
 
 #[test]
-fn one_ticket_is_left(rt: HostRuntime) -> Result<(), Fail> {
-    let Some((inbox, mut receiver, mut first, second)) = open_two(rt.alloc()) else {
-        panic!(rt; "no memory");
-    };
-    assert!(rt; inbox.put(&rt, &mut first, ticket(1, 0)).is_ok());
-    assert!(rt; inbox.put(&rt, &mut first, ticket(1, 1)).is_ok());
-    assert_eq!(rt; inbox.take(&rt, &mut receiver), Some(ticket(1, 0)));
-    let left = settle_three(rt.alloc(), inbox, receiver, first, second);
-    assert_eq!(rt; left, Some(Ok(1)));
-    Ok(())
+fn one_ticket_is_left(rt: HostRuntime) {
+    let settled = settled_after(
+        &rt,
+        rt.alloc(),
+        &[
+            (Call::First(ticket(1, 0)), Ok(None)),
+            (Call::First(ticket(1, 1)), Ok(None)),
+            (Call::Take, Ok(Some(ticket(1, 0)))),
+        ],
+    );
+    assert_eq!(rt; settled, Some(Ok(1)));
+}
+
+// An inbox settled without its receiver's pass. `None` is want of memory.
+fn settle_without_receiver(alloc: Global) -> Option<Result<u64, Missing>> {
+    let (inbox, _receiver, senders) = open(alloc, 2, 2).ok()?;
+    Some(inbox.settle(senders))
+}
+
+// An inbox settled without passes. `None` is want of memory.
+fn settle_without_passes(alloc: Global) -> Option<Result<u64, Missing>> {
+    let (inbox, _passes) = Inbox::new(alloc, 1, 1).ok()?;
+    Some(inbox.settle(Vec::new(alloc)))
 }
 
 #[test]
-fn a_pass_is_missing(rt: HostRuntime) -> Result<(), Fail> {
-    let Ok((inbox, receiver, senders)) = open(rt.alloc(), 2, 2) else {
-        panic!(rt; "no memory");
-    };
-    assert_eq!(rt; inbox.settle(senders), Err(Missing));
-    drop(receiver);
-    let Ok((inbox, _)) = Inbox::new(rt.alloc(), 1, 1) else {
-        panic!(rt; "no memory");
-    };
-    assert_eq!(rt; inbox.settle(Vec::new(rt.alloc())), Err(Missing));
-    Ok(())
+fn a_pass_is_missing(rt: HostRuntime) {
+    let settled = settle_without_receiver(rt.alloc());
+    assert_eq!(rt; settled, Some(Err(Missing)));
+    let settled = settle_without_passes(rt.alloc());
+    assert_eq!(rt; settled, Some(Err(Missing)));
 }
 
 // The senders put and the receiver takes, beside each other: the passes, and what was taken.
@@ -246,80 +234,165 @@ fn exchange<R: Threads + Wait + Sync>(
     )
 }
 
-#[test]
-fn four_senders_in_threads(rt: HostRuntime) -> Result<(), Fail> {
-    let Ok((inbox, receiver, senders)) = open(rt.alloc(), 16, 4) else {
-        panic!(rt; "no memory");
-    };
-    let Ok((bell, heard, rung)) = open_bell(rt.alloc()) else {
-        panic!(rt; "no memory");
-    };
-    let tickets = Vec::with_capacity(rt.alloc(), 4000)?;
+// An inbox and a bell with what belongs to them, and room for what is taken.
+#[derive(Drop)]
+struct Opened {
+    inbox: Inbox,
+    receiver: Pass,
+    senders: Vec<Pass>,
+    bell: Bell,
+    heard: Seat,
+    rung: Seat,
+    tickets: Vec<Ticket>,
+}
+
+impl Model for Opened {
+    ghost use Rattle.std.specs.List.{All};
+    ghost use Rattle.tl_tickets.specs.Inbox.{IsSenderOf, IsReceiverOf};
+    ghost use Rattle.tl_tickets.specs.Bell.{IsSeatOf};
+
+    ghost Value = { Unit {0} };
+
+    ghost view = { λ _. tt };
+
+    ghost invariant = { λ o. IsReceiverOf o.inbox o.receiver × All (IsSenderOf o.inbox) o.senders.items × IsSeatOf o.bell o.heard × IsSeatOf o.bell o.rung };
+}
+
+// Opens them for this many senders, with room for so many tickets to wait and to be taken.
+fn open_all(
+    alloc: Global,
+    capacity: usize,
+    senders: usize,
+    taken: usize,
+) -> Result<Opened, AllocError>
+    requires capacity { (0 < capacity) × (capacity ≤ 4096) }
+    requires senders { (0 < senders) × (senders ≤ 64) }
+{
+    let (inbox, receiver, senders) = open(alloc, capacity, senders)?;
+    let (bell, heard, rung) = open_bell(alloc)?;
+    let tickets = Vec::with_capacity(alloc, taken)?;
+    Ok(Opened {
+        inbox,
+        receiver,
+        senders,
+        bell,
+        heard,
+        rung,
+        tickets,
+    })
+}
+
+// What `settle` gives once all have put beside the receiver, and what it took.
+fn exchanged<R: Threads + Wait + Sync>(
+    rt: &R,
+    opened: Opened,
+) -> (Option<Result<u64, Missing>>, Vec<Ticket>) {
+    let Opened {
+        inbox,
+        receiver,
+        senders,
+        bell,
+        heard,
+        rung,
+        tickets,
+    } = opened;
     let (senders, (receiver, tickets)) = exchange(
-        &rt, &inbox, receiver, senders, &bell, heard, rung, tickets,
+        rt, &inbox, receiver, senders, &bell, heard, rung, tickets,
     );
-    assert_eq!(rt; settle_all(inbox, senders?, receiver)?, Ok(0));
-    assert_eq!(rt; tickets.len(), 4000);
-    for client in 1..5u32 {
-        let mut next = 0u64;
-        for taken in &tickets {
-            if taken.client == ClientId::new(client) {
-                assert_eq!(rt; *taken, ticket(client, next));
-                next = next.wrapping_add(1);
-            }
+    (settle_all(inbox, senders, receiver), tickets)
+}
+
+// How many tickets of a client there are, each asserted to be the next of that client.
+fn count_in_order<R: Abort>(rt: &R, tickets: &[Ticket], client: u32) -> u64 {
+    let mut next = 0u64;
+    for taken in tickets {
+        if taken.client == ClientId::new(client) {
+            assert_eq!(rt; *taken, ticket(client, next));
+            next = next.wrapping_add(1);
         }
-        assert_eq!(rt; next, 1000);
     }
-    Ok(())
+    next
 }
 
 #[test]
-fn sixty_four_senders(rt: HostRuntime) -> Result<(), Fail> {
-    let Ok((inbox, receiver, senders)) = open(rt.alloc(), 4096, 64) else {
+fn four_senders_in_threads(rt: HostRuntime) {
+    let Ok(opened) = open_all(rt.alloc(), 16, 4, 4000) else {
         panic!(rt; "no memory");
     };
-    let Ok((bell, first, second)) = open_bell(rt.alloc()) else {
+    let (settled, tickets) = exchanged(&rt, opened);
+    assert_eq!(rt; (settled, tickets.len()), (Some(Ok(0)), 4000));
+    for client in 1..5u32 {
+        assert_eq!(rt; count_in_order(&rt, &tickets, client), 1000);
+    }
+}
+
+// What `settle` gives once all have put a ticket and the receiver has taken them, and what it took.
+fn sent_and_taken<R: Threads + Wait + Sync>(
+    rt: &R,
+    opened: Opened,
+) -> (Option<Result<u64, Missing>>, Vec<Ticket>) {
+    let Opened {
+        inbox,
+        receiver,
+        senders,
+        bell,
+        heard,
+        rung,
+        tickets,
+    } = opened;
+    let (heard, rung) = (Ringer::new(&bell, heard), Ringer::new(&bell, rung));
+    let passes = put_each(rt, &inbox, rung, senders, 1);
+    let (receiver, tickets) = take_all(rt, Receiver::new(&inbox, receiver), heard, tickets);
+    (settle_all(inbox, passes, receiver), tickets)
+}
+
+// How many of these tickets are a client's first.
+fn count_firsts(tickets: &[Ticket], client: u32) -> usize {
+    tickets.iter().filter(|t| **t == ticket(client, 0)).count()
+}
+
+#[test]
+fn sixty_four_senders(rt: HostRuntime) {
+    let Ok(opened) = open_all(rt.alloc(), 4096, 64, 64) else {
         panic!(rt; "no memory");
     };
-    let (heard, rung) = (Ringer::new(&bell, first), Ringer::new(&bell, second));
-    let tickets = Vec::with_capacity(rt.alloc(), 64)?;
-    let passes = put_each(&rt, &inbox, rung, senders, 1)?;
-    let (receiver, tickets) = take_all(&rt, Receiver::new(&inbox, receiver), heard, tickets);
-    assert_eq!(rt; settle_all(inbox, passes, receiver)?, Ok(0));
+    let (settled, tickets) = sent_and_taken(&rt, opened);
+    assert_eq!(rt; settled, Some(Ok(0)));
     for client in 1..65u32 {
-        let own = tickets.iter().filter(|t| **t == ticket(client, 0)).count();
-        assert_eq!(rt; own, 1);
+        assert_eq!(rt; count_firsts(&tickets, client), 1);
     }
-    Ok(())
 }
 
 #[test]
-fn a_bell_is_heard_from_both_seats(rt: HostRuntime) -> Result<(), Fail> {
-    let Ok((bell, mut first, mut second)) = open_bell(rt.alloc()) else {
-        panic!(rt; "no memory");
-    };
-    assert!(rt; bell.ring(&mut first) && bell.ring(&mut first) && bell.ring(&mut first));
-    assert_eq!(rt; bell.heard(&mut second), 3);
-    assert!(rt; bell.ring(&mut second));
-    assert_eq!(rt; bell.heard(&mut second), 4);
-    assert_eq!(rt; bell.heard(&mut first), 4);
-    let mut seats = Vec::new(rt.alloc());
-    seats.push(second)?;
-    seats.push(first)?;
-    assert_eq!(rt; bell.total(seats), Ok(4));
-    Ok(())
+fn a_bell_is_heard_from_both_seats(rt: HostRuntime) {
+    let total = total_after(
+        &rt,
+        rt.alloc(),
+        &[
+            (BellCall::RingFirst, 1),
+            (BellCall::RingFirst, 1),
+            (BellCall::RingFirst, 1),
+            (BellCall::HearSecond, 3),
+            (BellCall::RingSecond, 1),
+            (BellCall::HearSecond, 4),
+            (BellCall::HearFirst, 4),
+        ],
+    );
+    assert_eq!(rt; total, Some(Ok(4)));
+}
+
+// The total of a bell with one of its two seats. `None` is want of memory.
+fn total_of_one(alloc: Global) -> Option<Result<u64, Missing>> {
+    let (bell, _first, second) = open_bell(alloc).ok()?;
+    let mut seats = Vec::new(alloc);
+    seats.push(second).ok()?;
+    Some(bell.total(seats))
 }
 
 #[test]
-fn a_seat_is_missing(rt: HostRuntime) -> Result<(), Fail> {
-    let Ok((bell, first, second)) = open_bell(rt.alloc()) else {
-        panic!(rt; "no memory");
-    };
-    let mut seats = Vec::new(rt.alloc());
-    seats.push(second)?;
-    assert_eq!(rt; bell.total(seats), Err(Missing));
-    drop(first);
-    Ok(())
+fn a_seat_is_missing(rt: HostRuntime) {
+    let total = total_of_one(rt.alloc());
+    assert_eq!(rt; total, Some(Err(Missing)));
 }
 
 // A bell and its seats.
@@ -342,32 +415,51 @@ fn ring_often(mut ringer: Ringer<'_>, times: u64) -> Seat
     ringer.into_seat()
 }
 
-#[test]
-fn sixty_four_seats_ring_in_threads(rt: HostRuntime) -> Result<(), Fail> {
-    let Ok((bell, seats)) = open_seats(rt.alloc(), 64) else {
-        panic!(rt; "no memory");
-    };
+// The total of a bell whose seats each rang so often in a thread of its own. `None` is want of memory.
+fn total_in_threads<R: Threads + Sync>(
+    rt: &R,
+    alloc: Global,
+    seats: usize,
+    times: u64,
+) -> Option<Result<u64, Missing>>
+    requires { (0 < seats) × (seats ≤ 64) }
+{
+    let (bell, seats) = open_seats(alloc, seats).ok()?;
     let shared = &bell;
     let seats = thread::map_vec(
-        &rt,
+        rt,
         seats,
         &|seat| -> Seat
             requires { IsSeatOf shared.now seat }
             ensures { IsSeatOf shared.entry.now result }
-        { ring_often(Ringer::new(shared, seat), 1000) },
-    )?;
-    assert_eq!(rt; bell.total(seats), Ok(64_000));
-    Ok(())
+        { ring_often(Ringer::new(shared, seat), times) },
+    );
+    Some(bell.total(seats.ok()?))
+}
+
+#[test]
+fn sixty_four_seats_ring_in_threads(rt: HostRuntime) {
+    let total = total_in_threads(&rt, rt.alloc(), 64, 1000);
+    assert_eq!(rt; total, Some(Ok(64_000)));
+}
+
+// Whether one of two inboxes is made.
+fn makes_an_inbox(alloc: Global) -> bool {
+    let (first, second) = (open(alloc, 2, 3), open(alloc, 2, 3));
+    first.is_ok() || second.is_ok()
+}
+
+// Whether one of two bells is made.
+fn makes_a_bell(alloc: Global) -> bool {
+    let (first, second) = (open_seats(alloc, 3), open_seats(alloc, 3));
+    first.is_ok() || second.is_ok()
 }
 
 // Where one request for memory is refused, the call that made it says so, and the next one makes what it is asked.
 #[test]
-fn memory_is_refused_once(rt: HostRuntime) -> Result<(), Fail> {
+fn memory_is_refused_once(rt: HostRuntime) {
     for _ in 0..2 {
-        let (first, second) = (open(rt.alloc(), 2, 3), open(rt.alloc(), 2, 3));
-        assert!(rt; first.is_ok() || second.is_ok());
-        let (first, second) = (open_seats(rt.alloc(), 3), open_seats(rt.alloc(), 3));
-        assert!(rt; first.is_ok() || second.is_ok());
+        assert!(rt; makes_an_inbox(rt.alloc()));
+        assert!(rt; makes_a_bell(rt.alloc()));
     }
-    Ok(())
 }
