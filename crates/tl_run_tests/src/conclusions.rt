@@ -37,15 +37,8 @@ enum Made {
     Store(u32, u8),
 }
 
-/// What is concluded for a script of one bank, once its client has block 0 at Tip and made these accesses, each with its index.
-fn concluded(
-    alloc: Global,
-    commands: &str,
-    made: &[(u32, Made)],
-) -> Result<Result<String, RunError>, Fail> {
-    let script = small(alloc, commands)?;
-    let mut setting = Setting::reset(alloc, &script)?;
-    setting.take(0, 0, 0)?;
+/// Client 0 makes these accesses on bank 0, each with its index.
+fn make(setting: &mut Setting, made: &[(u32, Made)]) -> Result<(), Fail> {
     for (index, access) in made {
         let when = When {
             clock: 0,
@@ -56,10 +49,20 @@ fn concluded(
             Made::Store(address, byte) => setting.store(0, 0, *address, *byte, when)?,
         };
     }
-    match setting.conclude(alloc, &script) {
-        Ok(report) => Ok(Ok(report.text(alloc)?)),
-        Err(error) => Ok(Err(error)),
-    }
+    Ok(())
+}
+
+/// What is concluded for a script of one bank, once its client has block 0 at Tip and made these accesses, each with its index.
+fn concluded(
+    alloc: Global,
+    commands: &str,
+    made: &[(u32, Made)],
+) -> Result<Result<String, RunError>, Fail> {
+    let script = small(alloc, commands)?;
+    let mut setting = Setting::reset(alloc, &script)?;
+    setting.take(0, 0, 0)?;
+    make(&mut setting, made)?;
+    setting.text(alloc, &script)
 }
 
 #[test]
@@ -210,8 +213,7 @@ fn banks_with_nothing_to_do(rt: HostRuntime) -> Result<(), Fail> {
     let alloc = rt.alloc();
     let script = read(alloc, IDLE)?;
     let setting = Setting::reset(alloc, &script)?;
-    let report = setting.conclude(alloc, &script)?;
-    let text = report.text(alloc)?;
+    let text = setting.text(alloc, &script)??;
     assert_eq!(rt;
         text.as_str(),
         "client 0\n0 drop 0x00000000\nbank 0 held 0 recorded 0\nbank 1 held 0 recorded 0\nok\n"
@@ -248,8 +250,7 @@ fn one_client_on_two_banks(rt: HostRuntime) -> Result<(), Fail> {
         setting.marks(alloc, 1)?.as_slice(),
         [(2, 0, 1), (4, 0, 3)].as_slice()
     );
-    let report = setting.conclude(alloc, &script)?;
-    let text = report.text(alloc)?;
+    let text = setting.text(alloc, &script)??;
     assert_eq!(rt; text.as_str(), TWO_BANKS_REPORT);
     Ok(())
 }

@@ -1,6 +1,6 @@
 //! Idle turns of an agent: they ask nothing, and take nothing of the inbox.
 use crate::counts::{Counts, count};
-use crate::mails::{inside, mail, open, open_bell, outside};
+use crate::mails::{first_mail, open_two};
 use crate::turns::agent_turn;
 use std::alloc::Global;
 use std::cell::Cell;
@@ -11,7 +11,7 @@ use std::time::Clock;
 use tl_bank::{Loaded, Refusal, Share, When};
 use tl_client::{Agent, Command, Mail, Port, Turn};
 use tl_map::{Geometry, GeometryNumbers};
-use tl_tickets::{Receiver, Ringer, Sender};
+use tl_tickets::{Receiver, Sender};
 use tl_types::{BankNo, BlockNo, Channel, ClientId, Grow, Perm, Prune, Ticket};
 
 /// One client, and one bank with one block.
@@ -178,32 +178,27 @@ fn two_turns_by_mail<R: Wait + Clock>(
     port: &mut Refuser,
     gate: &Counts,
 ) -> Option<Seen> {
-    let (here, key, put_key) = open(alloc, 8)?;
-    let (away, _away_key, to_away) = open(alloc, 8)?;
-    let (done, rings, _hears) = open_bell(alloc)?;
-    let done = Ringer::new(&done, rings);
-    let mail = mail(alloc, inside(&here, key), outside(&away, to_away), done);
-    let (put, _bell) = outside(&here, put_key);
+    let (rooms, keys) = open_two(alloc)?;
+    let (mail, (put, _bell), _done) = first_mail(alloc, &rooms, keys);
     two_turns(rt, agent, port, gate, mail, put)
 }
 
 /// The two turns of an agent with one load to do.
-fn observed<R: Wait + Clock>(rt: &R, alloc: Global, gate: &Counts) -> Result<Seen, Fail> {
-    let geometry = Geometry::new(NUMBERS)?;
+fn observed<R: Wait + Clock>(rt: &R, alloc: Global, gate: &Counts) -> Option<Seen> {
+    let geometry = Geometry::new(NUMBERS).ok()?;
     let commands = [Command::Load { address: 0, len: 1 }];
     let shares = Vec::new(alloc);
-    let mut agent = Agent::new(alloc, ClientId::new(0), geometry, &commands, shares)?;
+    let mut agent = Agent::new(alloc, ClientId::new(0), geometry, &commands, shares).ok()?;
     let mut port = Refuser {
         calls: Cell::new(0),
     };
-    let seen = two_turns_by_mail(rt, alloc, &mut agent, &mut port, gate);
-    Ok(seen.ok_or("no memory")?)
+    two_turns_by_mail(rt, alloc, &mut agent, &mut port, gate)
 }
 
 #[test]
 fn an_idle_agent_asks_nothing_and_takes_nothing(rt: HostRuntime) -> Result<(), Fail> {
     let gate = Counts::new();
-    let seen = observed(&rt, rt.alloc(), &gate)?;
+    let seen = observed(&rt, rt.alloc(), &gate).ok_or("no memory")?;
     // The first turn tries the load, and asks for the copy that it needs.
     assert_eq!(rt; seen.first, Turn::Worked);
     assert_eq!(rt; seen.asked, 2);

@@ -75,6 +75,48 @@ pub fn open(alloc: Global, capacity: usize) -> Option<(Room, Key, Key)>
     ))
 }
 
+/// The rooms of two workers who send to one another, and the bell that tells that all clients are done.
+#[derive(Drop)]
+pub struct Rooms {
+    pub one: Room,
+    pub other: Room,
+    pub done: Bell,
+}
+
+/// The keys to two workers' rooms: of each room's own worker and of the one who sends to it, and both seats at the done bell.
+#[derive(Drop)]
+pub struct Keys {
+    pub one: Key,
+    pub to_one: Key,
+    pub other: Key,
+    pub to_other: Key,
+    pub rings: Seat,
+    pub hears: Seat,
+}
+
+/// Two rooms with inboxes of eight tickets, a done bell, and all keys. `None` where a request for memory was refused.
+pub fn open_two(alloc: Global) -> Option<(Rooms, Keys)>
+    ensures one { IfSome result (λ v. IsReceiverOf v.0.one.inbox v.1.one.pass × IsSeatOf v.0.one.bell v.1.one.seat) }
+    ensures to_one { IfSome result (λ v. IsSenderOf v.0.one.inbox v.1.to_one.pass × IsSeatOf v.0.one.bell v.1.to_one.seat) }
+    ensures other { IfSome result (λ v. IsReceiverOf v.0.other.inbox v.1.other.pass × IsSeatOf v.0.other.bell v.1.other.seat) }
+    ensures to_other { IfSome result (λ v. IsSenderOf v.0.other.inbox v.1.to_other.pass × IsSeatOf v.0.other.bell v.1.to_other.seat) }
+    ensures done { IfSome result (λ v. IsSeatOf v.0.done v.1.rings × IsSeatOf v.0.done v.1.hears) }
+{
+    let (one, one_key, to_one) = open(alloc, 8)?;
+    let (other, other_key, to_other) = open(alloc, 8)?;
+    let (done, rings, hears) = open_bell(alloc)?;
+    let rooms = Rooms { one, other, done };
+    let keys = Keys {
+        one: one_key,
+        to_one,
+        other: other_key,
+        to_other,
+        rings,
+        hears,
+    };
+    Some((rooms, keys))
+}
+
 /// The ends of a room's own worker.
 pub fn inside<'a>(room: &'a Room, key: Key) -> (Receiver<'a>, Ringer<'a>)
     requires { IsReceiverOf room.now.inbox key.pass × IsSeatOf room.now.bell key.seat }
@@ -114,9 +156,7 @@ fn only_way<'a>(
     rest: &Unparker,
 ) -> Option<Vec<Sending<'a>>> {
     let way = way(alloc, to, rest)?;
-    let mut ways = Vec::new(alloc);
-    ways.push(way).ok()?;
-    Some(ways)
+    Vec::from_array(alloc, [way]).ok()
 }
 
 /// The mail of a worker that sends to one other. One thread plays all workers, so that a ring need wake nobody: each way
@@ -132,26 +172,37 @@ pub fn mail<'a>(
     Some(Mail::new(own.0, own.1, ways, done, parker))
 }
 
-/// The mails of two workers that send to one another: over each one's room, with the keys of the room's own worker and of the one
-/// who sends to it, and over the done bell.
-pub fn two_mails<'a>(
-    alloc: Global,
-    one: (&'a Room, Key, Key),
-    other: (&'a Room, Key, Key),
-    done: (&'a Bell, Seat, Seat),
-) -> Option<(Mail<'a>, Mail<'a>)>
-    requires own { IsReceiverOf one.0.now.inbox one.1.pass × IsSeatOf one.0.now.bell one.1.seat }
-    requires to_one { IsSenderOf one.0.now.inbox one.2.pass × IsSeatOf one.0.now.bell one.2.seat }
-    requires others { IsReceiverOf other.0.now.inbox other.1.pass × IsSeatOf other.0.now.bell other.1.seat }
-    requires to_other { IsSenderOf other.0.now.inbox other.2.pass × IsSeatOf other.0.now.bell other.2.seat }
-    requires done { IsSeatOf done.0.now done.1 × IsSeatOf done.0.now done.2 }
+/// The mails of two workers who send to one another.
+pub fn two_mails<'a>(alloc: Global, rooms: &'a Rooms, keys: Keys) -> Option<(Mail<'a>, Mail<'a>)>
+    requires one { IsReceiverOf rooms.now.one.inbox keys.one.pass × IsSeatOf rooms.now.one.bell keys.one.seat }
+    requires to_one { IsSenderOf rooms.now.one.inbox keys.to_one.pass × IsSeatOf rooms.now.one.bell keys.to_one.seat }
+    requires other { IsReceiverOf rooms.now.other.inbox keys.other.pass × IsSeatOf rooms.now.other.bell keys.other.seat }
+    requires to_other { IsSenderOf rooms.now.other.inbox keys.to_other.pass × IsSeatOf rooms.now.other.bell keys.to_other.seat }
+    requires done { IsSeatOf rooms.now.done keys.rings × IsSeatOf rooms.now.done keys.hears }
 {
-    let (one, one_key, to_one) = one;
-    let (other, other_key, to_other) = other;
-    let (bell, rings, hears) = done;
-    let done = Ringer::new(bell, rings);
-    let first = mail(alloc, inside(one, one_key), outside(other, to_other), done)?;
-    let done = Ringer::new(bell, hears);
-    let second = mail(alloc, inside(other, other_key), outside(one, to_one), done)?;
+    let done = Ringer::new(&rooms.done, keys.rings);
+    let own = inside(&rooms.one, keys.one);
+    let first = mail(alloc, own, outside(&rooms.other, keys.to_other), done)?;
+    let done = Ringer::new(&rooms.done, keys.hears);
+    let own = inside(&rooms.other, keys.other);
+    let second = mail(alloc, own, outside(&rooms.one, keys.to_one), done)?;
     Some((first, second))
+}
+
+/// The mail of the first worker, the ends of the one who sends to it, and an end of the done bell.
+pub fn first_mail<'a>(
+    alloc: Global,
+    rooms: &'a Rooms,
+    keys: Keys,
+) -> (Option<Mail<'a>>, (Sender<'a>, Ringer<'a>), Ringer<'a>)
+    requires one { IsReceiverOf rooms.now.one.inbox keys.one.pass × IsSeatOf rooms.now.one.bell keys.one.seat }
+    requires to_one { IsSenderOf rooms.now.one.inbox keys.to_one.pass × IsSeatOf rooms.now.one.bell keys.to_one.seat }
+    requires to_other { IsSenderOf rooms.now.other.inbox keys.to_other.pass × IsSeatOf rooms.now.other.bell keys.to_other.seat }
+    requires done { IsSeatOf rooms.now.done keys.rings × IsSeatOf rooms.now.done keys.hears }
+{
+    let hears = Ringer::new(&rooms.done, keys.hears);
+    let own = inside(&rooms.one, keys.one);
+    let mail = mail(alloc, own, outside(&rooms.other, keys.to_other), hears);
+    let put = outside(&rooms.one, keys.to_one);
+    (mail, put, Ringer::new(&rooms.done, keys.rings))
 }

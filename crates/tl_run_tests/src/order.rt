@@ -3,7 +3,7 @@ ghost use Rattle.std.specs.Prelude.{◌≡◌, ◌++◌, ◌∷◌, [], MatchRes
 ghost use Rattle.tl_bank_spec.specs.declared.refusal.Refusal.TheVariants.{Memory as NoMemory};
 ghost use Rattle.tl_client.specs.Homes.{asked};
 
-use crate::mails::{inside, mail, open, open_bell, outside};
+use crate::mails::{first_mail, open_two};
 use crate::turns::home_turn;
 use arrayvec::ArrayVec;
 use std::alloc::Global;
@@ -276,13 +276,9 @@ fn turns_by_mail<R: Wait + Clock + Abort>(
     home: &mut Home,
     port: &mut Recorder,
 ) -> Option<()> {
-    let (here, key, put_key) = open(alloc, 8)?;
-    let (away, _away_key, to_away) = open(alloc, 8)?;
-    let (done, hears, rings) = open_bell(alloc)?;
-    let hears = Ringer::new(&done, hears);
-    let mail = mail(alloc, inside(&here, key), outside(&away, to_away), hears);
-    let put = outside(&here, put_key);
-    turns_with(rt, home, port, mail, put, Ringer::new(&done, rings))
+    let (rooms, keys) = open_two(alloc)?;
+    let (mail, put, done) = first_mail(alloc, &rooms, keys);
+    turns_with(rt, home, port, mail, put, done)
 }
 
 #[test]

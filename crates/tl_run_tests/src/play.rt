@@ -1,7 +1,7 @@
 //! One client and one bank, turn by turn in one thread.
 use crate::counts::Counts;
-use crate::mails::{open, open_bell, two_mails};
-use crate::turns::{bank_of, play_out};
+use crate::mails::{open_two, two_mails};
+use crate::turns::{bank_of, lock_up, play_out};
 use std::alloc::Global;
 use std::process::Abort;
 use std::sync::Wait;
@@ -38,12 +38,13 @@ struct Outcome {
 /// The bank behind its lock, and the client's share.
 fn lock(alloc: Global, geometry: Geometry) -> Option<(Locked, Vec<Share>)> {
     let (bank, mut given) = Bank::new(alloc, geometry, BankNo::new(0), &[]).ok()?;
-    let mut banks = Vec::new(alloc);
-    banks.push(bank).ok()?;
-    let mut shares = Vec::new(alloc);
-    shares.push(given.pop()?).ok()?;
-    let locked = Locked::new(alloc, geometry, banks).ok()?;
-    Some((locked, shares))
+    let share = given.pop()?;
+    lock_up(alloc, geometry, bank, share)
+}
+
+/// Whether both finished, by what the last turn of each was.
+fn both_finished(last: Option<(Turn, Turn)>) -> Option<bool> {
+    Some(last? == (Turn::Finished, Turn::Finished))
 }
 
 /// The turns of the agent and of the home with their mails, and whether both finished.
@@ -57,8 +58,8 @@ fn exchange<R: Wait + Clock>(
 ) -> Option<bool> {
     let (mut client_mail, mut home_mail) = mails?;
     let agent = (&mut *agent, ClientId::new(0), &mut client_mail);
-    let last = play_out(rt, alloc, locked, gate, agent, &mut home_mail, 1)?;
-    Some(last == (Turn::Finished, Turn::Finished))
+    let last = play_out(rt, alloc, locked, gate, agent, &mut home_mail, 1);
+    both_finished(last)
 }
 
 /// The same over inboxes and bells of their own.
@@ -69,15 +70,8 @@ fn exchange_by_mail<R: Wait + Clock>(
     gate: &Counts,
     agent: &mut Agent<'_>,
 ) -> Option<bool> {
-    let (client, client_key, to_client) = open(alloc, 8)?;
-    let (home, home_key, to_home) = open(alloc, 8)?;
-    let (done, rings, hears) = open_bell(alloc)?;
-    let mails = two_mails(
-        alloc,
-        (&client, client_key, to_client),
-        (&home, home_key, to_home),
-        (&done, rings, hears),
-    );
+    let (rooms, keys) = open_two(alloc)?;
+    let mails = two_mails(alloc, &rooms, keys);
     exchange(rt, alloc, locked, gate, agent, mails)
 }
 

@@ -161,6 +161,18 @@ impl Setting {
         conclude(alloc, script, &self.banks, &self.lists)
     }
 
+    /// The text of what is concluded for a script.
+    pub(crate) fn text(
+        &self,
+        alloc: Global,
+        script: &Script,
+    ) -> Result<Result<String, RunError>, Fail> {
+        match self.conclude(alloc, script) {
+            Ok(report) => Ok(Ok(report.text(alloc)?)),
+            Err(error) => Ok(Err(error)),
+        }
+    }
+
     /// Whether nothing is concluded for a script, since it is not what the banks carried out.
     pub(crate) fn is_other(&self, alloc: Global, script: &Script) -> bool {
         matches!(&self.conclude(alloc, script), Err(RunError::NotOrdered))

@@ -2,8 +2,8 @@
 ghost use Rattle.tl_tickets.specs.Inbox.{IsReceiverOf, IsSenderOf};
 ghost use Rattle.tl_tickets.specs.Bell.{IsSeatOf};
 
-use crate::mails::{Key, Room, inside, mail, open, open_bell, outside, way};
-use crate::turns::{bank_of, play_out};
+use crate::mails::{Key, Keys, Room, Rooms, inside, mail, open, open_two, outside, way};
+use crate::turns::{bank_of, lock_up, play_out};
 use crossbeam_utils::sync::{Parker, Unparker};
 use std::alloc::Global;
 use std::process::Abort;
@@ -15,7 +15,7 @@ use tl_client::{Agent, Command, Free, Locked, Mail, Sending, Turn};
 use tl_map::{Geometry, GeometryNumbers};
 use tl_protocol::Shape;
 use tl_rules::Plain;
-use tl_tickets::{Bell, Receiver, Ringer, Seat, Sender};
+use tl_tickets::{Receiver, Ringer, Sender};
 use tl_types::{BankNo, BlockNo, ClientId, Grow, Perm};
 
 /// Two clients, one bank with one way and one register, and two blocks of eight bytes.
@@ -82,21 +82,17 @@ fn replays(alloc: Global, bank: &Bank) -> Option<bool> {
 /// The bank at reset, and the shares of client 0 and client 1.
 fn fresh(alloc: Global, geometry: Geometry) -> Option<(Bank, Share, Share)> {
     let (bank, mut given) = Bank::new(alloc, geometry, BankNo::new(0), &[]).ok()?;
-    let second = given.pop()?;
-    let first = given.pop()?;
-    Some((bank, first, second))
+    match (given.pop(), given.pop()) {
+        (Some(second), Some(first)) => Some((bank, first, second)),
+        _ => None,
+    }
 }
 
 /// The bank behind its lock, once client 0 has block 0, and client 1's share.
 fn lock(alloc: Global, geometry: Geometry) -> Option<(Locked, Vec<Share>)> {
     let (mut bank, mut first, second) = fresh(alloc, geometry)?;
     fetch(&mut bank, &mut first).ok()?;
-    let mut banks = Vec::new(alloc);
-    banks.push(bank).ok()?;
-    let mut shares = Vec::new(alloc);
-    shares.push(second).ok()?;
-    let locked = Locked::new(alloc, geometry, banks).ok()?;
-    Some((locked, shares))
+    lock_up(alloc, geometry, bank, second)
 }
 
 /// The ways of a home to its two clients, in order.
@@ -108,10 +104,7 @@ fn both_ways<'a>(
 ) -> Option<Vec<Sending<'a>>> {
     let first = way(alloc, first, rest)?;
     let second = way(alloc, second, rest)?;
-    let mut ways = Vec::new(alloc);
-    ways.push(first).ok()?;
-    ways.push(second).ok()?;
-    Some(ways)
+    Vec::from_array(alloc, [first, second]).ok()
 }
 
 /// The mail of a home to its two clients. One thread plays both, so that a ring need wake nobody: each way wakes the home.
@@ -127,37 +120,30 @@ fn home_mail<'a>(
     Some(Mail::new(own.0, own.1, ways, done, parker))
 }
 
-/// The mails of the client that waits and of the home.
+/// The mails of the client that waits, whose room is the first of the two, and of the home.
 fn mails<'a>(
     alloc: Global,
-    silent: (&'a Room, Key),
-    waiting: (&'a Room, Key, Key),
-    home: (&'a Room, Key, Key),
-    done: (&'a Bell, Seat, Seat),
+    silent: &'a Room,
+    to_silent: Key,
+    rooms: &'a Rooms,
+    keys: Keys,
 ) -> Option<(Mail<'a>, Mail<'a>)>
-    requires to_silent { IsSenderOf silent.0.now.inbox silent.1.pass × IsSeatOf silent.0.now.bell silent.1.seat }
-    requires waiting { IsReceiverOf waiting.0.now.inbox waiting.1.pass × IsSeatOf waiting.0.now.bell waiting.1.seat }
-    requires to_waiting { IsSenderOf waiting.0.now.inbox waiting.2.pass × IsSeatOf waiting.0.now.bell waiting.2.seat }
-    requires home { IsReceiverOf home.0.now.inbox home.1.pass × IsSeatOf home.0.now.bell home.1.seat }
-    requires to_home { IsSenderOf home.0.now.inbox home.2.pass × IsSeatOf home.0.now.bell home.2.seat }
-    requires done { IsSeatOf done.0.now done.1 × IsSeatOf done.0.now done.2 }
+    requires to_silent { IsSenderOf silent.now.inbox to_silent.pass × IsSeatOf silent.now.bell to_silent.seat }
+    requires waiting { IsReceiverOf rooms.now.one.inbox keys.one.pass × IsSeatOf rooms.now.one.bell keys.one.seat }
+    requires to_waiting { IsSenderOf rooms.now.one.inbox keys.to_one.pass × IsSeatOf rooms.now.one.bell keys.to_one.seat }
+    requires home { IsReceiverOf rooms.now.other.inbox keys.other.pass × IsSeatOf rooms.now.other.bell keys.other.seat }
+    requires to_home { IsSenderOf rooms.now.other.inbox keys.to_other.pass × IsSeatOf rooms.now.other.bell keys.to_other.seat }
+    requires done { IsSeatOf rooms.now.done keys.rings × IsSeatOf rooms.now.done keys.hears }
 {
-    let (waiting, waiting_key, to_waiting) = waiting;
-    let (home, home_key, to_home) = home;
-    let (bell, rings, hears) = done;
-    let done = Ringer::new(bell, rings);
-    let first = mail(
-        alloc,
-        inside(waiting, waiting_key),
-        outside(home, to_home),
-        done,
-    )?;
+    let rings = Ringer::new(&rooms.done, keys.rings);
+    let own = inside(&rooms.one, keys.one);
+    let first = mail(alloc, own, outside(&rooms.other, keys.to_other), rings)?;
     let second = home_mail(
         alloc,
-        inside(home, home_key),
-        outside(silent.0, silent.1),
-        outside(waiting, to_waiting),
-        Ringer::new(bell, hears),
+        inside(&rooms.other, keys.other),
+        outside(silent, to_silent),
+        outside(&rooms.one, keys.to_one),
+        Ringer::new(&rooms.done, keys.hears),
     )?;
     Some((first, second))
 }
@@ -183,16 +169,8 @@ fn wait_for_the_silent<R: Wait + Clock>(
     agent: &mut Agent<'_>,
 ) -> Option<(Turn, Turn)> {
     let (silent, _silent_key, to_silent) = open(alloc, 8)?;
-    let (waiting, waiting_key, to_waiting) = open(alloc, 8)?;
-    let (home, home_key, to_home) = open(alloc, 8)?;
-    let (done, rings, hears) = open_bell(alloc)?;
-    let mails = mails(
-        alloc,
-        (&silent, to_silent),
-        (&waiting, waiting_key, to_waiting),
-        (&home, home_key, to_home),
-        (&done, rings, hears),
-    );
+    let (rooms, keys) = open_two(alloc)?;
+    let mails = mails(alloc, &silent, to_silent, &rooms, keys);
     wait(rt, alloc, locked, agent, mails)
 }
 

@@ -3,8 +3,9 @@
 use std::alloc::Global;
 use std::sync::Wait;
 use std::time::Clock;
-use tl_bank::Bank;
+use tl_bank::{Bank, Share};
 use tl_client::{Agent, Gate, Home, HomePort, Locked, Mail, Port, Turn};
+use tl_map::Geometry;
 use tl_types::{BankNo, ClientId};
 
 /// A turn of an agent.
@@ -80,6 +81,19 @@ pub fn play_out<G: Gate, R: Wait + Clock>(
         clients,
         TURNS,
     ))
+}
+
+/// A cache of one bank behind its lock, and a list of this share.
+pub fn lock_up(
+    alloc: Global,
+    geometry: Geometry,
+    bank: Bank,
+    share: Share,
+) -> Option<(Locked, Vec<Share>)> {
+    let shares = Vec::from_array(alloc, [share]).ok()?;
+    let banks = Vec::from_array(alloc, [bank]).ok()?;
+    let locked = Locked::new(alloc, geometry, banks).ok()?;
+    Some((locked, shares))
 }
 
 /// The bank behind its lock, where there is one.
