@@ -1,4 +1,3 @@
 pub mod AnswerLaws
 pub mod RoundLaws
-pub mod WayLaws
 pub mod ServeLaws

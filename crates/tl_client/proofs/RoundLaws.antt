@@ -1,14 +1,10 @@
--- One more ticket that was barred when it joined those kept, and one more that a round went over.
+-- One more ticket that a round went over.
 use Rattle.std.proofs.Common.{◌≡◌, List, [], ◌∷◌, ◌++◌, true, false, refl, sym, ap, subst, inl, inr, append-nil, append_assoc}
 use Rattle.tl_types.specs.declared.ticket.Ticket.{Ticket}
-use Rattle.tl_client.specs.Homes.{Goes, asked}
-use Rattle.tl_client.specs.Rounds.{AreBarred, is_barred}
-use Rattle.tl_client.specs.declared.port.Asked.{Asked}
-
--- each was barred in its turn, the last one too
-pub barred-push : (kept passed : List Ticket) (t : Ticket) → AreBarred kept passed → is_barred (kept ++ passed) t ≡ true → AreBarred kept (passed ++ t ∷ [])
-barred-push kept [] t all last = (rw append-nil at last, tt)
-barred-push kept (p ∷ rest) t all last = (all.0, barred-push (kept ++ p ∷ []) rest t all.1 (rw append_assoc last))
+use Rattle.tl_mail.specs.Rounds.{AreBarred, is_barred}
+use Rattle.tl_ports.specs.Ports.{asked}
+use Rattle.tl_ports.specs.declared.port.Asked.{Asked}
+use Rattle.tl_client.specs.Homes.{Goes}
 
 -- a round that goes over one more ticket, which is barred
 pub goes-barred : (kept gone : List Ticket) (all : List Asked) (end : List Ticket) (t : Ticket) → Goes kept gone all end → is_barred end t ≡ true

@@ -1,28 +1,15 @@
 -- What a home's turn asks of its bank (this project's own; each channel of a link keeps its order).
-use Rattle.std.specs.Prelude.{◌≡◌, ◌≢◌, ◌⊎◌, ◌≤◌, ℕ, Bool, true, false, List, [], ◌∷◌, ◌++◌, map, length, MatchResult}
+use Rattle.std.specs.Prelude.{◌≡◌, ◌⊎◌, ℕ, true, false, List, [], ◌∷◌, ◌++◌}
 use Rattle.std.specs.List.{filter}
-use Rattle.std.specs.declared.result.Result.{Result}
 use Rattle.tl_types.specs.Channel.{place_of}
 use Rattle.tl_types.specs.declared.channel.Channel.TheVariants.{A, C, E}
 use Rattle.tl_types.specs.declared.ticket.Ticket.{Ticket}
-use Rattle.tl_bank_spec.specs.declared.refusal.Refusal.{Refusal}
-use Rattle.tl_bank_spec.specs.declared.refusal.Refusal.TheVariants.{Memory}
 use Rattle.tl_tickets.specs.Ends.{InboxEnd}
-use Rattle.tl_tickets.specs.declared.sent.Sent.{Sent}
-use Rattle.tl_client.specs.Lanes.{brings}
-use Rattle.tl_client.specs.Rounds.{Round, all_of, is_barred, is_on}
-use Rattle.tl_client.specs.declared.links.Links.{Links}
-use Rattle.tl_client.specs.declared.links.Links.TheVariants.{OfBank}
-use Rattle.tl_client.specs.declared.port.Asked.{Asked}
-
--- a ticket that was asked, and whether it was served
-abbrev pub asked : Ticket → Bool → Asked
-asked ticket served = record { ticket = ticket; served = served }
-
--- a call asked its ticket, with this answer; where it was refused for want of memory, nothing is said
-abbrev pub Asks : {X : Type 0} → Ticket → Result X Refusal → List Asked → List Asked → Type 0
-Asks ticket answer old new =
-    MatchResult answer (λ _. new ≡ old ++ asked ticket true ∷ []) (λ refusal. refusal ≢ Memory → new ≡ old ++ asked ticket false ∷ [])
+use Rattle.tl_mail.specs.Inbox.{Took}
+use Rattle.tl_mail.specs.Rounds.{Round, all_of, is_barred, is_on}
+use Rattle.tl_mail.specs.declared.links.Links.TheVariants.{OfBank}
+use Rattle.tl_ports.specs.Ports.{asked}
+use Rattle.tl_ports.specs.declared.port.Asked.{Asked}
 
 -- a round over tickets, in order: one whose channel and link has one kept is kept unasked; any other is asked, and kept where it was
 -- refused. `all` are those asked, `end` those kept at the end
@@ -34,22 +21,11 @@ Goes kept (ticket ∷ rest) all end =
     × (((all ≡ asked ticket true ∷ later) × Goes kept rest later end)
     ⊎ ((all ≡ asked ticket false ∷ later) × Goes (kept ++ ticket ∷ []) rest later end))))
 
--- what was taken of an inbox between two moments, at most 64 tickets; those of the worker's links joined a list, in order
-abbrev pub Took : Links → InboxEnd → List Ticket → InboxEnd → List Ticket → Type 0
-Took links old before new after =
-    (popped : List Sent) × (length popped ≤ 64) × (new.pass.taken ≡ old.pass.taken ++ popped)
-    × (after ≡ before ++ filter (λ (t : Ticket). brings links t) (map (λ (s : Sent). s.ticket) popped))
-
 -- the order in which a home serves tickets that it took: those on E, then C, then A
 abbrev pub in_order : List Ticket → List Ticket
 in_order tickets =
     filter (λ (t : Ticket). is_on (place_of E) t) tickets
     ++ (filter (λ (t : Ticket). is_on (place_of C) t) tickets ++ filter (λ (t : Ticket). is_on (place_of A) t) tickets)
-
--- what contracts see of a home's port: the number of its bank, and the tickets that were asked in the turn, each with whether it was served
-pub record ToBank : Type 0 where
-  pub bank : ℕ
-  pub asked : List Asked
 
 -- what contracts see of a home: its bank, and the tickets that wait
 pub record Waits : Type 0 where

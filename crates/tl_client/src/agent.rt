@@ -1,21 +1,19 @@
 //! A client's agent.
-ghost use Rattle.std.specs.Prelude.{◌≡◌, ◌≤◌, [], IfOk};
+ghost use Rattle.std.specs.Prelude.{◌≡◌, ◌≤◌, [], length, IfOk};
 ghost use Rattle.tl_client.specs.Answers.{Gains, IsBeginning, answered_of};
 ghost use Rattle.tl_client.specs.declared.turn.Turn.{Turn};
 
 use crate::carry_out::carry_out;
-use crate::gate::Gate;
-use crate::mail::Mail;
-use crate::port::Port;
 use crate::requester::Requester;
-use crate::rest::Rest;
 use crate::turn::Turn;
 use std::alloc::{AllocError, Global};
 use std::marker::Model;
 use std::sync::Wait;
 use std::time::Clock;
 use tl_bank::{Refusal, Share, When};
+use tl_mail::{Mail, Rest};
 use tl_map::Geometry;
+use tl_ports::{Gate, Port};
 use tl_types::{AccessBytes, ClientId};
 use tl_words::Command;
 
@@ -71,9 +69,11 @@ impl<'s> Agent<'s> {
         })
     }
 
-    /// The bytes of each command that was answered, and the shares. The answers are a beginning of the script's, each with its bytes.
+    /// The bytes of each command that was answered, and of no other, and the shares. The answers are a beginning of the script's, each
+    /// with its bytes.
     pub fn into_parts(self) -> (Vec<AccessBytes>, Vec<Share>)
         ensures answered { answered_of result.0.items self.entry.script ≡ self.entry.answered }
+        ensures count { length result.0.items ≡ length self.entry.answered }
         ensures beginning { IsBeginning self.entry }
     {
         let Agent {

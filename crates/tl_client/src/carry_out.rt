@@ -2,8 +2,8 @@
 ghost use Rattle.std.specs.Prelude.{◌≡◌, ◌++◌, MatchResult};
 ghost use Rattle.tl_client.specs.Answers.{HasItsBytes, clock_after, success_at};
 
-use crate::port::Port;
 use tl_bank::{Refusal, When};
+use tl_ports::Port;
 use tl_types::{AccessBytes, BlockNo, ClientId, Perm};
 use tl_words::Command;
 

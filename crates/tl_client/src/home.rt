@@ -1,21 +1,18 @@
 //! A bank's home.
 ghost use Rattle.std.specs.Prelude.{◌≡◌, ◌≤◌, ◌++◌, ◌∷◌, [], IfOk, OnOk};
-ghost use Rattle.tl_client.specs.Homes.{Serves, Takes, Works, asked};
+ghost use Rattle.tl_client.specs.Homes.{Serves, Takes, Works};
 ghost use Rattle.tl_client.specs.declared.turn.Turn.{Turn};
+ghost use Rattle.tl_ports.specs.Ports.{asked};
 
-use crate::gate::Gate;
-use crate::links::Links;
-use crate::mail::{BATCH, Mail};
-use crate::port::HomePort;
 use crate::progress::Progress;
-use crate::rest::Rest;
 use crate::turn::Turn;
-use crate::waiting::Waiting;
 use std::alloc::{AllocError, Global};
 use std::marker::Model;
 use std::sync::Wait;
 use std::time::Clock;
 use tl_bank::{Action, Refusal};
+use tl_mail::{BATCH, Links, Mail, Rest, Waiting};
+use tl_ports::{Gate, HomePort};
 use tl_types::{BankNo, BlockNo, Channel, Ticket};
 
 /// A bank's home. Contracts see its bank, and the tickets that wait.

@@ -2,15 +2,13 @@
 ghost use Rattle.std.specs.Prelude.{◌≡◌};
 
 use crate::carry_out::address_of;
-use crate::links::Links;
-use crate::mail::{BATCH, Mail};
-use crate::port::Port;
 use crate::progress::Progress;
-use crate::waiting::Waiting;
 use std::alloc::{AllocError, Global};
 use std::sync::Wait;
 use tl_bank::{Refusal, Share};
+use tl_mail::{BATCH, Links, Mail, Waiting};
 use tl_map::Geometry;
+use tl_ports::Port;
 use tl_types::{BankNo, BlockNo, Channel, ClientId, Grow, Perm, Prune, Ticket};
 use tl_words::Command;
 

@@ -9,7 +9,7 @@ ghost use Rattle.tl_machine.specs.Keys.{Fits, FitEach};
 use crate::mailbox::{Keys, Mailbox};
 use crossbeam_utils::sync::{Parker, Unparker};
 use std::alloc::{AllocError, Global};
-use tl_client::{Mail, Sending};
+use tl_mail::{Mail, Sending};
 use tl_tickets::{Bell, Inbox, Pass, Receiver, Ringer, Seat, Sender};
 
 /// A mailbox as its receiver uses it, and what the receiver rests at.

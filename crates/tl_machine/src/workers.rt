@@ -3,7 +3,9 @@ use crate::threads::Work;
 use std::alloc::Global;
 use std::sync::Wait;
 use std::time::Clock;
-use tl_client::{Agent, Gate, Home, HomePort, Locked, Mail, Port, Turn};
+use tl_client::{Agent, Home, Turn};
+use tl_mail::Mail;
+use tl_ports::{Gate, HomePort, Locked, Port};
 use tl_tickets::Ringer;
 use tl_types::{BankNo, ClientId};
 

@@ -9,8 +9,10 @@ use std::sync::Wait;
 use std::test::Fail;
 use std::time::Clock;
 use tl_bank::{Loaded, Refusal, Share, When};
-use tl_client::{Agent, Command, Mail, Port, Turn};
+use tl_client::{Agent, Command, Turn};
+use tl_mail::Mail;
 use tl_map::{Geometry, GeometryNumbers};
+use tl_ports::Port;
 use tl_tickets::{Receiver, Sender};
 use tl_types::{BankNo, BlockNo, Channel, ClientId, Grow, Perm, Prune, Ticket};
 

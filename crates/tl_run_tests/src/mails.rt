@@ -6,7 +6,7 @@ ghost use Rattle.tl_tickets.specs.Bell.{IsSeatOf};
 
 use crossbeam_utils::sync::{Parker, Unparker};
 use std::alloc::Global;
-use tl_client::{Mail, Sending};
+use tl_mail::{Mail, Sending};
 use tl_tickets::{Bell, Inbox, Pass, Receiver, Ringer, Seat, Sender};
 
 /// A worker's inbox and bell. Its ends lend them.

@@ -1,7 +1,7 @@
 //! What a home's turns ask, and in which order.
 ghost use Rattle.std.specs.Prelude.{◌≡◌, ◌++◌, ◌∷◌, [], MatchResult};
 ghost use Rattle.tl_bank_spec.specs.declared.refusal.Refusal.TheVariants.{Memory as NoMemory};
-ghost use Rattle.tl_client.specs.Homes.{asked};
+ghost use Rattle.tl_ports.specs.Ports.{asked};
 
 use crate::mails::{first_mail, open_two};
 use crate::turns::home_turn;
@@ -13,7 +13,9 @@ use std::sync::Wait;
 use std::test::Fail;
 use std::time::Clock;
 use tl_bank::{Action, Refusal, Reply};
-use tl_client::{Asked, Free, Home, HomePort, Mail, Turn};
+use tl_client::{Home, Turn};
+use tl_mail::Mail;
+use tl_ports::{Asked, Free, HomePort};
 use tl_tickets::{Ringer, Sender};
 use tl_types::{BankNo, BlockNo, Channel, ClientId, Ticket};
 

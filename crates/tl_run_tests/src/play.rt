@@ -8,8 +8,10 @@ use std::sync::Wait;
 use std::test::Fail;
 use std::time::Clock;
 use tl_bank::{Bank, Share};
-use tl_client::{Agent, Command, Locked, Mail, Turn};
+use tl_client::{Agent, Command, Turn};
+use tl_mail::Mail;
 use tl_map::{Geometry, GeometryNumbers};
+use tl_ports::Locked;
 use tl_types::{AccessBytes, BankNo, BlockNo, ClientId, Perm};
 
 /// One client with one copy, one bank with one way and one register, and four blocks of eight bytes.

@@ -4,8 +4,10 @@ use std::alloc::Global;
 use std::sync::Wait;
 use std::time::Clock;
 use tl_bank::{Bank, Share};
-use tl_client::{Agent, Gate, Home, HomePort, Locked, Mail, Port, Turn};
+use tl_client::{Agent, Home, Turn};
+use tl_mail::Mail;
 use tl_map::Geometry;
+use tl_ports::{Gate, HomePort, Locked, Port};
 use tl_types::{BankNo, ClientId};
 
 /// A turn of an agent.

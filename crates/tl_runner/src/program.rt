@@ -16,9 +16,9 @@ use std::io::{ErrorKind, Read, Write};
 use std::sync::Wait;
 use std::thread::Threads;
 use std::time::Clock;
-use tl_client::Gate;
 use tl_job::{Job, JobError};
 use tl_machine::run;
+use tl_ports::Gate;
 use tl_script::read_script;
 
 /// The bytes of the longest fault line: `error 33 command`, two numbers of 64 bits, and what lies between.

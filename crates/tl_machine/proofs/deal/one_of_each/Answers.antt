@@ -1,6 +1,6 @@
 use Rattle.std.proofs.Common.{◌≡◌, ◌+◌, Vec, Global, sym, vec_len, arith}
 use Rattle.std.proofs.lemmas.List.Elements.{All-head, All-tail, All-same, All-push}
-use Rattle.tl_client.specs.declared.sending.Sending.{Sending}
+use Rattle.tl_mail.specs.declared.sending.Sending.{Sending}
 use Rattle.tl_machine.proofs.deal.one_of_each.Goals as goal
 
 pub loop-ways-preserved : goal.loop-ways-preserved

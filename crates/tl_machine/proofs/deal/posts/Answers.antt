@@ -1,7 +1,7 @@
 use Rattle.std.proofs.Common.{◌≡◌, ◌+◌, Vec, Global, vec_len, arith, rules}
 use Rattle.std.specs.Vec.Iter.{into_iter_len}
 use Rattle.std.proofs.lemmas.List.Elements.{All-weaker}
-use Rattle.tl_client.specs.declared.sending.Sending.{Sending}
+use Rattle.tl_mail.specs.declared.sending.Sending.{Sending}
 use Rattle.tl_machine.proofs.deal.posts.Goals as goal
 
 pub loop-own-preserved : goal.loop-own-preserved

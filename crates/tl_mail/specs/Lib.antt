@@ -1,0 +1,4 @@
+pub mod Ways
+pub mod Rounds
+pub mod Lanes
+pub mod Inbox
