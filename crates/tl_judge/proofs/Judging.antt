@@ -1,10 +1,12 @@
 -- What the judge's state says of an entry is what the log says that it follows.
-use Rattle.std.proofs.Common.{◌≡◌, ◌≢◌, ◌<◌, ◌≤◌, ◌↔◌, ℕ, zero, suc, Bool, true, false, cond, List, [], ◌∷◌, ◌++◌, map, drop, Option, Some, None, refl, sym, ◌∙◌, ap, subst, arith, inl, inr, eq-eqb, append_assoc}
+use Rattle.std.proofs.Common.{◌≡◌, ◌≢◌, ◌<◌, ◌≤◌, ◌↔◌, ℕ, zero, suc, Bool, true, false, cond, List, [], ◌∷◌, ◌++◌, map, drop, Option, Some, None, IfSome, refl, sym, ◌∙◌, ap, subst, arith, inl, inr, eq-eqb, append_assoc}
+use Rattle.std.specs.Option.{option_map}
 use Rattle.std.proofs.lemmas.List.{append-nil}
 use Rattle.std.proofs.lemmas.Bool.{cases_eq, cases_lt, ne_eqb}
 use Rattle.tl_types.specs.Lane.{Lane, is_here, with_message, without_first, first_taken, IsFirst}
 use Rattle.tl_types.specs.declared.channel.Channel.{Channel}
 use Rattle.tl_types.specs.declared.channel.Channel.TheVariants.{A, B, C, D, E}
+use Rattle.tl_types.specs.declared.message.Body.{Body}
 use Rattle.tl_types.specs.declared.message.Message.{Message}
 use Rattle.tl_protocol.specs.declared.event.Event.{Event}
 use Rattle.tl_protocol.specs.declared.event.Event.TheVariants.{Load, Store, SendAcquire, SendRelease, AnswerProbe, TakeGrant, TakeReleaseAck, AcceptAcquire, SendProbe, TakeC, SendGrant, TakeGrantAck, SendGet, Serve, TakeData, Drop, SendPut, TakePutAck}
@@ -22,8 +24,8 @@ use Rattle.tl_judge.specs.declared.judge.Breach.TheVariants.{NotPermitted, OutOf
 use Rattle.tl_judge.specs.declared.rule.Rule.{Rule}
 use Rattle.tl_judge.specs.declared.rule.Rule.TheVariants.{BlockIsThere}
 use Rattle.tl_judge.specs.Judged.{Allows, Breaks, Carries, EveryLawfulRecordIsALawfulLog, Follows, NoBrokenEntryIsPermitted, IsLawfulAfter, IsPermitted, IsShown, JudgeState, Rejects, events_of, own_block}
-use Rattle.tl_judge.specs.Order.{HeadIs, IsNextIn, joined, removed, waiting_in}
-use Rattle.tl_judge.specs.Rules.{IsFirstBroken, Keeps, KeepsBefore, rule_at}
+use Rattle.tl_judge.specs.Order.{HeadIs, IsNextIn, joined, place_at, post_at, removed, waiting_in}
+use Rattle.tl_judge.specs.Rules.{IsFirstBroken, Keeps, KeepsBefore, client_of, rule_at}
 use Rattle.tl_judge.proofs.Rules.{block_first, no_block, not_permitted}
 
 -- ## Lanes and their blocks
@@ -71,6 +73,63 @@ pub map_lane : (shape : Shape) (s : Block) (e : Event) (x : ℕ) (l : Channel) (
 map_lane shape s e x l lane =
     map_sent (post_of shape s e) (block_of shape e) x l (taken_from (take_of e) x l lane)
     ∙ ap (λ (bs : List ℕ). joined (post_of shape s e) (block_of shape e) x l bs) (map_taken (take_of e) x l lane)
+
+-- ## The client of an event
+
+-- an event that takes from a channel is of a client that is there
+pub taker_is_there : (shape : Shape) (s : Block) (e : Event) (place : Place) → MayOn shape s e → Some place ≡ take_of e → client_of e < shape.clients
+taker_is_there shape s (Load access) place m same = m.0
+taker_is_there shape s (Store access) place m same = m.0
+taker_is_there shape s (SendAcquire c block grow) place m same = m.0
+taker_is_there shape s (SendRelease c block prune) place m same = m.0
+taker_is_there shape s (AnswerProbe c block) place m same = m.0
+taker_is_there shape s (TakeGrant c block) place m same = m.0
+taker_is_there shape s (TakeReleaseAck c block) place m same = m.0
+taker_is_there shape s (AcceptAcquire c block) place m same = m.0
+taker_is_there shape s (SendProbe c block asked) place m same = m.0
+taker_is_there shape s (TakeC c block) place m same = m.0
+taker_is_there shape s (SendGrant c block) place m same = m.0
+taker_is_there shape s (TakeGrantAck c block) place m same = m.0
+taker_is_there shape s (SendGet block) place m same = cc
+taker_is_there shape s (Serve block) place m same = cc
+taker_is_there shape s (TakeData block) place m same = cc
+taker_is_there shape s (Drop block) place m same = cc
+taker_is_there shape s (SendPut block) place m same = cc
+taker_is_there shape s (TakePutAck block) place m same = cc
+
+-- an event that sends a message is of a client that is there
+pub sender_is_there : (shape : Shape) (s : Block) (e : Event) (post : Post) → MayOn shape s e → Some post ≡ post_of shape s e → client_of e < shape.clients
+sender_is_there shape s (Load access) post m same = m.0
+sender_is_there shape s (Store access) post m same = m.0
+sender_is_there shape s (SendAcquire c block grow) post m same = m.0
+sender_is_there shape s (SendRelease c block prune) post m same = m.0
+sender_is_there shape s (AnswerProbe c block) post m same = m.0
+sender_is_there shape s (TakeGrant c block) post m same = m.0
+sender_is_there shape s (TakeReleaseAck c block) post m same = m.0
+sender_is_there shape s (AcceptAcquire c block) post m same = m.0
+sender_is_there shape s (SendProbe c block asked) post m same = m.0
+sender_is_there shape s (TakeC c block) post m same = m.0
+sender_is_there shape s (SendGrant c block) post m same = m.0
+sender_is_there shape s (TakeGrantAck c block) post m same = m.0
+sender_is_there shape s (SendGet block) post m same = cc
+sender_is_there shape s (Serve block) post m same = cc
+sender_is_there shape s (TakeData block) post m same = cc
+sender_is_there shape s (Drop block) post m same = cc
+sender_is_there shape s (SendPut block) post m same = cc
+sender_is_there shape s (TakePutAck block) post m same = cc
+
+-- so the client of a channel that is taken from is there
+pub taken_is_there : (shape : Shape) (s : Block) (e : Event) (k : Option Channel) (c n : ℕ) → c ≡ client_of e → n ≡ shape.clients → MayOn shape s e
+    → option_map (place_at (client_of e)) k ≡ take_of e → IfSome k (λ channel. c < n)
+taken_is_there shape s e None c n own size m taken = tt
+taken_is_there shape s e (Some channel) c n own size m taken = omega (arith, own, size, taker_is_there shape s e (place_at (client_of e) channel) m taken)
+
+-- and so is that of a message that is sent
+pub sent_is_there : (shape : Shape) (s : Block) (e : Event) (sent : Option (Channel × Body)) (c n : ℕ) → c ≡ client_of e → n ≡ shape.clients → MayOn shape s e
+    → option_map (λ (m : Channel × Body). post_at (client_of e) m.0 m.1) sent ≡ post_of shape s e → IfSome sent (λ m. c < n)
+sent_is_there shape s e None c n own size m same = tt
+sent_is_there shape s e (Some message) c n own size m same =
+    omega (arith, own, size, sender_is_there shape s e (post_at (client_of e) message.0 message.1) m same)
 
 -- ## The judge and its log
 

@@ -151,13 +151,8 @@ impl Judge {
             return Err(AllocError);
         }
         let client = client_of(event);
-        if let Some(channel) = taken_channel(event) {
-            self.order.take(client, channel);
-        }
-        if let Some((channel, _)) = sent {
-            self.order.send(client, channel, block)?;
-        }
-        Ok(())
+        self.order.leave(client, taken_channel(event));
+        self.order.join(client, &sent, block)
     }
 
     /// Takes the next entry of a record, if it is permitted after those before it; else it says what the entry breaks. Memory where a

@@ -1,15 +1,27 @@
 //! Whether an event keeps a rule, and the first that it breaks.
-ghost use Rattle.std.specs.Prelude.{◌≡◌, ◌≢◌, ◌↔◌, ◌<◌, ◌≤◌, IsTrue, None, IfSome, length};
+ghost use Rattle.std.specs.Prelude.{◌≡◌, ◌≢◌, ◌↔◌, ◌<◌, ◌≤◌, IsTrue, None, Some, IfSome, length};
 ghost use Rattle.tl_types.specs.Permission.{probe_perm, rank};
-ghost use Rattle.tl_protocol.specs.Access.{MayLoad};
+ghost use Rattle.tl_types.specs.declared.permission.Grow.{Grow};
+ghost use Rattle.tl_protocol.specs.Access.{FitsBlock, MayLoad};
 ghost use Rattle.tl_protocol.specs.Copy.{perm_of};
-ghost use Rattle.tl_protocol.specs.Protocol.{May, block_of};
+ghost use Rattle.tl_protocol.specs.Protocol.{May, RoomFor, block_of, granted};
+ghost use Rattle.tl_protocol.specs.declared.home.Line.{Line};
 ghost use Rattle.tl_rules.specs.Plain.{block_state, state_of_plain};
 ghost use Rattle.tl_judge.specs.Rules.{IsFirstBroken, Keeps};
 
 use crate::rule::{Rule, access_of, cap_of, client_of, from_of, rules_of};
 use tl_rules::{Access, BlockState, Client, Event, Plain, Shape};
-use tl_types::{BLOCK_BYTES, Perm, ProbeCap, Wait};
+use tl_types::{BLOCK_BYTES, ClientId, Perm, ProbeCap, Wait};
+
+fn fits(shape: Shape, access: Option<&Access>) -> bool
+    requires { (0 < shape.block_bytes) × (shape.block_bytes ≤ BLOCK_BYTES) }
+    ensures { IsTrue result ↔ IfSome access.entry (λ a. FitsBlock shape a.now.address a.now.bytes) }
+{
+    match access {
+        None => true,
+        Some(access) => access.fits_block(shape),
+    }
+}
 
 fn has_its_bytes(client: &Client, shape: Shape, access: Option<&Access>) -> bool
     requires { (0 < shape.block_bytes) × (shape.block_bytes ≤ BLOCK_BYTES) }
@@ -39,6 +51,37 @@ fn is_above(client: &Client, cap: Option<ProbeCap>) -> bool
     }
 }
 
+fn serves(block: &BlockState, c: ClientId) -> bool
+    ensures { IsTrue result ↔ ((grow : Grow) × (block.now.accepted ≡ Some (record { client = c; grow = grow }))) }
+{
+    match block.accepted() {
+        Some(acquire) => acquire.client == c,
+        None => false,
+    }
+}
+
+fn leaves_room(block: &BlockState, shape: Shape, c: ClientId) -> bool
+    requires { length block.now.clients ≡ shape.clients }
+    ensures { IsTrue result ↔ ((grow : Grow) × (block.now.accepted ≡ Some (record { client = c; grow = grow }))
+        × RoomFor shape (block_state block.now) c (granted shape (block_state block.now) (record { client = c; grow = grow }))) }
+{
+    match block.accepted() {
+        Some(acquire) => {
+            acquire.client == c && block.has_room_for(shape, c, block.granted(acquire))
+        }
+        None => false,
+    }
+}
+
+fn has_copy(block: &BlockState, dirty: bool) -> bool
+    ensures { IsTrue result ↔ ((line : Line) × (block.now.home ≡ Some line) × (line.dirty ≡ dirty)) }
+{
+    match block.home() {
+        Some(line) => line.dirty == dirty,
+        None => false,
+    }
+}
+
 /// Whether an event on a block of the memory keeps a rule.
 fn keeps(block: &BlockState, shape: Shape, event: &Event, rule: Rule) -> bool
     requires size { length block.now.clients ≡ shape.clients }
@@ -47,56 +90,41 @@ fn keeps(block: &BlockState, shape: Shape, event: &Event, rule: Rule) -> bool
     ensures { IsTrue result ↔ Keeps shape (block_state block.now) event.now rule }
 {
     let c = client_of(event);
-    let client = block.client(c);
+    let is_there = c.number() < shape.clients;
     match rule {
         Rule::BlockIsThere => true,
-        Rule::ClientIsThere => c.number() < shape.clients,
-        Rule::AccessFits => match access_of(event) {
-            Some(access) => access.fits_block(shape),
-            None => true,
-        },
-        Rule::CopyIsReadable => client.is_some_and(|k| k.held.perm() != Perm::None),
-        Rule::LoadHasItsBytes => client.is_some_and(|k| has_its_bytes(k, shape, access_of(event))),
-        Rule::CopyIsWritable => client.is_some_and(|k| k.held.perm() == Perm::Tip),
-        Rule::WaitsForNothing => client.is_some_and(|k| k.wait == Wait::Nothing),
-        Rule::StartsFromItsCopy => client.is_some_and(|k| starts_from(k, from_of(event))),
-        Rule::ProbeWaits => client.is_some_and(|k| k.b.has_first()),
-        Rule::NoReleaseUnanswered => client.is_some_and(|k| k.wait != Wait::ForReleaseAck),
-        Rule::GrantIsFirst => client.is_some_and(|k| k.may_take_grant()),
-        Rule::ReleaseAckIsFirst => client.is_some_and(|k| k.may_take_release_ack()),
-        Rule::AcquireWaits => client.is_some_and(|k| k.may_take_a()),
+        Rule::ClientIsThere => is_there,
+        Rule::AccessFits => fits(shape, access_of(event)),
+        Rule::CopyIsReadable => is_there && block.the_client(c).held.perm() != Perm::None,
+        Rule::LoadHasItsBytes => {
+            is_there && has_its_bytes(block.the_client(c), shape, access_of(event))
+        }
+        Rule::CopyIsWritable => is_there && block.the_client(c).held.perm() == Perm::Tip,
+        Rule::WaitsForNothing => is_there && block.the_client(c).wait == Wait::Nothing,
+        Rule::StartsFromItsCopy => is_there && starts_from(block.the_client(c), from_of(event)),
+        Rule::ProbeWaits => is_there && block.the_client(c).b.has_first(),
+        Rule::NoReleaseUnanswered => is_there && block.the_client(c).wait != Wait::ForReleaseAck,
+        Rule::GrantIsFirst => is_there && block.the_client(c).may_take_grant(),
+        Rule::ReleaseAckIsFirst => is_there && block.the_client(c).may_take_release_ack(),
+        Rule::AcquireWaits => is_there && block.the_client(c).may_take_a(),
         Rule::ServesNoAcquire => block.accepted().is_none(),
-        Rule::RecordIsAbove => client.is_some_and(|k| is_above(k, cap_of(event))),
-        Rule::ClientHasNoProbe => client.is_some_and(|k| k.has_no_probe()),
+        Rule::RecordIsAbove => is_there && is_above(block.the_client(c), cap_of(event)),
+        Rule::ClientHasNoProbe => is_there && block.the_client(c).has_no_probe(),
         Rule::NoGrantIsPending => block.has_no_grant(shape),
-        Rule::MessageIsOnC => client.is_some_and(|k| k.may_take_c()),
-        Rule::ServesThisClient => match block.accepted() {
-            Some(acquire) => acquire.client == c,
-            None => false,
-        },
-        Rule::OthersLeaveRoom => match block.accepted() {
-            Some(acquire) => {
-                acquire.client == c && block.has_room_for(shape, c, block.granted(acquire))
-            }
-            None => false,
-        },
+        Rule::MessageIsOnC => is_there && block.the_client(c).may_take_c(),
+        Rule::ServesThisClient => serves(block, c),
+        Rule::OthersLeaveRoom => leaves_room(block, shape, c),
         Rule::HomeHasTheBlock => block.is_at_home(),
         Rule::NoProbeIsPending => block.has_no_probe(shape),
-        Rule::GrantAckWaits => client.is_some_and(|k| k.may_take_grant_ack()),
+        Rule::GrantAckWaits => is_there && block.the_client(c).may_take_grant_ack(),
         Rule::ServesAnAcquire => block.accepted().is_some(),
         Rule::HomeLacksTheBlock => !block.is_at_home(),
         Rule::NothingIsOutward => block.outward().is_quiet(),
         Rule::RequestIsOutward => block.outward().may_serve(),
         Rule::DataIsOutward => block.outward().is_data(),
         Rule::PutAckIsOutward => block.outward().is_put_ack(),
-        Rule::CopyIsClean => match block.home() {
-            Some(line) => !line.dirty,
-            None => false,
-        },
-        Rule::CopyIsDirty => match block.home() {
-            Some(line) => line.dirty,
-            None => false,
-        },
+        Rule::CopyIsClean => has_copy(block, false),
+        Rule::CopyIsDirty => has_copy(block, true),
         Rule::NobodyIsRecorded => block.has_nobody_recorded(shape),
     }
 }

@@ -1,14 +1,15 @@
 //! Which blocks' messages wait on each channel, oldest first.
-ghost use Rattle.std.specs.Prelude.{◌≡◌, ◌<◌, ◌+◌, ◌*◌, ◌∷◌, ◌++◌, ℕ, [], drop, IfOk, OnOk, OnErr, MatchOption, if◌then◌else◌};
+ghost use Rattle.std.specs.Prelude.{◌≡◌, ◌<◌, ◌+◌, ◌*◌, ◌∷◌, ◌++◌, ℕ, [], drop, IfOk, IfSome, OnOk, OnErr, MatchOption, if◌then◌else◌};
 ghost use Rattle.tl_types.specs.Channel.{place_of};
 ghost use Rattle.tl_types.specs.Lane.{is_here};
 ghost use Rattle.tl_types.specs.declared.channel.Channel.{Channel};
-ghost use Rattle.tl_judge.specs.Order.{waiting_in};
+ghost use Rattle.std.specs.Option.{option_map};
+ghost use Rattle.tl_judge.specs.Order.{joined, place_at, post_at, removed, waiting_in};
 
 use std::alloc::{AllocError, Global};
 use std::marker::Model;
 use tl_protocol::Queue;
-use tl_types::{BlockNo, Channel, ClientId};
+use tl_types::{BlockNo, Body, Channel, ClientId};
 
 /// The order of the messages on the channels of each client, by their blocks.
 #[derive(Drop)]
@@ -80,6 +81,38 @@ impl Order {
             ≡ (if is_here client channel x k then waiting_in self.old x k ++ block ∷ [] else waiting_in self.old x k)) }
     {
         self.queues[place(client, channel)].push(block)
+    }
+
+    /// The first message of a channel leaves, where one is named.
+    pub(crate) fn leave(&mut self, client: ClientId, channel: Option<Channel>)
+        requires { IfSome channel (λ k. client < self.old.clients) }
+        ensures clients { self.new.clients ≡ self.old.clients }
+        ensures after { (x : ℕ) (k : Channel)
+            → waiting_in self.new x k ≡ removed (option_map (place_at client) channel) x k (waiting_in self.old x k) }
+    {
+        if let Some(channel) = channel {
+            self.take(client, channel);
+        }
+    }
+
+    /// A message of a block that is sent, if one is, joins its channel. Out of memory leaves it as it was.
+    pub(crate) fn join(
+        &mut self,
+        client: ClientId,
+        sent: &Option<(Channel, Body)>,
+        block: BlockNo,
+    ) -> Result<(), AllocError>
+        requires { IfSome sent.now (λ s. client < self.old.clients) }
+        ensures clients { self.new.clients ≡ self.old.clients }
+        ensures after { OnOk result
+            ((x : ℕ) (k : Channel)
+            → waiting_in self.new x k
+            ≡ joined (option_map (λ s. post_at client s.0 s.1) sent.now) block x k (waiting_in self.old x k)) }
+    {
+        match sent {
+            Some((channel, _)) => self.send(client, *channel, block),
+            None => Ok(()),
+        }
     }
 }
 

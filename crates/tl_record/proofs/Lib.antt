@@ -1,3 +1,4 @@
 pub mod Lines
+pub mod OneMore
 pub mod ReadBack
 pub mod StateLines

@@ -1,15 +1,15 @@
 //! An entry as the line that stands for it.
-ghost use Rattle.std.specs.Prelude.{◌≡◌, Some, None};
+ghost use Rattle.std.specs.Prelude.{◌≡◌, ◌++◌, Some, None};
 ghost use Rattle.std.specs.Option.{option_map};
 ghost use Rattle.tl_protocol.specs.declared.event.Event.{Event};
 ghost use Rattle.tl_judge.specs.declared.entry.Entry.{Entry};
 ghost use Rattle.tl_record.specs.Entry.{entry_of};
-ghost use Rattle.tl_record.specs.Written.{HasLine, MayShow, access_text, carried_text, entry_text, event_text, plain_entry, plain_event, shown_text};
+ghost use Rattle.tl_record.specs.Written.{HasLine, MayShow, access_text, carried_text, entry_text, event_text, event_words, plain_entry, plain_event, shown_text, words_text};
 
 use std::fmt;
 use tl_judge::{Entry, Shown};
 use tl_rules::{Access, Event};
-use tl_types::BlockBytes;
+use tl_types::{BlockBytes, BlockNo, ClientId, Grow, ProbeCap, Prune};
 use tl_words::{Address, Hex};
 
 // A client, an address and bytes.
@@ -31,6 +31,82 @@ impl fmt::Display for AccessWords<'_> {
     }
 }
 
+/// The verb of an event, with a space after it.
+fn verb(event: &Event) -> &'static str
+    ensures { event_text event.now ≡ result.now ++ event_words event.now }
+{
+    match event {
+        Event::Load(_) => "load ",
+        Event::Store(_) => "store ",
+        Event::SendAcquire(_, _, _) => "acquire ",
+        Event::SendRelease(_, _, _) => "release ",
+        Event::AnswerProbe(_, _) => "answer_probe ",
+        Event::TakeGrant(_, _) => "take_grant ",
+        Event::TakeReleaseAck(_, _) => "take_release_ack ",
+        Event::AcceptAcquire(_, _) => "accept ",
+        Event::SendProbe(_, _, _) => "probe ",
+        Event::TakeC(_, _) => "take_c ",
+        Event::SendGrant(_, _) => "grant ",
+        Event::TakeGrantAck(_, _) => "take_grant_ack ",
+        Event::SendGet(_) => "get ",
+        Event::Serve(_) => "serve ",
+        Event::TakeData(_) => "take_data ",
+        Event::Drop(_) => "drop ",
+        Event::SendPut(_) => "put ",
+        Event::TakePutAck(_) => "take_put_ack ",
+    }
+}
+
+// What an event carries after its verb.
+#[derive(Clone, Copy)]
+enum Words<'a> {
+    OfAccess(&'a Access),
+    OfClient(ClientId, BlockNo),
+    OfAcquire(ClientId, BlockNo, Grow),
+    OfRelease(ClientId, BlockNo, Prune),
+    OfProbe(ClientId, BlockNo, ProbeCap),
+    OfBlock(BlockNo),
+}
+
+fn words_after(event: &Event) -> Words<'_>
+    ensures { words_text result ≡ event_words event.now }
+{
+    match event {
+        Event::Load(access) | Event::Store(access) => Words::OfAccess(access),
+        Event::SendAcquire(c, block, grow) => Words::OfAcquire(*c, *block, *grow),
+        Event::SendRelease(c, block, prune) => Words::OfRelease(*c, *block, *prune),
+        Event::SendProbe(c, block, cap) => Words::OfProbe(*c, *block, *cap),
+        Event::AnswerProbe(c, block)
+        | Event::TakeGrant(c, block)
+        | Event::TakeReleaseAck(c, block)
+        | Event::AcceptAcquire(c, block)
+        | Event::TakeC(c, block)
+        | Event::SendGrant(c, block)
+        | Event::TakeGrantAck(c, block) => Words::OfClient(*c, *block),
+        Event::SendGet(block)
+        | Event::Serve(block)
+        | Event::TakeData(block)
+        | Event::Drop(block)
+        | Event::SendPut(block)
+        | Event::TakePutAck(block) => Words::OfBlock(*block),
+    }
+}
+
+impl fmt::Display for Words<'_> {
+    ghost output = { λ x. Some (words_text x) };
+
+    fn fmt<W: fmt::Write>(&self, f: &mut fmt::Formatter<W>) -> fmt::Result {
+        match *self {
+            Words::OfAccess(access) => write!(f, "{}", AccessWords(access)),
+            Words::OfClient(c, block) => write!(f, "{c} {block}"),
+            Words::OfAcquire(c, block, grow) => write!(f, "{c} {block} {grow}"),
+            Words::OfRelease(c, block, prune) => write!(f, "{c} {block} {prune}"),
+            Words::OfProbe(c, block, cap) => write!(f, "{c} {block} {cap}"),
+            Words::OfBlock(block) => write!(f, "{block}"),
+        }
+    }
+}
+
 /// An event as the line of a record, without the line feed: its verb, and what it carries. It prints nothing that the event shows.
 #[derive(Clone, Copy)]
 pub struct EventLine<'a>(pub &'a Event);
@@ -39,26 +115,7 @@ impl fmt::Display for EventLine<'_> {
     ghost output = { λ x. Some (event_text x.0.now) };
 
     fn fmt<W: fmt::Write>(&self, f: &mut fmt::Formatter<W>) -> fmt::Result {
-        match self.0 {
-            Event::Load(access) => write!(f, "load {}", AccessWords(access)),
-            Event::Store(access) => write!(f, "store {}", AccessWords(access)),
-            Event::SendAcquire(c, block, grow) => write!(f, "acquire {c} {block} {grow}"),
-            Event::SendRelease(c, block, prune) => write!(f, "release {c} {block} {prune}"),
-            Event::AnswerProbe(c, block) => write!(f, "answer_probe {c} {block}"),
-            Event::TakeGrant(c, block) => write!(f, "take_grant {c} {block}"),
-            Event::TakeReleaseAck(c, block) => write!(f, "take_release_ack {c} {block}"),
-            Event::AcceptAcquire(c, block) => write!(f, "accept {c} {block}"),
-            Event::SendProbe(c, block, cap) => write!(f, "probe {c} {block} {cap}"),
-            Event::TakeC(c, block) => write!(f, "take_c {c} {block}"),
-            Event::SendGrant(c, block) => write!(f, "grant {c} {block}"),
-            Event::TakeGrantAck(c, block) => write!(f, "take_grant_ack {c} {block}"),
-            Event::SendGet(block) => write!(f, "get {block}"),
-            Event::Serve(block) => write!(f, "serve {block}"),
-            Event::TakeData(block) => write!(f, "take_data {block}"),
-            Event::Drop(block) => write!(f, "drop {block}"),
-            Event::SendPut(block) => write!(f, "put {block}"),
-            Event::TakePutAck(block) => write!(f, "take_put_ack {block}"),
-        }
+        write!(f, "{}{}", verb(self.0), words_after(self.0))
     }
 }
 

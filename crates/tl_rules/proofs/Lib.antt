@@ -1,5 +1,6 @@
 pub mod Blocks
 pub mod Cursors
+pub mod Fresh
 pub mod Joined
 pub mod Loop
 pub mod Merging

@@ -375,49 +375,42 @@ impl BlockState {
         ensures { IsTrue result ↔ MayOn shape (block_state self.now) event.now }
     {
         match event {
-            Event::Load(access) => self
-                .clients
-                .get(access.client.index())
-                .is_some_and(|client| client.may_load(shape, access)),
-            Event::Store(access) => self
-                .clients
-                .get(access.client.index())
-                .is_some_and(|client| client.may_store(shape, access)),
-            Event::SendAcquire(c, _, grow) => self
-                .clients
-                .get(c.index())
-                .is_some_and(|client| client.may_send_acquire(*grow)),
-            Event::SendRelease(c, _, prune) => self
-                .clients
-                .get(c.index())
-                .is_some_and(|client| client.may_send_release(*prune)),
-            Event::AnswerProbe(c, _) => self
-                .clients
-                .get(c.index())
-                .is_some_and(|client| client.may_answer_probe()),
-            Event::TakeGrant(c, _) => self
-                .clients
-                .get(c.index())
-                .is_some_and(|client| client.may_take_grant()),
-            Event::TakeReleaseAck(c, _) => self
-                .clients
-                .get(c.index())
-                .is_some_and(|client| client.may_take_release_ack()),
-            Event::AcceptAcquire(c, _) => self
-                .clients
-                .get(c.index())
-                .is_some_and(|client| client.may_take_a() && self.accepted.is_none()),
-            Event::SendProbe(c, _, cap) => c.number() < shape.clients
-                && self.may_send_probe(shape, *c, *cap),
-            Event::TakeC(c, _) => self
-                .clients
-                .get(c.index())
-                .is_some_and(|client| client.may_take_c()),
+            Event::Load(access) => {
+                access.client.number() < shape.clients
+                    && self.the_client(access.client).may_load(shape, access)
+            }
+            Event::Store(access) => {
+                access.client.number() < shape.clients
+                    && self.the_client(access.client).may_store(shape, access)
+            }
+            Event::SendAcquire(c, _, grow) => {
+                c.number() < shape.clients && self.the_client(*c).may_send_acquire(*grow)
+            }
+            Event::SendRelease(c, _, prune) => {
+                c.number() < shape.clients && self.the_client(*c).may_send_release(*prune)
+            }
+            Event::AnswerProbe(c, _) => {
+                c.number() < shape.clients && self.the_client(*c).may_answer_probe()
+            }
+            Event::TakeGrant(c, _) => {
+                c.number() < shape.clients && self.the_client(*c).may_take_grant()
+            }
+            Event::TakeReleaseAck(c, _) => {
+                c.number() < shape.clients && self.the_client(*c).may_take_release_ack()
+            }
+            Event::AcceptAcquire(c, _) => {
+                c.number() < shape.clients
+                    && self.the_client(*c).may_take_a()
+                    && self.accepted.is_none()
+            }
+            Event::SendProbe(c, _, cap) => {
+                c.number() < shape.clients && self.may_send_probe(shape, *c, *cap)
+            }
+            Event::TakeC(c, _) => c.number() < shape.clients && self.the_client(*c).may_take_c(),
             Event::SendGrant(c, _) => c.number() < shape.clients && self.may_send_grant(shape, *c),
-            Event::TakeGrantAck(c, _) => self
-                .clients
-                .get(c.index())
-                .is_some_and(|client| client.may_take_grant_ack()),
+            Event::TakeGrantAck(c, _) => {
+                c.number() < shape.clients && self.the_client(*c).may_take_grant_ack()
+            }
             Event::SendGet(_) => self.may_send_get(),
             Event::Serve(_) => self.outward.may_serve(),
             Event::TakeData(_) => self.outward.is_data(),
