@@ -2,17 +2,18 @@
 //! BLOCK_BYTES MEMORY_BLOCKS HELD ROUNDS`. With no round it drives the bank once, and prints what happened without its time.
 #![tactic(auto)]
 
-use arrayvec::ArrayVec;
+mod driven;
+
+use driven::Driven;
 use std::alloc::Global;
 use std::io;
 use std::time::Instant;
-use tl_bank::{Action, Bank, Share, When};
 use tl_map::{Geometry, GeometryNumbers};
 use tl_protocol::Event;
-use tl_types::{BankNo, BlockNo, ClientId, Grow, Prune};
+use tl_types::{BlockNo, ClientId, Grow, Prune};
 
 /// What is done in each cycle.
-#[derive(Clone, Copy, PartialEq, Eq)]
+#[derive(Clone, Copy)]
 enum Work {
     /// A miss with a write-back, while the log grows.
     Growing,
@@ -60,79 +61,9 @@ struct Plan {
     rounds: u32,
 }
 
-/// A bank with its shares and the clocks of its clients.
-#[derive(Drop)]
-struct Driven {
-    bank: Bank,
-    shares: ArrayVec<Share, 16>,
-    clocks: ArrayVec<u64, 16>,
-}
-
 /// What a client of the plan is called in cycle `i`.
 fn client_of(clients: u32, i: u32) -> ClientId {
     ClientId::new(i.checked_rem(clients).unwrap_or(0))
-}
-
-/// The memory answers.
-fn served(bank: &mut Bank, block: BlockNo) -> Option<()> {
-    let _ = bank.serve_memory(block).ok()?;
-    bank.take_memory(block).ok()
-}
-
-/// A client gets a copy.
-fn fetch(driven: &mut Driven, client: ClientId, block: BlockNo, grow: Grow) -> Option<()> {
-    let asked = driven.bank.acquire(client, block, grow).ok()?;
-    driven.bank.accept(asked).ok()?;
-    for _ in 0..64 {
-        match driven.bank.advance(block).ok()? {
-            Action::Get => served(&mut driven.bank, block)?,
-            Action::Put(victim) => served(&mut driven.bank, victim)?,
-            Action::Drop => {}
-            Action::Probe(probe) => {
-                let other = driven.shares.as_mut_slice().get_mut(probe.client.index())?;
-                let answer = driven.bank.answer_probe(probe, other).ok()?;
-                let _ = driven.bank.take_c(answer).ok()?;
-            }
-            Action::Grant(grant) => {
-                let share = driven.shares.as_mut_slice().get_mut(client.index())?;
-                let acknowledged = driven.bank.take_grant(grant, share).ok()?;
-                return driven.bank.take_grant_ack(acknowledged).ok();
-            }
-        }
-    }
-    None
-}
-
-/// A client gives its copy up.
-fn give_up(driven: &mut Driven, client: ClientId, block: BlockNo, prune: Prune) -> Option<()> {
-    let share = driven.shares.as_mut_slice().get_mut(client.index())?;
-    let given = driven.bank.release(client, block, prune, share).ok()?;
-    let answer = driven.bank.take_c(given).ok()??;
-    driven.bank.take_release_ack(answer).ok()
-}
-
-/// A client loads four bytes at its own clock.
-fn load(driven: &mut Driven, client: ClientId, address: u32, index: u32) -> Option<()> {
-    let clock = driven.clocks.as_mut_slice().get_mut(client.index())?;
-    let when = When {
-        clock: *clock,
-        index,
-    };
-    let loaded = driven.bank.load(client, address, 4, when).ok()?;
-    *clock = loaded.stamp;
-    Some(())
-}
-
-/// A client stores four bytes at its own clock.
-fn store(driven: &mut Driven, client: ClientId, address: u32, index: u32, i: u32) -> Option<()> {
-    let clock = driven.clocks.as_mut_slice().get_mut(client.index())?;
-    let when = When {
-        clock: *clock,
-        index,
-    };
-    let value = i.to_le_bytes();
-    *clock = driven.bank.store(client, address, &value, when).ok()?;
-    Some(())
 }
 
 /// A miss with a write-back: a block comes, is read and written, and leaves.
@@ -141,13 +72,13 @@ fn cycle(driven: &mut Driven, plan: &Plan, i: u32) -> Option<()> {
     let number = (u64::from(i) * 37 % 256) as u32;
     let address = number.checked_mul(plan.block_bytes)?;
     let block = BlockNo::new(number);
-    fetch(driven, client, block, Grow::NtoT)?;
+    driven.fetch(client, block, Grow::NtoT)?;
     let index = i;
-    load(driven, client, address, index)?;
-    store(driven, client, address, index.wrapping_add(1), i)?;
-    load(driven, client, address, index.wrapping_add(1))?;
-    store(driven, client, address, index.wrapping_add(2), i)?;
-    give_up(driven, client, block, Prune::TtoN)
+    driven.load(client, address, index)?;
+    driven.store(client, address, index.wrapping_add(1), i)?;
+    driven.load(client, address, index.wrapping_add(1))?;
+    driven.store(client, address, index.wrapping_add(2), i)?;
+    driven.give_up(client, block, Prune::TtoN)
 }
 
 /// A clean block comes, is read, and leaves another time: a stream of drops.
@@ -156,28 +87,28 @@ fn stream(driven: &mut Driven, plan: &Plan, i: u32) -> Option<()> {
     let number = i.checked_rem(plan.memory_blocks)?;
     let address = number.checked_mul(plan.block_bytes)?;
     let block = BlockNo::new(number);
-    fetch(driven, client, block, Grow::NtoT)?;
-    load(driven, client, address, i)?;
-    give_up(driven, client, block, Prune::TtoN)
+    driven.fetch(client, block, Grow::NtoT)?;
+    driven.load(client, address, i)?;
+    driven.give_up(client, block, Prune::TtoN)
 }
 
 /// The clients take block 0 from one another, and store.
 fn ping_pong(driven: &mut Driven, plan: &Plan, i: u32) -> Option<()> {
     let client = client_of(plan.clients, i);
     let block = BlockNo::new(0);
-    fetch(driven, client, block, Grow::NtoT)?;
-    store(driven, client, 0, i, i)
+    driven.fetch(client, block, Grow::NtoT)?;
+    driven.store(client, 0, i, i)
 }
 
 /// All clients read block 0, and then one takes it from all.
 fn share_all(driven: &mut Driven, plan: &Plan, i: u32) -> Option<()> {
     let block = BlockNo::new(0);
     for number in 1..plan.clients {
-        fetch(driven, ClientId::new(number), block, Grow::NtoB)?;
+        driven.fetch(ClientId::new(number), block, Grow::NtoB)?;
     }
-    fetch(driven, ClientId::new(0), block, Grow::NtoT)?;
-    store(driven, ClientId::new(0), 0, i, i)?;
-    give_up(driven, ClientId::new(0), block, Prune::TtoN)
+    driven.fetch(ClientId::new(0), block, Grow::NtoT)?;
+    driven.store(ClientId::new(0), 0, i, i)?;
+    driven.give_up(ClientId::new(0), block, Prune::TtoN)
 }
 
 /// Client 0 loads, or loads and stores, in one of its copies after the other.
@@ -186,9 +117,9 @@ fn hit(driven: &mut Driven, plan: &Plan, i: u32, stores: bool) -> Option<()> {
     let number = i.checked_rem(plan.held)?;
     let address = number.checked_mul(plan.block_bytes)?;
     if stores && i & 1 == 1 {
-        store(driven, client, address, i, i)
+        driven.store(client, address, i, i)
     } else {
-        load(driven, client, address, i)
+        driven.load(client, address, i)
     }
 }
 
@@ -226,19 +157,7 @@ fn made(alloc: Global, plan: &Plan) -> Option<Driven> {
         memory_blocks: i64::from(plan.memory_blocks),
     })
     .ok()?;
-    if geometry.banks() == 0 {
-        return None;
-    }
-    let (bank, shares) = Bank::new(alloc, geometry, BankNo::new(0), &[]).ok()?;
-    let mut clocks = ArrayVec::new();
-    for _ in 0..16 {
-        let _ = clocks.try_push(0);
-    }
-    Some(Driven {
-        bank,
-        shares,
-        clocks,
-    })
+    Driven::new(alloc, geometry)
 }
 
 /// What the log says, so that nothing of it can be left out.
@@ -255,51 +174,58 @@ fn sum(events: &[Event]) -> u64 {
     sum
 }
 
-/// A bank with what the plan wants before it is driven: copies that are held, and room for the events.
-fn prepared(alloc: Global, plan: &Plan) -> Option<Driven> {
-    let mut driven = made(alloc, plan)?;
-    if plan.work == Work::Loads || plan.work == Work::Mixed {
+/// Gives a bank what the plan wants before it is driven: copies that are held, and room for the events.
+fn prepare(driven: &mut Driven, plan: &Plan) -> Option<()> {
+    if matches!(plan.work, Work::Loads | Work::Mixed) {
         for number in 0..plan.held {
-            fetch(
-                &mut driven,
-                ClientId::new(0),
-                BlockNo::new(number),
-                Grow::NtoT,
-            )?;
+            driven.fetch(ClientId::new(0), BlockNo::new(number), Grow::NtoT)?;
         }
     }
-    if plan.work != Work::Growing {
-        let _ = driven.bank.reserve_steps(plan.cycles as usize * 20);
+    if !matches!(plan.work, Work::Growing) {
+        driven.reserve(plan.cycles as usize * 20);
     }
-    Some(driven)
+    Some(())
 }
 
-/// What happened, without its time: the same on every machine.
-fn once(rt: &HostRuntime, plan: &Plan) -> io::Result<()> {
-    let Some(mut driven) = prepared(rt.alloc(), plan) else {
-        return println!(rt; "no bank");
-    };
-    let ok = drive(&mut driven, plan).is_some();
-    let events = driven.bank.log().len();
-    let check = sum(driven.bank.log());
+/// Drives a bank, and prints what happened, without its time: the same on every machine.
+fn once(rt: &HostRuntime, driven: &mut Driven, plan: &Plan) -> io::Result<()> {
+    let ok = drive(driven, plan).is_some();
+    let events = driven.log().len();
+    let check = sum(driven.log());
     println!(rt; "events {events} ok {ok} sum {check}")
 }
 
 /// Drives a bank, and prints what an event took.
-fn round(rt: &HostRuntime, plan: &Plan) -> io::Result<()> {
-    let Some(mut driven) = prepared(rt.alloc(), plan) else {
-        return println!(rt; "no bank");
-    };
-    let before = driven.bank.log().len();
+fn round(rt: &HostRuntime, driven: &mut Driven, plan: &Plan) -> io::Result<()> {
+    let before = driven.log().len();
     let start = Instant::now(rt)?;
-    let done = drive(&mut driven, plan);
+    let ok = drive(driven, plan).is_some();
     let nanos = start.elapsed(rt)?.as_nanos();
-    let events = driven.bank.log().len().saturating_sub(before);
-    let check = sum(driven.bank.log());
+    let events = driven.log().len().saturating_sub(before);
+    let check = sum(driven.log());
     let hundredths = (nanos * 100).checked_div(events as u128).unwrap_or(0);
     let (whole, rest) = (hundredths / 100, hundredths % 100);
-    let ok = done.is_some();
     println!(rt; "ns/event {whole}.{rest:02} events {events} nanos {nanos} ok {ok} sum {check}")
+}
+
+/// Drives a bank as the plan wants: in a round, or once where there is to be none.
+fn show(rt: &HostRuntime, driven: &mut Driven, plan: &Plan) -> io::Result<()> {
+    if prepare(driven, plan).is_none() {
+        return println!(rt; "no bank");
+    }
+    if plan.rounds == 0 {
+        once(rt, driven, plan)
+    } else {
+        round(rt, driven, plan)
+    }
+}
+
+/// Drives a fresh bank.
+fn run(rt: &HostRuntime, plan: &Plan) -> io::Result<()> {
+    match made(rt.alloc(), plan) {
+        Some(mut driven) => show(rt, &mut driven, plan),
+        None => println!(rt; "no bank"),
+    }
 }
 
 /// The number at a place, 0 where there is none.
@@ -337,11 +263,8 @@ fn main(rt: HostRuntime) -> io::Result<()> {
             "usage: tl_bench growing|misses|loads|mixed|stream|ping-pong|share CYCLES CLIENTS COPIES WAYS SETS REGISTERS BLOCK_BYTES MEMORY_BLOCKS HELD ROUNDS"
         );
     };
-    if plan.rounds == 0 {
-        return once(&rt, &plan);
-    }
-    for _ in 0..plan.rounds {
-        round(&rt, &plan)?;
+    for _ in 0..plan.rounds.max(1) {
+        run(&rt, &plan)?;
     }
     Ok(())
 }

@@ -2,7 +2,7 @@
 use crate::dice::Dice;
 use crate::spots::Spots;
 use std::alloc::AllocError;
-use tl_types::{Channel, ClientId, Ticket};
+use tl_types::{BlockNo, Channel, ClientId, Ticket};
 use tl_words::{push_address, push_hex};
 
 const GROWS: [&str; 3] = ["NtoB", "NtoT", "BtoT"];
@@ -35,13 +35,23 @@ pub(crate) fn push_step(
     let client = spots.client(dice);
     let block = spots.block(dice);
     match dice.below(16) {
-        0 | 1 => push_access(text, dice, spots, Some(client))?,
-        2..=4 => write!(text, "acquire {client} {block} {}", dice.pick(&GROWS))?,
-        5 => write!(text, "release {client} {block} {}", dice.pick(&PRUNES))?,
-        6..=10 => push_taking(text, dice, sent)?,
-        _ => write!(text, "{} {block}", dice.pick(&WORK))?,
+        0 | 1 => push_access(text, dice, spots, Some(client)),
+        2..=4 => push_change(text, "acquire", client, block, dice.pick(&GROWS)),
+        5 => push_change(text, "release", client, block, dice.pick(&PRUNES)),
+        6..=10 => push_taking(text, dice, sent),
+        _ => write!(text, "{} {block}", dice.pick(&WORK)),
     }
-    Ok(())
+}
+
+/// A step in which a client asks for a copy, or gives one up.
+fn push_change(
+    text: &mut String,
+    word: &str,
+    client: ClientId,
+    block: BlockNo,
+    change: &str,
+) -> Result<(), AllocError> {
+    write!(text, "{word} {client} {block} {change}")
 }
 
 /// The step that takes one of the messages that were sent, now and then the one behind it; no words where none was sent.
@@ -84,11 +94,10 @@ pub(crate) fn push_access(
     push_address(text, spots.address(dice, len))?;
     text.push_str(" ")?;
     if loads {
-        write!(text, "{len}")?;
+        write!(text, "{len}")
     } else {
-        push_bytes(text, dice, len)?;
+        push_bytes(text, dice, len)
     }
-    Ok(())
 }
 
 /// So many bytes.

@@ -81,15 +81,19 @@ fn drawn(
 /// The numbers as lines of a script.
 pub(crate) fn push_numbers(text: &mut String, geometry: Geometry) -> Result<(), AllocError> {
     let numbers = geometry.numbers();
-    write!(
-        text,
-        "version = {}\nclients = {}\nbanks = {}\nblock_bytes = {}\nsets = {}\n",
-        numbers.version, numbers.clients, numbers.banks, numbers.block_bytes, numbers.sets
-    )?;
-    write!(
-        text,
-        "ways = {}\nregisters = {}\ncopies = {}\nmemory_blocks = {}\n",
-        numbers.ways, numbers.registers, numbers.copies, numbers.memory_blocks
-    )?;
+    let lines = [
+        ("version", numbers.version),
+        ("clients", numbers.clients),
+        ("banks", numbers.banks),
+        ("block_bytes", numbers.block_bytes),
+        ("sets", numbers.sets),
+        ("ways", numbers.ways),
+        ("registers", numbers.registers),
+        ("copies", numbers.copies),
+        ("memory_blocks", numbers.memory_blocks),
+    ];
+    for (key, number) in &lines {
+        write!(text, "{key} = {number}\n")?;
+    }
     Ok(())
 }

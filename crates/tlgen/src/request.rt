@@ -43,10 +43,7 @@ impl<'w> Request<'w> {
         };
         let seed = parse_number(seed).ok_or(Fault::Usage)?;
         let traces = traces(mode)?;
-        let mut asked = Vec::new(alloc);
-        for word in rest {
-            asked.push(asked_by(word)?)?;
-        }
+        let asked = asked_by_all(alloc, rest)?;
         Ok(Request {
             seed,
             traces,
@@ -73,11 +70,28 @@ fn traces(mode: &str) -> Result<bool, Fault> {
     }
 }
 
-fn asked_by(word: &str) -> Result<Asked<'_>, Fault> {
-    let (key, number) = word.split_once('=').ok_or(Fault::Usage)?;
-    if !KEYS.iter().any(|known| *known == key) {
-        return Err(Fault::Usage);
+/// The numbers that words ask for. Usage where one asks for none.
+fn asked_by_all(alloc: Global, words: &[String]) -> Result<Vec<Asked<'_>>, Fault> {
+    let mut all = Vec::new(alloc);
+    for word in words {
+        let Some(asked) = asked_by(word) else {
+            return Err(Fault::Usage);
+        };
+        all.push(asked)?;
     }
-    let number = parse_number(number).ok_or(Fault::Usage)?;
-    Ok(Asked { key, number })
+    Ok(all)
+}
+
+/// The number that a word asks for, where its key is known.
+fn asked_by(word: &str) -> Option<Asked<'_>> {
+    let (key, number) = word.split_once('=')?;
+    if !is_key(key) {
+        return None;
+    }
+    let number = parse_number(number)?;
+    Some(Asked { key, number })
+}
+
+fn is_key(word: &str) -> bool {
+    KEYS.iter().any(|known| *known == word)
 }

@@ -12,5 +12,4 @@ loop-own-preserved c =
           (λ ways is. omega (arith, is, one)) _ c.in_ok-ways.ensures.rest,
       search rules,
       search rules,
-      search rules,
     )
