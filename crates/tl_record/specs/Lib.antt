@@ -1,3 +1,4 @@
+pub mod Carries
 pub mod Entry
 pub mod Header
 pub mod Reason

@@ -3,8 +3,9 @@ ghost use Rattle.std.specs.Prelude.{◌≡◌, ◌++◌, Some, None};
 ghost use Rattle.std.specs.Option.{option_map};
 ghost use Rattle.tl_protocol.specs.declared.event.Event.{Event};
 ghost use Rattle.tl_judge.specs.declared.entry.Entry.{Entry};
+ghost use Rattle.tl_record.specs.Carries.{event_words, words_text};
 ghost use Rattle.tl_record.specs.Entry.{entry_of};
-ghost use Rattle.tl_record.specs.Written.{HasLine, MayShow, access_text, carried_text, entry_text, event_text, event_words, plain_entry, plain_event, shown_text, words_text};
+ghost use Rattle.tl_record.specs.Written.{HasLine, MayShow, access_text, carried_text, entry_text, event_text, plain_entry, plain_event, shown_text};
 
 use std::fmt;
 use tl_judge::{Entry, Shown};
