@@ -33,7 +33,7 @@ fn is_lawful(log: &[Event]) -> bool
 }
 
 /// The stamp and the index of an access.
-#[derive(Clone, Copy, Debug)]
+#[derive(Clone, Copy)]
 pub(crate) struct Mark {
     stamp: u64,
     index: u32,
@@ -60,7 +60,7 @@ fn stamp_in(event: &Event) -> u64
 }
 
 /// A log, and the stamp at its cursor.
-#[derive(Clone, Copy, Debug)]
+#[derive(Clone, Copy)]
 pub(crate) struct Next {
     place: usize,
     stamp: u64,
