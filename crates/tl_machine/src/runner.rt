@@ -6,7 +6,7 @@ ghost use Rattle.tl_conclude.specs.RunError.{TellsTurns};
 use crate::banks::{Opened, no_shares, open_banks};
 use crate::deal::Post;
 use crate::mailroom::{Posts, deal_out, open_mailroom};
-use crate::threads::{Crew, Joined, Work, make_group, run_threads};
+use crate::threads::{Joined, run_threads};
 use crate::workers::{ClientWorker, End, HomeWorker, Shared};
 use std::alloc::{AllocError, Global};
 use std::sync::Wait;
@@ -57,8 +57,16 @@ pub fn run_sized<R: Threads + Wait + Clock + Sync, G: Gate + Sync>(
     ensures stalled { IfErr result (TellsTurns script.now.turns) }
 {
     let geometry = script.geometry();
-    let opened = open_banks(alloc, geometry, &script.image, events_ahead(script))?;
-    run_opened(rt, alloc, script, gate, capacity, opened)
+    let Opened { banks, shares } = open_banks(
+        alloc,
+        geometry,
+        &script.image,
+        events_ahead(script),
+    )?;
+    let locked = Locked::new(alloc, geometry, banks)?;
+    let shares = run_locked(rt, alloc, script, gate, capacity, &locked, shares)?;
+    let banks = locked.into_banks(alloc)?;
+    concluded(alloc, script, &banks, &shares)
 }
 
 /// For how many events of a script's commands each bank makes room ahead.
@@ -83,42 +91,6 @@ fn concluded(
     conclude(alloc, script, banks, shares)
 }
 
-/// What `conclude` answers of locked banks, where a run gave their shares back.
-fn concluded_of(
-    alloc: Global,
-    script: &Script,
-    locked: Locked,
-    shares: Result<Vec<Vec<Share>>, RunError>,
-) -> Result<Report, RunError>
-    requires { IfErr shares (TellsTurns script.now.turns) }
-    ensures report { IfOk result (IsRunReport script.now) }
-    ensures stalled { IfErr result (TellsTurns script.now.turns) }
-{
-    let shares = shares?;
-    let banks = locked.into_banks(alloc)?;
-    concluded(alloc, script, &banks, &shares)
-}
-
-/// Runs the threads over banks that were opened, and answers what `conclude` does.
-fn run_opened<R: Threads + Wait + Clock + Sync, G: Gate + Sync>(
-    rt: &R,
-    alloc: Global,
-    script: &Script,
-    gate: &G,
-    capacity: usize,
-    opened: Opened,
-) -> Result<Report, RunError>
-    requires capacity { (0 < capacity) × (capacity ≤ 4096) }
-    requires shares { vec_len opened.shares ≡ length script.now.commands.items }
-    ensures report { IfOk result (IsRunReport script.now) }
-    ensures stalled { IfErr result (TellsTurns script.now.turns) }
-{
-    let Opened { banks, shares } = opened;
-    let locked = Locked::new(alloc, script.geometry(), banks)?;
-    let shares = run_locked(rt, alloc, script, gate, capacity, &locked, shares);
-    concluded_of(alloc, script, locked, shares)
-}
-
 /// Runs the threads over locked banks. The shares of each bank come back.
 fn run_locked<R: Threads + Wait + Clock + Sync, G: Gate + Sync>(
     rt: &R,
@@ -134,7 +106,6 @@ fn run_locked<R: Threads + Wait + Clock + Sync, G: Gate + Sync>(
     ensures { IfErr result (TellsTurns script.now.turns) }
 {
     let geometry = script.geometry();
-    let (mailroom, keys) = open_mailroom(alloc, geometry, capacity)?;
     let shared = Shared {
         alloc,
         locked,
@@ -142,6 +113,7 @@ fn run_locked<R: Threads + Wait + Clock + Sync, G: Gate + Sync>(
         clients: geometry.clients(),
         turns: script.turns,
     };
+    let (mailroom, keys) = open_mailroom(alloc, geometry, capacity)?;
     let posts = deal_out(alloc, geometry, &mailroom, keys);
     run_posts(rt, script, &shared, posts, shares)
 }
@@ -159,37 +131,17 @@ fn run_posts<R: Threads + Wait + Clock + Sync, G: Gate + Sync>(
     requires homes { IfOk posts (λ p. vec_len p.homes ≡ script.now.geometry.banks) }
     ensures { IfErr result (TellsTurns script.now.turns) }
 {
-    let crew = crew_of(script, shared, posts, shares)?;
-    let joined = run_threads(rt, crew);
-    let end = end_of(&joined);
-    let shares = given_back(shared.alloc, script.geometry().banks(), joined.clients);
-    unless_ended(end, script.turns, shares)
-}
-
-/// The workers of all clients and homes, with what each uses.
-fn crew_of<'s, 'x, 'y, G: Gate + Sync>(
-    script: &'s Script,
-    shared: &'y Shared<'y, G>,
-    posts: Result<Posts<'x>, AllocError>,
-    shares: Vec<Vec<Share>>,
-) -> Result<Crew<'x, ClientWorker<'s, 'x, 'y, G>, HomeWorker<'x, 'y, G>>, AllocError>
-    requires shares { vec_len shares ≡ length script.now.commands.items }
-    requires clients { IfOk posts (λ p. vec_len p.clients ≡ script.now.geometry.clients) }
-    requires homes { IfOk posts (λ p. vec_len p.homes ≡ script.now.geometry.banks) }
-{
     let geometry = script.geometry();
     let Posts {
         clients,
         homes,
         stop,
     } = posts?;
-    let homes = home_workers(shared, homes)?;
     let clients = client_workers(shared, geometry, &script.commands, clients, shares)?;
-    Ok(Crew {
-        clients: make_group(shared.alloc, clients)?,
-        homes: make_group(shared.alloc, homes)?,
-        stop,
-    })
+    let homes = home_workers(shared, homes)?;
+    let joined = run_threads(rt, shared.alloc, stop, clients, homes)?;
+    end_of(&joined, script.turns)?;
+    Ok(given_back(shared.alloc, geometry.banks(), joined.clients)?)
 }
 
 /// The worker of a client, with its commands and shares.
@@ -271,34 +223,32 @@ fn home_workers<'x, 'y, G: Gate>(
     Ok(workers)
 }
 
-/// How some workers ended together with others.
-fn end_with<W: Work>(workers: &[W], mut end: End) -> End {
-    for worker in workers {
-        end = end.and(worker.end());
-    }
-    end
-}
-
-/// How all workers ended together. A thread that could not be started is want of memory.
-fn end_of<C: Work, H: Work>(joined: &Joined<C, H>) -> End {
-    if !joined.are_all {
-        return End::Memory;
-    }
-    end_with(&joined.homes, end_with(&joined.clients, End::Finished))
-}
-
-/// The shares that were given back, where all threads finished.
-fn unless_ended(
-    end: End,
+/// Whether all threads finished. Want of memory goes before a stall; a thread that was stopped says nothing of why.
+fn end_of<G>(
+    joined: &Joined<ClientWorker<'_, '_, '_, G>, HomeWorker<'_, '_, G>>,
     turns: u32,
-    shares: Result<Vec<Vec<Share>>, AllocError>,
-) -> Result<Vec<Vec<Share>>, RunError>
+) -> Result<(), RunError>
     ensures { IfErr result (TellsTurns turns) }
 {
-    match end {
-        End::Finished => Ok(shares?),
-        End::Memory => Err(RunError::Memory),
-        End::Stalled | End::Stopped => Err(RunError::Stalled(turns)),
+    let mut are_finished = true;
+    for worker in &joined.clients {
+        match worker.end {
+            End::Memory => return Err(RunError::Memory),
+            End::Stalled | End::Stopped => are_finished = false,
+            End::Finished => {}
+        }
+    }
+    for worker in &joined.homes {
+        match worker.end {
+            End::Memory => return Err(RunError::Memory),
+            End::Stalled | End::Stopped => are_finished = false,
+            End::Finished => {}
+        }
+    }
+    if are_finished {
+        Ok(())
+    } else {
+        Err(RunError::Stalled(turns))
     }
 }
 

@@ -1,8 +1,7 @@
 //! A thread for each worker.
-ghost use Rattle.std.specs.Prelude.{◌≡◌, ◌≤◌, ◌+◌, vec_len, vec_capacity};
+ghost use Rattle.std.specs.Prelude.{◌≡◌, ◌≤◌, ◌+◌, IfOk, vec_len, vec_capacity};
 ghost use Rattle.std.specs.Thread.{IsSend, IsSync};
 
-use crate::workers::End;
 use std::alloc::{AllocError, Global};
 use std::sync::Wait;
 use std::thread;
@@ -14,63 +13,13 @@ use tl_tickets::Ringer;
 pub(crate) trait Work: Drop {
     /// Works until it ends, and comes back.
     fn work<R: Wait + Clock>(self, rt: &R) -> Self;
-
-    /// How it ended.
-    fn end(&self) -> End;
 }
 
-/// Workers of one kind, with room for their threads and for those that end.
-#[derive(Drop)]
-pub(crate) struct Group<W: Work + Send> {
-    workers: Vec<W>,
-    threads: Vec<JoinHandle<W>>,
-    ended: Vec<W>,
-
-    // There is room for a thread of each worker.
-    ghost room: { vec_len threads + vec_len workers ≤ vec_capacity threads },
-    // There is room for each worker once its thread has ended, and for each thread that was started before.
-    ghost places: { vec_len ended + vec_len threads + vec_len workers ≤ vec_capacity ended },
-}
-
-/// All workers with what ends their work early.
-#[derive(Drop)]
-pub(crate) struct Crew<'x, C: Work + Send, H: Work + Send> {
-    pub(crate) clients: Group<C>,
-    pub(crate) homes: Group<H>,
-    pub(crate) stop: Ringer<'x>,
-}
-
-/// The threads of a group that were started, and whether each worker has one.
-#[derive(Drop)]
-struct Started<W: Work + Send> {
-    threads: Vec<JoinHandle<W>>,
-    ended: Vec<W>,
-    are_all: bool,
-
-    // There is room for each worker once its thread has ended.
-    ghost places: { vec_len ended + vec_len threads ≤ vec_capacity ended },
-}
-
-/// All workers again, once their threads have ended, and whether there was a thread for each.
+/// All workers again, once their threads have ended.
 #[derive(Drop)]
 pub(crate) struct Joined<C: Drop, H: Drop> {
     pub(crate) clients: Vec<C>,
     pub(crate) homes: Vec<H>,
-    pub(crate) are_all: bool,
-}
-
-/// Workers as a group.
-pub(crate) fn make_group<W: Work + Send>(
-    alloc: Global,
-    workers: Vec<W>,
-) -> Result<Group<W>, AllocError> {
-    let threads = Vec::with_capacity(alloc, workers.len())?;
-    let ended = Vec::with_capacity(alloc, workers.len())?;
-    Ok(Group {
-        workers,
-        threads,
-        ended,
-    })
 }
 
 /// Starts a thread for each worker, up to the first that could not be started. `false` where one could not.
@@ -96,26 +45,6 @@ fn start<'s, E, R: Threads + Wait + Clock + Sync, W: Work + Send + 's>(
     true
 }
 
-/// Starts a thread for each worker of a group, where threads may still be started: after one that could not be, no other is.
-fn start_group<'s, E, R: Threads + Wait + Clock + Sync, W: Work + Send + 's>(
-    scope: &Scope<'s, E>,
-    rt: &'s R,
-    group: Group<W>,
-    may_start: bool,
-) -> Started<W> {
-    let Group {
-        workers,
-        mut threads,
-        ended,
-    } = group;
-    let are_all = may_start && start(scope, rt, workers, &mut threads);
-    Started {
-        threads,
-        ended,
-        are_all,
-    }
-}
-
 /// Joins each thread.
 fn join_each<R: Threads, W: Work + Send>(rt: &R, threads: Vec<JoinHandle<W>>, ended: &mut Vec<W>)
     requires { vec_len ended.old + vec_len threads ≤ vec_capacity ended.old }
@@ -127,45 +56,67 @@ fn join_each<R: Threads, W: Work + Send>(rt: &R, threads: Vec<JoinHandle<W>>, en
     }
 }
 
-/// Joins each thread that was started.
-fn join_group<R: Threads, W: Work + Send>(rt: &R, started: Started<W>) -> Vec<W> {
-    let Started {
-        threads,
-        mut ended,
-        are_all: _,
-    } = started;
-    join_each(rt, threads, &mut ended);
-    ended
+/// Room for the threads that are started and for the workers that end.
+#[derive(Drop)]
+struct Places<C: Work + Send, H: Work + Send> {
+    client_threads: Vec<JoinHandle<C>>,
+    home_threads: Vec<JoinHandle<H>>,
+    ended_clients: Vec<C>,
+    ended_homes: Vec<H>,
+}
+
+/// Room for so many clients and homes.
+fn open_places<C: Work + Send, H: Work + Send>(
+    alloc: Global,
+    clients: usize,
+    homes: usize,
+) -> Result<Places<C, H>, AllocError>
+    ensures clients { IfOk result (λ p. (vec_len p.client_threads ≡ 0) × (clients ≤ vec_capacity p.client_threads) × (vec_len p.ended_clients ≡ 0) × (clients ≤ vec_capacity p.ended_clients)) }
+    ensures homes { IfOk result (λ p. (vec_len p.home_threads ≡ 0) × (homes ≤ vec_capacity p.home_threads) × (vec_len p.ended_homes ≡ 0) × (homes ≤ vec_capacity p.ended_homes)) }
+{
+    Ok(Places {
+        client_threads: Vec::with_capacity(alloc, clients)?,
+        home_threads: Vec::with_capacity(alloc, homes)?,
+        ended_clients: Vec::with_capacity(alloc, clients)?,
+        ended_homes: Vec::with_capacity(alloc, homes)?,
+    })
 }
 
 /// Runs each worker in a thread of its own, joins all threads and gives the workers back. Where a thread could not be started, no other
 /// is, and those that run are stopped and joined.
 pub(crate) fn run_threads<R: Threads + Wait + Clock + Sync, C: Work + Send, H: Work + Send>(
     rt: &R,
-    crew: Crew<'_, C, H>,
-) -> Joined<C, H> {
+    alloc: Global,
+    mut stop: Ringer<'_>,
+    clients: Vec<C>,
+    homes: Vec<H>,
+) -> Result<Joined<C, H>, AllocError> {
     thread::scope(
         thread::scope_env(),
         rt,
-        move |scope| -> Joined<C, H>
+        move |scope| -> Result<Joined<C, H>, AllocError>
             requires { IsSync R.row × IsSend C.row × IsSend H.row }
         {
-            let Crew {
-                clients,
-                homes,
-                mut stop,
-            } = crew;
-            let clients = start_group(scope, rt, clients, true);
-            let homes = start_group(scope, rt, homes, clients.are_all);
-            let are_all = homes.are_all;
-            if !are_all {
+            let Places {
+                mut client_threads,
+                mut home_threads,
+                mut ended_clients,
+                mut ended_homes,
+            } = open_places(alloc, clients.len(), homes.len())?;
+            let are_started = start(scope, rt, clients, &mut client_threads)
+                && start(scope, rt, homes, &mut home_threads);
+            if !are_started {
                 stop.ring();
             }
-            Joined {
-                clients: join_group(rt, clients),
-                homes: join_group(rt, homes),
-                are_all,
+            join_each(rt, client_threads, &mut ended_clients);
+            join_each(rt, home_threads, &mut ended_homes);
+            if !are_started {
+                return Err(AllocError);
             }
+            Ok(Joined {
+                clients: ended_clients,
+                homes: ended_homes,
+            })
         },
     )
 }

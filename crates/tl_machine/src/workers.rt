@@ -22,17 +22,6 @@ pub(crate) enum End {
     Memory,
 }
 
-impl End {
-    /// How two threads ended together: want of memory goes before a stall, and a thread that was stopped says nothing of why.
-    pub(crate) fn and(self, other: End) -> End {
-        match (self, other) {
-            (End::Memory, _) | (_, End::Memory) => End::Memory,
-            (End::Finished, End::Finished) => End::Finished,
-            _ => End::Stalled,
-        }
-    }
-}
-
 /// What all threads share.
 #[derive(Drop)]
 pub(crate) struct Shared<'y, G> {
@@ -124,60 +113,52 @@ fn stop_if_known(end: End, stop: &mut Ringer<'_>) {
     }
 }
 
-impl<'s, 'x, 'y, G: Gate> ClientWorker<'s, 'x, 'y, G> {
-    /// The turns of its agent, at a port of its own.
-    fn turns<R: Wait + Clock>(&mut self, rt: &R) -> End {
-        let shared = self.shared;
-        let mut port = shared.locked.client_port(rt, shared.gate, self.client);
-        client_turns(
-            rt,
+impl<'s, 'x, 'y, G: Gate> Work for ClientWorker<'s, 'x, 'y, G> {
+    fn work<R: Wait + Clock>(self, rt: &R) -> Self {
+        let ClientWorker {
             shared,
-            &mut port,
-            &mut self.agent,
-            &mut self.mail,
-            &mut self.stop,
-        )
-    }
-}
-
-impl<'x, 'y, G: Gate> HomeWorker<'x, 'y, G> {
-    /// The turns of its home, at a port of its own.
-    fn turns<R: Wait + Clock>(&mut self, rt: &R) -> End {
-        let shared = self.shared;
-        match shared.locked.home_port(rt, shared.gate, self.number) {
-            Some(mut port) => home_turns(
-                rt,
-                shared,
-                &mut port,
-                &mut self.home,
-                &mut self.mail,
-                &mut self.stop,
-            ),
-            None => End::Stopped,
+            client,
+            mut agent,
+            mut mail,
+            mut stop,
+            end: _,
+        } = self;
+        let mut port = shared.locked.client_port(rt, shared.gate, client);
+        let end = client_turns(rt, shared, &mut port, &mut agent, &mut mail, &mut stop);
+        stop_if_known(end, &mut stop);
+        ClientWorker {
+            shared,
+            client,
+            agent,
+            mail,
+            stop,
+            end,
         }
     }
 }
 
-impl<'s, 'x, 'y, G: Gate> Work for ClientWorker<'s, 'x, 'y, G> {
-    fn work<R: Wait + Clock>(mut self, rt: &R) -> Self {
-        self.end = self.turns(rt);
-        stop_if_known(self.end, &mut self.stop);
-        self
-    }
-
-    fn end(&self) -> End {
-        self.end
-    }
-}
-
 impl<'x, 'y, G: Gate> Work for HomeWorker<'x, 'y, G> {
-    fn work<R: Wait + Clock>(mut self, rt: &R) -> Self {
-        self.end = self.turns(rt);
-        stop_if_known(self.end, &mut self.stop);
-        self
-    }
-
-    fn end(&self) -> End {
-        self.end
+    fn work<R: Wait + Clock>(self, rt: &R) -> Self {
+        let HomeWorker {
+            shared,
+            number,
+            mut home,
+            mut mail,
+            mut stop,
+            end: _,
+        } = self;
+        let end = match shared.locked.home_port(rt, shared.gate, number) {
+            Some(mut port) => home_turns(rt, shared, &mut port, &mut home, &mut mail, &mut stop),
+            None => End::Stopped,
+        };
+        stop_if_known(end, &mut stop);
+        HomeWorker {
+            shared,
+            number,
+            home,
+            mail,
+            stop,
+            end,
+        }
     }
 }
