@@ -5,8 +5,6 @@ use Rattle.tl_tickets.specs.Inbox.{IsReceiverOf, IsSenderOf}
 use Rattle.tl_tickets.specs.Bell.{IsSeatOf}
 use Rattle.tl_machine.specs.declared.mailbox.Mailbox.{Mailbox}
 use Rattle.tl_machine.specs.declared.mailbox.Keys.{Keys}
-use Rattle.tl_machine.specs.declared.mailbox.Bells.{Bells}
-use Rattle.tl_machine.specs.declared.mailbox.Seats.{Seats}
 
 -- These are the passes and seats of a mailbox, for so many senders.
 pub record Fits (senders : ℕ) (mailbox : Mailbox) (keys : Keys) : Type 0 where
@@ -23,11 +21,3 @@ FitEach senders [] [] = Unit {0}
 FitEach senders (mailbox ∷ mailboxes) (keys ∷ rows) = Fits senders mailbox keys × FitEach senders mailboxes rows
 FitEach senders [] (keys ∷ rows) = ⊥
 FitEach senders (mailbox ∷ mailboxes) [] = ⊥
-
--- These are the seats at the two bells: one at each for each of so many threads, and one more at the stop bell, for the runner.
-pub record AreSeats (threads : ℕ) (bells : Bells) (seats : Seats) : Type 0 where
-  pub done : All (IsSeatOf bells.done) seats.done.items
-  pub stop : All (IsSeatOf bells.stop) seats.stop.items
-  pub own : IsSeatOf bells.stop seats.own
-  pub at_done : vec_len seats.done ≡ threads
-  pub at_stop : vec_len seats.stop ≡ threads

@@ -6,11 +6,11 @@ ghost use Rattle.tl_tickets.specs.Inbox.{IsSenderOf};
 ghost use Rattle.tl_tickets.specs.Bell.{IsSeatOf};
 ghost use Rattle.tl_machine.specs.Keys.{Fits, FitEach};
 
-use crate::mailbox::{Bells, Keys, Mailbox};
+use crate::mailbox::{Keys, Mailbox};
 use crossbeam_utils::sync::{Parker, Unparker};
 use std::alloc::{AllocError, Global};
 use tl_mail::{Mail, Sending};
-use tl_tickets::{Pass, Receiver, Ringer, Seat, Sender};
+use tl_tickets::{Bell, Inbox, Pass, Receiver, Ringer, Seat, Sender};
 
 /// A mailbox as its receiver uses it, and what the receiver rests at.
 #[derive(Drop)]
@@ -34,65 +34,33 @@ pub(crate) struct Post<'x> {
     pub(crate) stop: Ringer<'x>,
 }
 
-/// A seat at the done bell and one at the stop bell.
-#[derive(Drop)]
-pub(crate) struct Seated<'x> {
-    done: Ringer<'x>,
-    stop: Ringer<'x>,
-}
-
-/// A seat at each of the two bells for each thread.
-pub(crate) fn at_bells<'x>(
+/// A bell with each of its seats.
+pub(crate) fn ringers<'x>(
     alloc: Global,
-    bells: &'x Bells,
+    bell: &'x Bell,
     seats: Vec<Seat>,
-    mut stops: Vec<Seat>,
-) -> Result<Vec<Seated<'x>>, AllocError>
-    requires seats { All (IsSeatOf bells.now.done) seats.items }
-    requires stops { All (IsSeatOf bells.now.stop) stops.items }
-    requires count { vec_len stops ≡ vec_len seats }
-    ensures { IfOk result (λ all. vec_len all ≡ vec_len seats) }
+) -> Result<Vec<Ringer<'x>>, AllocError>
+    requires { All (IsSeatOf bell.now) seats.items }
+    ensures { IfOk result (λ ringers. vec_len ringers ≡ vec_len seats) }
 {
-    let mut all = Vec::with_capacity(alloc, seats.len())?;
+    let mut ringers = Vec::with_capacity(alloc, seats.len())?;
     for seat in seats {
-        let Some(stop) = stops.pop() else {
-            unreachable!()
-        };
-        all.push(Seated {
-            done: Ringer::new(&bells.done, seat),
-            stop: Ringer::new(&bells.stop, stop),
-        })?;
+        ringers.push(Ringer::new(bell, seat))?;
     }
-    Ok(all)
-}
-
-/// The way of a sender to a mailbox.
-fn way_to<'x>(
-    alloc: Global,
-    mailbox: &'x Mailbox,
-    pass: Pass,
-    seat: Seat,
-    rest: &Unparker,
-) -> Result<Sending<'x>, AllocError>
-    requires pass { IsSenderOf mailbox.now.inbox pass }
-    requires seat { IsSeatOf mailbox.now.bell seat }
-{
-    let rest = rest.clone()?;
-    let inbox = Sender::new(&mailbox.inbox, pass);
-    let bell = Ringer::new(&mailbox.bell, seat);
-    Sending::new(alloc, inbox, bell, rest)
+    Ok(ringers)
 }
 
 /// The ways of a mailbox's senders.
 fn ways_to<'x>(
     alloc: Global,
-    mailbox: &'x Mailbox,
+    inbox: &'x Inbox,
+    bell: &'x Bell,
     passes: Vec<Pass>,
     mut seats: Vec<Seat>,
     rest: &Unparker,
 ) -> Result<Vec<Sending<'x>>, AllocError>
-    requires passes { All (IsSenderOf mailbox.now.inbox) passes.items }
-    requires seats { All (IsSeatOf mailbox.now.bell) seats.items }
+    requires passes { All (IsSenderOf inbox.now) passes.items }
+    requires seats { All (IsSeatOf bell.now) seats.items }
     requires count { vec_len seats ≡ vec_len passes }
     ensures { IfOk result (λ ways. vec_len ways ≡ vec_len passes) }
 {
@@ -101,7 +69,13 @@ fn ways_to<'x>(
         let Some(seat) = seats.pop() else {
             unreachable!()
         };
-        ways.push(way_to(alloc, mailbox, pass, seat, rest)?)?;
+        let way = Sending::new(
+            alloc,
+            Sender::new(inbox, pass),
+            Ringer::new(bell, seat),
+            rest.clone()?,
+        )?;
+        ways.push(way)?;
     }
     Ok(ways)
 }
@@ -118,14 +92,21 @@ fn ends_of<'x>(
 {
     // For the prover: the clauses alone name it.
     let _ = senders;
-    let parker = Parker::new(alloc)?;
     let Keys {
         receiver,
         senders: passes,
         own,
         seats,
     } = keys;
-    let ways = ways_to(alloc, mailbox, passes, seats, parker.unparker())?;
+    let parker = Parker::new(alloc)?;
+    let ways = ways_to(
+        alloc,
+        &mailbox.inbox,
+        &mailbox.bell,
+        passes,
+        seats,
+        parker.unparker(),
+    )?;
     let receiving = Receiving {
         inbox: Receiver::new(&mailbox.inbox, receiver),
         bell: Ringer::new(&mailbox.bell, own),
@@ -182,13 +163,17 @@ fn one_of_each<'x>(
 }
 
 /// What a worker uses.
-fn post_of<'x>(own: Receiving<'x>, ways: Vec<Sending<'x>>, seat: Seated<'x>) -> Post<'x> {
+fn post_of<'x>(
+    own: Receiving<'x>,
+    ways: Vec<Sending<'x>>,
+    done: Ringer<'x>,
+    stop: Ringer<'x>,
+) -> Post<'x> {
     let Receiving {
         inbox,
         bell,
         parker,
     } = own;
-    let Seated { done, stop } = seat;
     Post {
         mail: Mail::new(inbox, bell, ways, done, parker),
         stop,
@@ -198,22 +183,21 @@ fn post_of<'x>(own: Receiving<'x>, ways: Vec<Sending<'x>>, seat: Seated<'x>) -> 
 /// What each worker uses: its mailbox, one way to each of its receivers, and a seat at each of the two bells.
 pub(crate) fn posts<'x>(
     alloc: Global,
-    ends: Ends<'x>,
-    mut seats: Vec<Seated<'x>>,
+    receiving: Vec<Receiving<'x>>,
+    mut sending: Vec<Vec<Sending<'x>>>,
+    mut done: Vec<Ringer<'x>>,
+    mut stop: Vec<Ringer<'x>>,
 ) -> Result<Vec<Post<'x>>, AllocError>
-    requires ways { All (λ ways. vec_len ways ≡ vec_len ends.receiving) ends.sending.items }
-    requires seats { vec_len seats ≡ vec_len ends.receiving }
-    ensures { IfOk result (λ made. vec_len made ≡ vec_len ends.entry.receiving) }
+    requires ways { All (λ ways. vec_len ways ≡ vec_len receiving) sending.items }
+    requires done { vec_len done ≡ vec_len receiving }
+    requires stop { vec_len stop ≡ vec_len receiving }
+    ensures { IfOk result (λ made. vec_len made ≡ vec_len receiving.entry) }
 {
-    let mut posts = Vec::with_capacity(alloc, seats.len())?;
-    let Ends {
-        receiving,
-        mut sending,
-    } = ends;
+    let mut posts = Vec::with_capacity(alloc, receiving.len())?;
     for own in receiving {
-        let (ways, rest) = one_of_each(alloc, sending, seats.len())?;
+        let (ways, rest) = one_of_each(alloc, sending, done.len())?;
         sending = rest;
-        posts.push(post_of(own, ways, seats.remove(0)))?;
+        posts.push(post_of(own, ways, done.remove(0), stop.remove(0)))?;
     }
     Ok(posts)
 }

@@ -3,7 +3,7 @@ ghost use Rattle.std.specs.Prelude.{◌≡◌, ◌+◌, ◌<◌, ◌≤◌, IfOk
 ghost use Rattle.std.specs.List.{All};
 ghost use Rattle.tl_tickets.specs.Inbox.{IsReceiverOf, IsSenderOf};
 ghost use Rattle.tl_tickets.specs.Bell.{IsSeatOf};
-ghost use Rattle.tl_machine.specs.Keys.{Fits, FitEach, AreSeats};
+ghost use Rattle.tl_machine.specs.Keys.{Fits, FitEach};
 
 use std::alloc::{AllocError, Global};
 use tl_tickets::{Bell, Inbox, Pass, Seat};
@@ -43,7 +43,7 @@ fn open_inbox(
 }
 
 /// A bell and its seats.
-fn open_bell(alloc: Global, seats: usize) -> Result<(Bell, Vec<Seat>), AllocError>
+pub(crate) fn open_bell(alloc: Global, seats: usize) -> Result<(Bell, Vec<Seat>), AllocError>
     requires { (0 < seats) × (seats ≤ 64) }
     ensures seats { IfOk result (λ made. All (IsSeatOf made.0) made.1.items) }
     ensures count { IfOk result (λ made. vec_len made.1 ≡ seats) }
@@ -95,36 +95,4 @@ pub(crate) fn open_mailboxes(
         rows.push(keys)?;
     }
     Ok((mailboxes, rows))
-}
-
-/// The done bell and the stop bell.
-#[derive(Drop)]
-pub(crate) struct Bells {
-    pub(crate) done: Bell,
-    pub(crate) stop: Bell,
-}
-
-/// The seats at the two bells: one at each for each thread, and the runner's own at the stop bell.
-#[derive(Drop)]
-pub(crate) struct Seats {
-    pub(crate) done: Vec<Seat>,
-    pub(crate) stop: Vec<Seat>,
-    pub(crate) own: Seat,
-}
-
-/// The two bells for so many threads, and their seats.
-pub(crate) fn open_bells(alloc: Global, threads: usize) -> Result<(Bells, Seats), AllocError>
-    requires { (0 < threads) × (threads < 64) }
-    ensures { IfOk result (λ made. AreSeats threads made.0 made.1) }
-{
-    let (done, done_seats) = open_bell(alloc, threads)?;
-    let (stop, mut stop_seats) = open_bell(alloc, threads + 1)?;
-    let own = stop_seats.remove(0);
-    let bells = Bells { done, stop };
-    let seats = Seats {
-        done: done_seats,
-        stop: stop_seats,
-        own,
-    };
-    Ok((bells, seats))
 }

@@ -5,7 +5,7 @@ ghost use Rattle.tl_conclude.specs.RunError.{TellsTurns};
 
 use crate::banks::{Opened, no_shares, open_banks};
 use crate::deal::Post;
-use crate::mailroom::{Posts, deal_out, open_mailroom};
+use crate::mailroom::{AllKeys, Mailroom, Posts, deal_out, open_mailroom};
 use crate::threads::{Joined, run_threads};
 use crate::workers::{ClientWorker, End, HomeWorker, Shared};
 use std::alloc::{AllocError, Global};

@@ -12,4 +12,5 @@ loop-own-preserved c =
           (λ ways is. omega (arith, is, one)) _ c.in_ok-ways.ensures.rest,
       search rules,
       search rules,
+      search rules,
     )

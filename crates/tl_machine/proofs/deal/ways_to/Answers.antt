@@ -6,8 +6,8 @@ use Rattle.tl_machine.proofs.deal.ways_to.Goals as goal
 
 pub loop-pass-preserved : goal.loop-pass-preserved
 loop-pass-preserved c = (
-  All-rest (IsSenderOf c.args.mailbox.now.inbox) _ _ _ c.in-Some.ensures.steps.0 c.loop-pass.invariant.0,
-  (All-pop (IsSeatOf c.args.mailbox.now.bell) _ _ _ c.pop.ensures.items c.loop-pass.invariant.1).0,
+  All-rest (IsSenderOf c.args.inbox.now) _ _ _ c.in-Some.ensures.steps.0 c.loop-pass.invariant.0,
+  (All-pop (IsSeatOf c.args.bell.now) _ _ _ c.pop.ensures.items c.loop-pass.invariant.1).0,
   search rules,
   search rules,
 )

@@ -8,5 +8,5 @@ use Rattle.tl_machine.proofs.deal.ways_to.Given as goal
 -- the passes and seats that are left are those of the inbox and the bell, one for each way that is missing
 abbrev pub invariant-loop-pass : goal.invariant-loop-pass
 invariant-loop-pass l =
-    All (IsSenderOf l.mailbox.inbox) (into_iter_items l.pass-iterator) × All (IsSeatOf l.mailbox.bell) l.seats.items
+    All (IsSenderOf l.inbox) (into_iter_items l.pass-iterator) × All (IsSeatOf l.bell) l.seats.items
     × (vec_len l.seats ≡ into_iter_len l.pass-iterator) × (vec_len l.ways + into_iter_len l.pass-iterator ≡ vec_len l.fn.passes)
