@@ -1,11 +1,10 @@
 //! What no clause says: that a bank is made with ample memory and answers a small script as the rules say, and that each refusal
 //! comes that the calls of clients alone can reach. Expected answers are worked out from the rules.
-use crate::session::Session;
-use std::process::Abort;
+use crate::steps::{Call, Step, first_that_fails};
 use std::test::Fail;
-use tl_bank::{Refusal, When};
+use tl_bank::Refusal;
 use tl_map::GeometryNumbers;
-use tl_types::{BankNo, BlockNo, Channel, ClientId, Grow, Perm, Prune, Ticket};
+use tl_types::{Channel, Grow, Perm, Prune};
 
 /// Two clients with two copies each, one bank and four blocks of eight bytes.
 const NUMBERS: GeometryNumbers = GeometryNumbers {
@@ -20,103 +19,97 @@ const NUMBERS: GeometryNumbers = GeometryNumbers {
     memory_blocks: 4,
 };
 
-const NOW: When = When { clock: 0, index: 0 };
-
-fn client(number: u32) -> ClientId {
-    ClientId::new(number)
-}
-
-fn block(number: u32) -> BlockNo {
-    BlockNo::new(number)
-}
-
-fn ticket(bank: u32, number: u32, channel: Channel, serial: u64) -> Ticket {
-    Ticket {
-        bank: BankNo::new(bank),
-        client: client(number),
-        channel,
-        serial,
-    }
-}
+/// The shares of two clients that have no copy of bank 0.
+const UNUSED: Step = Step::Shares(&[(0, 0, 0), (1, 0, 0)]);
 
 /// What a new bank shows.
-fn starts<R: Abort>(rt: &R, session: &Session) {
-    assert_eq!(rt; session.events(), 0);
-    assert_eq!(rt; session.image(), [1, 2, 3].as_slice());
-    assert_eq!(rt; session.perm(client(1), block(3)), Perm::None);
-    assert_eq!(rt; session.copies_of(client(0)), Some(0));
-    assert_eq!(rt; session.copies_of(client(2)), None);
-    assert_eq!(rt;
-        session.shares().as_slice(),
-        [(0, 0, 0), (1, 0, 0)].as_slice()
-    );
-}
+const STARTS: &[Step] = &[
+    Step::Events(0),
+    Step::Image(&[1, 2, 3]),
+    Step::Perm(1, 3, Perm::None),
+    Step::CopiesOf(0, Some(0)),
+    Step::CopiesOf(2, None),
+    UNUSED,
+];
 
 #[test]
 fn a_bank_starts_with_nothing(rt: HostRuntime) -> Result<(), Fail> {
-    let session = Session::of(rt.alloc(), NUMBERS, 0, &[1, 2, 3])?;
-    starts(&rt, &session);
+    let failed = first_that_fails(rt.alloc(), NUMBERS, 0, &[1, 2, 3], STARTS)?;
+    assert_eq!(rt; failed, None);
     Ok(())
 }
 
 /// Acquires that are refused, and three that are sent.
-fn acquire_all<R: Abort>(rt: &R, session: &mut Session) {
-    assert!(rt; session.reserve_steps(2).is_ok());
-    assert!(rt; session.room() >= 2);
-    for (number, wanted, grow, answer) in [
-        (2, 0, Grow::NtoB, Err(Refusal::OutOfRange)),
-        (0, 4, Grow::NtoB, Err(Refusal::OutOfRange)),
-        (0, 0, Grow::BtoT, Err(Refusal::WrongFrom)),
-        (0, 0, Grow::NtoT, Ok(ticket(0, 0, Channel::A, 0))),
-        (0, 0, Grow::NtoT, Err(Refusal::Waiting)),
-        (0, 1, Grow::NtoB, Ok(ticket(0, 0, Channel::A, 1))),
-        (0, 2, Grow::NtoB, Err(Refusal::CopiesFull)),
-        (1, 2, Grow::NtoB, Ok(ticket(0, 1, Channel::A, 0))),
-    ] {
-        assert_eq!(rt;
-            session.acquire(client(number), block(wanted), grow),
-            answer
-        );
-    }
-    assert_eq!(rt; session.events(), 3);
-    assert_eq!(rt; session.perm(client(0), block(0)), Perm::None);
-}
+const ACQUIRES: &[Step] = &[
+    Step::Room(2),
+    Step::Call(Call::Acquire(2, 0, Grow::NtoB), Err(Refusal::OutOfRange)),
+    Step::Call(Call::Acquire(0, 4, Grow::NtoB), Err(Refusal::OutOfRange)),
+    Step::Call(Call::Acquire(0, 0, Grow::BtoT), Err(Refusal::WrongFrom)),
+    Step::Call(
+        Call::Acquire(0, 0, Grow::NtoT),
+        Ok(Some((0, 0, Channel::A, 0))),
+    ),
+    Step::Call(Call::Acquire(0, 0, Grow::NtoT), Err(Refusal::Waiting)),
+    Step::Call(
+        Call::Acquire(0, 1, Grow::NtoB),
+        Ok(Some((0, 0, Channel::A, 1))),
+    ),
+    Step::Call(Call::Acquire(0, 2, Grow::NtoB), Err(Refusal::CopiesFull)),
+    Step::Call(
+        Call::Acquire(1, 2, Grow::NtoB),
+        Ok(Some((0, 1, Channel::A, 0))),
+    ),
+    Step::Events(3),
+    Step::Perm(0, 0, Perm::None),
+];
 
 #[test]
 fn acquires_are_asked_once_and_fill_the_table(rt: HostRuntime) -> Result<(), Fail> {
-    let mut session = Session::new(rt.alloc(), NUMBERS)?;
-    acquire_all(&rt, &mut session);
+    let failed = first_that_fails(rt.alloc(), NUMBERS, 0, &[], ACQUIRES)?;
+    assert_eq!(rt; failed, None);
     Ok(())
 }
 
+/// Accesses that are refused.
+const ACCESSES: &[Step] = &[
+    Step::Call(Call::Load(0, 0, 1), Err(Refusal::NoPermission)),
+    Step::Call(Call::Load(0, 24, 8), Err(Refusal::NoPermission)),
+    Step::Call(Call::Load(2, 0, 1), Err(Refusal::OutOfRange)),
+    Step::Call(Call::Load(0, 0, 0), Err(Refusal::OutOfRange)),
+    Step::Call(Call::Load(0, 0, 9), Err(Refusal::OutOfRange)),
+    Step::Call(Call::Load(0, 7, 2), Err(Refusal::OutOfRange)),
+    Step::Call(Call::Load(0, 32, 1), Err(Refusal::OutOfRange)),
+    Step::Call(Call::Store(0, 0, &[1]), Err(Refusal::NoPermission)),
+    Step::Call(Call::Store(0, 0, &[]), Err(Refusal::OutOfRange)),
+    Step::Events(0),
+];
+
 #[test]
 fn accesses_without_a_copy_are_refused(rt: HostRuntime) -> Result<(), Fail> {
-    let mut session = Session::of(rt.alloc(), NUMBERS, 0, &[9])?;
-    for (number, address, len, refusal) in [
-        (0, 0, 1, Refusal::NoPermission),
-        (0, 24, 8, Refusal::NoPermission),
-        (2, 0, 1, Refusal::OutOfRange),
-        (0, 0, 0, Refusal::OutOfRange),
-        (0, 0, 9, Refusal::OutOfRange),
-        (0, 7, 2, Refusal::OutOfRange),
-        (0, 32, 1, Refusal::OutOfRange),
-    ] {
-        assert_eq!(rt;
-            session.load(client(number), address, len, NOW),
-            Err(refusal)
-        );
-    }
-    assert_eq!(rt;
-        session.store(client(0), 0, &[1], NOW),
-        Err(Refusal::NoPermission)
-    );
-    assert_eq!(rt;
-        session.store(client(0), 0, &[], NOW),
-        Err(Refusal::OutOfRange)
-    );
-    assert_eq!(rt; session.events(), 0);
+    let failed = first_that_fails(rt.alloc(), NUMBERS, 0, &[9], ACCESSES)?;
+    assert_eq!(rt; failed, None);
     Ok(())
 }
+
+/// Blocks and tickets of bank 1 and of another. With two banks the bank of a block is the exclusive or of its bits: blocks 1 and
+/// 2 are of bank 1.
+const OF_TWO_BANKS: &[Step] = &[
+    Step::Call(Call::Acquire(0, 0, Grow::NtoB), Err(Refusal::WrongBank)),
+    Step::Call(
+        Call::Acquire(0, 1, Grow::NtoB),
+        Ok(Some((1, 0, Channel::A, 0))),
+    ),
+    Step::Call(
+        Call::Acquire(0, 2, Grow::NtoB),
+        Ok(Some((1, 0, Channel::A, 1))),
+    ),
+    Step::Call(Call::Acquire(0, 3, Grow::NtoB), Err(Refusal::WrongBank)),
+    Step::Call(Call::Load(0, 0, 1), Err(Refusal::WrongBank)),
+    Step::Call(
+        Call::TakeReleaseAck((0, 0, Channel::D, 0)),
+        Err(Refusal::WrongBank),
+    ),
+];
 
 #[test]
 fn another_bank_refuses_blocks_and_tickets(rt: HostRuntime) -> Result<(), Fail> {
@@ -124,100 +117,103 @@ fn another_bank_refuses_blocks_and_tickets(rt: HostRuntime) -> Result<(), Fail> 
         banks: 2,
         ..NUMBERS
     };
-    let mut session = Session::of(rt.alloc(), two_banks, 1, &[])?;
-    // With two banks the bank of a block is the exclusive or of its bits: blocks 1 and 2 are of bank 1.
-    for (wanted, answer) in [
-        (0, Err(Refusal::WrongBank)),
-        (1, Ok(ticket(1, 0, Channel::A, 0))),
-        (2, Ok(ticket(1, 0, Channel::A, 1))),
-        (3, Err(Refusal::WrongBank)),
-    ] {
-        assert_eq!(rt;
-            session.acquire(client(0), block(wanted), Grow::NtoB),
-            answer
-        );
-    }
-    assert_eq!(rt; session.load(client(0), 0, 1, NOW), Err(Refusal::WrongBank));
-    assert_eq!(rt;
-        session.take_release_ack(ticket(0, 0, Channel::D, 0)),
-        Err(Refusal::WrongBank)
-    );
+    let failed = first_that_fails(rt.alloc(), two_banks, 1, &[], OF_TWO_BANKS)?;
+    assert_eq!(rt; failed, None);
     Ok(())
 }
 
 /// Tickets that are refused, each for the first thing that is wrong with it.
-fn show_tickets<R: Abort>(rt: &R, session: &mut Session) {
-    for (named, refusal) in [
-        (ticket(0, 2, Channel::D, 0), Refusal::OutOfRange),
-        (ticket(1, 0, Channel::D, 0), Refusal::WrongBank),
-        (ticket(0, 0, Channel::A, 0), Refusal::NotHead),
-        (ticket(0, 0, Channel::D, 0), Refusal::NothingThere),
-    ] {
-        assert_eq!(rt; session.take_release_ack(named), Err(refusal));
-    }
-    for (named, refusal) in [
-        (ticket(0, 1, Channel::B, 0), Refusal::OutOfRange),
-        (ticket(1, 0, Channel::B, 0), Refusal::WrongBank),
-        (ticket(0, 0, Channel::D, 0), Refusal::NotHead),
-        (ticket(0, 0, Channel::B, 0), Refusal::NothingThere),
-    ] {
-        assert_eq!(rt; session.answer_probe(named, client(0)), Err(refusal));
-    }
-    assert_eq!(rt;
-        session.shares().as_slice(),
-        [(0, 0, 0), (1, 0, 0)].as_slice()
-    );
-    assert_eq!(rt; session.events(), 0);
-}
+const TICKETS: &[Step] = &[
+    Step::Call(
+        Call::TakeReleaseAck((0, 2, Channel::D, 0)),
+        Err(Refusal::OutOfRange),
+    ),
+    Step::Call(
+        Call::TakeReleaseAck((1, 0, Channel::D, 0)),
+        Err(Refusal::WrongBank),
+    ),
+    Step::Call(
+        Call::TakeReleaseAck((0, 0, Channel::A, 0)),
+        Err(Refusal::NotHead),
+    ),
+    Step::Call(
+        Call::TakeReleaseAck((0, 0, Channel::D, 0)),
+        Err(Refusal::NothingThere),
+    ),
+    Step::Call(
+        Call::AnswerProbe((0, 1, Channel::B, 0), 0),
+        Err(Refusal::OutOfRange),
+    ),
+    Step::Call(
+        Call::AnswerProbe((1, 0, Channel::B, 0), 0),
+        Err(Refusal::WrongBank),
+    ),
+    Step::Call(
+        Call::AnswerProbe((0, 0, Channel::D, 0), 0),
+        Err(Refusal::NotHead),
+    ),
+    Step::Call(
+        Call::AnswerProbe((0, 0, Channel::B, 0), 0),
+        Err(Refusal::NothingThere),
+    ),
+    UNUSED,
+    Step::Events(0),
+];
 
 #[test]
 fn tickets_are_looked_at_in_order(rt: HostRuntime) -> Result<(), Fail> {
-    let mut session = Session::new(rt.alloc(), NUMBERS)?;
-    show_tickets(&rt, &mut session);
+    let failed = first_that_fails(rt.alloc(), NUMBERS, 0, &[], TICKETS)?;
+    assert_eq!(rt; failed, None);
     Ok(())
 }
 
 /// Shares that are refused, and one that is not.
-fn show_shares<R: Abort>(rt: &R, session: &mut Session) {
-    for (holder, refusal) in [(0, Refusal::NothingThere), (1, Refusal::OutOfRange)] {
-        assert_eq!(rt;
-            session.take_grant(ticket(0, 0, Channel::D, 0), client(holder)),
-            Err(refusal)
-        );
-    }
-    for (holder, refusal) in [(1, Refusal::OutOfRange), (0, Refusal::WrongFrom)] {
-        assert_eq!(rt;
-            session.release(client(0), block(0), Prune::TtoN, client(holder)),
-            Err(refusal)
-        );
-    }
-    assert!(rt; session.acquire(client(0), block(0), Grow::NtoB).is_ok());
-    assert_eq!(rt;
-        session.release(client(0), block(0), Prune::BtoN, client(0)),
-        Err(Refusal::Waiting)
-    );
-    assert_eq!(rt;
-        session.shares().as_slice(),
-        [(0, 0, 0), (1, 0, 0)].as_slice()
-    );
-    assert_eq!(rt; session.events(), 1);
-}
+const SHARES: &[Step] = &[
+    Step::Call(
+        Call::TakeGrant((0, 0, Channel::D, 0), 0),
+        Err(Refusal::NothingThere),
+    ),
+    Step::Call(
+        Call::TakeGrant((0, 0, Channel::D, 0), 1),
+        Err(Refusal::OutOfRange),
+    ),
+    Step::Call(
+        Call::Release(0, 0, Prune::TtoN, 1),
+        Err(Refusal::OutOfRange),
+    ),
+    Step::Call(Call::Release(0, 0, Prune::TtoN, 0), Err(Refusal::WrongFrom)),
+    Step::Call(
+        Call::Acquire(0, 0, Grow::NtoB),
+        Ok(Some((0, 0, Channel::A, 0))),
+    ),
+    Step::Call(Call::Release(0, 0, Prune::BtoN, 0), Err(Refusal::Waiting)),
+    UNUSED,
+    Step::Events(1),
+];
 
 #[test]
 fn shares_are_looked_at_in_order(rt: HostRuntime) -> Result<(), Fail> {
-    let mut session = Session::new(rt.alloc(), NUMBERS)?;
-    show_shares(&rt, &mut session);
+    let failed = first_that_fails(rt.alloc(), NUMBERS, 0, &[], SHARES)?;
+    assert_eq!(rt; failed, None);
     Ok(())
 }
 
+/// A share that is not there is refused.
+const NO_SHARE: &[Step] = &[
+    Step::Forget(0),
+    Step::Call(
+        Call::TakeGrant((0, 0, Channel::D, 0), 0),
+        Err(Refusal::OutOfRange),
+    ),
+    Step::Call(
+        Call::Release(0, 0, Prune::TtoN, 0),
+        Err(Refusal::OutOfRange),
+    ),
+];
+
 #[test]
 fn a_default_share_is_refused(rt: HostRuntime) -> Result<(), Fail> {
-    let mut session = Session::new(rt.alloc(), NUMBERS)?;
-    session.forget_share(client(0));
-    let grant = ticket(0, 0, Channel::D, 0);
-    let refused = Err(Refusal::OutOfRange);
-    assert_eq!(rt; session.take_grant(grant, client(0)), refused);
-    let given_up = session.release(client(0), block(0), Prune::TtoN, client(0));
-    assert_eq!(rt; given_up, refused);
+    let failed = first_that_fails(rt.alloc(), NUMBERS, 0, &[], NO_SHARE)?;
+    assert_eq!(rt; failed, None);
     Ok(())
 }

@@ -1,7 +1,7 @@
 //! What only calls reach: a clock at its end, room made ahead, and that a call whose growth of the log was refused changes nothing and
 //! answers the same when it is asked again. Answers are worked out from the rules.
 use crate::session::{Answer, Session};
-use std::process::Abort;
+use std::alloc::Global;
 use std::test::Fail;
 use tl_bank::{Action, Refusal, When};
 use tl_map::GeometryNumbers;
@@ -74,18 +74,27 @@ impl Session {
         }
     }
 
-    /// Makes a call, and makes it again where the log's growth was refused: then nothing has changed, and the answer is the same.
-    fn play(&mut self, steps: &[(Call, Answer)]) -> Result<(), Fail> {
-        for (call, answer) in steps {
-            let before = self.shown();
-            let mut given = self.ask(*call);
-            if given == Err(Refusal::Memory) {
-                expect(self.shown() == before)?;
-                given = self.ask(*call);
-            }
-            expect(given == *answer)?;
+    /// What a call answers, and whether nothing has changed where the log's growth was refused: then it is made again.
+    fn ask_again(&mut self, call: &Call) -> (Answer, bool) {
+        let before = self.shown();
+        let given = self.ask(*call);
+        if given == Err(Refusal::Memory) {
+            let is_same = self.shown() == before;
+            (self.ask(*call), is_same)
+        } else {
+            (given, true)
         }
-        Ok(())
+    }
+
+    /// Makes these calls, and makes one again where the log's growth was refused: then nothing has changed, and the answer is the same.
+    /// Whether all is so.
+    fn plays(&mut self, steps: &[(Call, Answer)]) -> bool {
+        for (call, answer) in steps {
+            if self.ask_again(call) != (*answer, true) {
+                return false;
+            }
+        }
+        true
     }
 
     /// Numbers that stand for what the bank and the shares show.
@@ -103,14 +112,6 @@ impl Session {
             u64::from(self.is_outward(block(0))),
             u64::from(self.is_outward(block(1))),
         ]
-    }
-}
-
-fn expect(is_so: bool) -> Result<(), Fail> {
-    if is_so {
-        Ok(())
-    } else {
-        Err("another answer".into())
     }
 }
 
@@ -135,59 +136,78 @@ fn fill_and_store() -> [(Call, Answer); 9] {
     ]
 }
 
-/// Accesses at the end of the clock are refused and change nothing; one before it is not.
-fn access_at_the_end<R: Abort>(rt: &R, session: &mut Session) {
+/// What accesses answer at the end of the clock, whether they changed nothing, and what a store before the end answers.
+type Ended = ([Result<u64, Refusal>; 3], bool, Result<u64, Refusal>);
+
+/// Accesses at the end of the clock, and one before it.
+fn access_at_the_end(session: &mut Session) -> Ended {
     let before = session.shown();
     let end = When {
         clock: u64::MAX,
         index: 0,
     };
-    assert_eq!(rt; session.load(client(0), 0, 1, end), Err(Refusal::ClockFull));
-    assert_eq!(rt;
+    let refused = [
+        session.load(client(0), 0, 1, end),
         session.load(client(1), 0, 1, end),
-        Err(Refusal::NoPermission)
-    );
-    assert_eq!(rt;
         session.store(client(0), 0, &[1], end),
-        Err(Refusal::ClockFull)
-    );
-    assert_eq!(rt; session.shown(), before);
+    ];
+    let is_same = session.shown() == before;
     let last = When {
         clock: 41,
         index: 7,
     };
-    assert_eq!(rt; session.store(client(0), 0, &[1], last), Ok(42));
+    (refused, is_same, session.store(client(0), 0, &[1], last))
+}
+
+/// Whether client 0 gets block 0, and what accesses answer then.
+fn fill_and_end(session: &mut Session) -> (bool, Ended) {
+    let is_filled = session.plays(&fill_and_store());
+    (is_filled, access_at_the_end(session))
+}
+
+/// The same at a new bank.
+fn ended(alloc: Global) -> Result<(bool, Ended), Fail> {
+    let mut session = Session::new(alloc, NUMBERS)?;
+    Ok(fill_and_end(&mut session))
 }
 
 #[test]
 fn a_clock_at_its_end_is_refused(rt: HostRuntime) -> Result<(), Fail> {
-    let mut session = Session::new(rt.alloc(), NUMBERS)?;
-    session.play(&fill_and_store())?;
-    access_at_the_end(&rt, &mut session);
+    let refused = [
+        Err(Refusal::ClockFull),
+        Err(Refusal::NoPermission),
+        Err(Refusal::ClockFull),
+    ];
+    assert_eq!(rt; ended(rt.alloc())?, (true, (refused, true, Ok(42))));
     Ok(())
 }
 
-/// Makes the calls up to the first whose growth is refused: none of the first two is, and that one changes nothing.
-fn call_in_room<R: Abort>(rt: &R, session: &mut Session) {
+/// Makes the calls up to the first whose growth is refused. Whether none of the first two was, and that one changed nothing.
+fn call_in_room(session: &mut Session) -> bool {
     let mut made = 0u32;
     for (call, answer) in &fill_and_store() {
         let before = session.shown();
         let given = session.ask(*call);
         if made >= 2 && given == Err(Refusal::Memory) {
-            assert_eq!(rt; session.shown(), before);
-            return;
+            return session.shown() == before;
         }
-        assert!(rt; given == *answer);
+        if given != *answer {
+            return false;
+        }
         made = made.saturating_add(1);
     }
+    true
+}
+
+/// The same at a new bank with room for two steps, or where there is no memory for them.
+fn goes_in_room(alloc: Global) -> Result<bool, Fail> {
+    let mut session = Session::new(alloc, NUMBERS)?;
+    Ok(session.reserve_steps(2).is_err() || call_in_room(&mut session))
 }
 
 /// Two steps need no memory where there is room for them; the first later one whose growth is refused changes nothing.
 #[test]
 fn room_for_two_steps(rt: HostRuntime) -> Result<(), Fail> {
-    let mut session = Session::new(rt.alloc(), NUMBERS)?;
-    if session.reserve_steps(2).is_ok() {
-        call_in_room(&rt, &mut session);
-    }
+    assert!(rt; goes_in_room(rt.alloc())?);
     Ok(())
 }

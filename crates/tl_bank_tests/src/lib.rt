@@ -10,4 +10,6 @@ mod oldest;
 #[cfg(test)]
 mod session;
 #[cfg(test)]
+mod steps;
+#[cfg(test)]
 mod walk;

@@ -1,6 +1,6 @@
 //! That the copy which a bank calls the oldest is the one granted longest ago: no clause says so of its age.
 use crate::session::Session;
-use std::process::Abort;
+use crate::steps::{Step, first_that_fails};
 use std::test::Fail;
 use tl_bank::{Action, Refusal};
 use tl_map::GeometryNumbers;
@@ -24,7 +24,7 @@ const ACTIONS: u32 = 3;
 
 impl Session {
     /// Asks for a block, and does all that has to be done until the GrantAck is taken.
-    fn fetch(&mut self, client: u32, wanted: u32, grow: Grow) -> Result<(), Refusal> {
+    pub(crate) fn fetch(&mut self, client: u32, wanted: u32, grow: Grow) -> Result<(), Refusal> {
         let block = BlockNo::new(wanted);
         let asked = self.acquire(ClientId::new(client), block, grow)?;
         let _sent = self.take(asked)?;
@@ -51,7 +51,7 @@ impl Session {
     }
 
     /// Gives up a copy that may be written, until the ReleaseAck is taken.
-    fn give_up(&mut self, client: u32, given: u32) -> Result<(), Refusal> {
+    pub(crate) fn give_up(&mut self, client: u32, given: u32) -> Result<(), Refusal> {
         let client = ClientId::new(client);
         let released = self.release(client, BlockNo::new(given), Prune::TtoN, client)?;
         if let Some(answer) = self.take(released)? {
@@ -61,81 +61,47 @@ impl Session {
     }
 
     /// The number of the block that a client was granted longest ago.
-    fn oldest(&self, client: u32) -> Option<u32> {
+    pub(crate) fn oldest(&self, client: u32) -> Option<u32> {
         Some(self.oldest_copy(ClientId::new(client))?.number())
     }
 }
 
-/// What is done to the caches, or seen of them. A table of these owns nothing: a test that calls one after another takes minutes to
-/// prove.
-#[derive(Clone, Copy)]
-enum Step {
-    /// A client gets a block, as `fetch` does.
-    Fetch(u32, u32, Grow),
-    /// A client gives a block up, as `give_up` does.
-    GiveUp(u32, u32),
-    /// A client only asks for a block that it lacks.
-    Ask(u32, u32),
-    /// The oldest copy of a client is this.
-    Oldest(u32, Option<u32>),
-}
-
 /// The steps of the test, in order.
-fn steps() -> [Step; 25] {
-    [
-        Step::Oldest(0, None),
-        Step::Fetch(0, 2, Grow::NtoB),
-        Step::Oldest(0, Some(2)),
-        Step::Fetch(0, 0, Grow::NtoB),
-        Step::Oldest(0, Some(2)),
-        Step::Fetch(0, 1, Grow::NtoB),
-        Step::Oldest(0, Some(2)),
-        Step::Oldest(1, None),
-        Step::Oldest(2, None),
-        // The oldest is probed away.
-        Step::Fetch(1, 2, Grow::NtoT),
-        Step::Oldest(0, Some(0)),
-        Step::Oldest(1, Some(2)),
-        // The oldest falls to Branch: it is as old as before, until it is granted anew.
-        Step::Fetch(1, 0, Grow::NtoB),
-        Step::Oldest(0, Some(0)),
-        Step::Fetch(0, 0, Grow::BtoT),
-        Step::Oldest(0, Some(1)),
-        // The oldest is given up, and granted again.
-        Step::GiveUp(0, 1),
-        Step::Oldest(0, Some(0)),
-        Step::Fetch(0, 1, Grow::NtoB),
-        Step::Oldest(0, Some(0)),
-        Step::GiveUp(0, 0),
-        Step::Oldest(0, Some(1)),
-        // What is only asked for is no copy.
-        Step::GiveUp(0, 1),
-        Step::Ask(0, 3),
-        Step::Oldest(0, None),
-    ]
-}
-
-impl Session {
-    /// Whether a step can be done, or is so.
-    fn goes(&mut self, step: Step) -> bool {
-        match step {
-            Step::Fetch(client, wanted, grow) => self.fetch(client, wanted, grow).is_ok(),
-            Step::GiveUp(client, given) => self.give_up(client, given).is_ok(),
-            Step::Ask(client, wanted) => {
-                let client = ClientId::new(client);
-                self.acquire(client, BlockNo::new(wanted), Grow::NtoB)
-                    .is_ok()
-            }
-            Step::Oldest(client, copy) => self.oldest(client) == copy,
-        }
-    }
-}
+const STEPS: &[Step] = &[
+    Step::Oldest(0, None),
+    Step::Fetch(0, 2, Grow::NtoB),
+    Step::Oldest(0, Some(2)),
+    Step::Fetch(0, 0, Grow::NtoB),
+    Step::Oldest(0, Some(2)),
+    Step::Fetch(0, 1, Grow::NtoB),
+    Step::Oldest(0, Some(2)),
+    Step::Oldest(1, None),
+    Step::Oldest(2, None),
+    // The oldest is probed away.
+    Step::Fetch(1, 2, Grow::NtoT),
+    Step::Oldest(0, Some(0)),
+    Step::Oldest(1, Some(2)),
+    // The oldest falls to Branch: it is as old as before, until it is granted anew.
+    Step::Fetch(1, 0, Grow::NtoB),
+    Step::Oldest(0, Some(0)),
+    Step::Fetch(0, 0, Grow::BtoT),
+    Step::Oldest(0, Some(1)),
+    // The oldest is given up, and granted again.
+    Step::GiveUp(0, 1),
+    Step::Oldest(0, Some(0)),
+    Step::Fetch(0, 1, Grow::NtoB),
+    Step::Oldest(0, Some(0)),
+    Step::GiveUp(0, 0),
+    Step::Oldest(0, Some(1)),
+    // What is only asked for is no copy.
+    Step::GiveUp(0, 1),
+    Step::Ask(0, 3),
+    Step::Oldest(0, None),
+];
 
 #[test]
 fn copies_are_as_old_as_their_last_grants(rt: HostRuntime) -> Result<(), Fail> {
-    let mut session = Session::new(rt.alloc(), NUMBERS)?;
-    for step in steps() {
-        assert!(rt; session.goes(step));
-    }
+    let failed = first_that_fails(rt.alloc(), NUMBERS, 0, &[], STEPS)?;
+    assert_eq!(rt; failed, None);
     Ok(())
 }

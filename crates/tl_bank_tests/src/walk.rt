@@ -2,7 +2,7 @@
 //! and what the protocol forbids the bank refuses. The walk is the same each time.
 use crate::session::{Answer, Session};
 use std::alloc::Global;
-use std::process::Abort;
+use std::marker::Model;
 use std::test::Fail;
 use tl_bank::{Action, Refusal, When};
 use tl_map::GeometryNumbers;
@@ -74,7 +74,8 @@ impl Dice {
     }
 }
 
-/// A bank on its walk, with its clients' shares, the tickets that were sent and not yet served, and the plain map.
+/// A bank on its walk, with its clients' shares, the tickets that were sent and not yet served, and the plain map. Its model says
+/// nothing, so that a walk has its answers alone to carry along.
 #[derive(Drop)]
 struct Walk {
     session: Session,
@@ -83,12 +84,20 @@ struct Walk {
     dice: Dice,
 }
 
+impl Model for Walk {
+    ghost Value = { Unit {0} };
+
+    ghost view = { λ _. tt };
+}
+
 impl Walk {
     fn new(alloc: Global, seed: u64) -> Result<Walk, Fail> {
+        let plain = Plain::new(alloc, SHAPE, &[])?;
+        let session = Session::new(alloc, NUMBERS)?;
         Ok(Walk {
-            session: Session::new(alloc, NUMBERS)?,
+            session,
             sent: Vec::new(alloc),
-            plain: Plain::new(alloc, SHAPE, &[])?,
+            plain,
             dice: Dice { state: seed },
         })
     }
@@ -246,6 +255,43 @@ impl Walk {
     }
 }
 
+/// The whole of a walk.
+impl Walk {
+    /// Whether the bank and the plain map show the same of all blocks, and count the same copies.
+    fn agrees(&self) -> bool {
+        for number in 0..SHAPE.blocks {
+            if !self.is_same(BlockNo::new(number)) {
+                return false;
+            }
+        }
+        self.counts_agree()
+    }
+
+    /// Makes so many calls. The place of the first after which the bank and the plain map disagree, if there is one.
+    fn first_that_disagrees(&mut self, calls: u32) -> Result<Option<u32>, Fail> {
+        for index in 0..calls {
+            self.step(index)?;
+            if !self.agrees() {
+                return Ok(Some(index));
+            }
+        }
+        Ok(None)
+    }
+
+    /// Makes 3,000 calls: the first after which the bank and the plain map disagree, and whether more than 300 events were logged.
+    fn go(&mut self) -> Result<(Option<u32>, bool), Fail> {
+        let disagrees = self.first_that_disagrees(3000)?;
+        Ok((disagrees, self.session.events() > 300))
+    }
+}
+
+/// Walks 3,000 calls from a seed: the first after which the bank and the plain map disagree, if there is one, and whether more than 300
+/// events were logged.
+fn walked(alloc: Global, seed: u64) -> Result<(Option<u32>, bool), Fail> {
+    let mut walk = Walk::new(alloc, seed)?;
+    walk.go()
+}
+
 fn refused(is_forbidden: bool) -> Result<(), Fail> {
     if is_forbidden {
         Ok(())
@@ -257,15 +303,7 @@ fn refused(is_forbidden: bool) -> Result<(), Fail> {
 #[test]
 fn a_random_walk_keeps_to_the_protocol(rt: HostRuntime) -> Result<(), Fail> {
     for seed in 0..4u64 {
-        let mut walk = Walk::new(rt.alloc(), seed)?;
-        for index in 0..3000u32 {
-            walk.step(index)?;
-            for number in 0..SHAPE.blocks {
-                assert!(rt; walk.is_same(BlockNo::new(number)));
-            }
-            assert!(rt; walk.counts_agree());
-        }
-        assert!(rt; walk.session.events() > 300);
+        assert_eq!(rt; walked(rt.alloc(), seed)?, (None, true), "seed {seed}");
     }
     Ok(())
 }
