@@ -13,6 +13,7 @@ use crate::rule::{Rule, access_of, cap_of, client_of, from_of, rules_of};
 use tl_rules::{Access, BlockState, Client, Event, Plain, Shape};
 use tl_types::{BLOCK_BYTES, ClientId, Perm, ProbeCap, Wait};
 
+/// Whether the access, if there is one, is of 1 to 8 bytes in one block.
 fn fits(shape: Shape, access: Option<&Access>) -> bool
     requires { (0 < shape.block_bytes) × (shape.block_bytes ≤ BLOCK_BYTES) }
     ensures { IsTrue result ↔ IfSome access.entry (λ a. FitsBlock shape a.now.address a.now.bytes) }
@@ -51,6 +52,7 @@ fn is_above(client: &Client, cap: Option<ProbeCap>) -> bool
     }
 }
 
+/// Whether home serves an Acquire of this client.
 fn serves(block: &BlockState, c: ClientId) -> bool
     ensures { IsTrue result ↔ ((grow : Grow) × (block.now.accepted ≡ Some (record { client = c; grow = grow }))) }
 {
@@ -60,6 +62,7 @@ fn serves(block: &BlockState, c: ClientId) -> bool
     }
 }
 
+/// Whether home serves an Acquire of this client, and the other records leave room for its Grant.
 fn leaves_room(block: &BlockState, shape: Shape, c: ClientId) -> bool
     requires { length block.now.clients ≡ shape.clients }
     ensures { IsTrue result ↔ ((grow : Grow) × (block.now.accepted ≡ Some (record { client = c; grow = grow }))
@@ -73,6 +76,7 @@ fn leaves_room(block: &BlockState, shape: Shape, c: ClientId) -> bool
     }
 }
 
+/// Whether home has a copy that is dirty, or one that is clean.
 fn has_copy(block: &BlockState, dirty: bool) -> bool
     ensures { IsTrue result ↔ ((line : Line) × (block.now.home ≡ Some line) × (line.dirty ≡ dirty)) }
 {

@@ -69,6 +69,7 @@ enum Words<'a> {
     OfBlock(BlockNo),
 }
 
+/// What an event's line has after the verb.
 fn words_after(event: &Event) -> Words<'_>
     ensures { words_text result ≡ event_words event.now }
 {
