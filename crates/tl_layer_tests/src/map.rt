@@ -1,4 +1,3 @@
-use std::process::Abort;
 use std::test::Fail;
 use tl_map::{Geometry, GeometryError, GeometryNumbers, Place, Set, Tag};
 use tl_types::{BankNo, BlockNo};
@@ -38,48 +37,75 @@ fn block_of(geometry: Geometry, (bank, set, tag): Numbers) -> Option<u32> {
     Some(block.number())
 }
 
-/// Asserts that the block lies there, and no other.
-fn assert_place<R: Abort>(rt: &R, geometry: Geometry, block: u32, place: Numbers) {
-    assert_eq!(rt;
-        (place_of(geometry, block), block_of(geometry, place)),
-        (Some(place), Some(block))
-    );
+/// Whether the block lies there, and no other.
+fn is_place(geometry: Geometry, block: u32, place: Numbers) -> bool {
+    place_of(geometry, block) == Some(place) && block_of(geometry, place) == Some(block)
 }
+
+/// The first of these blocks that does not lie there alone, if there is one.
+fn first_elsewhere(geometry: Geometry, places: &[(u32, Numbers)]) -> Option<u32> {
+    for (block, place) in places {
+        if !is_place(geometry, *block, *place) {
+            return Some(*block);
+        }
+    }
+    None
+}
+
+/// Blocks of eight banks, and where they lie.
+const OF_EIGHT: &[(u32, Numbers)] = &[
+    (0, (0, 0, 0)),
+    (1, (1, 0, 0)),
+    (8, (1, 1, 0)),
+    (9, (0, 1, 0)),
+    (65_535, (6, 3, 2047)),
+];
 
 #[test]
 fn eight_banks(rt: HostRuntime) -> Result<(), Fail> {
     let geometry = Geometry::new(NUMBERS)?;
     assert!(rt; geometry.numbers() == NUMBERS);
-    for (block, place) in [
-        (0, (0, 0, 0)),
-        (1, (1, 0, 0)),
-        (8, (1, 1, 0)),
-        (9, (0, 1, 0)),
-        (65_535, (6, 3, 2047)),
-    ] {
-        assert_place(&rt, geometry, block, place);
-    }
-    assert_eq!(rt; place_of(geometry, 65_536), None);
+    assert_eq!(rt;
+        (
+            first_elsewhere(geometry, OF_EIGHT),
+            place_of(geometry, 65_536)
+        ),
+        (None, None)
+    );
     Ok(())
+}
+
+/// Four banks, of so many blocks.
+fn of_four_banks(memory_blocks: i64) -> Result<Geometry, Fail> {
+    Ok(Geometry::new(GeometryNumbers {
+        banks: 4,
+        memory_blocks,
+        ..NUMBERS
+    })?)
+}
+
+/// The blocks of these places, where the last block of the memory, another bank and another set would be.
+fn blocks_beyond(geometry: Geometry) -> [Option<u32>; 3] {
+    [
+        block_of(geometry, (0, 2, 1)),
+        block_of(geometry, (4, 0, 0)),
+        block_of(geometry, (0, 4, 0)),
+    ]
 }
 
 #[test]
 fn four_banks(rt: HostRuntime) -> Result<(), Fail> {
-    let geometry = Geometry::new(GeometryNumbers {
-        banks: 4,
-        memory_blocks: 27,
-        ..NUMBERS
-    })?;
-    assert_place(&rt, geometry, 26, (1, 2, 1));
-    for place in [(0, 2, 1), (4, 0, 0), (0, 4, 0)] {
-        assert_eq!(rt; block_of(geometry, place), None);
-    }
+    let geometry = of_four_banks(27)?;
+    assert_eq!(rt;
+        (is_place(geometry, 26, (1, 2, 1)), blocks_beyond(geometry)),
+        (true, [None, None, None])
+    );
+    Ok(())
+}
 
-    let geometry = Geometry::new(GeometryNumbers {
-        banks: 4,
-        ..NUMBERS
-    })?;
-    assert_place(&rt, geometry, 27, (0, 2, 1));
+#[test]
+fn a_block_more(rt: HostRuntime) -> Result<(), Fail> {
+    assert!(rt; is_place(of_four_banks(65_536)?, 27, (0, 2, 1)));
     Ok(())
 }
 
@@ -108,56 +134,58 @@ fn bytes_in_one_block(rt: HostRuntime) -> Result<(), Fail> {
         memory_blocks: 4,
         ..NUMBERS
     })?;
-    assert_eq!(rt; bytes_of(geometry), [32, 3, 3, 7]);
-    assert_eq!(rt; are_in_one_block(geometry), [true, false, false]);
+    assert_eq!(rt;
+        (bytes_of(geometry), are_in_one_block(geometry)),
+        ([32, 3, 3, 7], [true, false, false])
+    );
     Ok(())
 }
 
-/// Numbers that are refused, each with the number of the refusal.
-const REFUSALS: [(GeometryNumbers, u8); 13] = [
+/// Numbers that are refused, each with the number of the refusal, and the largest that are not.
+const REFUSALS: &[(GeometryNumbers, Option<u8>)] = &[
     (
         GeometryNumbers {
             clients: -1,
             ..NUMBERS
         },
-        20,
+        Some(20),
     ),
     (
         GeometryNumbers {
             banks: 3,
             ..NUMBERS
         },
-        21,
+        Some(21),
     ),
     (
         GeometryNumbers {
             block_bytes: 4,
             ..NUMBERS
         },
-        22,
+        Some(22),
     ),
-    (GeometryNumbers { sets: 3, ..NUMBERS }, 23),
-    (GeometryNumbers { ways: 0, ..NUMBERS }, 24),
+    (GeometryNumbers { sets: 3, ..NUMBERS }, Some(23)),
+    (GeometryNumbers { ways: 0, ..NUMBERS }, Some(24)),
     (
         GeometryNumbers {
             registers: 9,
             ..NUMBERS
         },
-        25,
+        Some(25),
     ),
     (
         GeometryNumbers {
             copies: 17,
             ..NUMBERS
         },
-        26,
+        Some(26),
     ),
     (
         GeometryNumbers {
             memory_blocks: 0,
             ..NUMBERS
         },
-        27,
+        Some(27),
     ),
     (
         GeometryNumbers {
@@ -165,7 +193,7 @@ const REFUSALS: [(GeometryNumbers, u8); 13] = [
             banks: 3,
             ..NUMBERS
         },
-        20,
+        Some(20),
     ),
     (
         GeometryNumbers {
@@ -173,14 +201,14 @@ const REFUSALS: [(GeometryNumbers, u8); 13] = [
             clients: 0,
             ..NUMBERS
         },
-        28,
+        Some(28),
     ),
     (
         GeometryNumbers {
             clients: 9,
             ..NUMBERS
         },
-        20,
+        Some(20),
     ),
     (
         GeometryNumbers {
@@ -188,7 +216,7 @@ const REFUSALS: [(GeometryNumbers, u8); 13] = [
             clients: 17,
             ..NUMBERS
         },
-        20,
+        Some(20),
     ),
     (
         GeometryNumbers {
@@ -196,7 +224,16 @@ const REFUSALS: [(GeometryNumbers, u8); 13] = [
             copies: 65,
             ..NUMBERS
         },
-        26,
+        Some(26),
+    ),
+    (
+        GeometryNumbers {
+            version: 2,
+            clients: 16,
+            copies: 64,
+            ..NUMBERS
+        },
+        None,
     ),
 ];
 
@@ -211,15 +248,8 @@ fn refusal_of(numbers: GeometryNumbers) -> Option<u8> {
 #[test]
 fn the_first_refusal(rt: HostRuntime) {
     for (numbers, refusal) in REFUSALS {
-        assert_eq!(rt; refusal_of(numbers), Some(refusal));
+        assert_eq!(rt; refusal_of(*numbers), *refusal);
     }
-    let most = GeometryNumbers {
-        version: 2,
-        clients: 16,
-        copies: 64,
-        ..NUMBERS
-    };
-    assert_eq!(rt; refusal_of(most), None);
 }
 
 #[test]

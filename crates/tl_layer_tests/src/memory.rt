@@ -2,7 +2,6 @@
 //! size.
 use std::alloc::Global;
 use std::marker::Model;
-use std::process::Abort;
 use std::test::Fail;
 use tl_map::{Geometry, GeometryNumbers};
 use tl_memory::{Burst, Memory, Reply, Request};
@@ -66,19 +65,23 @@ impl Model for Blocks {
 
 impl Blocks {
     /// The whole memory of four blocks.
-    fn new(rt: &impl Abort, alloc: Global, block_bytes: u32, image: &[u8]) -> Result<Blocks, Fail> {
+    fn new(alloc: Global, block_bytes: u32, image: &[u8]) -> Result<Blocks, Fail> {
         let geometry = four_blocks(1, i64::from(block_bytes))?;
-        assert_eq!(rt; geometry.memory_bytes(), block_bytes.saturating_mul(4));
-        assert!(rt; image.len() <= geometry.memory_bytes() as usize);
+        let bytes = geometry.memory_bytes();
+        if bytes != block_bytes.saturating_mul(4) || image.len() > bytes as usize {
+            return Err("another memory".into());
+        }
         Ok(Blocks {
             memory: Memory::new(alloc, geometry, image)?,
         })
     }
 
     /// The part of bank 1 of two, of four blocks of eight bytes.
-    fn of_bank(rt: &impl Abort, alloc: Global, image: &[u8]) -> Result<Blocks, Fail> {
+    fn of_bank(alloc: Global, image: &[u8]) -> Result<Blocks, Fail> {
         let geometry = four_blocks(2, 8)?;
-        assert!(rt; image.len() <= geometry.memory_bytes() as usize);
+        if image.len() > geometry.memory_bytes() as usize {
+            return Err("a longer image".into());
+        }
         Ok(Blocks {
             memory: Memory::of_bank(alloc, geometry, BankNo::new(1), image)?,
         })
@@ -89,22 +92,29 @@ impl Blocks {
         self.memory.has(&Request::Get { size, address })
     }
 
-    /// Serves a Put of these beats at an address.
-    fn put(&mut self, rt: &impl Abort, size: u32, address: u32, burst: Burst) {
+    /// Serves a Put of these beats at an address. Whether it has the block, and acknowledges its size.
+    fn put(&mut self, size: u32, address: u32, burst: Burst) -> bool {
         let request = Request::Put {
             size,
             address,
             burst,
         };
-        assert!(rt; self.memory.has(&request));
-        let reply = self.memory.serve(request);
-        assert!(rt; matches!(reply, Reply::AccessAck { size: answered } if answered == size));
+        if !self.memory.has(&request) {
+            return false;
+        }
+        match self.memory.serve(request) {
+            Reply::AccessAck { size: answered } => answered == size,
+            _ => false,
+        }
     }
 
-    /// The first and the last byte of the block at an address, and how many bytes it has.
-    fn get(&mut self, rt: &impl Abort, size: u32, address: u32) -> Option<Ends> {
+    /// The first and the last byte of the block at an address, and how many bytes it has. `None` where it has no such block, or
+    /// answers otherwise.
+    fn get(&mut self, size: u32, address: u32) -> Option<Ends> {
         let request = Request::Get { size, address };
-        assert!(rt; self.memory.has(&request));
+        if !self.memory.has(&request) {
+            return None;
+        }
         match self.memory.serve(request) {
             Reply::AccessAckData {
                 size: answered,
@@ -115,57 +125,69 @@ impl Blocks {
     }
 }
 
-/// What blocks 2, 0 and 3 of a memory hold once the first of these was put.
-fn blocks_after_put<R: Abort>(
-    rt: &R,
-    alloc: Global,
-    size: u32,
-    bytes: u32,
-    beats: u8,
-) -> Result<[Option<Ends>; 3], Fail> {
-    let mut blocks = Blocks::new(rt, alloc, bytes, &[1, 2, 3, 4, 5, 6, 7, 8, 9])?;
-    blocks.put(rt, size, bytes.saturating_mul(2), counted(beats));
-    Ok([
-        blocks.get(rt, size, bytes.saturating_mul(2)),
-        blocks.get(rt, size, 0),
-        blocks.get(rt, size, bytes.saturating_mul(3)),
-    ])
+/// Whether a block of a memory was put, and what blocks 2, 0 and 3 hold then: the first of these is that block.
+type AfterPut = (bool, [Option<Ends>; 3]);
+
+/// The same of a memory with blocks of a size.
+fn blocks_after_put(alloc: Global, size: u32, bytes: u32, beats: u8) -> Result<AfterPut, Fail> {
+    let mut blocks = Blocks::new(alloc, bytes, &[1, 2, 3, 4, 5, 6, 7, 8, 9])?;
+    let was_put = blocks.put(size, bytes.saturating_mul(2), counted(beats));
+    let held = [
+        blocks.get(size, bytes.saturating_mul(2)),
+        blocks.get(size, 0),
+        blocks.get(size, bytes.saturating_mul(3)),
+    ];
+    Ok((was_put, held))
 }
+
+/// Sizes of blocks, their bytes and beats, the last byte that is put, and the last one of block 0.
+const SIZES: &[(u32, u32, u8, u8, u8)] = &[
+    (3, 8, 1, 0x87, 8),
+    (4, 16, 2, 0x8f, 0),
+    (5, 32, 4, 0x9f, 0),
+    (6, 64, 8, 0xbf, 0),
+];
 
 #[test]
 fn a_put_is_read_back(rt: HostRuntime) -> Result<(), Fail> {
-    for (size, bytes, beats, last, rest) in [
-        (3, 8, 1, 0x87, 8),
-        (4, 16, 2, 0x8f, 0),
-        (5, 32, 4, 0x9f, 0),
-        (6, 64, 8, 0xbf, 0),
-    ] {
-        let len = bytes as usize;
+    for (size, bytes, beats, last, rest) in SIZES {
+        let len = *bytes as usize;
         assert_eq!(rt;
-            blocks_after_put(&rt, rt.alloc(), size, bytes, beats)?,
-            [
-                Some((0x80, last, len)),
-                Some((1, rest, len)),
-                Some((0, 0, len))
-            ]
+            blocks_after_put(rt.alloc(), *size, *bytes, *beats)?,
+            (
+                true,
+                [
+                    Some((0x80, *last, len)),
+                    Some((1, *rest, len)),
+                    Some((0, 0, len))
+                ]
+            )
         );
     }
     Ok(())
 }
 
-/// Whether a bank's part has the other bank's blocks, and what its own hold once the second was put.
-fn bank_after_put<R: Abort>(rt: &R, alloc: Global) -> Result<([bool; 2], [Option<Ends>; 2]), Fail> {
+/// Whether a bank's part has the other bank's blocks, whether the second of its own was put, and what they hold then.
+type BankAfterPut = ([bool; 2], bool, [Option<Ends>; 2]);
+
+/// The same of a memory of two banks.
+fn bank_after_put(alloc: Global) -> Result<BankAfterPut, Fail> {
     let image = [1, 2, 3, 4, 5, 6, 7, 8, 9, 10, 11, 12];
-    let mut blocks = Blocks::of_bank(rt, alloc, &image)?;
+    let mut blocks = Blocks::of_bank(alloc, &image)?;
     let others = [blocks.has(3, 0), blocks.has(3, 24)];
-    blocks.put(rt, 3, 16, counted(1));
-    Ok((others, [blocks.get(rt, 3, 8), blocks.get(rt, 3, 16)]))
+    let was_put = blocks.put(3, 16, counted(1));
+    Ok((others, was_put, [blocks.get(3, 8), blocks.get(3, 16)]))
 }
 
 #[test]
 fn a_bank_keeps_its_own_blocks(rt: HostRuntime) -> Result<(), Fail> {
-    let (others, own) = bank_after_put(&rt, rt.alloc())?;
-    assert_eq!(rt; others, [false, false]);
-    assert_eq!(rt; own, [Some((9, 0, 8)), Some((0x80, 0x87, 8))]);
+    assert_eq!(rt;
+        bank_after_put(rt.alloc())?,
+        (
+            [false, false],
+            true,
+            [Some((9, 0, 8)), Some((0x80, 0x87, 8))]
+        )
+    );
     Ok(())
 }

@@ -16,10 +16,8 @@ fn copied_grant(bytes: Option<BlockBytes>) -> (bool, Kind, Option<usize>) {
 
 #[test]
 fn a_copied_grant_has_the_same_block_and_bytes(rt: HostRuntime) {
-    let bytes = BlockBytes::from_slice(&[1, 2, 3, 4]);
-    assert!(rt; bytes.is_some());
     assert_eq!(rt;
-        copied_grant(bytes),
+        copied_grant(BlockBytes::from_slice(&[1, 2, 3, 4])),
         (true, Kind::GrantData(GrantCap::ToT), Some(4))
     );
 }

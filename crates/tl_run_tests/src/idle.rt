@@ -4,9 +4,7 @@ use crate::mails::{first_mail, open_two};
 use crate::turns::agent_turn;
 use std::alloc::Global;
 use std::cell::Cell;
-use std::process::Abort;
 use std::sync::Wait;
-use std::test::Fail;
 use std::time::Clock;
 use tl_bank::{Loaded, Refusal, Share, When};
 use tl_client::{Agent, Command, Turn};
@@ -135,54 +133,58 @@ fn waiting<R: Wait>(rt: &R, mut receiver: Receiver<'_>) -> u32 {
 }
 
 /// What is seen of two turns: which they were, how many calls the port had after each, and how many tickets wait at the end.
-#[derive(Clone, Copy)]
-struct Seen {
-    first: Turn,
-    asked: u32,
-    second: Turn,
-    asked_again: u32,
-    left: u32,
-}
+type Seen = ([Turn; 2], [u32; 2], u32);
 
 /// Two turns, and before the second a ticket that nobody rings for.
 fn two_turns<R: Wait + Clock>(
     rt: &R,
     agent: &mut Agent<'_>,
-    port: &mut Refuser,
+    gate: &Counts,
+    mail: &mut Mail<'_>,
+    put: Sender<'_>,
+) -> Option<([Turn; 2], [u32; 2])> {
+    let mut port = Refuser {
+        calls: Cell::new(0),
+    };
+    let first = agent_turn(rt, agent, &mut port, gate, 1, mail);
+    let asked = port.calls.get();
+    if !put_grant(rt, put) {
+        return None;
+    }
+    let second = agent_turn(rt, agent, &mut port, gate, 1, mail);
+    Some(([first, second], [asked, port.calls.get()]))
+}
+
+/// The same, and how many tickets wait at the end.
+fn with_left(turns: Option<([Turn; 2], [u32; 2])>, left: u32) -> Option<Seen> {
+    let (turns, asked) = turns?;
+    Some((turns, asked, left))
+}
+
+/// What is seen of an agent's two turns with its mail.
+fn seen<R: Wait + Clock>(
+    rt: &R,
+    agent: Option<Agent<'_>>,
     gate: &Counts,
     mail: Option<Mail<'_>>,
     put: Sender<'_>,
 ) -> Option<Seen> {
-    let mut mail = mail?;
-    let first = agent_turn(rt, agent, port, gate, 1, &mut mail);
-    let asked = port.calls.get();
-    let was_put = put_grant(rt, put);
-    let second = agent_turn(rt, agent, port, gate, 1, &mut mail);
-    let asked_again = port.calls.get();
+    let (mut agent, mut mail) = agent.zip(mail)?;
+    let turns = two_turns(rt, &mut agent, gate, &mut mail, put);
     let left = waiting(rt, mail.into_receiver());
-    if !was_put {
-        return None;
-    }
-    Some(Seen {
-        first,
-        asked,
-        second,
-        asked_again,
-        left,
-    })
+    with_left(turns, left)
 }
 
 /// The same over inboxes and bells of their own. `None` where a request for memory was refused.
-fn two_turns_by_mail<R: Wait + Clock>(
+fn seen_by_mail<R: Wait + Clock>(
     rt: &R,
     alloc: Global,
-    agent: &mut Agent<'_>,
-    port: &mut Refuser,
+    agent: Option<Agent<'_>>,
     gate: &Counts,
 ) -> Option<Seen> {
     let (rooms, keys) = open_two(alloc)?;
     let (mail, (put, _bell), _done) = first_mail(alloc, &rooms, keys);
-    two_turns(rt, agent, port, gate, mail, put)
+    seen(rt, agent, gate, mail, put)
 }
 
 /// The two turns of an agent with one load to do.
@@ -190,25 +192,22 @@ fn observed<R: Wait + Clock>(rt: &R, alloc: Global, gate: &Counts) -> Option<See
     let geometry = Geometry::new(NUMBERS).ok()?;
     let commands = [Command::Load { address: 0, len: 1 }];
     let shares = Vec::new(alloc);
-    let mut agent = Agent::new(alloc, ClientId::new(0), geometry, &commands, shares).ok()?;
-    let mut port = Refuser {
-        calls: Cell::new(0),
-    };
-    two_turns_by_mail(rt, alloc, &mut agent, &mut port, gate)
+    let agent = Agent::new(alloc, ClientId::new(0), geometry, &commands, shares).ok();
+    seen_by_mail(rt, alloc, agent, gate)
+}
+
+/// The same, and how often the gate was asked before a command and saw a lock taken.
+fn observed_at_a_gate<R: Wait + Clock>(rt: &R, alloc: Global) -> Option<(Seen, u32, u32)> {
+    let gate = Counts::new();
+    let seen = observed(rt, alloc, &gate)?;
+    Some((seen, gate.before.get(), gate.locked.get()))
 }
 
 #[test]
-fn an_idle_agent_asks_nothing_and_takes_nothing(rt: HostRuntime) -> Result<(), Fail> {
-    let gate = Counts::new();
-    let seen = observed(&rt, rt.alloc(), &gate).ok_or("no memory")?;
-    // The first turn tries the load, and asks for the copy that it needs.
-    assert_eq!(rt; seen.first, Turn::Worked);
-    assert_eq!(rt; seen.asked, 2);
-    // The second finds its bell silent. The ticket stays.
-    assert_eq!(rt; seen.second, Turn::Idle);
-    assert_eq!(rt; seen.asked_again, 2);
-    assert_eq!(rt; seen.left, 1);
-    assert_eq!(rt; gate.before.get(), 1);
-    assert_eq!(rt; gate.locked.get(), 0);
-    Ok(())
+fn an_idle_agent_asks_nothing_and_takes_nothing(rt: HostRuntime) {
+    // The first turn tries the load, and asks for the copy that it needs. The second finds its bell silent: the ticket stays.
+    assert_eq!(rt;
+        observed_at_a_gate(&rt, rt.alloc()),
+        Some((([Turn::Worked, Turn::Idle], [2, 2], 1), 1, 0))
+    );
 }

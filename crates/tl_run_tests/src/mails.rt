@@ -34,7 +34,7 @@ fn next_seat(bell: &Bell, seats: &mut Vec<Seat>) -> Option<Seat>
 }
 
 /// A bell and its two seats.
-pub fn open_bell(alloc: Global) -> Option<(Bell, Seat, Seat)>
+fn open_bell(alloc: Global) -> Option<(Bell, Seat, Seat)>
     ensures { IfSome result (λ made. IsSeatOf made.0 made.1 × IsSeatOf made.0 made.2) }
 {
     let (bell, mut seats) = Bell::new(alloc, 2).ok()?;
@@ -54,13 +54,12 @@ fn open_inbox(alloc: Global, capacity: usize) -> Option<(Inbox, Pass, Pass)>
     Some((inbox, receiver, sender))
 }
 
-/// A room, the key of its own worker, and that of the one who sends to it.
-pub fn open(alloc: Global, capacity: usize) -> Option<(Room, Key, Key)>
-    requires { (0 < capacity) × (capacity ≤ 4096) }
+/// A room with an inbox of eight tickets, the key of its own worker, and that of the one who sends to it.
+fn open(alloc: Global) -> Option<(Room, Key, Key)>
     ensures own { IfSome result (λ made. IsReceiverOf made.0.inbox made.1.pass × IsSeatOf made.0.bell made.1.seat) }
     ensures other { IfSome result (λ made. IsSenderOf made.0.inbox made.2.pass × IsSeatOf made.0.bell made.2.seat) }
 {
-    let (inbox, receiver, sender) = open_inbox(alloc, capacity)?;
+    let (inbox, receiver, sender) = open_inbox(alloc, 8)?;
     let (bell, own, other) = open_bell(alloc)?;
     Some((
         Room { inbox, bell },
@@ -73,6 +72,14 @@ pub fn open(alloc: Global, capacity: usize) -> Option<(Room, Key, Key)>
             seat: other,
         },
     ))
+}
+
+/// A room in which nobody is, and the key of the one who sends to it.
+pub fn open_outside(alloc: Global) -> Option<(Room, Key)>
+    ensures { IfSome result (λ made. IsSenderOf made.0.inbox made.1.pass × IsSeatOf made.0.bell made.1.seat) }
+{
+    let (room, _own, other) = open(alloc)?;
+    Some((room, other))
 }
 
 /// The rooms of two workers who send to one another, and the bell that tells that all clients are done.
@@ -102,8 +109,8 @@ pub fn open_two(alloc: Global) -> Option<(Rooms, Keys)>
     ensures to_other { IfSome result (λ v. IsSenderOf v.0.other.inbox v.1.to_other.pass × IsSeatOf v.0.other.bell v.1.to_other.seat) }
     ensures done { IfSome result (λ v. IsSeatOf v.0.done v.1.rings × IsSeatOf v.0.done v.1.hears) }
 {
-    let (one, one_key, to_one) = open(alloc, 8)?;
-    let (other, other_key, to_other) = open(alloc, 8)?;
+    let (one, one_key, to_one) = open(alloc)?;
+    let (other, other_key, to_other) = open(alloc)?;
     let (done, rings, hears) = open_bell(alloc)?;
     let rooms = Rooms { one, other, done };
     let keys = Keys {
@@ -172,21 +179,31 @@ pub fn mail<'a>(
     Some(Mail::new(own.0, own.1, ways, done, parker))
 }
 
-/// The mails of two workers who send to one another.
-pub fn two_mails<'a>(alloc: Global, rooms: &'a Rooms, keys: Keys) -> Option<(Mail<'a>, Mail<'a>)>
+/// The mails of two workers who send to one another. `None` where a request for memory was refused.
+pub fn two_mails<'a>(
+    alloc: Global,
+    rooms: &'a Rooms,
+    keys: Keys,
+) -> (Option<Mail<'a>>, Option<Mail<'a>>)
     requires one { IsReceiverOf rooms.now.one.inbox keys.one.pass × IsSeatOf rooms.now.one.bell keys.one.seat }
     requires to_one { IsSenderOf rooms.now.one.inbox keys.to_one.pass × IsSeatOf rooms.now.one.bell keys.to_one.seat }
     requires other { IsReceiverOf rooms.now.other.inbox keys.other.pass × IsSeatOf rooms.now.other.bell keys.other.seat }
     requires to_other { IsSenderOf rooms.now.other.inbox keys.to_other.pass × IsSeatOf rooms.now.other.bell keys.to_other.seat }
     requires done { IsSeatOf rooms.now.done keys.rings × IsSeatOf rooms.now.done keys.hears }
 {
-    let done = Ringer::new(&rooms.done, keys.rings);
-    let own = inside(&rooms.one, keys.one);
-    let first = mail(alloc, own, outside(&rooms.other, keys.to_other), done)?;
-    let done = Ringer::new(&rooms.done, keys.hears);
-    let own = inside(&rooms.other, keys.other);
-    let second = mail(alloc, own, outside(&rooms.one, keys.to_one), done)?;
-    Some((first, second))
+    let first = mail(
+        alloc,
+        inside(&rooms.one, keys.one),
+        outside(&rooms.other, keys.to_other),
+        Ringer::new(&rooms.done, keys.rings),
+    );
+    let second = mail(
+        alloc,
+        inside(&rooms.other, keys.other),
+        outside(&rooms.one, keys.to_one),
+        Ringer::new(&rooms.done, keys.hears),
+    );
+    (first, second)
 }
 
 /// The mail of the first worker, the ends of the one who sends to it, and an end of the done bell.

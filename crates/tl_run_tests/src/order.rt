@@ -8,9 +8,8 @@ use crate::turns::home_turn;
 use arrayvec::ArrayVec;
 use std::alloc::Global;
 use std::cell::Cell;
-use std::process::Abort;
+use std::marker::Model;
 use std::sync::Wait;
-use std::test::Fail;
 use std::time::Clock;
 use tl_bank::{Action, Refusal, Reply};
 use tl_client::{Home, Turn};
@@ -122,51 +121,91 @@ fn ticket(channel: Channel, serial: u64) -> Ticket {
     }
 }
 
-/// A turn of the home of one client.
-fn take_turn<R: Wait + Clock>(
-    rt: &R,
-    home: &mut Home,
-    port: &mut Recorder,
-    mail: &mut Mail<'_>,
-) -> Turn {
-    home_turn(rt, home, port, &Free, 1, mail)
+/// What is done of a home's turns, or seen of them.
+#[derive(Clone, Copy)]
+enum Step {
+    /// The home takes a turn, and it is this one.
+    Turn(Turn),
+    /// So many calls have been made of the port, since they were counted anew.
+    Calls(u32),
+    /// Just the tickets with these serials were asked in the last turn, in order.
+    Asked(&'static [u64]),
+    /// Just these blocks were asked for a step, in order.
+    Advanced(&'static [u32]),
+    /// A ticket is put into the home's inbox, without a ring.
+    Put(Channel, u64),
+    /// The home's bell is rung.
+    Ring,
+    /// The bell is rung that tells that a client is done.
+    Done,
+    /// The port refuses no more on channel A.
+    Accept,
+    /// Whether the port has memory.
+    Memory(bool),
+    /// So many blocks have an open register.
+    Open(u32),
+    /// Calls are counted anew.
+    CountAnew,
 }
 
-/// The first turn asks for open registers alone, and the second nothing.
-fn starts<R: Wait + Clock + Abort>(
-    rt: &R,
-    home: &mut Home,
-    port: &mut Recorder,
-    mail: &mut Mail<'_>,
-) {
-    assert_eq!(rt; take_turn(rt, home, port, mail), Turn::Worked);
-    assert_eq!(rt; port.calls.get(), 1);
-    assert_eq!(rt; take_turn(rt, home, port, mail), Turn::Idle);
-    assert_eq!(rt; port.calls.get(), 1);
-}
+/// The steps of the test, in order.
+const STEPS: &[Step] = &[
+    // The first turn asks for open registers alone, and the second nothing.
+    Step::Turn(Turn::Worked),
+    Step::Calls(1),
+    Step::Turn(Turn::Idle),
+    Step::Calls(1),
+    // Tickets that nobody rang for stay in the inbox.
+    Step::Put(Channel::A, 0),
+    Step::Put(Channel::A, 1),
+    Step::Put(Channel::C, 7),
+    Step::Put(Channel::D, 8),
+    Step::Put(Channel::E, 9),
+    Step::Turn(Turn::Idle),
+    Step::Calls(1),
+    Step::Ring,
+    // E, then C, then the first of A, which is refused; the second is not asked before it, and the one on D is dropped.
+    Step::Turn(Turn::Worked),
+    Step::Asked(&[9, 7, 0]),
+    Step::Turn(Turn::Worked),
+    Step::Asked(&[0]),
+    // Once a ticket on A is accepted, each open register is asked for one step.
+    Step::Accept,
+    Step::Open(2),
+    Step::Turn(Turn::Worked),
+    Step::Asked(&[0, 1]),
+    Step::Advanced(&[0, 1]),
+    Step::Open(0),
+    Step::Turn(Turn::Worked),
+    Step::Asked(&[]),
+    // A turn that finds no memory leaves what it did not come to before what comes later.
+    Step::Memory(false),
+    Step::Put(Channel::A, 2),
+    Step::Ring,
+    Step::Turn(Turn::Memory),
+    Step::Put(Channel::A, 3),
+    Step::Ring,
+    Step::Turn(Turn::Memory),
+    Step::Memory(true),
+    Step::Put(Channel::A, 4),
+    Step::Ring,
+    Step::Turn(Turn::Worked),
+    Step::Asked(&[2, 3, 4]),
+    Step::Turn(Turn::Worked),
+    // Once all clients are done a home asks once whether its bank is quiet, and then no more.
+    Step::Done,
+    Step::CountAnew,
+    Step::Turn(Turn::Idle),
+    Step::Turn(Turn::Idle),
+    Step::Calls(1),
+];
 
-/// Puts tickets of four channels, and does not ring. Whether there was room.
-fn put_all<R: Wait>(rt: &R, put: &mut Sender<'_>) -> bool {
-    for sent in [
-        ticket(Channel::A, 0),
-        ticket(Channel::A, 1),
-        ticket(Channel::C, 7),
-        ticket(Channel::D, 8),
-        ticket(Channel::E, 9),
-    ] {
-        if put.put(rt, sent).is_err() {
-            return false;
-        }
-    }
-    true
-}
-
-/// Whether just the tickets with these serials were asked in the last turn, in order.
-fn were_asked(port: &Recorder, serials: &[u64]) -> bool {
-    if port.asked.len() != serials.len() {
+/// Whether tickets have these serials, in order.
+fn are_serials(asked: &[Asked], serials: &[u64]) -> bool {
+    if asked.len() != serials.len() {
         return false;
     }
-    for (asked, serial) in port.asked.iter().zip(serials) {
+    for (asked, serial) in asked.iter().zip(serials) {
         if asked.ticket.serial != *serial {
             return false;
         }
@@ -174,127 +213,131 @@ fn were_asked(port: &Recorder, serials: &[u64]) -> bool {
     true
 }
 
-/// E, then C, then the first of A, which is refused; the second is not asked before it, and the one on D is dropped.
-/// Once a ticket on A is accepted, each open register is asked for one step.
-fn serves_in_order<R: Wait + Clock + Abort>(
-    rt: &R,
-    home: &mut Home,
-    port: &mut Recorder,
-    mail: &mut Mail<'_>,
-) {
-    assert_eq!(rt; take_turn(rt, home, port, mail), Turn::Worked);
-    assert!(rt; were_asked(port, &[9, 7, 0]));
-    assert_eq!(rt; take_turn(rt, home, port, mail), Turn::Worked);
-    assert!(rt; were_asked(port, &[0]));
-    port.refuses = false;
-    port.open = 2;
-    assert_eq!(rt; take_turn(rt, home, port, mail), Turn::Worked);
-    assert!(rt; were_asked(port, &[0, 1]));
-    assert_eq!(rt;
-        port.advanced.as_slice(),
-        [BlockNo::new(0), BlockNo::new(1)].as_slice()
-    );
-    port.open = 0;
-    assert_eq!(rt; take_turn(rt, home, port, mail), Turn::Worked);
-    assert!(rt; were_asked(port, &[]));
-}
-
-/// A turn that finds no memory leaves what it did not come to before what comes later.
-fn goes_on_after_memory<R: Wait + Clock + Abort>(
-    rt: &R,
-    home: &mut Home,
-    port: &mut Recorder,
-    mail: &mut Mail<'_>,
-    put: &mut Sender<'_>,
-    bell: &mut Ringer<'_>,
-) {
-    for (serial, turn) in [(2, Turn::Memory), (3, Turn::Memory), (4, Turn::Worked)] {
-        port.has_memory = serial == 4;
-        let was_put = put.put(rt, ticket(Channel::A, serial)).is_ok();
-        assert!(rt; was_put);
-        bell.ring();
-        assert_eq!(rt; take_turn(rt, home, port, mail), turn);
+/// Whether blocks have these numbers, in order.
+fn are_numbers(blocks: &[BlockNo], numbers: &[u32]) -> bool {
+    if blocks.len() != numbers.len() {
+        return false;
     }
-    assert!(rt; were_asked(port, &[2, 3, 4]));
-    assert_eq!(rt; take_turn(rt, home, port, mail), Turn::Worked);
+    for (block, number) in blocks.iter().zip(numbers) {
+        if block.number() != *number {
+            return false;
+        }
+    }
+    true
 }
 
-/// Once all clients are done a home asks once whether its bank is quiet, and then no more.
-fn asks_once_at_the_end<R: Wait + Clock + Abort>(
-    rt: &R,
-    home: &mut Home,
-    port: &mut Recorder,
-    mail: &mut Mail<'_>,
-) {
-    let calls = port.calls.get();
-    assert_eq!(rt; take_turn(rt, home, port, mail), Turn::Idle);
-    assert_eq!(rt; take_turn(rt, home, port, mail), Turn::Idle);
-    assert_eq!(rt; port.calls.get(), calls.saturating_add(1));
+/// The home of one client with its port and its mail, and the ends of those who send to it. Its model says nothing, so that
+/// many turns have their answers alone to carry along.
+#[derive(Drop)]
+struct Scene<'a> {
+    home: Home,
+    port: Recorder,
+    mail: Mail<'a>,
+    put: Sender<'a>,
+    bell: Ringer<'a>,
+    done: Ringer<'a>,
 }
 
-/// All turns of a home, in order.
-fn all_turns<R: Wait + Clock + Abort>(
-    rt: &R,
-    home: &mut Home,
-    port: &mut Recorder,
-    mail: &mut Mail<'_>,
-    put: &mut Sender<'_>,
-    bell: &mut Ringer<'_>,
-    done: &mut Ringer<'_>,
-) {
-    starts(rt, home, port, mail);
-    let all_were_put = put_all(rt, put);
-    assert!(rt; all_were_put);
-    // Tickets that nobody rang for stay in the inbox.
-    assert_eq!(rt; take_turn(rt, home, port, mail), Turn::Idle);
-    assert_eq!(rt; port.calls.get(), 1);
-    bell.ring();
-    serves_in_order(rt, home, port, mail);
-    goes_on_after_memory(rt, home, port, mail, put, bell);
-    done.ring();
-    asks_once_at_the_end(rt, home, port, mail);
+impl<'a> Model for Scene<'a> {
+    ghost Value = { Unit {0} };
+
+    ghost view = { λ _. tt };
 }
 
-/// The turns of a home with its mail.
-fn turns_with<R: Wait + Clock + Abort>(
-    rt: &R,
-    home: &mut Home,
-    port: &mut Recorder,
-    mail: Option<Mail<'_>>,
-    put: (Sender<'_>, Ringer<'_>),
-    done: Ringer<'_>,
-) -> Option<()> {
-    let mut mail = mail?;
-    let (mut put, mut bell) = put;
-    let mut done = done;
-    all_turns(rt, home, port, &mut mail, &mut put, &mut bell, &mut done);
-    Some(())
+impl Scene<'_> {
+    fn turn<R: Wait + Clock>(&mut self, rt: &R) -> Turn {
+        home_turn(rt, &mut self.home, &mut self.port, &Free, 1, &mut self.mail)
+    }
+
+    /// Whether there is room for a ticket.
+    fn put<R: Wait>(&mut self, rt: &R, sent: Ticket) -> bool {
+        self.put.put(rt, sent).is_ok()
+    }
+
+    /// Changes what the port answers, or rings.
+    fn change(&mut self, step: Step) {
+        match step {
+            Step::Ring => {
+                self.bell.ring();
+            }
+            Step::Done => {
+                self.done.ring();
+            }
+            Step::Accept => self.port.refuses = false,
+            Step::Memory(has_memory) => self.port.has_memory = has_memory,
+            Step::Open(open) => self.port.open = open,
+            Step::CountAnew => self.port.calls.set(0),
+            _ => {}
+        }
+    }
+
+    /// Whether a step can be done, or is so.
+    fn goes<R: Wait + Clock>(&mut self, rt: &R, step: Step) -> bool {
+        match step {
+            Step::Turn(turn) => self.turn(rt) == turn,
+            Step::Calls(calls) => self.port.calls.get() == calls,
+            Step::Asked(serials) => are_serials(self.port.asked.as_slice(), serials),
+            Step::Advanced(numbers) => are_numbers(self.port.advanced.as_slice(), numbers),
+            Step::Put(channel, serial) => self.put(rt, ticket(channel, serial)),
+            _ => {
+                self.change(step);
+                true
+            }
+        }
+    }
+
+    /// The place of the first step that does not go, if there is one.
+    fn first_that_fails<R: Wait + Clock>(&mut self, rt: &R, steps: &[Step]) -> Option<usize> {
+        for (place, step) in steps.iter().enumerate() {
+            if !self.goes(rt, *step) {
+                return Some(place);
+            }
+        }
+        None
+    }
 }
 
-/// The turns of a home over inboxes and bells of its own. `None` where a request for memory was refused.
-fn turns_by_mail<R: Wait + Clock + Abort>(
-    rt: &R,
-    alloc: Global,
-    home: &mut Home,
-    port: &mut Recorder,
-) -> Option<()> {
-    let (rooms, keys) = open_two(alloc)?;
-    let (mail, put, done) = first_mail(alloc, &rooms, keys);
-    turns_with(rt, home, port, mail, put, done)
-}
-
-#[test]
-fn a_home_asks_in_order_and_idles_quietly(rt: HostRuntime) -> Result<(), Fail> {
-    let mut port = Recorder {
+/// A port that refuses on channel A, of no open block.
+fn refusing_port(alloc: Global) -> Recorder {
+    Recorder {
         calls: Cell::new(0),
-        asked: Vec::new(rt.alloc()),
+        asked: Vec::new(alloc),
         refuses: true,
         has_memory: true,
         open: 0,
-        advanced: Vec::new(rt.alloc()),
+        advanced: Vec::new(alloc),
+    }
+}
+
+/// The place of the first step of the home of bank 0 that does not go, with this mail. `None` where a request for memory was refused.
+fn played<R: Wait + Clock>(
+    rt: &R,
+    alloc: Global,
+    mail: Option<Mail<'_>>,
+    put: (Sender<'_>, Ringer<'_>),
+    done: Ringer<'_>,
+) -> Option<Option<usize>> {
+    let (mail, home) = mail.zip(Home::new(alloc, BankNo::new(0)).ok())?;
+    let (put, bell) = put;
+    let mut scene = Scene {
+        home,
+        port: refusing_port(alloc),
+        mail,
+        put,
+        bell,
+        done,
     };
-    let mut home = Home::new(rt.alloc(), BankNo::new(0))?;
-    let all = turns_by_mail(&rt, rt.alloc(), &mut home, &mut port);
-    assert!(rt; all.is_some());
-    Ok(())
+    Some(scene.first_that_fails(rt, STEPS))
+}
+
+/// The same over inboxes and bells of their own.
+fn played_by_mail<R: Wait + Clock>(rt: &R, alloc: Global) -> Option<Option<usize>> {
+    let (rooms, keys) = open_two(alloc)?;
+    let (mail, put, done) = first_mail(alloc, &rooms, keys);
+    played(rt, alloc, mail, put, done)
+}
+
+#[test]
+fn a_home_asks_in_order_and_idles_quietly(rt: HostRuntime) {
+    assert_eq!(rt; played_by_mail(&rt, rt.alloc()), Some(None));
 }

@@ -1,15 +1,12 @@
 //! One client and one bank, turn by turn in one thread.
 use crate::counts::Counts;
 use crate::mails::{open_two, two_mails};
-use crate::turns::{bank_of, lock_up, play_out};
+use crate::turns::{Played, Workers, bank_of, lock_up, play_out};
 use std::alloc::Global;
-use std::process::Abort;
 use std::sync::Wait;
-use std::test::Fail;
 use std::time::Clock;
 use tl_bank::{Bank, Share};
 use tl_client::{Agent, Command, Turn};
-use tl_mail::Mail;
 use tl_map::{Geometry, GeometryNumbers};
 use tl_ports::Locked;
 use tl_types::{AccessBytes, BankNo, BlockNo, ClientId, Perm};
@@ -29,13 +26,7 @@ const NUMBERS: GeometryNumbers = GeometryNumbers {
 
 /// What is seen of a script that ended: how many commands were answered, the first byte that the last one has, how many copies the client
 /// holds, and what it may do with block 2.
-#[derive(Clone, Copy)]
-struct Outcome {
-    answered: usize,
-    last: Option<u8>,
-    held: u64,
-    of_block_2: Perm,
-}
+type Outcome = (usize, Option<u8>, u64, Perm);
 
 /// The bank behind its lock, and the client's share.
 fn lock(alloc: Global, geometry: Geometry) -> Option<(Locked, Vec<Share>)> {
@@ -44,58 +35,31 @@ fn lock(alloc: Global, geometry: Geometry) -> Option<(Locked, Vec<Share>)> {
     lock_up(alloc, geometry, bank, share)
 }
 
-/// Whether both finished, by what the last turn of each was.
-fn both_finished(last: Option<(Turn, Turn)>) -> Option<bool> {
-    Some(last? == (Turn::Finished, Turn::Finished))
-}
-
-/// The turns of the agent and of the home with their mails, and whether both finished.
+/// The turns of an agent and of a home over inboxes and bells of their own.
 fn exchange<R: Wait + Clock>(
     rt: &R,
     alloc: Global,
     locked: &Locked,
     gate: &Counts,
-    agent: &mut Agent<'_>,
-    mails: Option<(Mail<'_>, Mail<'_>)>,
-) -> Option<bool> {
-    let (mut client_mail, mut home_mail) = mails?;
-    let agent = (&mut *agent, ClientId::new(0), &mut client_mail);
-    let last = play_out(rt, alloc, locked, gate, agent, &mut home_mail, 1);
-    both_finished(last)
-}
-
-/// The same over inboxes and bells of their own.
-fn exchange_by_mail<R: Wait + Clock>(
-    rt: &R,
-    alloc: Global,
-    locked: &Locked,
-    gate: &Counts,
-    agent: &mut Agent<'_>,
-) -> Option<bool> {
+    agent: Option<Agent<'_>>,
+) -> Option<Played> {
     let (rooms, keys) = open_two(alloc)?;
     let mails = two_mails(alloc, &rooms, keys);
-    exchange(rt, alloc, locked, gate, agent, mails)
+    let workers = Workers::new(alloc, ClientId::new(0), agent, mails);
+    play_out(rt, locked, gate, workers, 1)
 }
 
-fn first_byte(bytes: &AccessBytes) -> Option<u8> {
-    bytes.as_slice().first().copied()
+/// How many copies the client holds, and what it may do with block 2.
+fn held(bank: Option<Bank>) -> Option<(u64, Perm)> {
+    let bank = bank?;
+    Some((bank.held(), bank.perm(ClientId::new(0), BlockNo::new(2))))
 }
 
-/// How many commands were answered, and the first byte that the last one has. `None` where not both finished, or memory was refused.
-fn answers<R: Wait + Clock>(
-    rt: &R,
-    alloc: Global,
-    locked: &Locked,
-    gate: &Counts,
-    geometry: Geometry,
-    commands: &[Command],
-    shares: Vec<Share>,
-) -> Option<(usize, Option<u8>)> {
-    let mut agent = Agent::new(alloc, ClientId::new(0), geometry, commands, shares).ok()?;
-    let has_finished = exchange_by_mail(rt, alloc, locked, gate, &mut agent)?;
-    let (answered, _shares) = agent.into_parts();
-    if has_finished {
-        Some((answered.len(), answered.last().and_then(first_byte)))
+/// What is seen, where both have finished.
+fn outcome(played: Option<Played>, held: Option<(u64, Perm)>) -> Option<Outcome> {
+    let (played, (copies, perm)) = played.zip(held)?;
+    if (played.ours, played.theirs) == (Turn::Finished, Turn::Finished) {
+        Some((played.answered, played.last, copies, perm))
     } else {
         None
     }
@@ -110,73 +74,77 @@ fn play<R: Wait + Clock>(
 ) -> Option<Outcome> {
     let geometry = Geometry::new(NUMBERS).ok()?;
     let (locked, shares) = lock(alloc, geometry)?;
-    let (answered, last) = answers(rt, alloc, &locked, gate, geometry, commands, shares)?;
-    let bank = bank_of(alloc, locked)?;
-    Some(Outcome {
-        answered,
-        last,
-        held: bank.held(),
-        of_block_2: bank.perm(ClientId::new(0), BlockNo::new(2)),
-    })
+    let agent = Agent::new(alloc, ClientId::new(0), geometry, commands, shares).ok();
+    let played = exchange(rt, alloc, &locked, gate, agent);
+    outcome(played, held(bank_of(alloc, locked)))
+}
+
+/// The same at a gate that nobody asks.
+fn outcome_of<R: Wait + Clock>(rt: &R, alloc: Global, commands: &[Command]) -> Option<Outcome> {
+    play(rt, alloc, &Counts::new(), commands)
+}
+
+/// How often a gate was asked before a command and was told an answer, and whether each lock that it saw taken was left.
+fn gate_of<R: Wait + Clock>(
+    rt: &R,
+    alloc: Global,
+    commands: &[Command],
+) -> Option<(u32, u32, bool)> {
+    let gate = Counts::new();
+    let _outcome = play(rt, alloc, &gate, commands)?;
+    Some((
+        gate.before.get(),
+        gate.answered.get(),
+        gate.locked.get() == gate.left.get(),
+    ))
 }
 
 fn load(address: u32) -> Command {
     Command::Load { address, len: 1 }
 }
 
-fn store(address: u32, byte: u8) -> Option<Command> {
-    let bytes = AccessBytes::from_slice(&[byte])?;
-    Some(Command::Store { address, bytes })
+fn store(address: u32, byte: u8) -> Command {
+    let bytes = match AccessBytes::from_slice(&[byte]) {
+        Some(bytes) => bytes,
+        None => AccessBytes::new(),
+    };
+    Command::Store { address, bytes }
+}
+
+fn drop_of(address: u32) -> Command {
+    Command::Drop { address }
 }
 
 #[test]
-fn a_dropped_block_is_read_again(rt: HostRuntime) -> Result<(), Fail> {
-    let gate = Counts::new();
-    let mut commands = Vec::new(rt.alloc());
-    commands.push(store(0, 0xab).ok_or("one byte")?)?;
-    commands.push(Command::Drop { address: 0 })?;
-    let Some(outcome) = play(&rt, rt.alloc(), &gate, &commands) else {
-        panic!(rt; "the script did not end");
-    };
-    assert_eq!(rt; outcome.answered, 2);
-    assert_eq!(rt; outcome.held, 0);
-    commands.push(load(0))?;
-    let Some(outcome) = play(&rt, rt.alloc(), &gate, &commands) else {
-        panic!(rt; "the script did not end");
-    };
-    assert_eq!(rt; outcome.last, Some(0xab));
-    assert_eq!(rt; outcome.held, 1);
-    Ok(())
+fn a_dropped_block_is_given_up(rt: HostRuntime) {
+    let commands = [store(0, 0xab), drop_of(0)];
+    assert_eq!(rt;
+        outcome_of(&rt, rt.alloc(), &commands),
+        Some((2, None, 0, Perm::None))
+    );
 }
 
 #[test]
-fn a_full_table_gives_up_the_oldest(rt: HostRuntime) -> Result<(), Fail> {
-    let gate = Counts::new();
-    let mut commands = Vec::new(rt.alloc());
-    for address in [16, 0, 8] {
-        commands.push(load(address))?;
-    }
-    let Some(outcome) = play(&rt, rt.alloc(), &gate, &commands) else {
-        panic!(rt; "the script did not end");
-    };
-    assert_eq!(rt; outcome.answered, 3);
-    assert_eq!(rt; outcome.held, 2);
-    assert_eq!(rt; outcome.of_block_2, Perm::None);
-    Ok(())
+fn a_dropped_block_is_read_again(rt: HostRuntime) {
+    let commands = [store(0, 0xab), drop_of(0), load(0)];
+    assert_eq!(rt;
+        outcome_of(&rt, rt.alloc(), &commands),
+        Some((3, Some(0xab), 1, Perm::None))
+    );
 }
 
 #[test]
-fn a_gate_sees_each_try_and_one_answer(rt: HostRuntime) -> Result<(), Fail> {
-    let gate = Counts::new();
-    let mut commands = Vec::new(rt.alloc());
-    commands.push(load(0))?;
-    commands.push(load(0))?;
-    let Some(_outcome) = play(&rt, rt.alloc(), &gate, &commands) else {
-        panic!(rt; "the script did not end");
-    };
+fn a_full_table_gives_up_the_oldest(rt: HostRuntime) {
+    let commands = [load(16), load(0), load(8)];
+    assert_eq!(rt;
+        outcome_of(&rt, rt.alloc(), &commands),
+        Some((3, Some(0), 2, Perm::None))
+    );
+}
+
+#[test]
+fn a_gate_sees_each_try_and_one_answer(rt: HostRuntime) {
+    let commands = [load(0), load(0)];
     // The first load is tried before its Acquire and after its Grant, the second once.
-    assert_eq!(rt; gate.before.get(), 3);
-    assert_eq!(rt; gate.answered.get(), 2);
-    assert_eq!(rt; gate.locked.get(), gate.left.get());
-    Ok(())
+    assert_eq!(rt; gate_of(&rt, rt.alloc(), &commands), Some((3, 2, true)));
 }

@@ -2,20 +2,18 @@
 ghost use Rattle.tl_tickets.specs.Inbox.{IsReceiverOf, IsSenderOf};
 ghost use Rattle.tl_tickets.specs.Bell.{IsSeatOf};
 
-use crate::mails::{Key, Keys, Room, Rooms, inside, mail, open, open_two, outside, way};
-use crate::turns::{bank_of, lock_up, play_out};
+use crate::mails::{Key, Keys, Room, Rooms, inside, mail, open_outside, open_two, outside, way};
+use crate::turns::{Played, Workers, bank_of, lock_up, play_out};
 use crossbeam_utils::sync::{Parker, Unparker};
 use std::alloc::Global;
-use std::process::Abort;
 use std::sync::Wait;
-use std::test::Fail;
 use std::time::Clock;
 use tl_bank::{Action, Bank, Refusal, Share};
 use tl_client::{Agent, Command, Turn};
 use tl_mail::{Mail, Sending};
 use tl_map::{Geometry, GeometryNumbers};
 use tl_ports::{Free, Locked};
-use tl_protocol::Shape;
+use tl_protocol::{Event, Shape};
 use tl_rules::Plain;
 use tl_tickets::{Receiver, Ringer, Sender};
 use tl_types::{BankNo, BlockNo, ClientId, Grow, Perm};
@@ -60,25 +58,33 @@ fn fetch(bank: &mut Bank, share: &mut Share) -> Result<(), Refusal> {
     Ok(())
 }
 
+/// Whether these events, one after another, are permitted in the plain map.
+fn apply(plain: &mut Plain, events: &[Event]) -> bool {
+    for event in events {
+        if plain.apply(event).is_err() {
+            return false;
+        }
+    }
+    true
+}
+
+/// Whether the plain map and the bank show the same of both clients and blocks.
+fn are_same(plain: &Plain, bank: &Bank) -> bool {
+    for (client, block) in [(0, 0), (0, 1), (1, 0), (1, 1)] {
+        let client = ClientId::new(client);
+        let block = BlockNo::new(block);
+        if plain.perm(client, block) != bank.perm(client, block) {
+            return false;
+        }
+    }
+    true
+}
+
 /// Whether the bank's log, applied to the plain map, leaves what the bank shows of both clients and blocks. `None` where
 /// a request for memory was refused.
 fn replays(alloc: Global, bank: &Bank) -> Option<bool> {
     let mut plain = Plain::new(alloc, SHAPE, &[]).ok()?;
-    for event in bank.log() {
-        if plain.apply(event).is_err() {
-            return Some(false);
-        }
-    }
-    for client in 0..2 {
-        for block in 0..2 {
-            let client = ClientId::new(client);
-            let block = BlockNo::new(block);
-            if plain.perm(client, block) != bank.perm(client, block) {
-                return Some(false);
-            }
-        }
-    }
-    Some(true)
+    Some(apply(&mut plain, bank.log()) && are_same(&plain, bank))
 }
 
 /// The bank at reset, and the shares of client 0 and client 1.
@@ -122,14 +128,15 @@ fn home_mail<'a>(
     Some(Mail::new(own.0, own.1, ways, done, parker))
 }
 
-/// The mails of the client that waits, whose room is the first of the two, and of the home.
+/// The mails of the client that waits, whose room is the first of the two, and of the home. `None` where a request for memory was
+/// refused.
 fn mails<'a>(
     alloc: Global,
     silent: &'a Room,
     to_silent: Key,
     rooms: &'a Rooms,
     keys: Keys,
-) -> Option<(Mail<'a>, Mail<'a>)>
+) -> (Option<Mail<'a>>, Option<Mail<'a>>)
     requires to_silent { IsSenderOf silent.now.inbox to_silent.pass × IsSeatOf silent.now.bell to_silent.seat }
     requires waiting { IsReceiverOf rooms.now.one.inbox keys.one.pass × IsSeatOf rooms.now.one.bell keys.one.seat }
     requires to_waiting { IsSenderOf rooms.now.one.inbox keys.to_one.pass × IsSeatOf rooms.now.one.bell keys.to_one.seat }
@@ -137,30 +144,37 @@ fn mails<'a>(
     requires to_home { IsSenderOf rooms.now.other.inbox keys.to_other.pass × IsSeatOf rooms.now.other.bell keys.to_other.seat }
     requires done { IsSeatOf rooms.now.done keys.rings × IsSeatOf rooms.now.done keys.hears }
 {
-    let rings = Ringer::new(&rooms.done, keys.rings);
-    let own = inside(&rooms.one, keys.one);
-    let first = mail(alloc, own, outside(&rooms.other, keys.to_other), rings)?;
+    let first = mail(
+        alloc,
+        inside(&rooms.one, keys.one),
+        outside(&rooms.other, keys.to_other),
+        Ringer::new(&rooms.done, keys.rings),
+    );
     let second = home_mail(
         alloc,
         inside(&rooms.other, keys.other),
         outside(silent, to_silent),
         outside(&rooms.one, keys.to_one),
         Ringer::new(&rooms.done, keys.hears),
-    )?;
-    Some((first, second))
+    );
+    (first, second)
 }
 
-/// The turns of client 1's agent and of the home with their mails.
-fn wait<R: Wait + Clock>(
+/// The turns of client 1's agent and of the home, where the home also sends to a room in which nobody is.
+fn wait_for<R: Wait + Clock>(
     rt: &R,
     alloc: Global,
     locked: &Locked,
-    agent: &mut Agent<'_>,
-    mails: Option<(Mail<'_>, Mail<'_>)>,
-) -> Option<(Turn, Turn)> {
-    let (mut client_mail, mut home_mail) = mails?;
-    let agent = (&mut *agent, ClientId::new(1), &mut client_mail);
-    play_out(rt, alloc, locked, &Free, agent, &mut home_mail, 2)
+    agent: Option<Agent<'_>>,
+    silent: &Room,
+    to_silent: Key,
+) -> Option<Played>
+    requires { IsSenderOf silent.now.inbox to_silent.pass × IsSeatOf silent.now.bell to_silent.seat }
+{
+    let (rooms, keys) = open_two(alloc)?;
+    let mails = mails(alloc, silent, to_silent, &rooms, keys);
+    let workers = Workers::new(alloc, ClientId::new(1), agent, mails);
+    play_out(rt, locked, &Free, workers, 2)
 }
 
 /// The turns of client 1's agent and of the home, while client 0 is silent.
@@ -168,73 +182,49 @@ fn wait_for_the_silent<R: Wait + Clock>(
     rt: &R,
     alloc: Global,
     locked: &Locked,
-    agent: &mut Agent<'_>,
-) -> Option<(Turn, Turn)> {
-    let (silent, _silent_key, to_silent) = open(alloc, 8)?;
-    let (rooms, keys) = open_two(alloc)?;
-    let mails = mails(alloc, &silent, to_silent, &rooms, keys);
-    wait(rt, alloc, locked, agent, mails)
+    agent: Option<Agent<'_>>,
+) -> Option<Played> {
+    let (silent, to_silent) = open_outside(alloc)?;
+    wait_for(rt, alloc, locked, agent, &silent, to_silent)
 }
 
-/// What is seen once client 1 has waited: whether its agent or the home finished, how many answers it got, what each client may do with
-/// block 0, whether the bank is quiet, and whether its log replays to what it shows.
-#[derive(Clone, Copy)]
-struct Seen {
-    has_finished: bool,
-    answered: usize,
-    of_the_silent: Perm,
-    of_the_waiting: Perm,
-    is_quiet: bool,
-    replays: bool,
+/// What is seen of the bank: what each client may do with block 0, whether it is quiet, and whether its log replays to what it shows.
+type Shown = (Perm, Perm, bool, bool);
+
+/// What is seen of a bank. `None` where a request for memory was refused.
+fn shown(alloc: Global, bank: Option<Bank>) -> Option<Shown> {
+    let bank = bank?;
+    let replays = replays(alloc, &bank)?;
+    let block = BlockNo::new(0);
+    Some((
+        bank.perm(ClientId::new(0), block),
+        bank.perm(ClientId::new(1), block),
+        bank.is_quiet(),
+        replays,
+    ))
 }
 
-/// Whether client 1's agent or the home finished over a load of block 0, and how many answers the agent had.
-fn waited<R: Wait + Clock>(
-    rt: &R,
-    alloc: Global,
-    locked: &Locked,
-    geometry: Geometry,
-    shares: Vec<Share>,
-) -> Option<(bool, usize)> {
-    let commands = [Command::Load { address: 0, len: 1 }];
-    let mut agent = Agent::new(alloc, ClientId::new(1), geometry, &commands, shares).ok()?;
-    let (ours, theirs) = wait_for_the_silent(rt, alloc, locked, &mut agent)?;
-    let (answered, _shares) = agent.into_parts();
-    let has_finished = ours == Turn::Finished || theirs == Turn::Finished;
-    Some((has_finished, answered.len()))
-}
-
-/// The bank once client 1 has waited, whether its agent or the home finished, and how many answers the agent had.
-fn bank_after<R: Wait + Clock>(rt: &R, alloc: Global) -> Option<(Bank, bool, usize)> {
-    let geometry = Geometry::new(NUMBERS).ok()?;
-    let (locked, shares) = lock(alloc, geometry)?;
-    let (has_finished, answered) = waited(rt, alloc, &locked, geometry, shares)?;
-    let bank = bank_of(alloc, locked)?;
-    Some((bank, has_finished, answered))
+/// Whether client 1's agent or the home finished, and how many answers the agent had.
+fn answered(played: Option<Played>) -> Option<(bool, usize)> {
+    let played = played?;
+    let has_finished = played.ours == Turn::Finished || played.theirs == Turn::Finished;
+    Some((has_finished, played.answered))
 }
 
 /// What is seen of a load of block 0 by client 1, for which the home waits for client 0.
-fn observed<R: Wait + Clock>(rt: &R, alloc: Global) -> Option<Seen> {
-    let (bank, has_finished, answered) = bank_after(rt, alloc)?;
-    let replays = replays(alloc, &bank)?;
-    Some(Seen {
-        has_finished,
-        answered,
-        of_the_silent: bank.perm(ClientId::new(0), BlockNo::new(0)),
-        of_the_waiting: bank.perm(ClientId::new(1), BlockNo::new(0)),
-        is_quiet: bank.is_quiet(),
-        replays,
-    })
+fn observed<R: Wait + Clock>(rt: &R, alloc: Global) -> Option<((bool, usize), Shown)> {
+    let geometry = Geometry::new(NUMBERS).ok()?;
+    let (locked, shares) = lock(alloc, geometry)?;
+    let commands = [Command::Load { address: 0, len: 1 }];
+    let agent = Agent::new(alloc, ClientId::new(1), geometry, &commands, shares).ok();
+    let played = wait_for_the_silent(rt, alloc, &locked, agent);
+    answered(played).zip(shown(alloc, bank_of(alloc, locked)))
 }
 
 #[test]
-fn nothing_is_answered_and_nothing_broken(rt: HostRuntime) -> Result<(), Fail> {
-    let seen = observed(&rt, rt.alloc()).ok_or("no memory")?;
-    assert!(rt; !seen.has_finished);
-    assert_eq!(rt; seen.answered, 0);
-    assert!(rt; seen.replays);
-    assert_eq!(rt; seen.of_the_silent, Perm::Tip);
-    assert_eq!(rt; seen.of_the_waiting, Perm::None);
-    assert!(rt; !seen.is_quiet);
-    Ok(())
+fn nothing_is_answered_and_nothing_broken(rt: HostRuntime) {
+    assert_eq!(rt;
+        observed(&rt, rt.alloc()),
+        Some(((false, 0), (Perm::Tip, Perm::None, false, true)))
+    );
 }
