@@ -1,11 +1,11 @@
 //! The largest script's accesses: 16 clients with 4,096 commands each over 8 banks.
 use crate::setting::{Setting, read};
 use std::alloc::Global;
-use std::process::Abort;
 use std::test::Fail;
 use tl_bank::When;
 use tl_map::Geometry;
 use tl_script::Script;
+use tl_text::{BankLine, Report};
 use tl_types::BlockNo;
 
 const NUMBERS: &str =
@@ -52,34 +52,32 @@ fn script_of(alloc: Global) -> Result<Script, Fail> {
 }
 
 /// The place of a block's bank among the banks.
-fn bank_of(rt: &impl Abort, geometry: Geometry, block: u32) -> usize {
+fn bank_of(geometry: Geometry, block: u32) -> Result<usize, Fail> {
     let block = BlockNo::new(block);
-    assert!(rt; geometry.has(block));
-    geometry.place(block).bank.number() as usize
+    if !geometry.has(block) {
+        return Err("no such block".into());
+    }
+    Ok(geometry.place(block).bank.number() as usize)
 }
 
-/// A client gets one of its blocks at Tip.
-fn take_block(
-    rt: &impl Abort,
-    geometry: Geometry,
-    setting: &mut Setting,
-    client: u8,
-    index: u16,
-) -> Result<(), Fail> {
-    let block = block_of(client, index);
-    setting.take(bank_of(rt, geometry, block), u32::from(client), block)
+/// A client gets its blocks at Tip.
+fn take_blocks(geometry: Geometry, setting: &mut Setting, client: u8) -> Result<(), Fail> {
+    for index in 0..8u16 {
+        let block = block_of(client, index);
+        setting.take(bank_of(geometry, block)?, u32::from(client), block)?;
+    }
+    Ok(())
 }
 
 /// A client's command at an index is carried out.
 fn carry_out(
-    rt: &impl Abort,
     geometry: Geometry,
     setting: &mut Setting,
     client: u8,
     index: u16,
 ) -> Result<(), Fail> {
     let block = block_of(client, index);
-    let bank = bank_of(rt, geometry, block);
+    let bank = bank_of(geometry, block)?;
     let client = u32::from(client);
     let when = When {
         clock: u64::from(index),
@@ -93,28 +91,50 @@ fn carry_out(
     Ok(())
 }
 
+/// Each client's command at an index is carried out.
+fn carry_out_each(geometry: Geometry, setting: &mut Setting, index: u16) -> Result<(), Fail> {
+    for client in 0..16u8 {
+        carry_out(geometry, setting, client, index)?;
+    }
+    Ok(())
+}
+
+/// The banks of a script, once its clients have their blocks and all commands are carried out.
+fn carried_out(alloc: Global, script: &Script) -> Result<Setting, Fail> {
+    let geometry = script.geometry();
+    let mut setting = Setting::reset(alloc, script)?;
+    for client in 0..16u8 {
+        take_blocks(geometry, &mut setting, client)?;
+    }
+    for index in 0..4096u16 {
+        carry_out_each(geometry, &mut setting, index)?;
+    }
+    Ok(setting)
+}
+
+/// How many of these banks have 16 copies, all of them recorded.
+fn full_banks(banks: &[BankLine]) -> usize {
+    let mut full = 0usize;
+    for line in banks {
+        if line.held == 16 && line.recorded == 16 {
+            full = full.saturating_add(1);
+        }
+    }
+    full
+}
+
+/// How many clients a report has, how many banks, and how many of them have 16 copies, all of them recorded.
+fn sizes(report: &Report) -> (usize, usize, usize) {
+    let banks = report.banks.as_slice();
+    (report.clients.len(), banks.len(), full_banks(banks))
+}
+
 #[test]
 fn sixteen_clients_on_eight_banks(rt: HostRuntime) -> Result<(), Fail> {
     let alloc = rt.alloc();
     let script = script_of(alloc)?;
-    let geometry = script.geometry();
-    let mut setting = Setting::reset(alloc, &script)?;
-    for client in 0..16u8 {
-        for index in 0..8u16 {
-            take_block(&rt, geometry, &mut setting, client, index)?;
-        }
-    }
-    for index in 0..4096u16 {
-        for client in 0..16u8 {
-            carry_out(&rt, geometry, &mut setting, client, index)?;
-        }
-    }
+    let setting = carried_out(alloc, &script)?;
     let report = setting.conclude(alloc, &script)?;
-    assert_eq!(rt; report.clients.as_slice().len(), 16);
-    assert_eq!(rt; report.banks.as_slice().len(), 8);
-    for line in report.banks.as_slice() {
-        assert_eq!(rt; line.held, 16);
-        assert_eq!(rt; line.recorded, 16);
-    }
+    assert_eq!(rt; sizes(&report), (16, 8, 8));
     Ok(())
 }

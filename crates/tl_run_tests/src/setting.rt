@@ -93,6 +93,20 @@ fn mark(event: &Event) -> Option<(u64, u32, u32)> {
     }
 }
 
+/// Whether the accesses among events are just these, in order.
+fn are_marks(events: &[Event], marks: &[(u64, u32, u32)]) -> bool {
+    let mut found = 0usize;
+    for event in events {
+        if let Some(mark) = mark(event) {
+            if marks.get(found) != Some(&mark) {
+                return false;
+            }
+            found = found.saturating_add(1);
+        }
+    }
+    found == marks.len()
+}
+
 /// The calls.
 impl Setting {
     /// The script's banks at reset.
@@ -162,14 +176,21 @@ impl Setting {
     }
 
     /// The text of what is concluded for a script.
-    pub(crate) fn text(
+    pub(crate) fn text(&self, alloc: Global, script: &Script) -> Result<String, Fail> {
+        let report = self.conclude(alloc, script)?;
+        Ok(report.text(alloc)?)
+    }
+
+    /// How many clients and banks the report has that is concluded for a script. `None` where a request for memory was refused.
+    pub(crate) fn sizes(
         &self,
         alloc: Global,
         script: &Script,
-    ) -> Result<Result<String, RunError>, Fail> {
+    ) -> Result<Option<(usize, usize)>, Fail> {
         match self.conclude(alloc, script) {
-            Ok(report) => Ok(Ok(report.text(alloc)?)),
-            Err(error) => Ok(Err(error)),
+            Ok(report) => Ok(Some((report.clients.len(), report.banks.len()))),
+            Err(RunError::Memory) => Ok(None),
+            Err(error) => Err(error.into()),
         }
     }
 
@@ -199,16 +220,12 @@ impl Setting {
         }
     }
 
-    /// The accesses of a bank's log, as stamp, client and index.
-    pub(crate) fn marks(&self, alloc: Global, number: usize) -> Result<Vec<(u64, u32, u32)>, Fail> {
-        let bank = self.banks.as_slice().get(number).ok_or("no bank")?;
-        let mut marks = Vec::new(alloc);
-        for event in events(bank) {
-            if let Some(mark) = mark(event) {
-                marks.push(mark)?;
-            }
+    /// Whether a bank's log has just these accesses, as stamp, client and index, in order.
+    pub(crate) fn has_marks(&self, number: usize, marks: &[(u64, u32, u32)]) -> bool {
+        match self.banks.as_slice().get(number) {
+            Some(bank) => are_marks(events(bank), marks),
+            None => false,
         }
-        Ok(marks)
     }
 }
 
