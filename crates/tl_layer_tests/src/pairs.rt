@@ -3,7 +3,6 @@
 use crate::tickets::{open_bell, open_two};
 use std::alloc::Global;
 use std::marker::Model;
-use std::process::Abort;
 use std::sync::Wait;
 use tl_tickets::{Bell, Full, Inbox, Missing, Pass, Seat};
 use tl_types::Ticket;
@@ -55,29 +54,30 @@ impl TwoSenders {
         }
     }
 
-    /// Makes these calls, and asserts each answer.
-    fn ask_all<R: Wait + Abort>(&mut self, rt: &R, calls: &[(Call, Answer)]) {
-        for (call, answer) in calls {
-            assert_eq!(rt; self.ask(rt, *call), *answer);
+    /// Makes these calls. The place of the first that answers otherwise, if there is one.
+    fn first_other<R: Wait>(&mut self, rt: &R, calls: &[(Call, Answer)]) -> Option<usize> {
+        for (place, (call, answer)) in calls.iter().enumerate() {
+            if self.ask(rt, *call) != *answer {
+                return Some(place);
+            }
         }
+        None
     }
 
     /// Settles the inbox with its passes.
     fn settle(self, alloc: Global) -> Option<Result<u64, Missing>> {
-        let mut passes = Vec::new(alloc);
-        passes.push(self.second).ok()?;
-        passes.push(self.first).ok()?;
-        passes.push(self.receiver).ok()?;
+        let passes = Vec::from_array(alloc, [self.second, self.first, self.receiver]).ok()?;
         Some(self.inbox.settle(passes))
     }
 }
 
-/// Makes these calls of a new inbox, asserts each answer, and settles it. `None` is want of memory.
-pub(crate) fn settled_after<R: Wait + Abort>(
+/// Makes these calls of a new inbox, and settles it: the place of the first call that answers otherwise, if there is one, and how many
+/// tickets are left. `None` is want of memory.
+pub(crate) fn settled_after<R: Wait>(
     rt: &R,
     alloc: Global,
     calls: &[(Call, Answer)],
-) -> Option<Result<u64, Missing>> {
+) -> Option<(Option<usize>, Result<u64, Missing>)> {
     let (inbox, receiver, first, second) = open_two(alloc)?;
     let mut pair = TwoSenders {
         inbox,
@@ -85,8 +85,16 @@ pub(crate) fn settled_after<R: Wait + Abort>(
         first,
         second,
     };
-    pair.ask_all(rt, calls);
-    pair.settle(alloc)
+    let other = pair.first_other(rt, calls);
+    beside(other, pair.settle(alloc))
+}
+
+/// Both together.
+fn beside(
+    other: Option<usize>,
+    total: Option<Result<u64, Missing>>,
+) -> Option<(Option<usize>, Result<u64, Missing>)> {
+    Some((other, total?))
 }
 
 /// A bell, and its two seats.
@@ -131,34 +139,35 @@ impl TwoSeats {
         }
     }
 
-    /// Makes these calls, and asserts each answer.
-    fn ask_all<R: Abort>(&mut self, rt: &R, calls: &[(BellCall, u64)]) {
-        for (call, answer) in calls {
-            assert_eq!(rt; self.ask(*call), *answer);
+    /// Makes these calls. The place of the first that answers otherwise, if there is one.
+    fn first_other(&mut self, calls: &[(BellCall, u64)]) -> Option<usize> {
+        for (place, (call, answer)) in calls.iter().enumerate() {
+            if self.ask(*call) != *answer {
+                return Some(place);
+            }
         }
+        None
     }
 
     /// How often both seats rang, once they are back.
     fn total(self, alloc: Global) -> Option<Result<u64, Missing>> {
-        let mut seats = Vec::new(alloc);
-        seats.push(self.second).ok()?;
-        seats.push(self.first).ok()?;
+        let seats = Vec::from_array(alloc, [self.second, self.first]).ok()?;
         Some(self.bell.total(seats))
     }
 }
 
-/// Makes these calls of a new bell, asserts each answer, and gives the total. `None` is want of memory.
-pub(crate) fn total_after<R: Abort>(
-    rt: &R,
+/// Makes these calls of a new bell: the place of the first that answers otherwise, if there is one, and the total. `None` is want of
+/// memory.
+pub(crate) fn total_after(
     alloc: Global,
     calls: &[(BellCall, u64)],
-) -> Option<Result<u64, Missing>> {
+) -> Option<(Option<usize>, Result<u64, Missing>)> {
     let (bell, first, second) = open_bell(alloc).ok()?;
     let mut pair = TwoSeats {
         bell,
         first,
         second,
     };
-    pair.ask_all(rt, calls);
-    pair.total(alloc)
+    let other = pair.first_other(calls);
+    beside(other, pair.total(alloc))
 }

@@ -6,7 +6,6 @@ ghost use Rattle.tl_tickets.specs.Bell.{IsSeatOf};
 use crate::pairs::{BellCall, Call, settled_after, total_after};
 use std::alloc::{AllocError, Global};
 use std::marker::Model;
-use std::process::Abort;
 use std::sync::Wait;
 use std::thread;
 use std::thread::Threads;
@@ -164,7 +163,7 @@ fn a_full_inbox_hands_back(rt: HostRuntime) {
             (Call::Take, Ok(None)),
         ],
     );
-    assert_eq!(rt; settled, Some(Ok(0)));
+    assert_eq!(rt; settled, Some((None, Ok(0))));
 }
 
 #[test]
@@ -178,7 +177,7 @@ fn one_ticket_is_left(rt: HostRuntime) {
             (Call::Take, Ok(Some(ticket(1, 0)))),
         ],
     );
-    assert_eq!(rt; settled, Some(Ok(1)));
+    assert_eq!(rt; settled, Some((None, Ok(1))));
 }
 
 // An inbox settled without its receiver's pass. `None` is want of memory.
@@ -195,10 +194,13 @@ fn settle_without_passes(alloc: Global) -> Option<Result<u64, Missing>> {
 
 #[test]
 fn a_pass_is_missing(rt: HostRuntime) {
-    let settled = settle_without_receiver(rt.alloc());
-    assert_eq!(rt; settled, Some(Err(Missing)));
-    let settled = settle_without_passes(rt.alloc());
-    assert_eq!(rt; settled, Some(Err(Missing)));
+    assert_eq!(rt;
+        [
+            settle_without_receiver(rt.alloc()),
+            settle_without_passes(rt.alloc()),
+        ],
+        [Some(Err(Missing)), Some(Err(Missing))]
+    );
 }
 
 // The senders put and the receiver takes, beside each other: the passes, and what was taken.
@@ -302,28 +304,42 @@ fn exchanged<R: Threads + Wait + Sync>(
     (settle_all(inbox, senders, receiver), tickets)
 }
 
-// How many tickets of a client there are, each asserted to be the next of that client.
-fn count_in_order<R: Abort>(rt: &R, tickets: &[Ticket], client: u32) -> u64 {
+// How many tickets of a client there are. `None` where one of them is not the next of that client.
+fn count_in_order(tickets: &[Ticket], client: u32) -> Option<u64> {
     let mut next = 0u64;
     for taken in tickets {
         if taken.client == ClientId::new(client) {
-            assert_eq!(rt; *taken, ticket(client, next));
+            if *taken != ticket(client, next) {
+                return None;
+            }
             next = next.wrapping_add(1);
         }
     }
-    next
+    Some(next)
+}
+
+// What `settle` gives, how many tickets were taken, and how many of each client 1 to 4, in order.
+type Exchanged = (Option<Result<u64, Missing>>, usize, [Option<u64>; 4]);
+
+// The same of four senders. `None` is want of memory.
+fn exchanged_by_four<R: Threads + Wait + Sync>(rt: &R, alloc: Global) -> Option<Exchanged> {
+    let opened = open_all(alloc, 16, 4, 4000).ok()?;
+    let (settled, tickets) = exchanged(rt, opened);
+    let counts = [
+        count_in_order(&tickets, 1),
+        count_in_order(&tickets, 2),
+        count_in_order(&tickets, 3),
+        count_in_order(&tickets, 4),
+    ];
+    Some((settled, tickets.len(), counts))
 }
 
 #[test]
 fn four_senders_in_threads(rt: HostRuntime) {
-    let Ok(opened) = open_all(rt.alloc(), 16, 4, 4000) else {
-        panic!(rt; "no memory");
-    };
-    let (settled, tickets) = exchanged(&rt, opened);
-    assert_eq!(rt; (settled, tickets.len()), (Some(Ok(0)), 4000));
-    for client in 1..5u32 {
-        assert_eq!(rt; count_in_order(&rt, &tickets, client), 1000);
-    }
+    assert_eq!(rt;
+        exchanged_by_four(&rt, rt.alloc()),
+        Some((Some(Ok(0)), 4000, [Some(1000); 4]))
+    );
 }
 
 // What `settle` gives once all have put a ticket and the receiver has taken them, and what it took.
@@ -351,22 +367,37 @@ fn count_firsts(tickets: &[Ticket], client: u32) -> usize {
     tickets.iter().filter(|t| **t == ticket(client, 0)).count()
 }
 
+// Whether each client 1 to 64 has one ticket, its first.
+fn have_one_each(tickets: &[Ticket]) -> bool {
+    for client in 1..65u32 {
+        if count_firsts(tickets, client) != 1 {
+            return false;
+        }
+    }
+    true
+}
+
+// What `settle` gives once 64 senders have put a ticket each, and whether each was taken. `None` is want of memory.
+fn sent_by_sixty_four<R: Threads + Wait + Sync>(
+    rt: &R,
+    alloc: Global,
+) -> Option<(Option<Result<u64, Missing>>, bool)> {
+    let opened = open_all(alloc, 4096, 64, 64).ok()?;
+    let (settled, tickets) = sent_and_taken(rt, opened);
+    Some((settled, have_one_each(&tickets)))
+}
+
 #[test]
 fn sixty_four_senders(rt: HostRuntime) {
-    let Ok(opened) = open_all(rt.alloc(), 4096, 64, 64) else {
-        panic!(rt; "no memory");
-    };
-    let (settled, tickets) = sent_and_taken(&rt, opened);
-    assert_eq!(rt; settled, Some(Ok(0)));
-    for client in 1..65u32 {
-        assert_eq!(rt; count_firsts(&tickets, client), 1);
-    }
+    assert_eq!(rt;
+        sent_by_sixty_four(&rt, rt.alloc()),
+        Some((Some(Ok(0)), true))
+    );
 }
 
 #[test]
 fn a_bell_is_heard_from_both_seats(rt: HostRuntime) {
     let total = total_after(
-        &rt,
         rt.alloc(),
         &[
             (BellCall::RingFirst, 1),
@@ -378,14 +409,13 @@ fn a_bell_is_heard_from_both_seats(rt: HostRuntime) {
             (BellCall::HearFirst, 4),
         ],
     );
-    assert_eq!(rt; total, Some(Ok(4)));
+    assert_eq!(rt; total, Some((None, Ok(4))));
 }
 
 // The total of a bell with one of its two seats. `None` is want of memory.
 fn total_of_one(alloc: Global) -> Option<Result<u64, Missing>> {
     let (bell, _first, second) = open_bell(alloc).ok()?;
-    let mut seats = Vec::new(alloc);
-    seats.push(second).ok()?;
+    let seats = Vec::from_array(alloc, [second]).ok()?;
     Some(bell.total(seats))
 }
 
