@@ -56,131 +56,141 @@ load 1 0x00000000 aa";
     Ok(())
 }
 
+/// What follows the answers, the line and the number of the entry that breaks the record, and how.
+const BROKEN: &[(&str, u64, u64, Breach)] = &[
+    (
+        "grant 1 0 GrantData toT aa11223344556677\n",
+        20,
+        17,
+        Breach::NotPermitted(Rule::NoProbeIsPending),
+    ),
+    (
+        "take_c 0 0\ngrant 1 0 GrantData toT 0011223344556677\ntake_grant 1 0\n",
+        21,
+        18,
+        Breach::NotAsShown,
+    ),
+    (
+        "take_c 0 0\n\ngrant 1 0 GrantData toB aa11223344556677\n",
+        22,
+        18,
+        Breach::NotAsShown,
+    ),
+    (
+        "take_c 0 0\n# shows less\ngrant 1 0 Grant toT\n",
+        22,
+        18,
+        Breach::NotAsShown,
+    ),
+    (
+        "take_c 0 0\ngrant 1 0\ntake_grant 1 0\ntake_grant_ack 1 0\nload 1 0x00000000 00\n",
+        24,
+        21,
+        Breach::NotPermitted(Rule::LoadHasItsBytes),
+    ),
+    (
+        "store 0 0x00000000 00\n",
+        20,
+        17,
+        Breach::NotPermitted(Rule::CopyIsWritable),
+    ),
+    (
+        "acquire 2 0 NtoT\n",
+        20,
+        17,
+        Breach::NotPermitted(Rule::ClientIsThere),
+    ),
+    ("drop 4\n", 20, 17, Breach::NotPermitted(Rule::BlockIsThere)),
+];
+
 #[test]
 fn broken_records(rt: HostRuntime) -> Result<(), Fail> {
-    let alloc = rt.alloc();
-    for (tail, line, entry, breach) in [
-        (
-            "grant 1 0 GrantData toT aa11223344556677\n",
-            20,
-            17,
-            Breach::NotPermitted(Rule::NoProbeIsPending),
-        ),
-        (
-            "take_c 0 0\ngrant 1 0 GrantData toT 0011223344556677\ntake_grant 1 0\n",
-            21,
-            18,
-            Breach::NotAsShown,
-        ),
-        (
-            "take_c 0 0\n\ngrant 1 0 GrantData toB aa11223344556677\n",
-            22,
-            18,
-            Breach::NotAsShown,
-        ),
-        (
-            "take_c 0 0\n# shows less\ngrant 1 0 Grant toT\n",
-            22,
-            18,
-            Breach::NotAsShown,
-        ),
-        (
-            "take_c 0 0\ngrant 1 0\ntake_grant 1 0\ntake_grant_ack 1 0\nload 1 0x00000000 00\n",
-            24,
-            21,
-            Breach::NotPermitted(Rule::LoadHasItsBytes),
-        ),
-        (
-            "store 0 0x00000000 00\n",
-            20,
-            17,
-            Breach::NotPermitted(Rule::CopyIsWritable),
-        ),
-        (
-            "acquire 2 0 NtoT\n",
-            20,
-            17,
-            Breach::NotPermitted(Rule::ClientIsThere),
-        ),
-        ("drop 4\n", 20, 17, Breach::NotPermitted(Rule::BlockIsThere)),
-    ] {
-        let said = judged(alloc, &[ANSWERED, tail])?;
-        assert_eq!(rt; said, Verdict::Broken(line, entry, breach), "at {tail}");
+    for (tail, line, entry, breach) in BROKEN {
+        let said = judged(rt.alloc(), &[ANSWERED, *tail])?;
+        assert_eq!(rt; said, Verdict::Broken(*line, *entry, *breach), "at {tail}");
     }
-    let early = judged(alloc, &["answer_probe 0 0 ProbeAck NtoN\n"])?;
+    Ok(())
+}
+
+#[test]
+fn an_early_answer_breaks_a_record(rt: HostRuntime) -> Result<(), Fail> {
+    let early = judged(rt.alloc(), &["answer_probe 0 0 ProbeAck NtoN\n"])?;
     let unanswered = Breach::NotPermitted(Rule::NoReleaseUnanswered);
     assert_eq!(rt; early, Verdict::Broken(18, 15, unanswered));
     Ok(())
 }
 
+/// Records from their first line on, and their verdicts.
+const TEXTS: &[(&[u8], Verdict)] = &[
+    (b"", Verdict::Empty),
+    (b"# only this\n\n", Verdict::Empty),
+    (b"clients 1 block_bytes 8 memory_blocks 4", Verdict::Empty),
+    (
+        b"clients 1 block_bytes 8 memory_blocks 4\nimage 00\n",
+        Verdict::Lawful(0),
+    ),
+    (
+        b"clients 0 block_bytes 8 memory_blocks 4\n",
+        Verdict::Unreadable(1),
+    ),
+    (
+        b"\nclients 1 block_bytes 9 memory_blocks 4\n",
+        Verdict::Unreadable(2),
+    ),
+    (
+        b"clients 1 block_bytes 8 memory_blocks 4 banks 1\n",
+        Verdict::Unreadable(1),
+    ),
+    (
+        b"clients 1 block_bytes 8 memory_blocks 4\r\n",
+        Verdict::Unreadable(1),
+    ),
+    (
+        b"clients 1 block_bytes 8 memory_blocks 4\nget  0\n",
+        Verdict::Unreadable(2),
+    ),
+    (
+        b"clients 1 block_bytes 8 memory_blocks 4\nget 0 0\n",
+        Verdict::Unreadable(2),
+    ),
+    (
+        b"clients 1 block_bytes 8 memory_blocks 4\n\xff\n",
+        Verdict::Unreadable(2),
+    ),
+    (
+        b"clients 1 block_bytes 8 memory_blocks 4\nacquire 0 2 NtoB\nacquire 0 3 NtoB\naccept 0 3\n",
+        Verdict::Broken(4, 3, Breach::OutOfOrder),
+    ),
+];
+
 #[test]
-fn texts_from_their_first_line(rt: HostRuntime) -> Result<(), Fail> {
-    let alloc = rt.alloc();
-    for (text, want) in [
-        (b"".as_slice(), Verdict::Empty),
-        (b"# only this\n\n", Verdict::Empty),
-        (b"clients 1 block_bytes 8 memory_blocks 4", Verdict::Empty),
-        (
-            b"clients 1 block_bytes 8 memory_blocks 4\nimage 00\n",
-            Verdict::Lawful(0),
-        ),
-        (
-            b"clients 0 block_bytes 8 memory_blocks 4\n",
-            Verdict::Unreadable(1),
-        ),
-        (
-            b"\nclients 1 block_bytes 9 memory_blocks 4\n",
-            Verdict::Unreadable(2),
-        ),
-        (
-            b"clients 1 block_bytes 8 memory_blocks 4 banks 1\n",
-            Verdict::Unreadable(1),
-        ),
-        (
-            b"clients 1 block_bytes 8 memory_blocks 4\r\n",
-            Verdict::Unreadable(1),
-        ),
-        (
-            b"clients 1 block_bytes 8 memory_blocks 4\nget  0\n",
-            Verdict::Unreadable(2),
-        ),
-        (
-            b"clients 1 block_bytes 8 memory_blocks 4\nget 0 0\n",
-            Verdict::Unreadable(2),
-        ),
-        (
-            b"clients 1 block_bytes 8 memory_blocks 4\n\xff\n",
-            Verdict::Unreadable(2),
-        ),
-        (
-            b"clients 1 block_bytes 8 memory_blocks 4\nacquire 0 2 NtoB\nacquire 0 3 NtoB\naccept 0 3\n",
-            Verdict::Broken(4, 3, Breach::OutOfOrder),
-        ),
-    ] {
-        assert_eq!(rt; verdict_on(alloc, text), Ok(want));
+fn texts_from_their_first_line(rt: HostRuntime) {
+    for (text, want) in TEXTS {
+        assert_eq!(rt; verdict_on(rt.alloc(), *text), Ok(*want));
     }
-    Ok(())
 }
+
+/// Breaches, and what is printed of them.
+const REASONS: &[(Breach, &str)] = &[
+    (
+        Breach::NotPermitted(Rule::ClientHasNoProbe),
+        "no earlier Probe of the block is unanswered at the client (TileLink 1.8), docs/PROTOCOL.md, Rules",
+    ),
+    (
+        Breach::NotPermitted(Rule::BlockIsThere),
+        "the block is one of the memory (this project's profile), docs/PROTOCOL.md, Events, state and runs",
+    ),
+    (
+        Breach::NotAsShown,
+        "what is shown is what the event sends (this project's profile), docs/RECORD.md, Verdict",
+    ),
+];
 
 #[test]
 fn a_breach_prints_its_sentence_its_source_and_its_place(rt: HostRuntime) -> Result<(), Fail> {
-    let alloc = rt.alloc();
-    for (breach, text) in [
-        (
-            Breach::NotPermitted(Rule::ClientHasNoProbe),
-            "no earlier Probe of the block is unanswered at the client (TileLink 1.8), docs/PROTOCOL.md, Rules",
-        ),
-        (
-            Breach::NotPermitted(Rule::BlockIsThere),
-            "the block is one of the memory (this project's profile), docs/PROTOCOL.md, Events, state and runs",
-        ),
-        (
-            Breach::NotAsShown,
-            "what is shown is what the event sends (this project's profile), docs/RECORD.md, Verdict",
-        ),
-    ] {
-        let shown = format!(in alloc; "{}", Reason(breach))?;
-        assert_eq!(rt; shown.as_str(), text);
+    for (breach, text) in REASONS {
+        let shown = format!(in rt.alloc(); "{}", Reason(*breach))?;
+        assert_eq!(rt; shown.as_str(), *text);
     }
     Ok(())
 }

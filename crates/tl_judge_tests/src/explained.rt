@@ -92,42 +92,39 @@ fn answer_to(alloc: Global, damage: Damage, order: &[usize]) -> Result<Said, All
     })
 }
 
-const IN_ORDER: [usize; 12] = [0, 1, 2, 3, 4, 5, 6, 7, 8, 9, 10, 11];
+/// The lines of a whole record, in order.
+const IN_ORDER: &[usize] = &[0, 1, 2, 3, 4, 5, 6, 7, 8, 9, 10, 11];
+
+/// Records, what is wrong with them, and what is said of them.
+const RECORDS: &[(Damage, &[usize], Said)] = &[
+    (Damage::Nothing, &[], Said::Explained(0)),
+    (Damage::Nothing, IN_ORDER, Said::Explained(17)),
+    (
+        Damage::Nothing,
+        &[0, 3, 1, 2, 4, 5, 6, 8, 7, 9, 10, 11],
+        Said::Explained(17),
+    ),
+    (
+        Damage::Nothing,
+        &[0, 1, 2, 4, 5, 3, 6, 9, 7, 8, 10, 11],
+        Said::Explained(17),
+    ),
+    (Damage::GrantsOldBytes, IN_ORDER, Said::NotExplained(9)),
+    (Damage::GrantsTip, IN_ORDER, Said::NotExplained(9)),
+    (Damage::LoadsOldBytes, IN_ORDER, Said::NotExplained(11)),
+    (
+        Damage::Nothing,
+        &[0, 1, 2, 3, 4, 5, 6, 7, 9, 10, 11],
+        Said::NotExplained(8),
+    ),
+    (Damage::Nothing, &[1, 2, 3, 4], Said::NotExplained(0)),
+];
 
 #[test]
-fn what_is_explained(rt: HostRuntime) -> Result<(), Fail> {
-    let alloc = rt.alloc();
-    assert_eq!(rt; answer_to(alloc, Damage::Nothing, &[])?, Said::Explained(0));
-    assert_eq!(rt;
-        answer_to(alloc, Damage::Nothing, &IN_ORDER)?,
-        Said::Explained(17)
-    );
-    for order in [
-        [0, 3, 1, 2, 4, 5, 6, 8, 7, 9, 10, 11],
-        [0, 1, 2, 4, 5, 3, 6, 9, 7, 8, 10, 11],
-    ] {
-        assert_eq!(rt;
-            answer_to(alloc, Damage::Nothing, &order)?,
-            Said::Explained(17)
-        );
+fn what_is_explained_and_what_is_not(rt: HostRuntime) -> Result<(), Fail> {
+    for (damage, order, said) in RECORDS {
+        let found = answer_to(rt.alloc(), *damage, *order)?;
+        assert_eq!(rt; found, *said, "at {damage:?}");
     }
-    Ok(())
-}
-
-#[test]
-fn what_is_not(rt: HostRuntime) -> Result<(), Fail> {
-    let alloc = rt.alloc();
-    for (damage, place) in [
-        (Damage::GrantsOldBytes, 9),
-        (Damage::GrantsTip, 9),
-        (Damage::LoadsOldBytes, 11),
-    ] {
-        let found = answer_to(alloc, damage, &IN_ORDER)?;
-        assert_eq!(rt; found, Said::NotExplained(place), "at {damage:?}");
-    }
-    let no_answer = answer_to(alloc, Damage::Nothing, &[0, 1, 2, 3, 4, 5, 6, 7, 9, 10, 11])?;
-    assert_eq!(rt; no_answer, Said::NotExplained(8));
-    let no_acquire = answer_to(alloc, Damage::Nothing, &[1, 2, 3, 4])?;
-    assert_eq!(rt; no_acquire, Said::NotExplained(0));
     Ok(())
 }
