@@ -2,6 +2,7 @@
 use std::alloc::{AllocError, Global};
 use std::io::{Read, Write};
 use std::sync::Wait;
+use std::test::Fail;
 use std::thread::Threads;
 use std::time::Clock;
 use tl_runner::{Free, Job, JobError, answer};
@@ -35,4 +36,23 @@ pub fn status_of<T: Threads + Wait + Clock + Sync, R: Read + Drop, W: Write, E: 
     faults: &mut E,
 ) -> u8 {
     answer(rt, alloc, &Free, job, file, output, faults)
+}
+
+/// A text of bytes.
+fn text_of(alloc: Global, bytes: &[u8]) -> Result<String, Fail> {
+    let text = std::str::from_utf8(bytes).ok().ok_or("no text")?;
+    Ok(String::from_str(alloc, text)?)
+}
+
+/// The status of a job and its fault line, with this file and this output.
+pub fn told<T: Threads + Wait + Clock + Sync, R: Read + Drop, W: Write>(
+    rt: &T,
+    alloc: Global,
+    job: Result<Job, JobError>,
+    file: Option<R>,
+    output: &mut W,
+) -> Result<(u8, String), Fail> {
+    let mut faults = Vec::new(alloc);
+    let status = status_of(rt, alloc, job, file, output, &mut faults);
+    Ok((status, text_of(alloc, &faults)?))
 }

@@ -11,6 +11,7 @@ use std::thread;
 use std::thread::Threads;
 use std::time::Clock;
 use tl_runner::{Gate, Who, read_script, run};
+use tl_script::Script;
 use tl_types::{BankNo, ClientId};
 
 /// How often a held thread yields before the test has failed.
@@ -161,6 +162,26 @@ impl Gate for HomesMeet {
     fn answered(&self, _client: ClientId, _index: usize) {}
 }
 
+/// The script of each client loading from its address.
+fn script_of(alloc: Global, addresses: [&str; 2]) -> Result<Script, Fail> {
+    let [first, second] = addresses;
+    let text = format!(in alloc;
+        "{NUMBERS}commands = [[\"load {first} 1\"], [\"load {second} 1\"]]\n"
+    )?;
+    Ok(read_script(alloc, text.as_bytes()).ok().ok_or("refused")?)
+}
+
+/// The report of a run under a gate.
+fn reported<R: Threads + Wait + Clock + Sync, G: Gate + Sync>(
+    rt: &R,
+    alloc: Global,
+    script: &Script,
+    gate: &G,
+) -> Result<String, Fail> {
+    let report = run(rt, alloc, script, gate).ok().ok_or("no report")?;
+    Ok(report.text(alloc)?)
+}
+
 /// The report of each client loading from its address, under a gate.
 fn loaded<R: Threads + Wait + Clock + Sync, G: Gate + Sync>(
     rt: &R,
@@ -168,13 +189,24 @@ fn loaded<R: Threads + Wait + Clock + Sync, G: Gate + Sync>(
     addresses: [&str; 2],
     gate: &G,
 ) -> Result<String, Fail> {
-    let [first, second] = addresses;
-    let text = format!(in alloc;
-        "{NUMBERS}commands = [[\"load {first} 1\"], [\"load {second} 1\"]]\n"
-    )?;
-    let script = read_script(alloc, text.as_bytes()).ok().ok_or("refused")?;
-    let report = run(rt, alloc, &script, gate).ok().ok_or("no report")?;
-    Ok(report.text(alloc)?)
+    let script = script_of(alloc, addresses)?;
+    reported(rt, alloc, &script, gate)
+}
+
+/// The same where this client waits for the other one, and whether it waited in vain.
+fn loaded_in_turn<R: Threads + Wait + Clock + Sync>(
+    rt: &R,
+    alloc: Global,
+    waiting: u32,
+    addresses: [&str; 2],
+) -> Result<(String, bool), Fail> {
+    let gate = OneClientWaits {
+        waiting: ClientId::new(waiting),
+        has_answered: Flag::new(),
+        has_failed: Flag::new(),
+    };
+    let report = loaded(rt, alloc, addresses, &gate)?;
+    Ok((report, gate.has_failed.is_set()))
 }
 
 const STRAIGHT_REPORT: &str = "\
@@ -195,44 +227,64 @@ bank 0 held 1 recorded 1\n\
 bank 1 held 1 recorded 1\n\
 ok\n";
 
-#[test]
-fn each_bank_has_a_lock_of_its_own(rt: HostRuntime) -> Result<(), Fail> {
+/// The report of a run in which one lock is held, and whether it was held in vain.
+fn loaded_beside_a_lock<R: Threads + Wait + Clock + Sync>(
+    rt: &R,
+    alloc: Global,
+) -> Result<(String, bool), Fail> {
     let gate = OneLockIsHeld {
         has_locked: Flag::new(),
         has_left: Flag::new(),
         has_failed: Flag::new(),
     };
-    let report = loaded(&rt, rt.alloc(), STRAIGHT, &gate)?;
-    assert_eq!(rt; report.as_str(), STRAIGHT_REPORT);
-    assert!(rt; !gate.has_failed.is_set());
-    Ok(())
+    let report = loaded(rt, alloc, STRAIGHT, &gate)?;
+    Ok((report, gate.has_failed.is_set()))
 }
 
 #[test]
+fn each_bank_has_a_lock_of_its_own(rt: HostRuntime) -> Result<(), Fail> {
+    let (report, has_failed) = loaded_beside_a_lock(&rt, rt.alloc())?;
+    assert_eq!(rt; (report.as_str(), has_failed), (STRAIGHT_REPORT, false));
+    Ok(())
+}
+
+/// A client that waits, the clients' addresses, and the report.
+const IN_TURN: &[(u32, [&str; 2], &str)] = &[
+    (0, STRAIGHT, STRAIGHT_REPORT),
+    (0, CROSSED, CROSSED_REPORT),
+    (1, STRAIGHT, STRAIGHT_REPORT),
+    (1, CROSSED, CROSSED_REPORT),
+];
+
+#[test]
 fn each_client_has_a_thread_of_its_own(rt: HostRuntime) -> Result<(), Fail> {
-    for waiting in 0..2 {
-        for (addresses, wanted) in [(STRAIGHT, STRAIGHT_REPORT), (CROSSED, CROSSED_REPORT)] {
-            let gate = OneClientWaits {
-                waiting: ClientId::new(waiting),
-                has_answered: Flag::new(),
-                has_failed: Flag::new(),
-            };
-            let report = loaded(&rt, rt.alloc(), addresses, &gate)?;
-            assert_eq!(rt; report.as_str(), wanted);
-            assert!(rt; !gate.has_failed.is_set(), "client {waiting}");
-        }
+    for (waiting, addresses, wanted) in IN_TURN {
+        let (report, has_failed) = loaded_in_turn(&rt, rt.alloc(), *waiting, *addresses)?;
+        assert_eq!(rt;
+            (report.as_str(), has_failed),
+            (*wanted, false),
+            "client {waiting}"
+        );
     }
     Ok(())
 }
 
-#[test]
-fn each_home_has_a_thread_of_its_own(rt: HostRuntime) -> Result<(), Fail> {
+/// The report of a run in which the homes meet, and whether one waited in vain.
+fn loaded_as_homes_meet<R: Threads + Wait + Clock + Sync>(
+    rt: &R,
+    alloc: Global,
+) -> Result<(String, bool), Fail> {
     let gate = HomesMeet {
         is_inside: [Flag::new(), Flag::new()],
         has_failed: Flag::new(),
     };
-    let report = loaded(&rt, rt.alloc(), STRAIGHT, &gate)?;
-    assert_eq!(rt; report.as_str(), STRAIGHT_REPORT);
-    assert!(rt; !gate.has_failed.is_set());
+    let report = loaded(rt, alloc, STRAIGHT, &gate)?;
+    Ok((report, gate.has_failed.is_set()))
+}
+
+#[test]
+fn each_home_has_a_thread_of_its_own(rt: HostRuntime) -> Result<(), Fail> {
+    let (report, has_failed) = loaded_as_homes_meet(&rt, rt.alloc())?;
+    assert_eq!(rt; (report.as_str(), has_failed), (STRAIGHT_REPORT, false));
     Ok(())
 }
