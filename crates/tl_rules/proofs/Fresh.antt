@@ -19,6 +19,7 @@ more {X = X} P xs x d i len each last k lt = elim (cases_lt k i) [
       (subst (λ (y : X). P (length xs) y) (sym (get_or-append_seam xs x [] d)) (subst (λ (n : ℕ). P n x) (sym len) last))
 ]
 
+-- the same of a list that is that one with one item more
 pub each_of_more : {X : Type 0} (P : ℕ → X → Type 0) (xs ys : List X) (x d : X) (i : ℕ) → ys ≡ xs ++ x ∷ [] → length xs ≡ i
     → ((k : ℕ) → k < i → P k (get_or xs k d)) → P i x → (k : ℕ) → k < i + 1 → P k (get_or ys k d)
 each_of_more {X = X} P xs ys x d i grown len each last k lt =
