@@ -77,13 +77,9 @@ impl<'s> Agent<'s> {
         ensures beginning { IsBeginning self.entry }
     {
         let Agent {
-            client: _,
-            script: _,
             bytes,
-            clock: _,
             requester,
-            rest: _,
-            has_rung: _,
+            ..
         } = self;
         (bytes, requester.into_shares())
     }
@@ -136,8 +132,7 @@ impl<'s> Agent<'s> {
         ensures gains { Gains self.old (P.successes port.old) self.new (P.successes port.new) }
         ensures beginning { IsBeginning self.new }
     {
-        self.requester.take_tickets(rt, mail)?;
-        self.requester.serve_downward(rt, port, mail)?;
+        self.requester.begin(rt, port, mail)?;
         self.try_command(rt, port, gate, mail)?;
         self.requester.serve_probes(rt, port, mail)?;
         self.finish(mail);
@@ -182,16 +177,19 @@ impl<'s> Agent<'s> {
         }
     }
 
-    /// Rings the done bell once, when all is answered, nothing is left to send and no answer of home is awaited.
+    /// Rings the done bell once, when the agent is done.
     fn finish(&mut self, mail: &mut Mail<'_>)
         ensures { self.new ≡ self.old }
     {
-        if self.has_rung || self.bytes.len() < self.script.len() {
-            return;
-        }
-        if !mail.has_back() && !self.requester.is_waiting() {
+        if self.is_done(mail) {
             mail.ring_done();
             self.has_rung = true;
         }
+    }
+
+    /// Whether the done bell is to be rung: all is answered, nothing is left to send and no answer of home is awaited.
+    fn is_done(&self, mail: &Mail<'_>) -> bool {
+        let is_answered = !self.has_rung && self.bytes.len() >= self.script.len();
+        is_answered && !mail.has_back() && !self.requester.is_waiting()
     }
 }

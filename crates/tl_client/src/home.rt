@@ -1,8 +1,10 @@
 //! A bank's home.
-ghost use Rattle.std.specs.Prelude.{◌≡◌, ◌≤◌, ◌++◌, ◌∷◌, [], IfOk, OnOk};
+ghost use Rattle.std.specs.Prelude.{◌≡◌, ◌≤◌, ◌++◌, ◌∷◌, [], IfOk, OnOk, false, true};
+ghost use Rattle.std.specs.List.{All};
 ghost use Rattle.tl_client.specs.Homes.{Serves, Takes, Works};
 ghost use Rattle.tl_client.specs.declared.turn.Turn.{Turn};
-ghost use Rattle.tl_ports.specs.Ports.{asked};
+ghost use Rattle.tl_mail.specs.Ways.{HasRoom};
+ghost use Rattle.tl_ports.specs.Ports.{Asks, asked};
 
 use crate::progress::Progress;
 use crate::turn::Turn;
@@ -76,13 +78,8 @@ impl Home {
         let is_due = self.progress.is_due() || !self.waiting.is_empty() || mail.has_back();
         mail.send_again(rt);
         let is_rung = mail.is_rung();
-        let all_are_done = mail.done() >= u64::from(clients);
-        if all_are_done && self.has_changed {
-            if port.is_quiet() {
-                mail.wake_all();
-                return Turn::Finished;
-            }
-            self.has_changed = false;
+        if self.is_finished(port, clients, mail) {
+            return Turn::Finished;
         }
         if !is_rung && !is_due {
             self.rest.after_turn(rt, mail.parker(), false);
@@ -97,6 +94,22 @@ impl Home {
                 Turn::Memory
             }
         }
+    }
+
+    /// Whether all clients are done and nothing is under way in the bank. Then all receivers hear of it.
+    fn is_finished<P: HomePort>(&mut self, port: &P, clients: u32, mail: &mut Mail<'_>) -> bool
+        ensures done { result ≡ true → clients ≤ mail.new.done.seat.seen }
+        ensures same { self.new ≡ self.old }
+        ensures inbox { mail.new.inbox ≡ mail.old.inbox }
+    {
+        if mail.done() < u64::from(clients) || !self.has_changed {
+            return false;
+        }
+        self.has_changed = port.is_quiet();
+        if self.has_changed {
+            mail.wake_all();
+        }
+        self.has_changed
     }
 
     /// A turn in which something is to be done.
@@ -192,24 +205,32 @@ impl Home {
         ensures inbox { mail.new.inbox ≡ mail.old.inbox }
     {
         mail.make_room()?;
-        let answer = match ticket.channel {
-            Channel::E => port.take_grant_ack(ticket).map(|()| None),
-            Channel::C => port.take_c(ticket),
-            _ => port.accept(ticket).map(|()| None),
-        };
-        match answer {
+        let channel = ticket.channel;
+        match ask(port, ticket) {
             Ok(sent) => {
-                self.progress.succeed();
-                self.may_be_open = self.may_be_open || ticket.channel == Channel::A;
-                if let Some(ack) = sent {
-                    mail.send(rt, ack.client.index(), ack);
-                }
+                self.served(rt, mail, channel, sent);
                 Ok(true)
             }
-            Err(refusal) => {
-                self.progress.refuse(refusal)?;
-                Ok(false)
-            }
+            Err(refusal) => self.progress.refused(refusal),
+        }
+    }
+
+    /// A ticket was served, and what it sent goes its way.
+    fn served<R: Wait>(
+        &mut self,
+        rt: &R,
+        mail: &mut Mail<'_>,
+        channel: Channel,
+        sent: Option<Ticket>,
+    )
+        requires { All HasRoom mail.old.ways }
+        ensures same { self.new ≡ self.old }
+        ensures inbox { mail.new.inbox ≡ mail.old.inbox }
+    {
+        self.progress.succeed();
+        self.may_be_open = self.may_be_open || channel == Channel::A;
+        if let Some(ack) = sent {
+            mail.send(rt, ack.client.index(), ack);
         }
     }
 
@@ -248,11 +269,29 @@ impl Home {
         ensures inbox { mail.new.inbox ≡ mail.old.inbox }
     {
         mail.make_room()?;
-        let action = match port.advance(block) {
-            Ok(action) => action,
-            Err(refusal) => return self.progress.refuse(refusal),
-        };
-        self.progress.succeed();
+        match port.advance(block) {
+            Ok(action) => {
+                self.progress.succeed();
+                self.follow(rt, port, mail, block, action)
+            }
+            Err(refusal) => self.progress.refuse(refusal),
+        }
+    }
+
+    /// What comes of a register's step: a ticket goes its way, or the memory serves.
+    fn follow<P: HomePort, R: Wait>(
+        &mut self,
+        rt: &R,
+        port: &mut P,
+        mail: &mut Mail<'_>,
+        block: BlockNo,
+        action: Action,
+    ) -> Result<(), AllocError>
+        requires { All HasRoom mail.old.ways }
+        ensures asked { P.asked port.new ≡ P.asked port.old }
+        ensures same { self.new ≡ self.old }
+        ensures inbox { mail.new.inbox ≡ mail.old.inbox }
+    {
         match action {
             Action::Probe(ticket) | Action::Grant(ticket) => {
                 mail.send(rt, ticket.client.index(), ticket);
@@ -276,5 +315,16 @@ impl Home {
             Ok(()) => Ok(()),
             Err(refusal) => self.progress.refuse(refusal),
         }
+    }
+}
+
+/// A bank is asked a ticket, by the channel that it is on.
+fn ask<P: HomePort>(port: &mut P, ticket: Ticket) -> Result<Option<Ticket>, Refusal>
+    ensures { Asks ticket result (P.asked port.old) (P.asked port.new) }
+{
+    match ticket.channel {
+        Channel::E => port.take_grant_ack(ticket).map(|()| None),
+        Channel::C => port.take_c(ticket),
+        _ => port.accept(ticket).map(|()| None),
     }
 }

@@ -1,5 +1,5 @@
 //! What a turn has come to so far.
-ghost use Rattle.std.specs.Prelude.{◌≢◌, OnOk};
+ghost use Rattle.std.specs.Prelude.{◌≡◌, ◌≢◌, IfOk, OnOk, false};
 ghost use Rattle.tl_bank_spec.specs.declared.refusal.Refusal.TheVariants.{Memory};
 
 use std::alloc::AllocError;
@@ -58,5 +58,13 @@ impl Progress {
             _ => {}
         }
         Ok(())
+    }
+
+    /// A ticket was refused, so it was not served. Want of memory is an error.
+    pub(crate) fn refused(&mut self, refusal: Refusal) -> Result<bool, AllocError>
+        ensures { IfOk result (λ served. (served ≡ false) × (refusal ≢ Memory)) }
+    {
+        self.refuse(refusal)?;
+        Ok(false)
     }
 }

@@ -95,12 +95,21 @@ impl Requester {
         self.progress.is_due() || !self.downward.is_empty() || !self.probes.is_empty()
     }
 
-    /// Takes the tickets of the inbox, at most 64, and lays each to the others of its channel.
-    pub(crate) fn take_tickets<R: Wait>(
+    /// A turn begins: the inbox's tickets join the others, and those on channel D are served.
+    pub(crate) fn begin<P: Port, R: Wait>(
         &mut self,
         rt: &R,
+        port: &mut P,
         mail: &mut Mail<'_>,
-    ) -> Result<(), AllocError> {
+    ) -> Result<(), AllocError>
+        ensures { P.successes port.new ≡ P.successes port.old }
+    {
+        self.take_tickets(rt, mail)?;
+        self.serve_downward(rt, port, mail)
+    }
+
+    /// Takes the tickets of the inbox, at most 64, and lays each to the others of its channel.
+    fn take_tickets<R: Wait>(&mut self, rt: &R, mail: &mut Mail<'_>) -> Result<(), AllocError> {
         self.progress.begin();
         if !self.may_have_mail {
             return Ok(());
@@ -120,7 +129,7 @@ impl Requester {
     }
 
     /// Serves the tickets on channel D in order. A refused one is kept, and no later one of its bank is asked before it.
-    pub(crate) fn serve_downward<P: Port, R: Wait>(
+    fn serve_downward<P: Port, R: Wait>(
         &mut self,
         rt: &R,
         port: &mut P,
@@ -298,10 +307,7 @@ impl Requester {
                 mail.send(rt, answer.bank.index(), answer);
                 Ok(true)
             }
-            Err(refusal) => {
-                self.progress.refuse(refusal)?;
-                Ok(false)
-            }
+            Err(refusal) => self.progress.refused(refusal),
         }
     }
 
