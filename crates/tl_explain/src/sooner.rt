@@ -171,29 +171,15 @@ fn grant_before(
 
 /// An event that has to come before this one, if one has.
 pub(crate) fn sooner(judge: &Judge, wires: &Wires, seen: &[Seen], event: &Event) -> Option<Event> {
+    let state = judge.plain().block(event.block(judge.plain().shape()))?;
     match event {
         Event::AcceptAcquire(c, block) => {
-            before_accepting(
-                judge,
-                wires,
-                seen,
-                judge.plain().block(block.number())?,
-                *c,
-                *block,
-            )
+            before_accepting(judge, wires, seen, state, *c, *block)
         }
         Event::AnswerProbe(c, block) => {
-            let k = judge.plain().block(block.number())?.client(*c)?;
-            before_answering(judge, wires, seen, k, *c, *block)
+            before_answering(judge, wires, seen, state.client(*c)?, *c, *block)
         }
-        Event::TakeC(c, block) => before_taking(
-            judge,
-            wires,
-            seen,
-            judge.plain().block(block.number())?,
-            *c,
-            *block,
-        ),
+        Event::TakeC(c, block) => before_taking(judge, wires, seen, state, *c, *block),
         _ => None,
     }
 }

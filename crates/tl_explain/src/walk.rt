@@ -40,6 +40,43 @@ fn goes_on(
     }
 }
 
+/// A run so far, where it leads, and what is marked of what was seen.
+#[derive(Drop)]
+struct Walk {
+    judge: Judge,
+    marks: Marks,
+    run: Vec<Event>,
+}
+
+impl Walk {
+    /// No event is taken, and nothing is marked.
+    fn new(alloc: Global, shape: Shape, image: &[u8], seen: &[Seen]) -> Result<Walk, AllocError>
+        requires bytes { (0 < shape.block_bytes) × (shape.block_bytes ≤ BLOCK_BYTES) }
+        requires blocks { shape.blocks ≤ BLOCKS }
+        ensures { IfOk result (λ walk. GoesAlong shape image.now seen.now walk.run.items walk.judge walk.marks) }
+    {
+        let judge = Judge::new(alloc, shape, image)?;
+        let marks = Marks::new(alloc, seen.len())?;
+        let run = Vec::new(alloc);
+        Ok(Walk { judge, marks, run })
+    }
+
+    /// Takes one more event, where it goes on.
+    fn take(&mut self, seen: &[Seen], event: Event) -> Result<bool, AllocError>
+        requires { IsMarking seen.now self.old.marks }
+        ensures { IfOk result (λ yes. IsTrue yes → (shape : Shape) (image : List ℕ)
+            → GoesAlong shape image seen.now self.old.run.items self.old.judge self.old.marks
+            → GoesAlong shape image seen.now self.new.run.items self.new.judge self.new.marks) }
+    {
+        let entry = Entry { event, shown: None };
+        if !goes_on(&mut self.judge, &mut self.marks, seen, &entry)? {
+            return Ok(false);
+        }
+        self.run.push(entry.event)?;
+        Ok(true)
+    }
+}
+
 /// The run of these events, where it explains what was seen.
 pub(crate) fn explained_by(
     alloc: Global,
@@ -52,18 +89,14 @@ pub(crate) fn explained_by(
     requires blocks { shape.blocks ≤ BLOCKS }
     ensures { IfOk result (λ found. IfSome found (λ run. Explains shape image.now seen.now run.items)) }
 {
-    let mut judge = Judge::new(alloc, shape, image)?;
-    let mut marks = Marks::new(alloc, seen.len())?;
-    let mut run = Vec::new(alloc);
+    let mut walk = Walk::new(alloc, shape, image, seen)?;
     for event in events {
-        let entry = Entry { event, shown: None };
-        if !goes_on(&mut judge, &mut marks, seen, &entry)? {
+        if !walk.take(seen, event)? {
             return Ok(None);
         }
-        run.push(entry.event)?;
     }
-    if marks.is_full(seen) {
-        Ok(Some(run))
+    if walk.marks.is_full(seen) {
+        Ok(Some(walk.run))
     } else {
         Ok(None)
     }

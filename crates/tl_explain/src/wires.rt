@@ -52,10 +52,16 @@ impl Wires {
         Ok(Wires { places, sent })
     }
 
+    /// The places of what is not sent yet on a wire.
+    fn unsent(&self, wire: Wire) -> Option<&[usize]> {
+        let number = number(&wire);
+        let (places, sent) = self.places.get(number).zip(self.sent.get(number))?;
+        places.get(*sent..)
+    }
+
     /// The place of what is next on a wire.
     pub(crate) fn next(&self, wire: Wire) -> Option<usize> {
-        let sent = self.sent.get(number(&wire))?;
-        self.places.get(number(&wire))?.get(*sent).copied()
+        self.unsent(wire)?.first().copied()
     }
 
     /// The place of what is next of a block on a wire.
@@ -68,11 +74,9 @@ impl Wires {
     ) -> Option<usize>
         requires { 0 < shape.block_bytes }
     {
-        let sent = self.sent.get(number(&wire))?;
-        let places = self.places.get(number(&wire))?;
-        for i in *sent..places.len() {
-            if block_of(shape, seen.get(places[i])?) == block {
-                return Some(places[i]);
+        for place in self.unsent(wire)? {
+            if block_of(shape, seen.get(*place)?) == block {
+                return Some(*place);
             }
         }
         None
@@ -98,52 +102,56 @@ impl Wires {
         }
     }
 
-    /// The place of the next Grant of a block to a client.
-    pub(crate) fn next_grant(&self, seen: &[Seen], c: ClientId, block: BlockNo) -> Option<usize> {
-        let wire = Wire::Link(c, Channel::D);
-        let sent = self.sent.get(number(&wire))?;
-        let places = self.places.get(number(&wire))?;
-        for i in *sent..places.len() {
-            if is_grant_of(seen.get(places[i])?, block) {
-                return Some(places[i]);
+    /// The place of what is next of a kind on a wire.
+    fn next_like(&self, seen: &[Seen], wire: Wire, sought: Sought) -> Option<usize> {
+        for place in self.unsent(wire)? {
+            if sought.is(seen.get(*place)?) {
+                return Some(*place);
             }
         }
         None
+    }
+
+    /// The place of the next Grant of a block to a client.
+    pub(crate) fn next_grant(&self, seen: &[Seen], c: ClientId, block: BlockNo) -> Option<usize> {
+        self.next_like(seen, Wire::Link(c, Channel::D), Sought::GrantOf(block))
     }
 
     /// The block of the next Grant to a client.
     pub(crate) fn next_granted(&self, seen: &[Seen], c: ClientId) -> Option<BlockNo> {
-        let wire = Wire::Link(c, Channel::D);
-        let sent = self.sent.get(number(&wire))?;
-        let places = self.places.get(number(&wire))?;
-        for i in *sent..places.len() {
-            if let Some(block) = granted_block(seen.get(places[i])?) {
-                return Some(block);
-            }
-        }
-        None
+        let place = self.next_like(seen, Wire::Link(c, Channel::D), Sought::Grant)?;
+        granted_block(seen.get(place)?)
     }
 
     /// The place of the next Get of a block.
     pub(crate) fn next_get(&self, seen: &[Seen], block: BlockNo) -> Option<usize> {
-        let sent = self.sent.get(0)?;
-        let places = self.places.get(0)?;
-        for i in *sent..places.len() {
-            if is_get_of(seen.get(places[i])?, block) {
-                return Some(places[i]);
-            }
+        self.next_like(seen, Wire::Memory(Channel::A), Sought::GetOf(block))
+    }
+}
+
+/// What is looked for on a wire.
+#[derive(Clone, Copy)]
+enum Sought {
+    /// A Grant.
+    Grant,
+    /// A Grant of a block.
+    GrantOf(BlockNo),
+    /// A Get of a block.
+    GetOf(BlockNo),
+}
+
+impl Sought {
+    /// Whether it is this.
+    fn is(self, seen: &Seen) -> bool {
+        match self {
+            Sought::Grant => granted_block(seen).is_some(),
+            Sought::GrantOf(block) => granted_block(seen) == Some(block),
+            Sought::GetOf(block) => is_get_of(seen, block),
         }
-        None
     }
 }
 
-fn is_grant_of(seen: &Seen, block: BlockNo) -> bool {
-    match seen {
-        Seen::OnLink(_, of, message) => *of == block && message.kind != Kind::ReleaseAck,
-        _ => false,
-    }
-}
-
+/// The block of a Grant.
 fn granted_block(seen: &Seen) -> Option<BlockNo> {
     match seen {
         Seen::OnLink(_, of, message) if message.kind != Kind::ReleaseAck => Some(*of),

@@ -1,5 +1,5 @@
 //! The fields of a message: words KEY=VALUE.
-ghost use Rattle.std.specs.Prelude.{◌≡◌, IfOk};
+ghost use Rattle.std.specs.Prelude.{◌≡◌, IfOk, bytes_eq, codes, false};
 ghost use Rattle.tl_words.specs.Words.{texts};
 ghost use Rattle.tl_wire.specs.Fault.{Gives};
 ghost use Rattle.tl_wire.specs.Fields.{address_in, block_bytes_in, field_by, field_in, field_of, fields_in, no_fields, number_in, pair_of, with_field};
@@ -64,18 +64,29 @@ fn block_bytes(alloc: Global, text: &str) -> Result<BlockBytes, WireError>
     }
 }
 
+/// The field of a key, where that is not `data`, and a value.
+#[tactic(auto, unfolding(crate::specs::Fields::field_by))]
+fn number_field(key: &str, value: &str) -> Result<Field, Fault>
+    requires { bytes_eq key.now (codes "data") ≡ false }
+    ensures { result ≡ field_by key.now value.now }
+{
+    match key {
+        "param" => number(value).map(Field::Param),
+        "size" => number(value).map(Field::Size),
+        "source" => number(value).map(Field::Source),
+        "sink" => number(value).map(Field::Sink),
+        "address" => address(value).map(Field::Address),
+        _ => Err(Fault::Key),
+    }
+}
+
 #[tactic(auto, unfolding(crate::specs::Fields::field_by))]
 fn field_by(alloc: Global, key: &str, value: &str) -> Result<Field, WireError>
     ensures { Gives (λ x. x) result (field_by key.now value.now) }
 {
     match key {
-        "param" => Ok(Field::Param(number(value)?)),
-        "size" => Ok(Field::Size(number(value)?)),
-        "source" => Ok(Field::Source(number(value)?)),
-        "sink" => Ok(Field::Sink(number(value)?)),
-        "address" => Ok(Field::Address(address(value)?)),
         "data" => Ok(Field::Data(block_bytes(alloc, value)?)),
-        _ => Err(WireError::Wrong(Fault::Key)),
+        _ => Ok(number_field(key, value)?),
     }
 }
 
@@ -112,40 +123,21 @@ pub(crate) fn no_fields() -> Fields
 }
 
 /// One field more, unless it is there.
-fn with_field(fields: Fields, field: Field) -> Result<Fields, Fault>
+fn with_field(mut fields: Fields, field: Field) -> Result<Fields, Fault>
     ensures { result ≡ with_field fields field }
 {
-    match field {
-        Field::Param(n) if fields.param.is_none() => Ok(Fields {
-            param: Some(n),
-            ..fields
-        }),
-        Field::Size(n) if fields.size.is_none() => Ok(Fields {
-            size: Some(n),
-            ..fields
-        }),
-        Field::Source(n) if fields.source.is_none() => Ok(Fields {
-            source: Some(n),
-            ..fields
-        }),
-        Field::Sink(n) if fields.sink.is_none() => Ok(Fields {
-            sink: Some(n),
-            ..fields
-        }),
-        Field::Address(n) if fields.address.is_none() => Ok(Fields {
-            address: Some(n),
-            ..fields
-        }),
-        Field::Data(bytes) => {
-            if fields.bytes.is_some() {
-                return Err(Fault::Twice);
-            }
-            Ok(Fields {
-                bytes: Some(bytes),
-                ..fields
-            })
-        }
-        _ => Err(Fault::Twice),
+    let was_there = match field {
+        Field::Param(n) => fields.param.replace(n).is_some(),
+        Field::Size(n) => fields.size.replace(n).is_some(),
+        Field::Source(n) => fields.source.replace(n).is_some(),
+        Field::Sink(n) => fields.sink.replace(n).is_some(),
+        Field::Address(n) => fields.address.replace(n).is_some(),
+        Field::Data(bytes) => fields.bytes.replace(bytes).is_some(),
+    };
+    if was_there {
+        Err(Fault::Twice)
+    } else {
+        Ok(fields)
     }
 }
 

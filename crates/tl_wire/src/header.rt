@@ -1,5 +1,5 @@
 //! The lines before the messages: the title, the shape, whose the sources are, the image.
-ghost use Rattle.std.specs.Prelude.{◌≡◌, ◌<◌, ◌≤◌, Ok};
+ghost use Rattle.std.specs.Prelude.{◌≡◌, ◌<◌, ◌≤◌, [], ◌∷◌, Ok};
 ghost use Rattle.std.specs.List.{list_any};
 ghost use Rattle.tl_words.specs.Words.{texts};
 ghost use Rattle.tl_wire.specs.Fault.{Gives};
@@ -182,24 +182,36 @@ fn fitting(alloc: Global, shape: Shape, base: u32) -> Result<Setting, Fault>
     }
 }
 
+/// The setting of these four words.
+#[tactic(auto, unfolding(crate::specs::Header::numbers_in))]
+fn setting_of(
+    alloc: Global,
+    clients: &str,
+    block: &str,
+    blocks: &str,
+    base: &str,
+) -> Result<Setting, WireError>
+    ensures { Gives (λ x. x) result (numbers_in (clients.now ∷ block.now ∷ blocks.now ∷ base.now ∷ [])) }
+{
+    let clients = number_at(alloc, "clients", clients)?;
+    let block_bytes = number_at(alloc, "block", block)?;
+    let blocks = number_at(alloc, "blocks", blocks)?;
+    let base = address_at(alloc, "base", base)?;
+    let shape = Shape {
+        clients,
+        block_bytes,
+        blocks,
+    };
+    Ok(fitting(alloc, shape, base)?)
+}
+
 /// `clients=N block=N blocks=N base=ADDR`, behind the word `shape`.
 #[tactic(auto, unfolding(crate::specs::Header::numbers_in))]
 fn parse_numbers(alloc: Global, words: &[&str]) -> Result<Setting, WireError>
     ensures { Gives (λ x. x) result (numbers_in (texts words.now)) }
 {
     match *words {
-        [clients, block, blocks, base] => {
-            let clients = number_at(alloc, "clients", clients)?;
-            let block_bytes = number_at(alloc, "block", block)?;
-            let blocks = number_at(alloc, "blocks", blocks)?;
-            let base = address_at(alloc, "base", base)?;
-            let shape = Shape {
-                clients,
-                block_bytes,
-                blocks,
-            };
-            Ok(fitting(alloc, shape, base)?)
-        }
+        [clients, block, blocks, base] => setting_of(alloc, clients, block, blocks, base),
         _ => Err(WireError::Wrong(Fault::Shape)),
     }
 }
@@ -224,23 +236,35 @@ fn has_sources(shape: Shape, sources: Sources) -> bool
     sources.client.number() < shape.clients && sources.from <= sources.to
 }
 
+/// The sources of these three words.
+#[tactic(auto, unfolding(crate::specs::Header::sources_in))]
+fn sources_of(
+    alloc: Global,
+    shape: Shape,
+    client: &str,
+    from: &str,
+    to: &str,
+) -> Result<Sources, WireError>
+    ensures { Gives (λ x. x) result (sources_in shape (client.now ∷ from.now ∷ to.now ∷ [])) }
+{
+    let client = ClientId::new(number_at(alloc, "client", client)?);
+    let from = number_at(alloc, "from", from)?;
+    let to = number_at(alloc, "to", to)?;
+    let sources = Sources { client, from, to };
+    if has_sources(shape, sources) {
+        Ok(sources)
+    } else {
+        Err(WireError::Wrong(Fault::Sources))
+    }
+}
+
 /// `source client=N from=N to=N`.
 #[tactic(auto, unfolding(crate::specs::Header::sources_in))]
 fn parse_sources(alloc: Global, shape: Shape, words: &[&str]) -> Result<Sources, WireError>
     ensures { Gives (λ x. x) result (sources_in shape (texts words.now)) }
 {
     match *words {
-        [client, from, to] => {
-            let client = ClientId::new(number_at(alloc, "client", client)?);
-            let from = number_at(alloc, "from", from)?;
-            let to = number_at(alloc, "to", to)?;
-            let sources = Sources { client, from, to };
-            if has_sources(shape, sources) {
-                Ok(sources)
-            } else {
-                Err(WireError::Wrong(Fault::Sources))
-            }
-        }
+        [client, from, to] => sources_of(alloc, shape, client, from, to),
         _ => Err(WireError::Wrong(Fault::Sources)),
     }
 }

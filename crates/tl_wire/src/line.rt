@@ -1,5 +1,5 @@
 //! A line of a message, of a load or of a store.
-ghost use Rattle.std.specs.Prelude.{◌≡◌};
+ghost use Rattle.std.specs.Prelude.{◌≡◌, [], ◌∷◌};
 ghost use Rattle.tl_words.specs.Words.{texts};
 ghost use Rattle.tl_wire.specs.Fault.{Gives};
 ghost use Rattle.tl_wire.specs.Line.{access_in, channel_of_word, client_of_word, line_in, link_of, message_in, said_in, same_link};
@@ -155,6 +155,23 @@ fn parse_said(alloc: Global, verb: &str, words: &[&str]) -> Result<Said, WireErr
     }
 }
 
+/// The line with this cycle, this link, this verb and these words behind it.
+#[tactic(auto, unfolding(crate::specs::Line::line_in))]
+fn line_of(
+    alloc: Global,
+    when: &str,
+    place: &str,
+    verb: &str,
+    rest: &[&str],
+) -> Result<Line, WireError>
+    ensures { Gives (λ x. x) result (line_in (when.now ∷ place.now ∷ verb.now ∷ texts rest.now)) }
+{
+    let cycle = number(when)?;
+    let link = parse_link(place)?;
+    let said = parse_said(alloc, verb, rest)?;
+    Ok(Line { cycle, link, said })
+}
+
 /// The line that some words write: `CYCLE LINK CHANNEL OPCODE FIELD..`, `CYCLE LINK load ADDR HEX` or `CYCLE LINK store ADDR HEX`.
 #[tactic(auto, unfolding(crate::specs::Line::line_in))]
 pub(crate) fn parse_line(alloc: Global, words: &[&str]) -> Result<Line, WireError>
@@ -162,11 +179,6 @@ pub(crate) fn parse_line(alloc: Global, words: &[&str]) -> Result<Line, WireErro
 {
     match words {
         [] | [_] | [_, _] => Err(WireError::Wrong(Fault::Words)),
-        [when, place, verb, rest @ ..] => {
-            let cycle = number(when)?;
-            let link = parse_link(place)?;
-            let said = parse_said(alloc, verb, rest)?;
-            Ok(Line { cycle, link, said })
-        }
+        [when, place, verb, rest @ ..] => line_of(alloc, when, place, verb, rest),
     }
 }

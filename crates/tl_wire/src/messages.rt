@@ -1,6 +1,7 @@
 //! What was seen, with the client and the block that its ids stand for.
 ghost use Rattle.std.specs.Prelude.{◌≡◌};
 ghost use Rattle.tl_wire.specs.Fault.{Gives};
+ghost use Rattle.tl_wire.specs.declared.line.Said.TheVariants as its;
 ghost use Rattle.tl_wire.specs.Messages.{began, has_own_source, is_there, owner_of, seen_on, wrong_in};
 
 use crate::code::{is_on_link, kind_of, role_of};
@@ -14,7 +15,7 @@ use std::alloc::Global;
 use std::marker::Model;
 use tl_explain::Seen;
 use tl_judge::Shown;
-use tl_types::{BlockNo, Channel, ClientId, Kind};
+use tl_types::{AccessBytes, BlockNo, Channel, ClientId, Kind};
 
 /// Whether a source that stands is one of the client's.
 fn has_own_source(setting: &Setting, link: &Link, source: Option<u32>) -> bool
@@ -184,25 +185,38 @@ impl Messages {
         };
         Ok(seen_on(link, block, shown))
     }
+
+    /// What is seen of a load.
+    #[tactic(auto, unfolding(crate::specs::Messages::said_taken))]
+    fn load(&self, link: &Link, address: u32, bytes: AccessBytes) -> Result<Seen, WireError>
+        ensures { Gives (λ seen. (seen, self.now.tables)) result
+            (said_taken self.now.setting self.now.tables link.now (its.Load address bytes)) }
+    {
+        let client = owner_of(link)?;
+        let offset = offset_of(self.setting.shape(), self.setting.base(), address, &bytes)?;
+        Ok(Seen::Load(client, offset, bytes))
+    }
+
+    /// What is seen of a store.
+    #[tactic(auto, unfolding(crate::specs::Messages::said_taken))]
+    fn store(&self, link: &Link, address: u32, bytes: AccessBytes) -> Result<Seen, WireError>
+        ensures { Gives (λ seen. (seen, self.now.tables)) result
+            (said_taken self.now.setting self.now.tables link.now (its.Store address bytes)) }
+    {
+        let client = owner_of(link)?;
+        let offset = offset_of(self.setting.shape(), self.setting.base(), address, &bytes)?;
+        Ok(Seen::Store(client, offset, bytes))
+    }
+
     /// What is seen of what a line says, on a link of a client that is there or of the memory.
     #[tactic(auto, unfolding(crate::specs::Messages::said_taken))]
     fn said(&mut self, link: &Link, said: Said) -> Result<Seen, WireError>
         ensures gives { Gives (λ seen. (seen, self.new.tables)) result (said_taken self.old.setting self.old.tables link.now said) }
         ensures kept { self.new ≡ record self.old { tables = self.new.tables } }
     {
-        let shape = self.setting.shape();
-        let base = self.setting.base();
         match said {
-            Said::Load(address, bytes) => {
-                let client = owner_of(link)?;
-                let offset = offset_of(shape, base, address, &bytes)?;
-                Ok(Seen::Load(client, offset, bytes))
-            }
-            Said::Store(address, bytes) => {
-                let client = owner_of(link)?;
-                let offset = offset_of(shape, base, address, &bytes)?;
-                Ok(Seen::Store(client, offset, bytes))
-            }
+            Said::Load(address, bytes) => self.load(link, address, bytes),
+            Said::Store(address, bytes) => self.store(link, address, bytes),
             Said::Message(channel, opcode, fields) => self.message(link, channel, opcode, fields),
         }
     }

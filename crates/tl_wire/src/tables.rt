@@ -1,7 +1,7 @@
 //! What is open on the links: requests and releases by their sources, grants by their sinks.
 ghost use Rattle.std.specs.Prelude.{◌≡◌};
 ghost use Rattle.tl_wire.specs.Fault.{Gives};
-ghost use Rattle.tl_wire.specs.Tables.{block_of, closed, is_at, needed, opened};
+ghost use Rattle.tl_wire.specs.Tables.{at_address, block_of, closed, is_at, needed, opened};
 
 use crate::code::Role;
 use crate::fault::{Fault, WireError};
@@ -75,6 +75,13 @@ fn needed(field: Option<u32>) -> Result<u32, Fault>
     field.ok_or(Fault::Missing)
 }
 
+/// The block at the address that stands.
+fn at_address(setting: &Setting, fields: &Fields) -> Result<BlockNo, Fault>
+    ensures { result ≡ at_address setting.now fields.now }
+{
+    block_at(setting.shape(), setting.base(), needed(fields.address)?)
+}
+
 /// What is open on all links.
 #[derive(Drop)]
 pub struct Tables {
@@ -114,7 +121,7 @@ impl Tables {
     ) -> Result<BlockNo, WireError>
         ensures { Gives (λ block. (block, self.new)) result (request_taken setting.now self.old link.now fields.now) }
     {
-        let block = block_at(setting.shape(), setting.base(), needed(fields.address)?)?;
+        let block = at_address(setting, fields)?;
         let id = needed(fields.source)?;
         open_one(
             &mut self.requests,
@@ -137,7 +144,7 @@ impl Tables {
     ) -> Result<BlockNo, WireError>
         ensures { Gives (λ block. (block, self.new)) result (release_taken setting.now self.old link.now fields.now) }
     {
-        let block = block_at(setting.shape(), setting.base(), needed(fields.address)?)?;
+        let block = at_address(setting, fields)?;
         let id = needed(fields.source)?;
         open_one(
             &mut self.releases,
@@ -155,8 +162,7 @@ impl Tables {
     fn alone(&self, setting: &Setting, fields: &Fields) -> Result<BlockNo, WireError>
         ensures { Gives (λ block. (block, self.now)) result (alone_taken setting.now self.now fields.now) }
     {
-        let address = needed(fields.address)?;
-        Ok(block_at(setting.shape(), setting.base(), address)?)
+        Ok(at_address(setting, fields)?)
     }
 
     #[tactic(auto, unfolding(crate::specs::Tables::answer_taken))]
@@ -179,8 +185,7 @@ impl Tables {
     fn grant(&mut self, link: &Link, fields: &Fields) -> Result<BlockNo, WireError>
         ensures { Gives (λ block. (block, self.new)) result (grant_taken self.old link.now fields.now) }
     {
-        let source = needed(fields.source)?;
-        let id = needed(fields.sink)?;
+        let (source, id) = fields.source.zip(fields.sink).ok_or(Fault::Missing)?;
         let block = close_one(&mut self.requests, link, source, Fault::NoRequest)?;
         open_one(
             &mut self.grants,

@@ -2,10 +2,10 @@ use Rattle.std.proofs.Common.{List, sym, subst, refl}
 use Rattle.tl_protocol.specs.declared.event.Event.{Event}
 use Rattle.tl_explain.specs.Left.{GoesAlong}
 use Rattle.tl_explain.proofs.Along.{starts}
-use Rattle.tl_explain.proofs.walk.explained_by.Goals as goal
+use Rattle.tl_explain.proofs.walk.Walk.new.Goals as goal
 
-pub loop-event-init : goal.loop-event-init
-loop-event-init c =
+pub returns : goal.returns
+returns c =
     subst (λ (run : List Event). GoesAlong c.args.shape c.args.image.now c.args.seen.now run c.in_ok-judge.judge c.in_ok-marks.marks)
     (sym c.new-run.ensures.items)
     (starts c.args.shape c.args.image.now c.args.seen.now c.in_ok-judge.judge c.in_ok-marks.marks c.in_ok-judge.ensures
