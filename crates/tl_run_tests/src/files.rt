@@ -4,10 +4,9 @@ use std::alloc::Global;
 use std::io;
 use std::io::{ErrorKind, Read, Write};
 use std::sync::Wait;
-use std::test::Fail;
 use std::thread::Threads;
 use std::time::Clock;
-use tl_runner::JobError;
+use tl_runner::{Job, JobError};
 
 /// A reader and a writer that fail at each call.
 #[derive(Drop)]
@@ -29,49 +28,68 @@ impl Write for Broken {
     }
 }
 
-/// Whether a run with this file and this output ends as one at which a file failed.
-fn fails<T: Threads + Wait + Clock + Sync, R: Read + Drop, W: Write>(
+/// The status of a job with this file and an output that takes all, and whether its fault line is this one.
+fn told_of_file<T: Threads + Wait + Clock + Sync, R: Read + Drop>(
+    rt: &T,
+    alloc: Global,
+    job: Result<Job, JobError>,
+    file: Option<R>,
+    line: &str,
+) -> (u8, bool) {
+    let mut output = Vec::new(alloc);
+    told(rt, alloc, job, file, &mut output, line)
+}
+
+/// The same of a run, whose fault line is to tell that a file failed.
+fn fails<T: Threads + Wait + Clock + Sync, R: Read + Drop>(
     rt: &T,
     alloc: Global,
     file: Option<R>,
-    output: &mut W,
-) -> Result<bool, Fail> {
-    let (status, line) = told(rt, alloc, job_of(alloc, false)?, file, output)?;
-    Ok(status == 5 && line.as_str() == "error file\n")
+) -> (u8, bool) {
+    told_of_file(rt, alloc, job_of(alloc, false), file, "error file\n")
 }
 
 #[test]
-fn files_that_are_not_read(rt: HostRuntime) -> Result<(), Fail> {
-    let mut output = Vec::new(rt.alloc());
+fn files_that_are_not_read(rt: HostRuntime) {
     let no_file: Option<&[u8]> = None;
-    assert!(rt; fails(&rt, rt.alloc(), no_file, &mut output)?);
-    assert!(rt; fails(&rt, rt.alloc(), Some(Broken), &mut output)?);
-    Ok(())
+    assert_eq!(rt;
+        (
+            fails(&rt, rt.alloc(), no_file),
+            fails(&rt, rt.alloc(), Some(Broken))
+        ),
+        ((5, true), (5, true))
+    );
 }
 
 #[test]
-fn an_output_that_fails(rt: HostRuntime) -> Result<(), Fail> {
+fn an_output_that_fails(rt: HostRuntime) {
+    let job = job_of(rt.alloc(), false);
     let file = Some(SCRIPT.as_bytes());
-    assert!(rt; fails(&rt, rt.alloc(), file, &mut Broken)?);
-    Ok(())
+    assert_eq!(rt;
+        told(&rt, rt.alloc(), job, file, &mut Broken, "error file\n"),
+        (5, true)
+    );
+}
+
+/// The status of a run whose fault lines fail.
+fn status<T: Threads + Wait + Clock + Sync>(rt: &T, alloc: Global) -> u8 {
+    let mut output = Vec::new(alloc);
+    let file = Some(SCRIPT.as_bytes());
+    let job = job_of(alloc, false);
+    status_of(rt, alloc, job, file, &mut output, &mut Broken)
 }
 
 #[test]
-fn fault_lines_that_fail(rt: HostRuntime) -> Result<(), Fail> {
-    let mut output = Vec::new(rt.alloc());
-    let file = Some(SCRIPT.as_bytes());
-    let job = job_of(rt.alloc(), false)?;
-    let status = status_of(&rt, rt.alloc(), job, file, &mut output, &mut Broken);
-    assert_eq!(rt; status, 0);
-    Ok(())
+fn fault_lines_that_fail(rt: HostRuntime) {
+    assert_eq!(rt; status(&rt, rt.alloc()), 0);
 }
 
 #[test]
-fn words_that_are_refused(rt: HostRuntime) -> Result<(), Fail> {
-    let mut output = Vec::new(rt.alloc());
-    let file = Some(SCRIPT.as_bytes());
+fn words_that_are_refused(rt: HostRuntime) {
     let usage = Err(JobError::Usage);
-    let (status, line) = told(&rt, rt.alloc(), usage, file, &mut output)?;
-    assert_eq!(rt; (status, line.as_str()), (2, "error usage\n"));
-    Ok(())
+    let file = Some(SCRIPT.as_bytes());
+    assert_eq!(rt;
+        told_of_file(&rt, rt.alloc(), usage, file, "error usage\n"),
+        (2, true)
+    );
 }

@@ -3,10 +3,10 @@
 //! Two banks with a block each. A client's thread holds a bank's lock while another client is served by the other bank, so each bank
 //! has a lock of its own; a client waits before its command until the other's was answered, so each has a thread of its own; and the two
 //! homes are inside their banks at once.
+use crate::setting::has_text;
 use std::alloc::Global;
 use std::sync::Wait;
 use std::sync::atomic::{AtomicU64, Ordering};
-use std::test::Fail;
 use std::thread;
 use std::thread::Threads;
 use std::time::Clock;
@@ -163,50 +163,53 @@ impl Gate for HomesMeet {
 }
 
 /// The script of each client loading from its address.
-fn script_of(alloc: Global, addresses: [&str; 2]) -> Result<Script, Fail> {
+fn script_of(alloc: Global, addresses: [&str; 2]) -> Option<Script> {
     let [first, second] = addresses;
     let text = format!(in alloc;
         "{NUMBERS}commands = [[\"load {first} 1\"], [\"load {second} 1\"]]\n"
-    )?;
-    Ok(read_script(alloc, text.as_bytes()).ok().ok_or("refused")?)
+    ).ok()?;
+    read_script(alloc, text.as_bytes()).ok()
 }
 
-/// The report of a run under a gate.
-fn reported<R: Threads + Wait + Clock + Sync, G: Gate + Sync>(
+/// Whether this is the report of a run under a gate.
+fn reports<R: Threads + Wait + Clock + Sync, G: Gate + Sync>(
     rt: &R,
     alloc: Global,
     script: &Script,
     gate: &G,
-) -> Result<String, Fail> {
-    let report = run(rt, alloc, script, gate).ok().ok_or("no report")?;
-    Ok(report.text(alloc)?)
+    wanted: &str,
+) -> Option<bool> {
+    let report = run(rt, alloc, script, gate).ok()?;
+    has_text(alloc, &report, wanted)
 }
 
-/// The report of each client loading from its address, under a gate.
-fn loaded<R: Threads + Wait + Clock + Sync, G: Gate + Sync>(
+/// Whether this is the report of each client loading from its address, under a gate.
+fn loads<R: Threads + Wait + Clock + Sync, G: Gate + Sync>(
     rt: &R,
     alloc: Global,
     addresses: [&str; 2],
     gate: &G,
-) -> Result<String, Fail> {
+    wanted: &str,
+) -> Option<bool> {
     let script = script_of(alloc, addresses)?;
-    reported(rt, alloc, &script, gate)
+    reports(rt, alloc, &script, gate, wanted)
 }
 
 /// The same where this client waits for the other one, and whether it waited in vain.
-fn loaded_in_turn<R: Threads + Wait + Clock + Sync>(
+fn loads_in_turn<R: Threads + Wait + Clock + Sync>(
     rt: &R,
     alloc: Global,
     waiting: u32,
     addresses: [&str; 2],
-) -> Result<(String, bool), Fail> {
+    wanted: &str,
+) -> (Option<bool>, bool) {
     let gate = OneClientWaits {
         waiting: ClientId::new(waiting),
         has_answered: Flag::new(),
         has_failed: Flag::new(),
     };
-    let report = loaded(rt, alloc, addresses, &gate)?;
-    Ok((report, gate.has_failed.is_set()))
+    let is_reported = loads(rt, alloc, addresses, &gate, wanted);
+    (is_reported, gate.has_failed.is_set())
 }
 
 const STRAIGHT_REPORT: &str = "\
@@ -227,25 +230,23 @@ bank 0 held 1 recorded 1\n\
 bank 1 held 1 recorded 1\n\
 ok\n";
 
-/// The report of a run in which one lock is held, and whether it was held in vain.
-fn loaded_beside_a_lock<R: Threads + Wait + Clock + Sync>(
+/// Whether the report is `STRAIGHT_REPORT` where one lock is held, and whether it was held in vain.
+fn loads_beside_a_lock<R: Threads + Wait + Clock + Sync>(
     rt: &R,
     alloc: Global,
-) -> Result<(String, bool), Fail> {
+) -> (Option<bool>, bool) {
     let gate = OneLockIsHeld {
         has_locked: Flag::new(),
         has_left: Flag::new(),
         has_failed: Flag::new(),
     };
-    let report = loaded(rt, alloc, STRAIGHT, &gate)?;
-    Ok((report, gate.has_failed.is_set()))
+    let is_reported = loads(rt, alloc, STRAIGHT, &gate, STRAIGHT_REPORT);
+    (is_reported, gate.has_failed.is_set())
 }
 
 #[test]
-fn each_bank_has_a_lock_of_its_own(rt: HostRuntime) -> Result<(), Fail> {
-    let (report, has_failed) = loaded_beside_a_lock(&rt, rt.alloc())?;
-    assert_eq!(rt; (report.as_str(), has_failed), (STRAIGHT_REPORT, false));
-    Ok(())
+fn each_bank_has_a_lock_of_its_own(rt: HostRuntime) {
+    assert_eq!(rt; loads_beside_a_lock(&rt, rt.alloc()), (Some(true), false));
 }
 
 /// A client that waits, the clients' addresses, and the report.
@@ -257,34 +258,29 @@ const IN_TURN: &[(u32, [&str; 2], &str)] = &[
 ];
 
 #[test]
-fn each_client_has_a_thread_of_its_own(rt: HostRuntime) -> Result<(), Fail> {
+fn each_client_has_a_thread_of_its_own(rt: HostRuntime) {
     for (waiting, addresses, wanted) in IN_TURN {
-        let (report, has_failed) = loaded_in_turn(&rt, rt.alloc(), *waiting, *addresses)?;
         assert_eq!(rt;
-            (report.as_str(), has_failed),
-            (*wanted, false),
-            "client {waiting}"
+            loads_in_turn(&rt, rt.alloc(), *waiting, *addresses, *wanted),
+            (Some(true), false)
         );
     }
-    Ok(())
 }
 
-/// The report of a run in which the homes meet, and whether one waited in vain.
-fn loaded_as_homes_meet<R: Threads + Wait + Clock + Sync>(
+/// Whether the report is `STRAIGHT_REPORT` where the homes meet, and whether one waited in vain.
+fn loads_as_homes_meet<R: Threads + Wait + Clock + Sync>(
     rt: &R,
     alloc: Global,
-) -> Result<(String, bool), Fail> {
+) -> (Option<bool>, bool) {
     let gate = HomesMeet {
         is_inside: [Flag::new(), Flag::new()],
         has_failed: Flag::new(),
     };
-    let report = loaded(rt, alloc, STRAIGHT, &gate)?;
-    Ok((report, gate.has_failed.is_set()))
+    let is_reported = loads(rt, alloc, STRAIGHT, &gate, STRAIGHT_REPORT);
+    (is_reported, gate.has_failed.is_set())
 }
 
 #[test]
-fn each_home_has_a_thread_of_its_own(rt: HostRuntime) -> Result<(), Fail> {
-    let (report, has_failed) = loaded_as_homes_meet(&rt, rt.alloc())?;
-    assert_eq!(rt; (report.as_str(), has_failed), (STRAIGHT_REPORT, false));
-    Ok(())
+fn each_home_has_a_thread_of_its_own(rt: HostRuntime) {
+    assert_eq!(rt; loads_as_homes_meet(&rt, rt.alloc()), (Some(true), false));
 }

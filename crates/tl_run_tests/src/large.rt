@@ -1,10 +1,8 @@
 //! The largest script's accesses: 16 clients with 4,096 commands each over 8 banks.
-use crate::setting::{Setting, read};
-use std::alloc::Global;
-use std::test::Fail;
+use crate::setting::Setting;
+use std::alloc::{AllocError, Global};
 use tl_bank::When;
 use tl_map::Geometry;
-use tl_script::Script;
 use tl_text::{BankLine, Report};
 use tl_types::BlockNo;
 
@@ -26,7 +24,7 @@ fn stored_at(index: u16) -> Option<u8> {
 }
 
 /// Writes the commands of a client.
-fn push_commands(alloc: Global, text: &mut String, client: u8) -> Result<(), Fail> {
+fn push_commands(alloc: Global, text: &mut String, client: u8) -> Result<(), AllocError> {
     text.push_str("[")?;
     for index in 0..4096u16 {
         let address = u64::from(block_of(client, index)) * 8;
@@ -36,46 +34,45 @@ fn push_commands(alloc: Global, text: &mut String, client: u8) -> Result<(), Fai
         };
         text.push_str(line.as_str())?;
     }
-    text.push_str("],")?;
-    Ok(())
+    text.push_str("],")
 }
 
-/// The script.
-fn script_of(alloc: Global) -> Result<Script, Fail> {
-    let mut text = String::new(alloc);
+/// Writes the script.
+fn push_script(alloc: Global, text: &mut String) -> Result<(), AllocError> {
     text.push_str(NUMBERS)?;
     for client in 0..16u8 {
-        push_commands(alloc, &mut text, client)?;
+        push_commands(alloc, text, client)?;
     }
-    text.push_str("]\n")?;
-    read(alloc, text.as_str())
+    text.push_str("]\n")
 }
 
-/// The place of a block's bank among the banks.
-fn bank_of(geometry: Geometry, block: u32) -> Result<usize, Fail> {
+/// The script with its banks at reset.
+fn at_reset(alloc: Global) -> Option<Setting> {
+    let mut text = String::new(alloc);
+    push_script(alloc, &mut text).ok()?;
+    Setting::of(alloc, text.as_str())
+}
+
+/// The place of a block's bank among the banks. `None` where there is no such block.
+fn bank_of(geometry: Geometry, block: u32) -> Option<usize> {
     let block = BlockNo::new(block);
     if !geometry.has(block) {
-        return Err("no such block".into());
+        return None;
     }
-    Ok(geometry.place(block).bank.number() as usize)
+    Some(geometry.place(block).bank.number() as usize)
 }
 
 /// A client gets its blocks at Tip.
-fn take_blocks(geometry: Geometry, setting: &mut Setting, client: u8) -> Result<(), Fail> {
+fn take_blocks(geometry: Geometry, setting: &mut Setting, client: u8) -> Option<()> {
     for index in 0..8u16 {
         let block = block_of(client, index);
         setting.take(bank_of(geometry, block)?, u32::from(client), block)?;
     }
-    Ok(())
+    Some(())
 }
 
-/// A client's command at an index is carried out.
-fn carry_out(
-    geometry: Geometry,
-    setting: &mut Setting,
-    client: u8,
-    index: u16,
-) -> Result<(), Fail> {
+/// A client's command at an index is carried out: its stamp.
+fn carry_out(geometry: Geometry, setting: &mut Setting, client: u8, index: u16) -> Option<u64> {
     let block = block_of(client, index);
     let bank = bank_of(geometry, block)?;
     let client = u32::from(client);
@@ -84,32 +81,30 @@ fn carry_out(
         index: u32::from(index),
     };
     let address = block.wrapping_mul(8);
-    let _stamp = match stored_at(index) {
-        Some(byte) => setting.store(bank, client, address, byte, when)?,
-        None => setting.load(bank, client, address, 1, when)?,
-    };
-    Ok(())
+    match stored_at(index) {
+        Some(byte) => setting.store(bank, client, address, byte, when),
+        None => setting.load(bank, client, address, 1, when),
+    }
 }
 
 /// Each client's command at an index is carried out.
-fn carry_out_each(geometry: Geometry, setting: &mut Setting, index: u16) -> Result<(), Fail> {
+fn carry_out_each(geometry: Geometry, setting: &mut Setting, index: u16) -> Option<()> {
     for client in 0..16u8 {
         carry_out(geometry, setting, client, index)?;
     }
-    Ok(())
+    Some(())
 }
 
-/// The banks of a script, once its clients have their blocks and all commands are carried out.
-fn carried_out(alloc: Global, script: &Script) -> Result<Setting, Fail> {
-    let geometry = script.geometry();
-    let mut setting = Setting::reset(alloc, script)?;
+/// Clients get their blocks, and all commands are carried out.
+fn carry_out_all(setting: &mut Setting) -> Option<()> {
+    let geometry = setting.geometry();
     for client in 0..16u8 {
-        take_blocks(geometry, &mut setting, client)?;
+        take_blocks(geometry, setting, client)?;
     }
     for index in 0..4096u16 {
-        carry_out_each(geometry, &mut setting, index)?;
+        carry_out_each(geometry, setting, index)?;
     }
-    Ok(setting)
+    Some(())
 }
 
 /// How many of these banks have 16 copies, all of them recorded.
@@ -129,12 +124,20 @@ fn sizes(report: &Report) -> (usize, usize, usize) {
     (report.clients.len(), banks.len(), full_banks(banks))
 }
 
+/// What is concluded once all commands are carried out.
+fn report(alloc: Global) -> Option<Report> {
+    let mut setting = at_reset(alloc)?;
+    carry_out_all(&mut setting)?;
+    setting.report(alloc)
+}
+
+/// The sizes of that report.
+fn concluded(alloc: Global) -> Option<(usize, usize, usize)> {
+    let report = report(alloc)?;
+    Some(sizes(&report))
+}
+
 #[test]
-fn sixteen_clients_on_eight_banks(rt: HostRuntime) -> Result<(), Fail> {
-    let alloc = rt.alloc();
-    let script = script_of(alloc)?;
-    let setting = carried_out(alloc, &script)?;
-    let report = setting.conclude(alloc, &script)?;
-    assert_eq!(rt; sizes(&report), (16, 8, 8));
-    Ok(())
+fn sixteen_clients_on_eight_banks(rt: HostRuntime) {
+    assert_eq!(rt; concluded(rt.alloc()), Some((16, 8, 8)));
 }

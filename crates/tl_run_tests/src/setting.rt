@@ -1,25 +1,21 @@
-//! The banks of a script at reset, and calls made on them.
+//! A script and its banks at reset, and calls made on them.
+use arrayvec::ArrayVec;
 use std::alloc::Global;
 use std::marker::Model;
-use std::test::Fail;
-use tl_bank::{Bank, Share, When};
+use tl_bank::{Bank, Refusal, Share, When};
 use tl_conclude::{RunError, conclude};
-use tl_map::GeometryError;
+use tl_map::Geometry;
 use tl_protocol::Event;
 use tl_script::{Script, read_script};
 use tl_text::Report;
 use tl_tickets::{Missing, gather};
 use tl_types::{BankNo, BlockNo, Channel, ClientId, Grow, Ticket};
 
-/// The script of a text.
-pub(crate) fn read(alloc: Global, text: &str) -> Result<Script, Fail> {
-    Ok(read_script(alloc, text.as_bytes())?)
-}
-
-/// The banks of a script, and the list of shares of each. Its model says nothing, so that a test of many calls has their answers alone
+/// A script, its banks, and the list of shares of each. Its model says nothing, so that a test of many calls has their answers alone
 /// to carry along.
 #[derive(Drop)]
 pub(crate) struct Setting {
+    script: Script,
     banks: Vec<Bank>,
     lists: Vec<Vec<Share>>,
 }
@@ -30,34 +26,34 @@ impl Model for Setting {
     ghost view = { λ _. tt };
 }
 
-/// A bank of the script at reset, and its shares. It fails where the script has no bank of this number.
-fn fresh(alloc: Global, script: &Script, number: u32) -> Result<(Bank, Vec<Share>), Fail> {
-    let geometry = script.geometry();
-    if number >= geometry.banks() {
-        return Err(Fail::from(GeometryError::Banks));
-    }
-    let (bank, given) = Bank::new(
-        alloc,
-        geometry,
-        BankNo::new(number),
-        script.image.as_slice(),
-    )?;
+/// Shares as a list.
+fn listed(alloc: Global, given: ArrayVec<Share, 16>) -> Option<Vec<Share>> {
     let mut shares = Vec::new(alloc);
     for share in given {
-        shares.push(share)?;
+        shares.push(share).ok()?;
     }
-    Ok((bank, shares))
+    Some(shares)
+}
+
+/// A bank of the script at reset, and its shares. `None` where the script has no bank of this number.
+fn fresh(alloc: Global, script: &Script, number: u32) -> Option<(Bank, Vec<Share>)> {
+    let geometry = script.geometry();
+    if number >= geometry.banks() {
+        return None;
+    }
+    let image = script.image.as_slice();
+    let (bank, given) = Bank::new(alloc, geometry, BankNo::new(number), image).ok()?;
+    Some(bank).zip(listed(alloc, given))
 }
 
 /// A client asks for a block to write it, and home accepts.
-fn ask(bank: &mut Bank, client: ClientId, block: BlockNo) -> Result<(), Fail> {
+fn ask(bank: &mut Bank, client: ClientId, block: BlockNo) -> Result<(), Refusal> {
     let ticket = bank.acquire(client, block, Grow::NtoT)?;
-    bank.accept(ticket)?;
-    Ok(())
+    bank.accept(ticket)
 }
 
 /// Home fetches a block and grants it.
-fn fetch(bank: &mut Bank, block: BlockNo) -> Result<(), Fail> {
+fn fetch(bank: &mut Bank, block: BlockNo) -> Result<(), Refusal> {
     bank.advance(block)?;
     bank.serve_memory(block)?;
     bank.take_memory(block)?;
@@ -66,7 +62,7 @@ fn fetch(bank: &mut Bank, block: BlockNo) -> Result<(), Fail> {
 }
 
 /// A client takes the first Grant of the bank, and home the GrantAck.
-fn take_grant(bank: &mut Bank, share: &mut Share, client: ClientId) -> Result<(), Fail> {
+fn take_grant(bank: &mut Bank, share: &mut Share, client: ClientId) -> Result<(), Refusal> {
     let grant = Ticket {
         bank: bank.number(),
         client,
@@ -74,8 +70,31 @@ fn take_grant(bank: &mut Bank, share: &mut Share, client: ClientId) -> Result<()
         serial: 0,
     };
     let ack = bank.take_grant(grant, share)?;
-    bank.take_grant_ack(ack)?;
-    Ok(())
+    bank.take_grant_ack(ack)
+}
+
+/// A client gets a block of a bank at Tip, as its first one there.
+pub(crate) fn take_block(
+    bank: &mut Bank,
+    share: &mut Share,
+    client: ClientId,
+    block: BlockNo,
+) -> Result<(), Refusal> {
+    ask(bank, client, block)?;
+    fetch(bank, block)?;
+    take_grant(bank, share, client)
+}
+
+/// A client's share of a bank.
+fn share_of(lists: &mut [Vec<Share>], number: usize, client: u32) -> Option<&mut Share> {
+    let list = lists.get_mut(number)?;
+    list.as_mut_slice().get_mut(client as usize)
+}
+
+/// Whether a report has this text. `None` where a request for memory was refused.
+pub(crate) fn has_text(alloc: Global, report: &Report, wanted: &str) -> Option<bool> {
+    let text = report.text(alloc).ok()?;
+    Some(text.as_str() == wanted)
 }
 
 /// The events of a bank's log.
@@ -109,35 +128,45 @@ fn are_marks(events: &[Event], marks: &[(u64, u32, u32)]) -> bool {
 
 /// The calls.
 impl Setting {
-    /// The script's banks at reset.
-    pub(crate) fn reset(alloc: Global, script: &Script) -> Result<Setting, Fail> {
-        let mut banks = Vec::new(alloc);
-        let mut lists = Vec::new(alloc);
-        for number in 0..script.geometry().banks() {
-            let (bank, list) = fresh(alloc, script, number)?;
-            banks.push(bank)?;
-            lists.push(list)?;
-        }
-        Ok(Setting { banks, lists })
+    /// The script of a text, with its banks at reset. `None` where it is refused, or a request for memory.
+    pub(crate) fn of(alloc: Global, text: &str) -> Option<Setting> {
+        let script = read_script(alloc, text.as_bytes()).ok()?;
+        let mut setting = Setting {
+            script,
+            banks: Vec::new(alloc),
+            lists: Vec::new(alloc),
+        };
+        setting.add_banks(alloc)?;
+        Some(setting)
     }
 
-    fn bank(&mut self, number: usize) -> Result<&mut Bank, Fail> {
-        Ok(self.banks.as_mut_slice().get_mut(number).ok_or("no bank")?)
+    fn add_banks(&mut self, alloc: Global) -> Option<()> {
+        for number in 0..self.geometry().banks() {
+            self.add_bank(alloc, number)?;
+        }
+        Some(())
+    }
+
+    fn add_bank(&mut self, alloc: Global, number: u32) -> Option<()> {
+        let (bank, list) = fresh(alloc, &self.script, number)?;
+        self.lists.push(list).ok()?;
+        self.banks.push(bank).ok()
+    }
+
+    /// The script's geometry.
+    pub(crate) fn geometry(&self) -> Geometry {
+        self.script.geometry()
+    }
+
+    fn bank(&mut self, number: usize) -> Option<&mut Bank> {
+        self.banks.as_mut_slice().get_mut(number)
     }
 
     /// A client gets a block of a bank at Tip, as its first one there.
-    pub(crate) fn take(&mut self, number: usize, client: u32, block: u32) -> Result<(), Fail> {
-        let bank = self.banks.as_mut_slice().get_mut(number).ok_or("no bank")?;
-        let list = self.lists.as_mut_slice().get_mut(number).ok_or("no list")?;
-        let share = list
-            .as_mut_slice()
-            .get_mut(client as usize)
-            .ok_or("no share")?;
-        let client = ClientId::new(client);
-        let block = BlockNo::new(block);
-        ask(bank, client, block)?;
-        fetch(bank, block)?;
-        take_grant(bank, share, client)
+    pub(crate) fn take(&mut self, number: usize, client: u32, block: u32) -> Option<()> {
+        let bank = self.banks.as_mut_slice().get_mut(number)?;
+        let share = share_of(self.lists.as_mut_slice(), number, client)?;
+        take_block(bank, share, ClientId::new(client), BlockNo::new(block)).ok()
     }
 
     /// A client stores a byte: the stamp.
@@ -148,9 +177,10 @@ impl Setting {
         address: u32,
         byte: u8,
         when: When,
-    ) -> Result<u64, Fail> {
+    ) -> Option<u64> {
         let bank = self.bank(number)?;
-        Ok(bank.store(ClientId::new(client), address, &[byte], when)?)
+        bank.store(ClientId::new(client), address, &[byte], when)
+            .ok()
     }
 
     /// A client loads bytes: the stamp.
@@ -161,47 +191,55 @@ impl Setting {
         address: u32,
         len: usize,
         when: When,
-    ) -> Result<u64, Fail> {
+    ) -> Option<u64> {
         let bank = self.bank(number)?;
-        let loaded = bank.load(ClientId::new(client), address, len, when)?;
-        Ok(loaded.stamp)
+        let loaded = bank.load(ClientId::new(client), address, len, when).ok()?;
+        Some(loaded.stamp)
     }
 }
 
 /// What is concluded.
 impl Setting {
-    /// What is concluded for a script.
-    pub(crate) fn conclude(&self, alloc: Global, script: &Script) -> Result<Report, RunError> {
+    fn conclude(&self, alloc: Global, script: &Script) -> Result<Report, RunError> {
         conclude(alloc, script, &self.banks, &self.lists)
     }
 
-    /// The text of what is concluded for a script.
-    pub(crate) fn text(&self, alloc: Global, script: &Script) -> Result<String, Fail> {
-        let report = self.conclude(alloc, script)?;
-        Ok(report.text(alloc)?)
+    /// The report that is concluded. `None` where there is none.
+    pub(crate) fn report(&self, alloc: Global) -> Option<Report> {
+        self.conclude(alloc, &self.script).ok()
     }
 
-    /// How many clients and banks the report has that is concluded for a script. `None` where a request for memory was refused.
-    pub(crate) fn sizes(
-        &self,
-        alloc: Global,
-        script: &Script,
-    ) -> Result<Option<(usize, usize)>, Fail> {
-        match self.conclude(alloc, script) {
-            Ok(report) => Ok(Some((report.clients.len(), report.banks.len()))),
-            Err(RunError::Memory) => Ok(None),
-            Err(error) => Err(error.into()),
+    /// Whether the report that is concluded has this text. `None` where there is none, or a request for memory was refused.
+    pub(crate) fn shows(&self, alloc: Global, wanted: &str) -> Option<bool> {
+        has_text(alloc, &self.report(alloc)?, wanted)
+    }
+
+    /// How many clients and banks the report has that is concluded: nothing where a request for memory was refused. `None` where
+    /// there is no report for another cause.
+    pub(crate) fn sizes(&self, alloc: Global) -> Option<Option<(usize, usize)>> {
+        match self.conclude(alloc, &self.script) {
+            Ok(report) => Some(Some((report.clients.len(), report.banks.len()))),
+            Err(RunError::Memory) => Some(None),
+            Err(_) => None,
         }
     }
 
-    /// Whether nothing is concluded for a script, since it is not what the banks carried out.
-    pub(crate) fn is_other(&self, alloc: Global, script: &Script) -> bool {
-        matches!(&self.conclude(alloc, script), Err(RunError::NotOrdered))
+    /// Whether nothing is concluded for the script of another setting, since it is not what these banks carried out.
+    pub(crate) fn is_other_for(&self, alloc: Global, setting: &Setting) -> bool {
+        matches!(
+            &self.conclude(alloc, &setting.script),
+            Err(RunError::NotOrdered)
+        )
     }
 
-    /// Whether nothing is concluded for a script, since these are not all shares.
-    pub(crate) fn lacks_shares(&self, alloc: Global, script: &Script) -> bool {
-        matches!(&self.conclude(alloc, script), Err(RunError::Shares))
+    /// Whether nothing is concluded, since the script is not what the banks carried out.
+    pub(crate) fn is_other(&self, alloc: Global) -> bool {
+        self.is_other_for(alloc, self)
+    }
+
+    /// Whether nothing is concluded, since these are not all shares.
+    pub(crate) fn lacks_shares(&self, alloc: Global) -> bool {
+        matches!(&self.conclude(alloc, &self.script), Err(RunError::Shares))
     }
 
     /// How many copies shares count, where they are those of bank 0.
@@ -242,8 +280,8 @@ impl Setting {
     }
 
     /// One more list, without shares.
-    pub(crate) fn push_list(&mut self, alloc: Global) -> Result<(), Fail> {
-        Ok(self.lists.push(Vec::new(alloc))?)
+    pub(crate) fn push_list(&mut self, alloc: Global) -> Option<()> {
+        self.lists.push(Vec::new(alloc)).ok()
     }
 
     /// Without the last list of shares. Whether there was one.
@@ -269,9 +307,8 @@ impl Setting {
     }
 
     /// Adds a share to those of bank 0.
-    pub(crate) fn push_share(&mut self, share: Share) -> Result<(), Fail> {
-        let list = self.lists.as_mut_slice().first_mut().ok_or("no list")?;
-        list.push(share)?;
-        Ok(())
+    pub(crate) fn push_share(&mut self, share: Share) -> Option<()> {
+        let list = self.lists.as_mut_slice().first_mut()?;
+        list.push(share).ok()
     }
 }
