@@ -74,7 +74,7 @@ fn take_grant(bank: &mut Bank, share: &mut Share, client: ClientId) -> Result<()
 }
 
 /// A client gets a block of a bank at Tip, as its first one there.
-pub(crate) fn take_block(
+fn take_block(
     bank: &mut Bank,
     share: &mut Share,
     client: ClientId,
