@@ -1,5 +1,6 @@
 //! Whether each script is answered as it may be.
 
+use crate::names::{DECIDED, RUNS};
 use std::alloc::Global;
 use std::sync::Wait;
 use std::thread::Threads;
@@ -54,16 +55,21 @@ fn report_with_one_place<R: Threads + Wait + Clock + Sync>(
     Ok(report.text(alloc)?.into_bytes())
 }
 
+/// The text of a script.
 pub fn script_of(rt: &HostRuntime, name: &str) -> io::Result<Vec<u8>> {
     fs::read(rt, format!(in rt.alloc(); "{name}.toml")?.as_str())
 }
 
+/// The answer of this number that a script may have.
+fn answer_told(rt: &HostRuntime, name: &str, number: u32) -> io::Result<Vec<u8>> {
+    fs::read(rt, format!(in rt.alloc(); "{name}.{number}.out")?.as_str())
+}
+
 /// The answers that a script may have.
-pub fn answers_of(rt: &HostRuntime, name: &str, count: u32) -> io::Result<Vec<Vec<u8>>> {
+fn answers_told(rt: &HostRuntime, name: &str, count: u32) -> io::Result<Vec<Vec<u8>>> {
     let mut answers = Vec::new(rt.alloc());
     for number in 1..=count {
-        let file = format!(in rt.alloc(); "{name}.{number}.out")?;
-        answers.push(fs::read(rt, file.as_str())?)?;
+        answers.push(answer_told(rt, name, number)?)?;
     }
     Ok(answers)
 }
@@ -105,18 +111,18 @@ fn runs_with_one_place<R: Threads + Wait + Clock + Sync>(
 }
 
 /// Whether a script that has one answer is given it.
-pub fn is_decided_so<R: Threads + Wait + Clock + Sync>(
+fn is_decided_so<R: Threads + Wait + Clock + Sync>(
     rt: &R,
     alloc: Global,
     traces: bool,
     script: &[u8],
-    answers: &[Vec<u8>],
+    answer: &[u8],
 ) -> io::Result<bool> {
-    Ok(is_among(&answer_of(rt, alloc, traces, script)?, answers))
+    Ok(answer_of(rt, alloc, traces, script)?.as_slice() == answer)
 }
 
 /// Whether each run of a script gives one of its reports, with ample inboxes and with inboxes that hold one ticket.
-pub fn is_as_told<R: Threads + Wait + Clock + Sync>(
+fn is_as_told<R: Threads + Wait + Clock + Sync>(
     rt: &R,
     alloc: Global,
     script: &[u8],
@@ -129,13 +135,39 @@ pub fn is_as_told<R: Threads + Wait + Clock + Sync>(
 }
 
 /// Prints whether a script is answered as it may be.
-pub fn print_row(rt: &HostRuntime, name: &str, is_as_told: bool) -> io::Result<()> {
+fn print_row(rt: &HostRuntime, name: &str, is_as_told: bool) -> io::Result<()> {
     let told = if is_as_told {
         "as told"
     } else {
         "another answer"
     };
     println!(rt; "{name}: {told}")
+}
+
+/// Prints whether a script that has one answer is given it.
+fn print_decided<R: Threads + Wait + Clock + Sync>(
+    rt: &R,
+    host: &HostRuntime,
+    name: &str,
+    traces: bool,
+) -> io::Result<()> {
+    let script = script_of(host, name)?;
+    let wanted = answer_told(host, name, 1)?;
+    let is_so = is_decided_so(rt, host.alloc(), traces, &script, &wanted)?;
+    print_row(host, name, is_so)
+}
+
+/// Prints whether each run of a script gives one of its reports.
+fn print_runs<R: Threads + Wait + Clock + Sync>(
+    rt: &R,
+    host: &HostRuntime,
+    name: &str,
+    count: u32,
+) -> io::Result<()> {
+    let script = script_of(host, name)?;
+    let wanted = answers_told(host, name, count)?;
+    let is_so = is_as_told(rt, host.alloc(), &script, &wanted)?;
+    print_row(host, name, is_so)
 }
 
 /// Whether a run of a script is refused with this fault and status 1.
@@ -152,7 +184,7 @@ fn is_refused_so<R: Threads + Wait + Clock + Sync>(
 
 /// How many of the scripts of a text are refused with their faults, and the fault of the first that is not. Each script follows a line
 /// with `=== ` and its fault.
-pub fn refused_so<'a, R: Threads + Wait + Clock + Sync>(
+fn refused_so<'a, R: Threads + Wait + Clock + Sync>(
     rt: &R,
     alloc: Global,
     text: &'a str,
@@ -168,15 +200,28 @@ pub fn refused_so<'a, R: Threads + Wait + Clock + Sync>(
     Ok((count, None))
 }
 
-/// The text of `refused.txt`.
-pub fn refused_scripts(rt: &HostRuntime) -> io::Result<String> {
-    fs::read_to_string(rt, "refused.txt")
-}
-
 /// Prints how many scripts are refused with their faults.
-pub fn print_refused(rt: &HostRuntime, count: u32, other: Option<&str>) -> io::Result<()> {
+fn print_count(rt: &HostRuntime, count: u32, other: Option<&str>) -> io::Result<()> {
     if let Some(fault) = other {
         println!(rt; "refused.txt: another answer after {count} at {fault}")?;
     }
     println!(rt; "refused.txt: {count} scripts as told")
+}
+
+/// Prints how many scripts of `refused.txt` are refused with their faults.
+fn print_refused<R: Threads + Wait + Clock + Sync>(rt: &R, host: &HostRuntime) -> io::Result<()> {
+    let text = fs::read_to_string(host, "refused.txt")?;
+    let (count, other) = refused_so(rt, host.alloc(), &text)?;
+    print_count(host, count, other)
+}
+
+/// Prints for each script whether it is answered as it may be.
+pub fn print_rows<R: Threads + Wait + Clock + Sync>(rt: &R, host: &HostRuntime) -> io::Result<()> {
+    for (name, traces) in DECIDED {
+        print_decided(rt, host, name, *traces)?;
+    }
+    for (name, count) in RUNS {
+        print_runs(rt, host, name, *count)?;
+    }
+    print_refused(rt, host)
 }

@@ -3,8 +3,8 @@ ghost use Rattle.std.specs.Prelude.{◌≡◌, ◌+◌, ◌≤◌, IfSome};
 ghost use Rattle.tl_tickets.specs.Bell.{IsSeatOf};
 
 use std::alloc::Global;
-use std::thread;
 use std::thread::Threads;
+use std::{io, thread};
 use tl_tickets::{Bell, Seat};
 
 /// Rings three times.
@@ -38,7 +38,7 @@ fn ring_between(bell: &Bell, mut seat: Seat) -> (Seat, u64, u64)
 
 /// Seat 0 rings three times; seat 1 hears 3, rings, and hears 4; seat 0 hears 4. The answer is the total over both seats, or none
 /// where memory was refused or another number was heard.
-pub fn rows<R: Threads>(rt: &R, alloc: Global) -> Option<u64>
+fn rows<R: Threads>(rt: &R, alloc: Global) -> Option<u64>
     ensures { IfSome result (λ total. total ≡ 4) }
 {
     let (bell, mut seats) = Bell::new(alloc, 2).ok()?;
@@ -68,4 +68,12 @@ pub fn rows<R: Threads>(rt: &R, alloc: Global) -> Option<u64>
     seats.push(second).ok()?;
     seats.push(first).ok()?;
     bell.total(seats).ok()
+}
+
+/// Prints the total over both seats, where there is one.
+pub fn print_total<R: Threads>(rt: &R, host: &HostRuntime) -> io::Result<()> {
+    match rows(rt, host.alloc()) {
+        Some(total) => println!(host; "rung over both seats: {total}"),
+        None => Ok(()),
+    }
 }

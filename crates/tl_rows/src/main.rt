@@ -12,30 +12,11 @@ mod charts;
 mod messages;
 mod names;
 
-use names::{DECIDED, RUNS};
 use std::io;
 
 fn main(rt: HostRuntime) -> io::Result<()> {
-    let alloc = rt.alloc();
-    for (name, traces) in DECIDED {
-        let script = answers::script_of(&rt, name)?;
-        let wanted = answers::answers_of(&rt, name, 1)?;
-        let is_so = answers::is_decided_so(&rt, alloc, traces, &script, &wanted)?;
-        answers::print_row(&rt, name, is_so)?;
-    }
-    for (name, count) in RUNS {
-        let script = answers::script_of(&rt, name)?;
-        let wanted = answers::answers_of(&rt, name, count)?;
-        let is_so = answers::is_as_told(&rt, alloc, &script, &wanted)?;
-        answers::print_row(&rt, name, is_so)?;
-    }
-    let refused = answers::refused_scripts(&rt)?;
-    let (count, other) = answers::refused_so(&rt, alloc, &refused)?;
-    answers::print_refused(&rt, count, other)?;
+    answers::print_rows(&rt, &rt)?;
     charts::print_rows(&rt)?;
     messages::print_rows(&rt)?;
-    if let Some(total) = bells::rows(&rt, alloc) {
-        println!(rt; "rung over both seats: {total}")?;
-    }
-    Ok(())
+    bells::print_total(&rt, &rt)
 }

@@ -1,7 +1,7 @@
 //! The names of the scripts.
 
 /// Traces, and runs that stall or whose script is refused: each has one answer.
-pub const DECIDED: [(&str, bool); 27] = [
+pub const DECIDED: &[(&str, bool)] = &[
     ("both-upgrade", true),
     ("doubled-early-and-foreign-tickets", true),
     ("every-way-is-held", true),
@@ -32,7 +32,7 @@ pub const DECIDED: [(&str, bool); 27] = [
 ];
 
 /// Runs that end, and how many reports each may have.
-pub const RUNS: [(&str, u32); 18] = [
+pub const RUNS: &[(&str, u32)] = &[
     ("two-bytes", 1),
     ("forms-of-commands", 1),
     ("no-commands", 1),
@@ -54,7 +54,7 @@ pub const RUNS: [(&str, u32); 18] = [
 ];
 
 /// Traces with pictures.
-pub const DRAWN: [&str; 4] = [
+pub const DRAWN: &[&str] = &[
     "release-crosses-probe",
     "both-upgrade",
     "eviction-writes-back",
@@ -62,7 +62,7 @@ pub const DRAWN: [&str; 4] = [
 ];
 
 /// Records of messages.
-pub const RECORDS: [&str; 8] = [
+pub const RECORDS: &[&str] = &[
     "a-miss.txt",
     "delayed.txt",
     "grants-old-bytes.txt",
