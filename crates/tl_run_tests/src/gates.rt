@@ -3,7 +3,6 @@
 //! Two banks with a block each. A client's thread holds a bank's lock while another client is served by the other bank, so each bank
 //! has a lock of its own; a client waits before its command until the other's was answered, so each has a thread of its own; and the two
 //! homes are inside their banks at once.
-use crate::setting::has_text;
 use std::alloc::Global;
 use std::sync::Wait;
 use std::sync::atomic::{AtomicU64, Ordering};
@@ -12,6 +11,7 @@ use std::thread::Threads;
 use std::time::Clock;
 use tl_runner::{Gate, Who, read_script, run};
 use tl_script::Script;
+use tl_text::Report;
 use tl_types::{BankNo, ClientId};
 
 /// How often a held thread yields before the test has failed.
@@ -169,6 +169,12 @@ fn script_of(alloc: Global, addresses: [&str; 2]) -> Option<Script> {
         "{NUMBERS}commands = [[\"load {first} 1\"], [\"load {second} 1\"]]\n"
     ).ok()?;
     read_script(alloc, text.as_bytes()).ok()
+}
+
+/// Whether a report has this text. `None` where a request for memory was refused.
+fn has_text(alloc: Global, report: &Report, wanted: &str) -> Option<bool> {
+    let text = report.text(alloc).ok()?;
+    Some(text.as_str() == wanted)
 }
 
 /// Whether this is the report of a run under a gate.

@@ -92,7 +92,7 @@ fn share_of(lists: &mut [Vec<Share>], number: usize, client: u32) -> Option<&mut
 }
 
 /// Whether a report has this text. `None` where a request for memory was refused.
-pub(crate) fn has_text(alloc: Global, report: &Report, wanted: &str) -> Option<bool> {
+fn has_text(alloc: Global, report: &Report, wanted: &str) -> Option<bool> {
     let text = report.text(alloc).ok()?;
     Some(text.as_str() == wanted)
 }
@@ -140,6 +140,7 @@ impl Setting {
         Some(setting)
     }
 
+    /// Adds the script's banks at reset, and a list of the shares of each. `None` where a request for memory was refused.
     fn add_banks(&mut self, alloc: Global) -> Option<()> {
         for number in 0..self.geometry().banks() {
             self.add_bank(alloc, number)?;
@@ -147,10 +148,13 @@ impl Setting {
         Some(())
     }
 
+    /// Adds a bank of the script at reset, and a list of its shares. `None` where the script has no bank of this number, or a request
+    /// for memory was refused.
     fn add_bank(&mut self, alloc: Global, number: u32) -> Option<()> {
         let (bank, list) = fresh(alloc, &self.script, number)?;
-        self.lists.push(list).ok()?;
-        self.banks.push(bank).ok()
+        let listed = self.lists.push(list).ok();
+        let added = self.banks.push(bank).ok();
+        listed.and(added)
     }
 
     /// The script's geometry.
@@ -158,6 +162,7 @@ impl Setting {
         self.script.geometry()
     }
 
+    /// A bank of the setting.
     fn bank(&mut self, number: usize) -> Option<&mut Bank> {
         self.banks.as_mut_slice().get_mut(number)
     }
@@ -200,6 +205,7 @@ impl Setting {
 
 /// What is concluded.
 impl Setting {
+    /// What is concluded for a script.
     fn conclude(&self, alloc: Global, script: &Script) -> Result<Report, RunError> {
         conclude(alloc, script, &self.banks, &self.lists)
     }

@@ -179,6 +179,12 @@ pub fn play_out<G: Gate, R: Wait + Clock>(
     together(turns, workers.into_answers())
 }
 
+/// A cache of one bank behind its lock.
+fn cache_of(alloc: Global, geometry: Geometry, bank: Bank) -> Option<Locked> {
+    let banks = Vec::from_array(alloc, [bank]).ok()?;
+    Locked::new(alloc, geometry, banks).ok()
+}
+
 /// A cache of one bank behind its lock, and a list of this share.
 pub fn lock_up(
     alloc: Global,
@@ -186,10 +192,7 @@ pub fn lock_up(
     bank: Bank,
     share: Share,
 ) -> Option<(Locked, Vec<Share>)> {
-    let shares = Vec::from_array(alloc, [share]).ok()?;
-    let banks = Vec::from_array(alloc, [bank]).ok()?;
-    let locked = Locked::new(alloc, geometry, banks).ok()?;
-    Some((locked, shares))
+    cache_of(alloc, geometry, bank).zip(Vec::from_array(alloc, [share]).ok())
 }
 
 /// The bank behind its lock, where there is one.

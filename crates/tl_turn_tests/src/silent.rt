@@ -191,17 +191,25 @@ fn wait_for_the_silent<R: Wait + Clock>(
 /// What is seen of the bank: what each client may do with block 0, whether it is quiet, and whether its log replays to what it shows.
 type Shown = (Perm, Perm, bool, bool);
 
-/// What is seen of a bank. `None` where a request for memory was refused.
-fn shown(alloc: Global, bank: Option<Bank>) -> Option<Shown> {
-    let bank = bank?;
-    let replays = replays(alloc, &bank)?;
+/// What each client may do with block 0.
+fn perms(bank: &Bank) -> (Perm, Perm) {
     let block = BlockNo::new(0);
-    Some((
+    (
         bank.perm(ClientId::new(0), block),
         bank.perm(ClientId::new(1), block),
-        bank.is_quiet(),
-        replays,
-    ))
+    )
+}
+
+/// What is seen of a bank. `None` where a request for memory was refused.
+fn seen(alloc: Global, bank: &Bank) -> Option<Shown> {
+    let replays = replays(alloc, bank)?;
+    let (first, second) = perms(bank);
+    Some((first, second, bank.is_quiet(), replays))
+}
+
+/// What is seen of a bank, where there is one.
+fn shown(alloc: Global, bank: Option<Bank>) -> Option<Shown> {
+    seen(alloc, &bank?)
 }
 
 /// Whether client 1's agent or the home finished, and how many answers the agent had.

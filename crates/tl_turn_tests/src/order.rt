@@ -309,24 +309,28 @@ fn refusing_port(alloc: Global) -> Recorder {
     }
 }
 
-/// The place of the first step of the home of bank 0 that does not go, with this mail. `None` where a request for memory was refused.
-fn played<R: Wait + Clock>(
-    rt: &R,
+/// The home of bank 0 at a port that refuses, with this mail. `None` where a request for memory was refused.
+fn scene_of<'a>(
     alloc: Global,
-    mail: Option<Mail<'_>>,
-    put: (Sender<'_>, Ringer<'_>),
-    done: Ringer<'_>,
-) -> Option<Option<usize>> {
+    mail: Option<Mail<'a>>,
+    put: (Sender<'a>, Ringer<'a>),
+    done: Ringer<'a>,
+) -> Option<Scene<'a>> {
     let (mail, home) = mail.zip(Home::new(alloc, BankNo::new(0)).ok())?;
     let (put, bell) = put;
-    let mut scene = Scene {
+    Some(Scene {
         home,
         port: refusing_port(alloc),
         mail,
         put,
         bell,
         done,
-    };
+    })
+}
+
+/// The place of the first step that does not go, where there is a scene.
+fn played<R: Wait + Clock>(rt: &R, scene: Option<Scene<'_>>) -> Option<Option<usize>> {
+    let mut scene = scene?;
     Some(scene.first_that_fails(rt, STEPS))
 }
 
@@ -334,7 +338,7 @@ fn played<R: Wait + Clock>(
 fn played_by_mail<R: Wait + Clock>(rt: &R, alloc: Global) -> Option<Option<usize>> {
     let (rooms, keys) = open_two(alloc)?;
     let (mail, put, done) = first_mail(alloc, &rooms, keys);
-    played(rt, alloc, mail, put, done)
+    played(rt, scene_of(alloc, mail, put, done))
 }
 
 #[test]

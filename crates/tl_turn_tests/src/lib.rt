@@ -1,0 +1,17 @@
+//! Tests of the turns of agents and homes by public calls, where no script leads: what they ask, in which order, and what a gate sees.
+#![tactic(auto)]
+
+#[cfg(test)]
+mod counts;
+#[cfg(test)]
+mod idle;
+#[cfg(test)]
+mod mails;
+#[cfg(test)]
+mod order;
+#[cfg(test)]
+mod play;
+#[cfg(test)]
+mod silent;
+#[cfg(test)]
+mod turns;
