@@ -166,6 +166,25 @@ fn only_way<'a>(
     Vec::from_array(alloc, [way]).ok()
 }
 
+/// The same, and where the worker rests.
+fn only_way_and_rest<'a>(
+    alloc: Global,
+    to: (Sender<'a>, Ringer<'a>),
+) -> Option<(Vec<Sending<'a>>, Parker)> {
+    let parker = Parker::new(alloc).ok()?;
+    only_way(alloc, to, parker.unparker()).zip(Some(parker))
+}
+
+/// The mail of a worker with these ways, which rests there, where there are any.
+pub fn mail_of<'a>(
+    own: (Receiver<'a>, Ringer<'a>),
+    ways: Option<(Vec<Sending<'a>>, Parker)>,
+    done: Ringer<'a>,
+) -> Option<Mail<'a>> {
+    let (ways, parker) = ways?;
+    Some(Mail::new(own.0, own.1, ways, done, parker))
+}
+
 /// The mail of a worker that sends to one other. One thread plays all workers, so that a ring need wake nobody: each way
 /// wakes the sender.
 pub fn mail<'a>(
@@ -174,9 +193,7 @@ pub fn mail<'a>(
     to: (Sender<'a>, Ringer<'a>),
     done: Ringer<'a>,
 ) -> Option<Mail<'a>> {
-    let parker = Parker::new(alloc).ok()?;
-    let ways = only_way(alloc, to, parker.unparker())?;
-    Some(Mail::new(own.0, own.1, ways, done, parker))
+    mail_of(own, only_way_and_rest(alloc, to), done)
 }
 
 /// The mails of two workers who send to one another. `None` where a request for memory was refused.

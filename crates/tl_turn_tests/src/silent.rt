@@ -2,7 +2,9 @@
 ghost use Rattle.tl_tickets.specs.Inbox.{IsReceiverOf, IsSenderOf};
 ghost use Rattle.tl_tickets.specs.Bell.{IsSeatOf};
 
-use crate::mails::{Key, Keys, Room, Rooms, inside, mail, open_outside, open_two, outside, way};
+use crate::mails::{
+    Key, Keys, Room, Rooms, inside, mail, mail_of, open_outside, open_two, outside, way,
+};
 use crate::turns::{Played, Workers, bank_of, lock_up, play_out};
 use crossbeam_utils::sync::{Parker, Unparker};
 use std::alloc::Global;
@@ -110,9 +112,18 @@ fn both_ways<'a>(
     second: (Sender<'a>, Ringer<'a>),
     rest: &Unparker,
 ) -> Option<Vec<Sending<'a>>> {
-    let first = way(alloc, first, rest)?;
-    let second = way(alloc, second, rest)?;
+    let (first, second) = way(alloc, first, rest).zip(way(alloc, second, rest))?;
     Vec::from_array(alloc, [first, second]).ok()
+}
+
+/// The same, and where the home rests.
+fn both_ways_and_rest<'a>(
+    alloc: Global,
+    first: (Sender<'a>, Ringer<'a>),
+    second: (Sender<'a>, Ringer<'a>),
+) -> Option<(Vec<Sending<'a>>, Parker)> {
+    let parker = Parker::new(alloc).ok()?;
+    both_ways(alloc, first, second, parker.unparker()).zip(Some(parker))
 }
 
 /// The mail of a home to its two clients. One thread plays both, so that a ring need wake nobody: each way wakes the home.
@@ -123,9 +134,7 @@ fn home_mail<'a>(
     to_waiting: (Sender<'a>, Ringer<'a>),
     done: Ringer<'a>,
 ) -> Option<Mail<'a>> {
-    let parker = Parker::new(alloc).ok()?;
-    let ways = both_ways(alloc, to_silent, to_waiting, parker.unparker())?;
-    Some(Mail::new(own.0, own.1, ways, done, parker))
+    mail_of(own, both_ways_and_rest(alloc, to_silent, to_waiting), done)
 }
 
 /// The mails of the client that waits, whose room is the first of the two, and of the home. `None` where a request for memory was
