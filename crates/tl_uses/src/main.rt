@@ -150,13 +150,18 @@ fn look(rt: &impl Print, driven: &mut Driven, clock: u64) -> Result<()> {
     Ok(())
 }
 
-fn main(rt: HostRuntime) -> Result<()> {
-    let Some(mut driven) = fresh(rt.alloc())? else {
-        return Ok(());
-    };
+/// Client 0 gets the block and stores, the race is driven, and client 1 looks.
+fn drive(rt: &impl Print, driven: &mut Driven) -> Result<()> {
     let block = BlockNo::new(0);
-    let stamp = own(&mut driven, ClientId::new(0), block)?;
+    let stamp = own(driven, ClientId::new(0), block)?;
     println!(rt; "client 0 stores aa, stamp {stamp}")?;
-    race(&rt, &mut driven, block)?;
-    look(&rt, &mut driven, stamp)
+    race(rt, driven, block)?;
+    look(rt, driven, stamp)
+}
+
+fn main(rt: HostRuntime) -> Result<()> {
+    match fresh(rt.alloc())? {
+        Some(mut driven) => drive(&rt, &mut driven),
+        None => Ok(()),
+    }
 }

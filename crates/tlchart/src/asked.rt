@@ -39,21 +39,25 @@ impl From<clap::Error> for AskedError {
     }
 }
 
+/// The words that the program takes.
 fn command<'a>(alloc: Global) -> Result<Command<'a>, AllocError> {
-    let mermaid = Arg::new(alloc, "mermaid")
-        .long("mermaid")
-        .action(ArgAction::SetTrue);
-    let block = Arg::new(alloc, "block")
-        .long("block")
-        .action(ArgAction::Set);
-    let file = Arg::new(alloc, "file")
-        .required(true)
-        .action(ArgAction::Set);
     Command::new(alloc, "tlchart")
         .no_binary_name(true)
-        .arg(mermaid)?
-        .arg(block)?
-        .arg(file)
+        .arg(
+            Arg::new(alloc, "mermaid")
+                .long("mermaid")
+                .action(ArgAction::SetTrue),
+        )?
+        .arg(
+            Arg::new(alloc, "block")
+                .long("block")
+                .action(ArgAction::Set),
+        )?
+        .arg(
+            Arg::new(alloc, "file")
+                .required(true)
+                .action(ArgAction::Set),
+        )
 }
 
 /// The block that is asked for, if one is.
@@ -67,21 +71,31 @@ fn block_asked(matches: &ArgMatches<'_>) -> Result<Option<BlockNo>, AskedError> 
     }
 }
 
+/// The form that is asked for.
+fn form_asked(matches: &ArgMatches<'_>) -> Form {
+    if matches.get_flag("mermaid") {
+        Form::Mermaid
+    } else {
+        Form::Svg
+    }
+}
+
+/// What the words that were matched ask for.
+fn asked_in(alloc: Global, matches: &ArgMatches<'_>) -> Result<Asked, AskedError> {
+    let block = block_asked(matches)?;
+    let file = matches.get_str("file").ok_or(AskedError::Usage)?;
+    let file = String::from_str(alloc, file)?;
+    Ok(Asked {
+        file,
+        form: form_asked(matches),
+        block,
+    })
+}
+
 /// What the words after the program's name ask for.
 pub(crate) fn asked_by(alloc: Global, words: &[String]) -> Result<Asked, AskedError> {
     let matches = command(alloc)?.try_get_matches_from(words)?;
-    let Some(file) = matches.get_str("file") else {
-        return Err(AskedError::Usage);
-    };
-    Ok(Asked {
-        file: String::from_str(alloc, file)?,
-        form: if matches.get_flag("mermaid") {
-            Form::Mermaid
-        } else {
-            Form::Svg
-        },
-        block: block_asked(&matches)?,
-    })
+    asked_in(alloc, &matches)
 }
 
 /// A file's name, without its folder and its last ending.
