@@ -173,25 +173,49 @@ fn the_state_at_the_end_of_each_part(rt: HostRuntime) -> Result<(), Fail> {
     Ok(())
 }
 
+/// Lines that break the record of the first five parts.
+const BREACHES: &[&str] = &["get 0\n", "drop 0\n", "accept 2 0\n"];
+
+/// The record of the first five parts, with one line more.
+fn record_with(alloc: Global, line: &str) -> Result<String, Fail> {
+    let mut text = String::new(alloc);
+    for (lines, _) in STATES.iter().take(5) {
+        text.push_str(lines)?;
+    }
+    text.push_str(line)?;
+    Ok(text)
+}
+
+/// What is said of the state before a line that breaks the record of the first five parts.
+fn shown_before(alloc: Global, line: &str) -> Result<String, Fail> {
+    let text = record_with(alloc, line)?;
+    beside(alloc, &text)
+}
+
 #[test]
 fn the_state_before_a_broken_entry(rt: HostRuntime) -> Result<(), Fail> {
-    let alloc = rt.alloc();
-    for broken in ["get 0\n", "drop 0\n", "accept 2 0\n"] {
-        let mut text = String::new(alloc);
-        for (lines, _) in STATES.iter().take(5) {
-            text.push_str(lines)?;
-        }
-        text.push_str(broken)?;
-        let shown = beside(alloc, &text)?;
-        let (_, before) = STATES[4];
-        assert_eq!(rt; shown.as_str(), before, "before {broken}");
+    let (_, before) = STATES[4];
+    for line in BREACHES {
+        let shown = shown_before(rt.alloc(), line)?;
+        assert_eq!(rt; shown.as_str(), before, "before {line}");
     }
-    let nowhere = beside(alloc, "clients 1 block_bytes 8 memory_blocks 4\nget 4\n")?;
-    assert_eq!(rt; nowhere.as_str(), "");
-    let rest = beside(alloc, "clients 1 block_bytes 8 memory_blocks 4\nget 3\n")?;
-    assert_eq!(rt;
-        rest.as_str(),
-        "block 3: 0 held, 0 recorded, quiet\nhome: no copy\nmemory: 0000000000000000\n"
-    );
+    Ok(())
+}
+
+/// Records whose first event breaks them, and what is said of the state: nothing of a block that is none.
+const FIRST_BREACHES: &[(&str, &str)] = &[
+    ("clients 1 block_bytes 8 memory_blocks 4\nget 4\n", ""),
+    (
+        "clients 1 block_bytes 8 memory_blocks 4\nget 3\n",
+        "block 3: 0 held, 0 recorded, quiet\nhome: no copy\nmemory: 0000000000000000\n",
+    ),
+];
+
+#[test]
+fn the_state_before_a_broken_first_entry(rt: HostRuntime) -> Result<(), Fail> {
+    for (text, state) in FIRST_BREACHES {
+        let shown = beside(rt.alloc(), text)?;
+        assert_eq!(rt; shown.as_str(), *state, "beside {text}");
+    }
     Ok(())
 }
