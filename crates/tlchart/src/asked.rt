@@ -82,13 +82,11 @@ fn form_asked(matches: &ArgMatches<'_>) -> Form {
 
 /// What the words that were matched ask for.
 fn asked_in(alloc: Global, matches: &ArgMatches<'_>) -> Result<Asked, AskedError> {
-    let block = block_asked(matches)?;
     let file = matches.get_str("file").ok_or(AskedError::Usage)?;
-    let file = String::from_str(alloc, file)?;
     Ok(Asked {
-        file,
+        file: String::from_str(alloc, file)?,
         form: form_asked(matches),
-        block,
+        block: block_asked(matches)?,
     })
 }
 
