@@ -92,21 +92,7 @@ impl Bank {
         ensures victim { IfOk result
             (λ a. a.opening.victim ≡ victim_of_way self.now (set_of self.now.geometry a.block) (way_at self.now a.block) a.opening.way.way) }
     {
-        if ticket.client.number() >= self.geometry.clients() {
-            return Err(Refusal::OutOfRange);
-        }
-        if ticket.bank != self.number {
-            return Err(Refusal::WrongBank);
-        }
-        if ticket.channel != Channel::A {
-            return Err(Refusal::NotHead);
-        }
-        let Some(message) = self.links.first(ticket.client, Channel::A) else {
-            return Err(Refusal::NothingThere);
-        };
-        if ticket.serial != self.links.taken(ticket.client, Channel::A) {
-            return Err(Refusal::NotHead);
-        }
+        let message = self.ticket_message(ticket, Channel::A)?;
         if self.registers.is_busy(message.block) {
             return Err(Refusal::BlockBusy);
         }

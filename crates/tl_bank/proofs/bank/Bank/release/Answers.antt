@@ -1,13 +1,11 @@
 use Rattle.std.proofs.Common.{rules, ◌≡◌, ◌<◌, ◌^◌, ◌∙◌, None, length, sym, subst, ap}
 use Rattle.tl_map.specs.Limits.{IsLawful}
-use Rattle.tl_types.specs.Message.{surrender}
 use Rattle.tl_types.specs.declared.channel.Channel.TheVariants.{C}
-use Rattle.tl_protocol.specs.Copy.{dirty_bytes, reduced}
 use Rattle.tl_protocol.specs.Protocol.{is_none}
 use Rattle.tl_bank_spec.specs.Calls.{release_cases}
 use Rattle.tl_bank_spec.specs.Refusal.{first_of}
 use Rattle.tl_bank_spec.specs.Share.{Holding, recount, recounted}
-use Rattle.tl_bank_spec.specs.View.{View, client_at, perm_at}
+use Rattle.tl_bank_spec.specs.View.{View, perm_at}
 use Rattle.tl_bank_spec.proofs.Counted.{others-keep}
 use Rattle.tl_bank_spec.proofs.Logged.{extends-appends}
 use Rattle.tl_bank_spec.proofs.Sent.{sends-release, sends-as}
