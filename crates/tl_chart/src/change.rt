@@ -59,7 +59,7 @@ fn change_by(arrow: &Arrow) -> Option<Change>
 fn change_in(block: BlockNo, arrow: &Arrow) -> Option<Change>
     ensures { result ≡ change_in block arrow.now }
 {
-    if arrow.message.block.number() == block.number() {
+    if arrow.message.block == block {
         change_by(arrow)
     } else {
         None

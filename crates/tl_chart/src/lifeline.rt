@@ -109,10 +109,7 @@ pub(crate) fn receiver(ticket: &Ticket) -> Lifeline
 fn same_ticket(a: &Ticket, b: &Ticket) -> bool
     ensures { result ≡ same_ticket a.now b.now }
 {
-    a.bank.number() == b.bank.number()
-        && a.client.number() == b.client.number()
-        && a.channel.index() == b.channel.index()
-        && a.serial == b.serial
+    a.bank == b.bank && a.client == b.client && a.channel == b.channel && a.serial == b.serial
 }
 
 /// Whether two places are one.
@@ -125,11 +122,11 @@ pub(crate) fn same_place(a: &Place, b: &Place) -> bool
             Place::ToMemory(_) | Place::FromMemory(_) => false,
         },
         Place::ToMemory(one) => match b {
-            Place::ToMemory(other) => one.number() == other.number(),
+            Place::ToMemory(other) => one == other,
             Place::Link(_) | Place::FromMemory(_) => false,
         },
         Place::FromMemory(one) => match b {
-            Place::FromMemory(other) => one.number() == other.number(),
+            Place::FromMemory(other) => one == other,
             Place::Link(_) | Place::ToMemory(_) => false,
         },
     }

@@ -13,9 +13,7 @@ use tl_types::{BankNo, CLIENTS, ClientId};
 fn is_share(share: &Share, client: ClientId, bank: BankNo, count: u64) -> bool
     ensures { IsTrue result ↔ (share.now ≡ record { client = client; bank = bank; count = count }) }
 {
-    share.client().number() == client.number()
-        && share.bank().number() == bank.number()
-        && u64::from(share.count()) == count
+    share.client() == client && share.bank() == bank && u64::from(share.count()) == count
 }
 
 /// Whether such a share is among some.
