@@ -3,6 +3,9 @@ use Rattle.std.specs.Prelude.{◌≡◌, ◌≢◌, ℕ, ◌-◌, ◌==◌, List
 use Rattle.std.specs.Io.KnownBytes.{Appends}
 use Rattle.std.specs.Borrow.{Bor}
 use Rattle.tl_protocol.specs.declared.event.Event.{Event}
+use Rattle.tl_streams.specs.Written.{AppendsBeginning}
+use Rattle.tl_streams.specs.declared.reading.ReadError.{ReadError}
+use Rattle.tl_streams.specs.declared.reading.ReadError.TheVariants as read
 use Rattle.tl_explain.specs.declared.answer.Explanation.{Explanation}
 use Rattle.tl_explain.specs.declared.answer.Explanation.TheVariants.{Explained, NotExplained}
 use Rattle.tl_wire.specs.Fault.{is_outside, sentence}
@@ -29,19 +32,28 @@ status_of Memory = 4
 status_of File = 5
 
 -- 50 is outside the format, 52 TileLink's and outside the profile
-abbrev pub wrong_line : ℕ → Fault → List ℕ
-wrong_line line fault =
-    if is_outside fault then codes "error 52 line " ++ decimal line ++ codes ": " ++ sentence fault ++ codes "\n"
-    else codes "error 50 line " ++ decimal line ++ codes ": " ++ sentence fault ++ codes "\n"
+abbrev pub wrong_text : ℕ → Fault → List ℕ
+wrong_text line fault =
+    if is_outside fault then codes "error 52 line " ++ decimal line ++ codes ": " ++ sentence fault
+    else codes "error 50 line " ++ decimal line ++ codes ": " ++ sentence fault
+
+-- a fault as it prints
+abbrev pub fault_text : Ending → List ℕ
+fault_text Usage = codes "error usage"
+fault_text (Answered messages explanation) = []
+fault_text (Wrong line fault) = wrong_text line fault
+fault_text Empty = codes "error 51 empty"
+fault_text Memory = codes "error 41 memory"
+fault_text File = codes "error file"
 
 -- the line of a fault
 abbrev pub fault_line : Ending → List ℕ
-fault_line Usage = codes "error usage\n"
-fault_line (Answered messages explanation) = []
-fault_line (Wrong line fault) = wrong_line line fault
-fault_line Empty = codes "error 51 empty\n"
-fault_line Memory = codes "error 41 memory\n"
-fault_line File = codes "error file\n"
+fault_line ending = fault_text ending ++ codes "\n"
+
+-- a file that is not read to its end ends as a read, or for want of memory
+abbrev pub ending_of_read : ReadError → Ending
+ending_of_read read.Memory = Memory
+ending_of_read read.File = File
 
 -- so much was seen, and so many events explain it
 abbrev pub summary_text : ℕ → ℕ → List ℕ
@@ -94,13 +106,6 @@ abbrev pub answer_text : Form → List (List ℕ) → MessagesState → Explanat
 answer_text form lines m (Explained events) = explained_text form m events.items
 answer_text form lines m (NotExplained place) =
     not_explained_text (number_at m.lines place) (text_at lines (number_at m.lines place))
-
--- What was written is the text, or a beginning of it where the writer took no more.
-pub record AppendsBeginning (old new : Option (List ℕ)) (text : List ℕ) : Type 0 where
-  pub written : List ℕ
-  pub rest : List ℕ
-  pub split : text ≡ written ++ rest
-  pub appended : Appends old new written
 
 -- what is written of an ending that is an answer
 abbrev pub ending_text : Form → List (List ℕ) → Ending → List ℕ

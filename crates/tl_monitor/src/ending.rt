@@ -1,21 +1,18 @@
 //! What an answer ends with, and how it is told.
-ghost use Rattle.std.specs.Prelude.{◌≡◌, ◌++◌, Some, IfOk, OnOk, OnErr, slice_get, string_bytes};
-ghost use Rattle.std.specs.Io.KnownBytes.{Appends};
+ghost use Rattle.std.specs.Prelude.{◌≡◌, ◌++◌, Some, IfOk, OnOk, slice_get, string_bytes};
+ghost use Rattle.tl_streams.specs.Written.{AppendsBeginning};
 ghost use Rattle.tl_words.specs.Words.{texts};
-ghost use Rattle.tl_monitor.specs.Ending.{AppendsBeginning, answer_text, explained_text, fault_line, lent_line, not_explained_text, number_at, run_of, status_of, summary_line, summary_text, text_at};
+ghost use Rattle.tl_monitor.specs.Ending.{answer_text, ending_of_read, explained_text, fault_line, fault_text, lent_line, not_explained_text, number_at, run_of, status_of, summary_line, summary_text, text_at};
 
 use crate::run::RunText;
-use arrayvec::ArrayVec;
 use std::alloc::{AllocError, Global};
+use std::fmt;
 use std::fmt::Write as WriteText;
-use std::io::{ErrorKind, Write};
-use std::{fmt, io};
+use std::io::Write;
 use tl_explain::Explanation;
 use tl_rules::Event;
+use tl_streams::{ReadError, tell};
 use tl_wire::{Fault, Messages};
-
-/// The bytes of the longest line of a fault: its words, a number of 64 bits and a sentence.
-const LINE: usize = 128;
 
 /// What is written of a run that was found.
 #[derive(Clone, Copy, Debug, PartialEq, Eq)]
@@ -26,7 +23,7 @@ pub enum Form {
     Run,
 }
 
-/// What an answer ends with. It prints as the line of a fault.
+/// What an answer ends with. It prints as the text of a fault.
 #[derive(Drop)]
 pub enum Ending {
     /// The words of the command line are not an option and one file.
@@ -44,22 +41,33 @@ pub enum Ending {
 }
 
 impl fmt::Display for Ending {
-    ghost output = { λ e. Some (fault_line e) };
+    ghost output = { λ e. Some (fault_text e) };
 
     fn fmt<W: fmt::Write>(&self, f: &mut fmt::Formatter<W>) -> fmt::Result {
         match self {
-            Ending::Usage => f.write_str("error usage\n"),
+            Ending::Usage => f.write_str("error usage"),
             Ending::Answered(_, _) => Ok(()),
             Ending::Wrong(line, fault) => {
                 if fault.is_outside() {
-                    write!(f, "error 52 line {line}: {fault}\n")
+                    write!(f, "error 52 line {line}: {fault}")
                 } else {
-                    write!(f, "error 50 line {line}: {fault}\n")
+                    write!(f, "error 50 line {line}: {fault}")
                 }
             }
-            Ending::Empty => f.write_str("error 51 empty\n"),
-            Ending::Memory => f.write_str("error 41 memory\n"),
-            Ending::File => f.write_str("error file\n"),
+            Ending::Empty => f.write_str("error 51 empty"),
+            Ending::Memory => f.write_str("error 41 memory"),
+            Ending::File => f.write_str("error file"),
+        }
+    }
+}
+
+impl From<ReadError> for Ending {
+    ghost from_gives = { λ error ending. ending ≡ ending_of_read error };
+
+    fn from(error: ReadError) -> Ending {
+        match error {
+            ReadError::Memory => Ending::Memory,
+            ReadError::File => Ending::File,
         }
     }
 }
@@ -192,39 +200,6 @@ pub(crate) fn text_of(
             not_explained(alloc, number, text_at(lines, number))
         }
     }
-}
-
-/// Writes the whole text, or a beginning of it where a write fails.
-pub(crate) fn write_whole<W: Write>(writer: &mut W, text: &[u8]) -> io::Result<()>
-    ensures ok { OnOk result (Appends (W.contents writer.old) (W.contents writer.new) text.now) }
-    ensures err { OnErr result (AppendsBeginning (W.contents writer.old) (W.contents writer.new) text.now) }
-{
-    let mut rest = text;
-    for _ in 0..u64::MAX {
-        if rest.is_empty() {
-            return writer.flush();
-        }
-        match writer.write(rest) {
-            Ok(0) => return Err(io::Error::from(ErrorKind::WriteZero)),
-            Ok(taken) => rest = &rest[taken..],
-            Err(error) => {
-                if error.kind() != ErrorKind::Interrupted {
-                    return Err(error);
-                }
-            }
-        }
-    }
-    Err(io::Error::from(ErrorKind::TimedOut))
-}
-
-/// Writes the line of a fault, or a beginning of it where a write fails.
-fn tell<E: Write>(faults: &mut E, ending: &Ending) -> io::Result<()>
-    ensures ok { OnOk result (Appends (E.contents faults.old) (E.contents faults.new) (fault_line ending.now)) }
-    ensures err { OnErr result (AppendsBeginning (E.contents faults.old) (E.contents faults.new) (fault_line ending.now)) }
-{
-    let mut line: ArrayVec<u8, LINE> = ArrayVec::new();
-    write!(line, "{ending}")?;
-    write_whole(faults, line.as_slice())
 }
 
 /// Tells a fault, as far as `faults` takes it, and answers its status.

@@ -6,10 +6,11 @@ ghost use Rattle.tl_monitor.specs.Answer.{IsEnding, MayEnd};
 ghost use Rattle.tl_monitor.specs.Ending.{IsTold, status_of};
 ghost use Rattle.tl_monitor.specs.declared.ending.Ending.{Ending};
 
-use crate::ending::{Ending, Form, show, text_of, write_whole};
+use crate::ending::{Ending, Form, show, text_of};
 use std::alloc::Global;
 use std::io::Write;
 use tl_explain::explain;
+use tl_streams::write_whole;
 use tl_wire::{Messages, ReadFault, read, split_lines};
 
 /// What the answer to what was seen ends with.
@@ -35,8 +36,38 @@ fn ending(alloc: Global, lines: &[&[u8]]) -> Ending
     }
 }
 
-/// Writes an answer to `output`, or a fault to `faults`, and answers the status.
+/// Writes an ending to `output` where it is an answer, else to `faults`, and answers its status: that of the file where it could not be
+/// written, or of want of memory.
 fn tell<W: Write, E: Write>(
+    alloc: Global,
+    form: Form,
+    lines: &[&[u8]],
+    ending: &Ending,
+    output: &mut W,
+    faults: &mut E,
+) -> u8
+    requires { MayEnd (texts lines.now) ending.now }
+    ensures { (told : Ending)
+        × MayEnd (texts lines.now) told
+        × (result ≡ status_of told)
+        × IsTold result form (texts lines.now) told (W.contents output.old) (W.contents output.new) (E.contents faults.old) (E.contents faults.new) }
+{
+    match ending {
+        Ending::Answered(messages, explanation) => {
+            match text_of(alloc, form, lines, messages, explanation) {
+                Ok(text) => match write_whole(output, &text) {
+                    Ok(()) => ending.status(),
+                    Err(_) => show(faults, &Ending::File),
+                },
+                Err(_) => show(faults, &Ending::Memory),
+            }
+        }
+        _ => show(faults, ending),
+    }
+}
+
+/// Answers what was seen, and tells it.
+fn reply<W: Write, E: Write>(
     alloc: Global,
     form: Form,
     lines: &[&[u8]],
@@ -49,18 +80,7 @@ fn tell<W: Write, E: Write>(
         × IsTold result form (texts lines.now) ending (W.contents output.old) (W.contents output.new) (E.contents faults.old) (E.contents faults.new) }
 {
     let ending = ending(alloc, lines);
-    match &ending {
-        Ending::Answered(messages, explanation) => {
-            match text_of(alloc, form, lines, messages, explanation) {
-                Ok(text) => match write_whole(output, &text) {
-                    Ok(()) => ending.status(),
-                    Err(_) => show(faults, &Ending::File),
-                },
-                Err(_) => show(faults, &Ending::Memory),
-            }
-        }
-        _ => show(faults, &ending),
-    }
+    tell(alloc, form, lines, &ending, output, faults)
 }
 
 /// Reads a record of messages, looks for a run that has just what was seen, and writes what it found: an answer to `output`, a fault to
@@ -79,7 +99,7 @@ pub fn answer<W: Write, E: Write>(
         × IsTold result form (lines_of text.now) ending (W.contents output.old) (W.contents output.new) (E.contents faults.old) (E.contents faults.new) }
 {
     match split_lines(alloc, text) {
-        Ok(lines) => tell(alloc, form, &lines, output, faults),
+        Ok(lines) => reply(alloc, form, &lines, output, faults),
         Err(_) => show(faults, &Ending::Memory),
     }
 }

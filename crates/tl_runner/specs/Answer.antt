@@ -1,6 +1,5 @@
 -- What a job is answered with (this project's own).
-use Rattle.std.specs.Prelude.{◌≡◌, ℕ, Bool, true, false, List, ◌++◌, Option, Ok, IfSome}
-use Rattle.std.specs.Io.KnownBytes.{Appends}
+use Rattle.std.specs.Prelude.{◌≡◌, ℕ, Bool, true, false, List, Option, Ok, IfSome}
 use Rattle.tl_conclude.specs.Conclusion.{IsRunReport}
 use Rattle.tl_text.specs.Report.{report_text}
 use Rattle.tl_text.specs.declared.report.Report.{Report}
@@ -21,10 +20,3 @@ IsTextOf false script text = IsReportText script text
 abbrev pub IsAnswerTo : Bool → Option (List ℕ) → List ℕ → Type 0
 IsAnswerTo traces bytes text =
     (script : Script) × IfSome bytes (λ known. read_of known ≡ Ok (value_of script)) × IsTextOf traces script text
-
--- What was written is the text, or a beginning of it where the writer took no more.
-pub record AppendsBeginning (old new : Option (List ℕ)) (text : List ℕ) : Type 0 where
-  pub written : List ℕ
-  pub rest : List ℕ
-  pub split : text ≡ written ++ rest
-  pub appended : Appends old new written

@@ -2,6 +2,8 @@
 use Rattle.std.specs.Prelude.{ℕ, List, ◌++◌, codes}
 use Rattle.tl_job.specs.declared.asked.JobError.{JobError}
 use Rattle.tl_job.specs.declared.asked.JobError.TheVariants.{Usage as j_Usage, Memory as j_Memory}
+use Rattle.tl_streams.specs.declared.reading.ReadError.{ReadError}
+use Rattle.tl_streams.specs.declared.reading.ReadError.TheVariants as read
 use Rattle.tl_script.specs.declared.error.ScriptError.{ScriptError}
 use Rattle.tl_script.specs.declared.error.ScriptError.TheVariants as script
 use Rattle.tl_script.specs.ScriptError.{script_error_text}
@@ -15,6 +17,11 @@ use Rattle.tl_runner.specs.declared.fault.Fault.TheVariants.{Usage, File, Memory
 abbrev pub fault_of_job : JobError → Fault
 fault_of_job j_Usage = Usage
 fault_of_job j_Memory = Memory
+
+-- a file that is not read to its end ends as a read, or for want of memory
+abbrev pub fault_of_read : ReadError → Fault
+fault_of_read read.Memory = Memory
+fault_of_read read.File = File
 
 -- a script that is refused ends with 1, want of memory with 4
 abbrev pub script_status : ScriptError → ℕ

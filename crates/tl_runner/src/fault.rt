@@ -1,7 +1,7 @@
 //! What stops a job, and the status that the program ends with.
 ghost use Rattle.std.specs.Prelude.{◌≡◌};
 ghost use Rattle.tl_runner.specs.declared.fault.Fault.TheVariants as a;
-ghost use Rattle.tl_runner.specs.Fault.{fault_of_job};
+ghost use Rattle.tl_runner.specs.Fault.{fault_of_job, fault_of_read};
 
 use std::alloc::AllocError;
 use std::fmt;
@@ -9,6 +9,7 @@ use thiserror::Error;
 use tl_conclude::RunError;
 use tl_job::JobError;
 use tl_script::ScriptError;
+use tl_streams::ReadError;
 
 /// What stops a job. It prints as the one fault line.
 #[derive(Debug, Drop, Error)]
@@ -49,6 +50,17 @@ impl From<JobError> for Fault {
         match error {
             JobError::Usage => Fault::Usage,
             JobError::Memory => Fault::Memory,
+        }
+    }
+}
+
+impl From<ReadError> for Fault {
+    ghost from_gives = { λ error fault. fault ≡ fault_of_read error };
+
+    fn from(error: ReadError) -> Fault {
+        match error {
+            ReadError::Memory => Fault::Memory,
+            ReadError::File => Fault::File,
         }
     }
 }

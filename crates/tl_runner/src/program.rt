@@ -1,18 +1,17 @@
 //! The answer to a job.
-ghost use Rattle.std.specs.Prelude.{◌≡◌, ◌≢◌, ◌≤◌, ◌⊎◌, ℕ, List, Err, IfOk, IfErr, IfNone, IfSome, OnOk, OnErr, string_bytes};
+ghost use Rattle.std.specs.Prelude.{◌≡◌, ◌≢◌, ◌≤◌, ℕ, List, Err, IfOk, IfErr, IfNone, string_bytes};
 ghost use Rattle.std.specs.Option.{option_and_then, option_map};
 ghost use Rattle.std.specs.Io.KnownBytes.{Appends};
-ghost use Rattle.tl_runner.specs.Answer.{AppendsBeginning, IsAnswerTo};
+ghost use Rattle.tl_streams.specs.Written.{AppendsBeginning};
+ghost use Rattle.tl_runner.specs.Answer.{IsAnswerTo};
 ghost use Rattle.tl_runner.specs.Cause.{IsFaultOf};
 ghost use Rattle.tl_runner.specs.Fault.{fault_line, fault_of_job, status_of};
 ghost use Rattle.tl_runner.specs.declared.fault.Fault.{Fault};
 
 use crate::fault::Fault;
 use crate::step_trace::trace;
-use arrayvec::ArrayVec;
 use std::alloc::Global;
-use std::io;
-use std::io::{ErrorKind, Read, Write};
+use std::io::{Read, Write};
 use std::sync::Wait;
 use std::thread::Threads;
 use std::time::Clock;
@@ -20,23 +19,7 @@ use tl_job::{Job, JobError};
 use tl_machine::run;
 use tl_ports::Gate;
 use tl_script::read_script;
-
-/// The bytes of the longest fault line: `error 33 command`, two numbers of 64 bits, and what lies between.
-const LINE: usize = 64;
-
-fn read_all<R: Read>(alloc: Global, reader: &mut R) -> Result<Vec<u8>, Fault>
-    ensures bytes { IfOk result (λ bytes. IfSome (R.remaining reader.old) (λ known. bytes.items ≡ known)) }
-    ensures fault { IfErr result (λ fault. (fault ≡ Fault.File) ⊎ (fault ≡ Fault.Memory)) }
-{
-    let mut bytes = Vec::new(alloc);
-    match reader.read_to_end(&mut bytes) {
-        Ok(_) => Ok(bytes),
-        Err(error) => match error.kind() {
-            ErrorKind::OutOfMemory => Err(Fault::Memory),
-            _ => Err(Fault::File),
-        },
-    }
-}
+use tl_streams::{read_whole, tell, write_whole};
 
 // The C library's allocator gives a free block of 128 kilobytes and more back to the system, but for those no larger than the largest that
 // it gave back before. So one of this many bytes is asked for and given back: what the reading of a script leaves free then serves the
@@ -65,7 +48,7 @@ fn text<T: Threads + Wait + Clock + Sync, G: Gate + Sync, R: Read + Drop>(
     let job = job?;
     keep_free_blocks(alloc);
     let mut reader = file.ok_or(Fault::File)?;
-    let bytes = read_all(alloc, &mut reader)?;
+    let bytes = read_whole(alloc, &mut reader)?;
     let script = read_script(alloc, &bytes)?;
     drop(bytes);
     if job.traces {
@@ -73,39 +56,6 @@ fn text<T: Threads + Wait + Clock + Sync, G: Gate + Sync, R: Read + Drop>(
     }
     let report = run(rt, alloc, &script, gate)?;
     Ok(report.text(alloc)?)
-}
-
-/// Writes the whole text, or a beginning of it where a write fails.
-fn write_whole<W: Write>(writer: &mut W, text: &[u8]) -> io::Result<()>
-    ensures ok { OnOk result (Appends (W.contents writer.old) (W.contents writer.new) text.now) }
-    ensures err { OnErr result (AppendsBeginning (W.contents writer.old) (W.contents writer.new) text.now) }
-{
-    let mut rest = text;
-    for _ in 0..u64::MAX {
-        if rest.is_empty() {
-            return writer.flush();
-        }
-        match writer.write(rest) {
-            Ok(0) => return Err(io::Error::from(ErrorKind::WriteZero)),
-            Ok(taken) => rest = &rest[taken..],
-            Err(error) => {
-                if error.kind() != ErrorKind::Interrupted {
-                    return Err(error);
-                }
-            }
-        }
-    }
-    Err(io::Error::from(ErrorKind::TimedOut))
-}
-
-/// Writes the line of a fault, or a beginning of it where a write fails.
-fn tell<E: Write>(faults: &mut E, fault: &Fault) -> io::Result<()>
-    ensures ok { OnOk result (Appends (E.contents faults.old) (E.contents faults.new) (fault_line fault.now)) }
-    ensures err { OnErr result (AppendsBeginning (E.contents faults.old) (E.contents faults.new) (fault_line fault.now)) }
-{
-    let mut line: ArrayVec<u8, LINE> = ArrayVec::new();
-    writeln!(line, "{fault}")?;
-    write_whole(faults, line.as_slice())
 }
 
 /// Tells a fault, as far as `faults` takes it, and answers its status.

@@ -2,18 +2,9 @@
 #![tactic(auto)]
 
 use std::fs::File;
-use std::io;
 use std::process::ExitCode;
 use tl_runner::{Free, Job, JobError, answer, job};
-
-/// The words after the program's name.
-fn words(rt: &HostRuntime) -> io::Result<Vec<String>> {
-    let mut words = Vec::new(rt.alloc());
-    for word in std::env::args(rt)?.skip(1) {
-        words.push(word)?;
-    }
-    Ok(words)
-}
+use tl_streams::words;
 
 /// The job that the words ask for. A word that is no UTF-8 names no file that can be opened here, so it is no job.
 fn asked(rt: &HostRuntime) -> Result<Job, JobError> {

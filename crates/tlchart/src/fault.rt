@@ -4,14 +4,11 @@ ghost use Rattle.tlchart.specs.declared.fault.Fault.TheVariants as its;
 ghost use Rattle.tlchart.specs.Fault.{fault_of_words, status_of};
 
 use crate::asked::AskedError;
-use arrayvec::ArrayVec;
-use std::io::{ErrorKind, Write};
-use std::{fmt, io};
+use std::fmt;
+use std::io::Write;
 use tl_picture::DrawError;
 use tl_script::ScriptError;
-
-/// The bytes of the longest fault line, with room.
-const LINE: usize = 64;
+use tl_streams::{ReadError, tell};
 
 /// What stops the program. It prints as the one fault line.
 #[derive(Debug, Drop)]
@@ -53,6 +50,15 @@ impl From<AskedError> for Fault {
     }
 }
 
+impl From<ReadError> for Fault {
+    fn from(error: ReadError) -> Fault {
+        match error {
+            ReadError::Memory => Fault::Memory,
+            ReadError::File => Fault::File,
+        }
+    }
+}
+
 impl From<DrawError> for Fault {
     ghost from_gives = { λ error fault. fault ≡ its.Draw error };
 
@@ -76,33 +82,6 @@ impl Fault {
             Fault::Draw(DrawError::TooMany(_)) => 6,
         }
     }
-}
-
-/// Writes the whole text, or a beginning of it where a write fails.
-pub(crate) fn write_whole<W: Write>(writer: &mut W, text: &[u8]) -> io::Result<()> {
-    let mut rest = text;
-    for _ in 0..u64::MAX {
-        if rest.is_empty() {
-            return writer.flush();
-        }
-        match writer.write(rest) {
-            Ok(0) => return Err(io::Error::from(ErrorKind::WriteZero)),
-            Ok(taken) => rest = &rest[taken..],
-            Err(error) => {
-                if error.kind() != ErrorKind::Interrupted {
-                    return Err(error);
-                }
-            }
-        }
-    }
-    Err(io::Error::from(ErrorKind::TimedOut))
-}
-
-/// Writes the line of a fault, or a beginning of it where a write fails.
-fn tell<E: Write>(faults: &mut E, fault: &Fault) -> io::Result<()> {
-    let mut line: ArrayVec<u8, LINE> = ArrayVec::new();
-    writeln!(line, "{fault}")?;
-    write_whole(faults, line.as_slice())
 }
 
 /// Tells a fault, as far as `faults` takes it, and answers its status.

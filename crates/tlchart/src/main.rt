@@ -5,41 +5,19 @@ mod asked;
 mod fault;
 
 use asked::{Asked, asked_by, title_of};
-use fault::{Fault, show, write_whole};
-use std::alloc::Global;
+use fault::{Fault, show};
 use std::fs::File;
-use std::io;
-use std::io::{ErrorKind, Read};
 use std::process::ExitCode;
 use tl_picture::draw_script;
-
-/// The words after the program's name.
-fn words(rt: &HostRuntime) -> io::Result<Vec<String>> {
-    let mut words = Vec::new(rt.alloc());
-    for word in std::env::args(rt)?.skip(1) {
-        words.push(word)?;
-    }
-    Ok(words)
-}
-
-fn read_all<R: Read>(alloc: Global, reader: &mut R) -> Result<Vec<u8>, Fault> {
-    let mut bytes = Vec::new(alloc);
-    match reader.read_to_end(&mut bytes) {
-        Ok(_) => Ok(bytes),
-        Err(error) => match error.kind() {
-            ErrorKind::OutOfMemory => Err(Fault::Memory),
-            _ => Err(Fault::File),
-        },
-    }
-}
+use tl_streams::{read_whole, words, write_whole};
 
 /// The bytes of the file that is asked for.
 fn bytes(rt: &HostRuntime, file: &str) -> Result<Vec<u8>, Fault> {
     if file == "-" {
-        return read_all(rt.alloc(), &mut rt.reader());
+        return Ok(read_whole(rt.alloc(), &mut rt.reader())?);
     }
     match File::open(rt, file) {
-        Ok(mut file) => read_all(rt.alloc(), &mut file),
+        Ok(mut file) => Ok(read_whole(rt.alloc(), &mut file)?),
         Err(_) => Err(Fault::File),
     }
 }

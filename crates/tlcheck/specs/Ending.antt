@@ -5,6 +5,7 @@ use Rattle.tl_checker.specs.Outcome.{IsOutcome}
 use Rattle.tl_checker.specs.declared.outcome.Outcome.{Outcome}
 use Rattle.tl_checker.specs.declared.outcome.Outcome.TheVariants.{Lawful, Broken, Unreadable, Empty}
 use Rattle.tl_record.specs.Reason.{reason_text}
+use Rattle.tl_streams.specs.Written.{AppendsBeginning}
 use Rattle.tl_record.specs.State.{end_lines, state_lines}
 use Rattle.tlcheck.specs.declared.ending.Ending.{Ending}
 use Rattle.tlcheck.specs.declared.ending.Ending.TheVariants.{Usage, Judged, Memory, File}
@@ -23,13 +24,13 @@ status_of (Judged outcome) = outcome_status outcome
 status_of Memory = 4
 status_of File = 5
 
--- what was said of a record, as a line
-abbrev pub outcome_line : Outcome → List ℕ
-outcome_line (Lawful judge count) = codes "lawful: " ++ decimal count ++ codes " entries\n"
-outcome_line (Broken line broken) =
-    codes "not lawful: line " ++ decimal line ++ codes ", entry " ++ decimal broken.number ++ codes ": " ++ reason_text broken.breach ++ codes "\n"
-outcome_line (Unreadable line) = codes "error 50 line " ++ decimal line ++ codes "\n"
-outcome_line Empty = codes "error 51 empty\n"
+-- what was said of a record
+abbrev pub outcome_text : Outcome → List ℕ
+outcome_text (Lawful judge count) = codes "lawful: " ++ decimal count ++ codes " entries"
+outcome_text (Broken line broken) =
+    codes "not lawful: line " ++ decimal line ++ codes ", entry " ++ decimal broken.number ++ codes ": " ++ reason_text broken.breach
+outcome_text (Unreadable line) = codes "error 50 line " ++ decimal line
+outcome_text Empty = codes "error 51 empty"
 
 -- what stands beside it: the state at the record's end, or before the entry that is not permitted, of the entry's block
 abbrev pub beside : Outcome → List ℕ
@@ -38,17 +39,21 @@ beside (Broken line broken) = state_lines broken.judge.plain broken.block
 beside (Unreadable line) = []
 beside Empty = []
 
--- what the program ends with, as a line
+-- what the program ends with
+abbrev pub ending_text : Ending → List ℕ
+ending_text Usage = codes "error usage"
+ending_text (Judged outcome) = outcome_text outcome
+ending_text Memory = codes "error 41 memory"
+ending_text File = codes "error file"
+
+-- that, as a line
 abbrev pub ending_line : Ending → List ℕ
-ending_line Usage = codes "error usage\n"
-ending_line (Judged outcome) = outcome_line outcome
-ending_line Memory = codes "error 41 memory\n"
-ending_line File = codes "error file\n"
+ending_line ending = ending_text ending ++ codes "\n"
 
 -- that line, and what stands beside it
 abbrev pub ending_lines : Ending → List ℕ
 ending_lines Usage = ending_line Usage
-ending_lines (Judged outcome) = outcome_line outcome ++ beside outcome
+ending_lines (Judged outcome) = ending_line (Judged outcome) ++ beside outcome
 ending_lines Memory = ending_line Memory
 ending_lines File = ending_line File
 
@@ -58,13 +63,6 @@ MayEnd known Usage = ⊥
 MayEnd known (Judged outcome) = IfSome known (λ text. IsOutcome text outcome)
 MayEnd known Memory = Unit {0}
 MayEnd known File = Unit {0}
-
--- What was written is the text, or a beginning of it where the writer took no more.
-pub record AppendsBeginning (old new : Option (List ℕ)) (text : List ℕ) : Type 0 where
-  pub written : List ℕ
-  pub rest : List ℕ
-  pub split : text ≡ written ++ rest
-  pub appended : Appends old new written
 
 -- A verdict stands in the output, with the state beside it, and nothing in the faults.
 pub record IsVerdict (ending : Ending) (output output_new faults faults_new : Option (List ℕ)) : Type 0 where

@@ -1,17 +1,14 @@
 //! What the program ends with, and how it is told.
-ghost use Rattle.std.specs.Prelude.{◌≡◌, ◌++◌, Some, IfOk, OnOk, OnErr, string_bytes};
-ghost use Rattle.std.specs.Io.KnownBytes.{Appends};
-ghost use Rattle.tlcheck.specs.Ending.{AppendsBeginning, beside, ending_line, ending_lines, outcome_line, status_of};
+ghost use Rattle.std.specs.Prelude.{◌≡◌, ◌++◌, Some, IfOk, OnOk, string_bytes};
+ghost use Rattle.tl_streams.specs.Written.{AppendsBeginning};
+ghost use Rattle.tlcheck.specs.Ending.{beside, ending_line, ending_lines, ending_text, outcome_text, status_of};
 
-use arrayvec::ArrayVec;
 use std::alloc::{AllocError, Global};
-use std::io::{ErrorKind, Write};
-use std::{fmt, io};
+use std::fmt;
+use std::io::Write;
 use tl_checker::Outcome;
 use tl_record::{Reason, push_end, push_state};
-
-/// The bytes of the longest line of a fault: `error 50 line`, a number of 64 bits, and what lies between.
-const LINE: usize = 64;
+use tl_streams::tell;
 
 /// What the program ends with. It prints as its first line.
 #[derive(Drop)]
@@ -26,39 +23,39 @@ pub(crate) enum Ending {
     File,
 }
 
-// The line of an outcome.
+// What was said of a record, in a line.
 #[derive(Clone, Copy)]
-struct OutcomeLine<'a>(&'a Outcome);
+struct OutcomeText<'a>(&'a Outcome);
 
-impl fmt::Display for OutcomeLine<'_> {
-    ghost output = { λ l. Some (outcome_line l.0.now) };
+impl fmt::Display for OutcomeText<'_> {
+    ghost output = { λ l. Some (outcome_text l.0.now) };
 
     fn fmt<W: fmt::Write>(&self, f: &mut fmt::Formatter<W>) -> fmt::Result {
         match self.0 {
-            Outcome::Lawful(_, count) => writeln!(f, "lawful: {count} entries"),
+            Outcome::Lawful(_, count) => write!(f, "lawful: {count} entries"),
             Outcome::Broken(line, broken) => {
                 write!(
                     f,
-                    "not lawful: line {line}, entry {}: {}\n",
+                    "not lawful: line {line}, entry {}: {}",
                     broken.number,
                     Reason(broken.breach)
                 )
             }
-            Outcome::Unreadable(line) => writeln!(f, "error 50 line {line}"),
-            Outcome::Empty => f.write_str("error 51 empty\n"),
+            Outcome::Unreadable(line) => write!(f, "error 50 line {line}"),
+            Outcome::Empty => f.write_str("error 51 empty"),
         }
     }
 }
 
 impl fmt::Display for Ending {
-    ghost output = { λ e. Some (ending_line e) };
+    ghost output = { λ e. Some (ending_text e) };
 
     fn fmt<W: fmt::Write>(&self, f: &mut fmt::Formatter<W>) -> fmt::Result {
         match self {
-            Ending::Usage => f.write_str("error usage\n"),
-            Ending::Judged(outcome) => write!(f, "{}", OutcomeLine(outcome)),
-            Ending::Memory => f.write_str("error 41 memory\n"),
-            Ending::File => f.write_str("error file\n"),
+            Ending::Usage => f.write_str("error usage"),
+            Ending::Judged(outcome) => write!(f, "{}", OutcomeText(outcome)),
+            Ending::Memory => f.write_str("error 41 memory"),
+            Ending::File => f.write_str("error file"),
         }
     }
 }
@@ -94,44 +91,11 @@ fn push_beside(text: &mut String, outcome: &Outcome) -> Result<(), AllocError>
 pub(crate) fn lines(alloc: Global, ending: &Ending) -> Result<String, AllocError>
     ensures { IfOk result (λ text. string_bytes text ≡ ending_lines ending.now) }
 {
-    let mut text = format!(in alloc; "{ending}")?;
+    let mut text = format!(in alloc; "{ending}\n")?;
     if let Ending::Judged(outcome) = ending {
         push_beside(&mut text, outcome)?;
     }
     Ok(text)
-}
-
-/// Writes the whole text, or a beginning of it where a write fails.
-pub(crate) fn write_whole<W: Write>(writer: &mut W, text: &[u8]) -> io::Result<()>
-    ensures ok { OnOk result (Appends (W.contents writer.old) (W.contents writer.new) text.now) }
-    ensures err { OnErr result (AppendsBeginning (W.contents writer.old) (W.contents writer.new) text.now) }
-{
-    let mut rest = text;
-    for _ in 0..u64::MAX {
-        if rest.is_empty() {
-            return writer.flush();
-        }
-        match writer.write(rest) {
-            Ok(0) => return Err(io::Error::from(ErrorKind::WriteZero)),
-            Ok(taken) => rest = &rest[taken..],
-            Err(error) => {
-                if error.kind() != ErrorKind::Interrupted {
-                    return Err(error);
-                }
-            }
-        }
-    }
-    Err(io::Error::from(ErrorKind::TimedOut))
-}
-
-/// Writes the line of a fault, or a beginning of it where a write fails.
-fn tell<E: Write>(faults: &mut E, ending: &Ending) -> io::Result<()>
-    ensures ok { OnOk result (Appends (E.contents faults.old) (E.contents faults.new) (ending_line ending.now)) }
-    ensures err { OnErr result (AppendsBeginning (E.contents faults.old) (E.contents faults.new) (ending_line ending.now)) }
-{
-    let mut line: ArrayVec<u8, LINE> = ArrayVec::new();
-    write!(line, "{ending}")?;
-    write_whole(faults, line.as_slice())
 }
 
 /// Tells a fault, as far as `faults` takes it, and answers its status.

@@ -6,19 +6,10 @@ mod verdict;
 
 use ending::{Ending, show};
 use std::fs::File;
-use std::io;
 use std::io::{BufReader, Read};
 use std::process::ExitCode;
+use tl_streams::words;
 use verdict::answer;
-
-/// The words after the program's name.
-fn words(rt: &HostRuntime) -> io::Result<Vec<String>> {
-    let mut words = Vec::new(rt.alloc());
-    for word in std::env::args(rt)?.skip(1) {
-        words.push(word)?;
-    }
-    Ok(words)
-}
 
 /// Checks what a reader has.
 fn judge<R: Read + Drop>(rt: &HostRuntime, reader: R) -> u8 {

@@ -3,10 +3,11 @@ ghost use Rattle.std.specs.Prelude.{◌≡◌};
 ghost use Rattle.tlcheck.specs.Ending.{IsTold, MayEnd, status_of};
 ghost use Rattle.tlcheck.specs.declared.ending.Ending.{Ending};
 
-use crate::ending::{Ending, lines, show, write_whole};
+use crate::ending::{Ending, lines, show};
 use std::alloc::Global;
 use std::io::{BufRead, Write};
 use tl_checker::{CheckFault, check};
+use tl_streams::write_whole;
 
 /// What a check of a record ends with.
 fn ending<R: BufRead>(alloc: Global, reader: &mut R) -> Ending

@@ -1,5 +1,5 @@
 //! The answer to the words of the command line.
-ghost use Rattle.std.specs.Prelude.{◌≡◌, ◌≢◌, Bool, IfOk, List, OnOk, string_bytes, ℕ};
+ghost use Rattle.std.specs.Prelude.{◌≡◌, ◌≢◌, Bool, IfOk, List, string_bytes, ℕ};
 ghost use Rattle.std.specs.Io.KnownBytes.{Appends};
 ghost use Rattle.tlgen.specs.Offered.{Offers};
 ghost use Rattle.tlgen.specs.Status.{status_of};
@@ -8,15 +8,8 @@ use crate::certify::text;
 use crate::fault::Fault;
 use crate::request::Request;
 use std::alloc::Global;
-use std::io;
 use std::io::Write;
-
-fn write_whole<W: Write>(output: &mut W, text: &str) -> io::Result<()>
-    ensures { OnOk result (Appends (W.contents output.old) (W.contents output.new) text.now) }
-{
-    output.write_all(text.as_bytes())?;
-    output.flush()
-}
+use tl_streams::{tell, write_whole};
 
 /// The script that the words ask for.
 fn asked_text(alloc: Global, words: &[String]) -> Result<String, Fault>
@@ -39,12 +32,12 @@ pub(crate) fn answer<W: Write, E: Write>(
     ensures nothing { result ≢ 0 → result ≢ 5 → W.contents output.new ≡ W.contents output.old }
 {
     let fault = match asked_text(alloc, words) {
-        Ok(text) => match write_whole(output, &text) {
+        Ok(text) => match write_whole(output, text.as_bytes()) {
             Ok(()) => return 0,
             Err(_) => Fault::File,
         },
         Err(fault) => fault,
     };
-    let _ = writeln!(faults, "{fault}");
+    let _ = tell(faults, &fault);
     fault.status()
 }

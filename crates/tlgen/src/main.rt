@@ -15,18 +15,8 @@ mod spots;
 
 use answer::answer;
 use fault::Fault;
-use std::io;
-use std::io::Write;
 use std::process::ExitCode;
-
-/// The words after the program's name.
-fn words(rt: &HostRuntime) -> io::Result<Vec<String>> {
-    let mut words = Vec::new(rt.alloc());
-    for word in std::env::args(rt)?.skip(1) {
-        words.push(word)?;
-    }
-    Ok(words)
-}
+use tl_streams::{tell, words};
 
 fn status(rt: &HostRuntime) -> u8 {
     let mut output = rt.stdout();
@@ -34,7 +24,7 @@ fn status(rt: &HostRuntime) -> u8 {
     match words(rt) {
         Ok(words) => answer(rt.alloc(), &words, &mut output, &mut faults),
         Err(_) => {
-            let _ = writeln!(faults, "{}", Fault::Memory);
+            let _ = tell(&mut faults, &Fault::Memory);
             Fault::Memory.status()
         }
     }

@@ -1,40 +1,18 @@
 //! `tlwire [--run] FILE`: whether a run explains what a monitor on the links saw. `-` stands for standard input.
 #![tactic(auto)]
 
-use std::alloc::Global;
 use std::fs::File;
-use std::io;
-use std::io::{ErrorKind, Read};
 use std::process::ExitCode;
 use tl_monitor::{Ending, Form, answer, show};
-
-/// The words after the program's name.
-fn words(rt: &HostRuntime) -> io::Result<Vec<String>> {
-    let mut words = Vec::new(rt.alloc());
-    for word in std::env::args(rt)?.skip(1) {
-        words.push(word)?;
-    }
-    Ok(words)
-}
-
-fn read_all<R: Read>(alloc: Global, reader: &mut R) -> Result<Vec<u8>, Ending> {
-    let mut bytes = Vec::new(alloc);
-    match reader.read_to_end(&mut bytes) {
-        Ok(_) => Ok(bytes),
-        Err(error) => match error.kind() {
-            ErrorKind::OutOfMemory => Err(Ending::Memory),
-            _ => Err(Ending::File),
-        },
-    }
-}
+use tl_streams::{read_whole, words};
 
 /// The bytes of a file.
 fn bytes(rt: &HostRuntime, name: &str) -> Result<Vec<u8>, Ending> {
     if name == "-" {
-        return read_all(rt.alloc(), &mut rt.reader());
+        return Ok(read_whole(rt.alloc(), &mut rt.reader())?);
     }
     match File::open(rt, name) {
-        Ok(mut file) => read_all(rt.alloc(), &mut file),
+        Ok(mut file) => Ok(read_whole(rt.alloc(), &mut file)?),
         Err(_) => Err(Ending::File),
     }
 }

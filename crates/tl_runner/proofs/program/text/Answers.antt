@@ -1,4 +1,4 @@
-use Rattle.std.proofs.Common.{◌≡◌, ◌∙◌, ◌⊎◌, inl, inr, refl, ap, sym, subst, ℕ, Bool, true}
+use Rattle.std.proofs.Common.{◌≡◌, ◌∙◌, refl, ap, sym, subst, ℕ, Bool, true}
 use Rattle.std.proofs.Common.{false, Global, List, Option, Some, None, Result, String, Ok, Err, IfErr, IfOk, IfSome}
 use Rattle.std.proofs.lemmas.Result.{err_from_is_err_and}
 use Rattle.tl_script.specs.Script.{read_of, ScriptValue, value_of}
@@ -9,11 +9,13 @@ use Rattle.std.specs.Option.{option_map}
 use Rattle.tl_conclude.specs.RunError.{TellsTurns}
 use Rattle.tl_conclude.specs.declared.error.RunError.{RunError}
 use Rattle.tl_conclude.specs.declared.error.RunError.TheVariants as run
+use Rattle.tl_streams.specs.declared.reading.ReadError.{ReadError}
+use Rattle.tl_streams.specs.declared.reading.ReadError.TheVariants as read
 use Rattle.tl_script.specs.Each.{Fails}
 use Rattle.tl_script.specs.declared.script.Script.{Script}
 use Rattle.tl_runner.specs.Cause.{EndsRun, IsFaultOf, LeadsTo}
+use Rattle.tl_runner.specs.Fault.{fault_of_read}
 use Rattle.tl_runner.specs.declared.fault.Fault.{Fault}
-use Rattle.tl_runner.specs.declared.fault.Fault.TheVariants as its
 use Rattle.tl_runner.proofs.program.text.Goals as goal
 
 -- what was read of the file is what its known bytes say
@@ -34,7 +36,7 @@ for-job job asked known text traces is by h =
 pub returns-clause-answer : goal.returns-clause-answer
 returns-clause-answer g c =
     let known : IfSome (g.R.Read.remaining c.in_ok-reader.reader) (λ all. c.deref.result.now ≡ all) =
-    rw c.deref.ensures.value c.in_ok-bytes.ensures.bytes in
+    rw c.deref.ensures.value c.in_ok-bytes.ensures in
     let read : read_of c.deref.result.now ≡ Ok (value_of c.in_ok-script.script) = c.in_ok-script.ensures in
     for-job c.args.job c.in_ok-job.job _ _ false c.in_ok-job.was c.if-job.false (
       c.in_ok-script.script,
@@ -45,7 +47,7 @@ returns-clause-answer g c =
 pub returns-then-job-clause-answer : goal.returns-then-job-clause-answer
 returns-then-job-clause-answer g c =
     let known : IfSome (g.R.Read.remaining c.in_ok-reader.reader) (λ all. c.deref.result.now ≡ all) =
-    rw c.deref.ensures.value c.in_ok-bytes.ensures.bytes in
+    rw c.deref.ensures.value c.in_ok-bytes.ensures in
     let read : read_of c.deref.result.now ≡ Ok (value_of c.in_ok-script.script) = c.in_ok-script.ensures in
     for-job c.args.job c.in_ok-job.job _ _ true c.in_ok-job.was c.if-job.true (
       c.in_ok-script.script,
@@ -72,14 +74,9 @@ at_known P None bytes same h = tt
 at_known P (Some all) bytes same h = subst P same h
 
 -- a read ends by the file's fault, or for want of memory
-by_reading :
-    (traces : Bool) (known : Option (List ℕ)) (fault : Fault) → (fault ≡ its.File) ⊎ (fault ≡ its.Memory)
-    → LeadsTo traces known fault
-by_reading traces known its.File h = tt
-by_reading traces known its.Memory h = tt
-by_reading traces known its.Usage h = elim h [ inl e ↦ cc | inr e ↦ cc ]
-by_reading traces known (its.Script error) h = elim h [ inl e ↦ cc | inr e ↦ cc ]
-by_reading traces known (its.Run error) h = elim h [ inl e ↦ cc | inr e ↦ cc ]
+by_reading : (traces : Bool) (known : Option (List ℕ)) (error : ReadError) → LeadsTo traces known (fault_of_read error)
+by_reading traces known read.Memory = tt
+by_reading traces known read.File = tt
 
 -- a run's error ends it
 by_run : (script : Script) (error : RunError) → TellsTurns script.turns error → EndsRun false script error
@@ -92,13 +89,13 @@ pub returns-in_err-bytes-clause-fault : goal.returns-in_err-bytes-clause-fault
 returns-in_err-bytes-clause-fault g c =
     let (fault, was, is) = err_from_is_err_and c.from_residual-in_err-bytes.result c.from_residual-in_err-bytes.ensures.1 in
     caused c.args.job c.in_ok-job.job _ _ _ _ _ c.in_ok-job.was refl (ap (option_map g.R.Read.remaining) c.in_ok-reader.ensures.ok_part)
-    (was ∙ ap (λ (f : Fault). Err f) is) (by_reading _ _ _ c.in_err-bytes.ensures.fault)
+    (was ∙ ap (λ (f : Fault). Err f) is) (by_reading _ _ c.in_err-bytes.field-0.0)
 
 pub returns-in_err-script-clause-fault : goal.returns-in_err-script-clause-fault
 returns-in_err-script-clause-fault g c =
     let (fault, was, is) = err_from_is_err_and c.from_residual-in_err-script.result c.from_residual-in_err-script.ensures.1 in
     let known : IfSome (g.R.Read.remaining c.in_ok-reader.reader) (λ all. c.deref.result.now ≡ all) =
-    rw c.deref.ensures.value c.in_ok-bytes.ensures.bytes in
+    rw c.deref.ensures.value c.in_ok-bytes.ensures in
     caused c.args.job c.in_ok-job.job _ _ _ _ _ c.in_ok-job.was refl (ap (option_map g.R.Read.remaining) c.in_ok-reader.ensures.ok_part)
     (was ∙ ap (λ (f : Fault). Err f) is)
     (at_known (λ all. Fails c.in_err-script.field-0.0 (read_of all)) _ _ known c.in_err-script.ensures)
@@ -107,7 +104,7 @@ pub returns-in_err-trace-clause-fault : goal.returns-in_err-trace-clause-fault
 returns-in_err-trace-clause-fault g c =
     let (fault, was, is) = err_from_is_err_and c.from_residual-in_err-trace.result c.from_residual-in_err-trace.ensures.1 in
     let known : IfSome (g.R.Read.remaining c.in_ok-reader.reader) (λ all. c.deref.result.now ≡ all) =
-    rw c.deref.ensures.value c.in_ok-bytes.ensures.bytes in
+    rw c.deref.ensures.value c.in_ok-bytes.ensures in
     let read : read_of c.deref.result.now ≡ Ok (value_of c.in_ok-script.script) = c.in_ok-script.ensures in
     let ends : EndsRun true c.in_ok-script.script c.in_err-trace.field-0.0 = rw c.in_err-trace.ensures.memory tt in
     caused c.args.job c.in_ok-job.job _ _ true _ _ c.in_ok-job.was c.if-job.true (ap (option_map g.R.Read.remaining) c.in_ok-reader.ensures.ok_part)
@@ -118,7 +115,7 @@ pub returns-in_err-report-clause-fault : goal.returns-in_err-report-clause-fault
 returns-in_err-report-clause-fault g c =
     let (fault, was, is) = err_from_is_err_and c.from_residual-in_err-report.result c.from_residual-in_err-report.ensures.1 in
     let known : IfSome (g.R.Read.remaining c.in_ok-reader.reader) (λ all. c.deref.result.now ≡ all) =
-    rw c.deref.ensures.value c.in_ok-bytes.ensures.bytes in
+    rw c.deref.ensures.value c.in_ok-bytes.ensures in
     let read : read_of c.deref.result.now ≡ Ok (value_of c.in_ok-script.script) = c.in_ok-script.ensures in
     caused c.args.job c.in_ok-job.job _ _ false _ _ c.in_ok-job.was c.if-job.false (ap (option_map g.R.Read.remaining) c.in_ok-reader.ensures.ok_part)
     (was ∙ ap (λ (f : Fault). Err f) is) (

@@ -1,8 +1,8 @@
 use Rattle.std.proofs.Common.{◌≡◌, ℕ, List, ◌++◌, ◌-◌, length, take, drop, sym, ap, ◌∙◌, append_assoc, take-append-drop}
 use Rattle.std.proofs.KnownBytes.{Appends-trans, Appends-kept}
 use Rattle.std.proofs.lemmas.List.{take_rest}
-use Rattle.tl_runner.proofs.program.write_whole.Goals as goal
-use Rattle.tl_runner.proofs.program.write_whole.Goals.{in-Ok, in-Err+else-ne}
+use Rattle.tl_streams.proofs.writing.write_whole.Goals as goal
+use Rattle.tl_streams.proofs.writing.write_whole.Goals.{in-Ok, in-Err+else-ne}
 
 -- the first n bytes of the rest join what was written
 moved :

@@ -1,7 +1,7 @@
 -- What is gone from the rest was appended.
 use Rattle.std.proofs.Common.{◌≡◌, List, ℕ, ◌++◌}
 use Rattle.std.specs.Io.KnownBytes.{Appends}
-use Rattle.tlcheck.proofs.ending.write_whole.Given as goal
+use Rattle.tl_streams.proofs.writing.write_whole.Given as goal
 
 abbrev pub invariant-loop : goal.invariant-loop
 invariant-loop g l =

@@ -1,9 +1,0 @@
--- What is gone from the rest was appended.
-use Rattle.std.proofs.Common.{◌≡◌, List, ℕ, ◌++◌}
-use Rattle.std.specs.Io.KnownBytes.{Appends}
-use Rattle.tl_runner.proofs.program.write_whole.Given as goal
-
-abbrev pub invariant-loop : goal.invariant-loop
-invariant-loop g l =
-    (done : List ℕ) × (l.initial.rest ≡ done ++ l.rest)
-    × Appends (g.W.Write.contents l.initial.writer) (g.W.Write.contents l.writer) done
