@@ -38,7 +38,7 @@ fn ending(alloc: Global, lines: &[&[u8]]) -> Ending
 
 /// Writes an ending to `output` where it is an answer, else to `faults`, and answers its status: that of the file where it could not be
 /// written, or of want of memory.
-fn tell<W: Write, E: Write>(
+fn write_ending<W: Write, E: Write>(
     alloc: Global,
     form: Form,
     lines: &[&[u8]],
@@ -80,7 +80,7 @@ fn reply<W: Write, E: Write>(
         × IsTold result form (texts lines.now) ending (W.contents output.old) (W.contents output.new) (E.contents faults.old) (E.contents faults.new) }
 {
     let ending = ending(alloc, lines);
-    tell(alloc, form, lines, &ending, output, faults)
+    write_ending(alloc, form, lines, &ending, output, faults)
 }
 
 /// Reads a record of messages, looks for a run that has just what was seen, and writes what it found: an answer to `output`, a fault to
