@@ -45,7 +45,7 @@
 extern "C" {
 #endif
 
-#define JV_VERSION 2u
+#define JV_VERSION 3u
 
 typedef struct jv_cache jv_cache; /* all banks with their clients; opaque */
 
@@ -81,17 +81,18 @@ enum jv_status { /* the status of an answer, and why a cache is closed */
     JV_CLOCK_FULL = 15,      /* the clocks stand at their end */
     JV_NO_CALL = 16,         /* there is no such call */
     JV_BAD_ARGUMENT = 17,    /* a length above 8, or a param or a channel that there is not */
-    JV_CLOSED = 18           /* the cache is closed: `serial` says why, 18 where its caller closed it */
+    JV_CLOSED = 18,          /* the cache is closed: `serial` says why, 18 where its caller closed it */
+    JV_FORGOTTEN = 19        /* the event at that place is forgotten */
                              /* 20 to 28: a number that is not lawful */
 };
 
 enum jv_call_number {
     JV_CALL_CLOSE = 0, JV_CALL_LOAD, JV_CALL_STORE, JV_CALL_ACQUIRE, JV_CALL_RELEASE, JV_CALL_ANSWER_PROBE, JV_CALL_TAKE_GRANT,
     JV_CALL_TAKE_RELEASE_ACK, JV_CALL_ACCEPT, JV_CALL_ADVANCE, JV_CALL_TAKE_C, JV_CALL_TAKE_GRANT_ACK, JV_CALL_EVICT,
-    JV_CALL_SERVE_MEMORY, JV_CALL_TAKE_MEMORY, JV_CALL_RESERVE,
+    JV_CALL_SERVE_MEMORY, JV_CALL_TAKE_MEMORY, JV_CALL_RESERVE, JV_CALL_FORGET,
     JV_VIEW_PERM = 20, JV_VIEW_DIRECTORY, JV_VIEW_PEEK, JV_VIEW_HOME, JV_VIEW_OUTWARD, JV_VIEW_HELD, JV_VIEW_RECORDED,
     JV_VIEW_EVENTS, JV_VIEW_EVENT, JV_VIEW_ROOM, JV_VIEW_COPIES, JV_VIEW_IS_QUIET, JV_VIEW_OPEN_BLOCK, JV_VIEW_MESSAGE,
-    JV_VIEW_WAITING, JV_VIEW_MEMORY
+    JV_VIEW_WAITING, JV_VIEW_MEMORY, JV_VIEW_FORGOTTEN
 };
 
 enum jv_channel { JV_A, JV_B, JV_C, JV_D, JV_E };
@@ -310,6 +311,12 @@ static inline jv_answer jv_reserve(jv_cache *c, uint32_t bank, uint64_t events) 
     jv_request r = jv_asks_(JV_CALL_RESERVE); r.bank = bank; r.serial = events; return jv_call(c, &r);
 }
 
+/* Forgets the bank's log so far: jv_event answers JV_FORGOTTEN at each place below jv_events, and what the events took is room for
+   more. All else is as it was: the proofs speak of the whole log, forgotten events too. 10 where there is no such bank. */
+static inline jv_answer jv_forget(jv_cache *c, uint32_t bank) {
+    jv_request r = jv_asks_(JV_CALL_FORGET); r.bank = bank; return jv_call(c, &r);
+}
+
 /* ---- views: they change nothing. `serial` is the number where the answer tells one; status 10 where there is no such client, bank,
    block or address. Those of a client and a block or of a block look at the bank where the block lies. Each costs some tens of
    nanoseconds, and jv_recorded and jv_is_quiet as the bank has ways and copies; none as the memory has blocks. */
@@ -340,13 +347,13 @@ static inline jv_answer jv_memory_block(const jv_cache *c, uint32_t block) { ret
 static inline jv_answer jv_held(const jv_cache *c, uint32_t bank) { return jv_of_bank_(c, JV_VIEW_HELD, bank, 0, 0); }
 /* For how many pairs of client and block home of the bank records a permission. */
 static inline jv_answer jv_recorded(const jv_cache *c, uint32_t bank) { return jv_of_bank_(c, JV_VIEW_RECORDED, bank, 0, 0); }
-/* How many events the bank's log has. It grows by one event with each step of the bank that is done (evict: none), 40 bytes, and
-   nothing is ever taken out of it. Where there is no room it asks for room for as many events again, so a call may copy the whole
+/* How many events the bank's log has, with those that are forgotten. It grows by one event with each step of the bank that is done
+   (evict: none), 40 bytes, until jv_forget. Where there is no room it asks for room for as many events again, so a call may copy the whole
    log, and for that moment there are two. jv_reserve asks ahead. */
 static inline jv_answer jv_events(const jv_cache *c, uint32_t bank) { return jv_of_bank_(c, JV_VIEW_EVENTS, bank, 0, 0); }
 /* The whole event at a place of the bank's log, from 0 (JV_TELLS_EVENT): its kind (opcode), its block (place), its client where it
    has one; of an Acquire, a Release or a Probe the param; of an access also the address, the bytes and len, the index and the stamp
-   (serial). Status 4 past the last. */
+   (serial). Status 4 past the last, 19 where it is forgotten. */
 static inline jv_answer jv_event(const jv_cache *c, uint32_t bank, uint64_t place) {
     return jv_of_bank_(c, JV_VIEW_EVENT, bank, 0, place);
 }
@@ -357,6 +364,8 @@ static inline size_t jv_read_events(const jv_cache *c, uint32_t bank, uint64_t *
     while (n < most && (out[n] = jv_event(c, bank, *cursor)).status == JV_OK) { n++; ++*cursor; }
     return n;
 }
+/* How many of the bank's first events are forgotten. */
+static inline jv_answer jv_forgotten(const jv_cache *c, uint32_t bank) { return jv_of_bank_(c, JV_VIEW_FORGOTTEN, bank, 0, 0); }
 /* How many more events of the bank need no memory. */
 static inline jv_answer jv_room(const jv_cache *c, uint32_t bank) { return jv_of_bank_(c, JV_VIEW_ROOM, bank, 0, 0); }
 /* How many copies the client has in the bank. */

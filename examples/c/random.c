@@ -28,13 +28,14 @@ static uint64_t events(const jv_cache *c) {
 }
 static long wrong, by_status[32];
 static void judge(const jv_request *r, const jv_answer *a, uint64_t before, uint64_t after) {
-    int ok = a->status <= 18 && a->len <= 64;
+    int ok = a->status <= 19 && (a->status != JV_FORGOTTEN || r->call == JV_VIEW_EVENT) && a->len <= 64;
     by_status[a->status & 31]++;
     if (a->status) ok = ok && is_zero(a) && (a->serial == 0 || a->status == JV_CLOSED) && after == before;
     if (a->status == 0 && r->call >= 15) ok = ok && after == before;
     if (a->status == 0 && r->call >= 1 && r->call <= 14) ok = ok && after == before + (r->call != JV_CALL_EVICT);
     if (r->call == JV_CALL_RESERVE) ok = ok && (a->status == 0 || a->status == JV_OUT_OF_RANGE || a->status == JV_NO_MEMORY);
-    if (r->call > 15 && (r->call < 20 || r->call > 35)) ok = ok && a->status == JV_NO_CALL;
+    if (r->call == JV_CALL_FORGET) ok = ok && (a->status == 0 || a->status == JV_OUT_OF_RANGE);
+    if (r->call > 16 && (r->call < 20 || r->call > 36)) ok = ok && a->status == JV_NO_CALL;
     if (!ok && ++wrong < 10) printf("call %u: status %u what %u, %llu events, then %llu\n", r->call, a->status, a->what,
         (unsigned long long)before, (unsigned long long)after);
 }
@@ -43,7 +44,7 @@ static void feed(jv_cache *c, long steps) {
     long i; int k;
     for (i = 0; i < steps; i++) {
         jv_request r; jv_answer a; uint64_t before = events(c);
-        r.call = 1 + (uint32_t)some(36); r.index = (uint32_t)some(9); r.client = (uint32_t)some(4); r.place = (uint32_t)some(64);
+        r.call = 1 + (uint32_t)some(37); r.index = (uint32_t)some(9); r.client = (uint32_t)some(4); r.place = (uint32_t)some(64);
         r.param = (uint32_t)some(3); r.bank = (uint32_t)some(2); r.channel = (uint32_t)some(5); r.len = (uint32_t)some(9);
         r.serial = some(8);
         if (r.call == 0) r.call = 1;                         /* not the one that closes */

@@ -12,6 +12,7 @@ shown b = record {
   number = b.number;
   image = b.image.items;
   log = b.log.events;
+  forgotten = b.log.forgotten;
   room = b.log.room;
   registers = b.registers.open_registers;
   ways = ways_below (way_in b.home) b.geometry.memory_blocks;

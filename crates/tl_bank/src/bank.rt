@@ -1,5 +1,5 @@
 //! The bank: its making, its room, and what it shows.
-ghost use Rattle.std.specs.Prelude.{◌≡◌, ◌≤◌, ◌<◌, ◌*◌, ◌^◌, ℕ, List, [], length, Option, Some, None, IfOk, IfErr, OnOk, OnErr, if◌then◌else◌};
+ghost use Rattle.std.specs.Prelude.{◌≡◌, ◌≤◌, ◌<◌, ◌*◌, ◌-◌, ◌^◌, ℕ, List, [], length, drop, Option, Some, None, IfOk, IfErr, OnOk, OnErr, if◌then◌else◌};
 ghost use Rattle.std.specs.List.{All};
 ghost use Rattle.tl_types.specs.declared.channel.Channel.{Channel};
 ghost use Rattle.tl_types.specs.declared.permission.Perm.{Perm};
@@ -9,6 +9,7 @@ ghost use Rattle.tl_lanes.specs.Lawful.{Lawful};
 ghost use Rattle.tl_bank_spec.specs.Cases.{no_client};
 ghost use Rattle.tl_bank_spec.specs.Coherent.{IsCoherent};
 ghost use Rattle.tl_bank_spec.specs.Share.{first_shares};
+ghost use Rattle.tl_bank_spec.specs.Steps.{Forgets};
 ghost use Rattle.tl_bank_spec.specs.View.{shape_of};
 ghost use Rattle.tl_bank_spec.specs.Own.{IsOwn, way_at};
 ghost use Rattle.tl_bank_spec.specs.Clock.{StampsRise};
@@ -90,6 +91,7 @@ impl Bank {
               number = number;
               image = image.now;
               log = [];
+              forgotten = 0;
               room = made.0.room;
               registers = [];
               ways = made.0.ways;
@@ -130,7 +132,7 @@ impl Bank {
         ensures room { OnOk result (0 < self.new.room) }
         ensures grows { self.old.room ≤ self.new.room }
         ensures same { self.new ≡ record self.old { room = self.new.room } }
-        ensures small { length self.new.log < 2 ^ 63 }
+        ensures small { length self.new.log < 2 ^ 64 - 1 }
     {
         self.log.reserve(1).map_err(|_| Refusal::Memory)
     }
@@ -142,11 +144,35 @@ impl Bank {
         self.log.room()
     }
 
-    /// What happened, oldest first: a run of the protocol on this bank's blocks, whose stamps rise, and which takes each message of
-    /// a channel once, in the order of sending. So the bank is coherent: one writer or readers of each block, each copy in the
+    /// Forgets what happened so far: its memory is room for more events, and `log` begins with what happens next. All that the bank
+    /// holds and promises stays as it was, since that is stated by the whole log, which contracts still see. After 2 ^ 63 events
+    /// nothing more is forgotten.
+    pub fn forget(&mut self)
+        ensures { Forgets self.old self.new }
+    {
+        self.log.forget();
+    }
+
+    /// How many of the first events are forgotten.
+    pub fn forgotten(&self) -> usize
+        ensures is { result ≡ self.now.forgotten }
+        ensures few { self.now.forgotten ≤ length self.now.log }
+    {
+        self.log.forgotten()
+    }
+
+    /// How many events happened, with those that are forgotten.
+    pub fn events(&self) -> usize
+        ensures { result ≡ length self.now.log }
+    {
+        self.log.len()
+    }
+
+    /// What happened, oldest first, without what is forgotten. All that happened is a run of the protocol on this bank's blocks, whose
+    /// stamps rise, and which takes each message of a channel once, in the order of sending. So the bank is coherent: one writer or readers of each block, each copy in the
     /// directory and at home, and the bytes last stored in each copy and each load.
     pub fn log(&self) -> &[Event]
-        ensures is { result.now ≡ self.now.log }
+        ensures is { result.now ≡ drop self.now.forgotten self.now.log }
         ensures coherent { IsCoherent self.now }
         ensures run { IsRun (shape_of self.now.geometry) self.now.image self.now.log }
         ensures lawful { Lawful (shape_of self.now.geometry) self.now.image self.now.log }

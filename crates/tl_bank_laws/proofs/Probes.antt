@@ -1,5 +1,5 @@
 -- Answering a Probe, and what it leaves.
-use Rattle.std.proofs.Common.{◌≡◌, ◌≢◌, ℕ, ◌<◌, ◌≤◌, ◌^◌, ◌==◌, not, true, false, cond, length, List, [], ◌∷◌, ◌++◌, map, Some, None, if◌then◌else◌, refl, sym, ◌∙◌, ap, subst, arith, eq-eqb}
+use Rattle.std.proofs.Common.{◌≡◌, ◌≢◌, ℕ, ◌<◌, ◌≤◌, ◌^◌, ◌-◌, ◌==◌, not, true, false, cond, length, List, [], ◌∷◌, ◌++◌, map, Some, None, if◌then◌else◌, refl, sym, ◌∙◌, ap, subst, arith, eq-eqb}
 use Rattle.std.proofs.lemmas.Bool.Decides.{nat_tests}
 use Rattle.std.proofs.lemmas.Bool.{or_parts}
 use Rattle.tl_types.specs.Lane.{IsFirst, Lane, sent, is_here, with_message, without_first, bodies_of}
@@ -178,7 +178,7 @@ probe-head v h t share m none = is-head v h t B any_body m (probe-allowed v t sh
 
 -- channel C has a place for the answer
 pub probe-room : (v : View) (h : Layers) (t : Ticket) (share : Holding) (between : LinkTable) → Means v h
-    → first_of (answer_probe_cases v t share) ≡ None → length v.log < 2 ^ 63 → SameLinks h.links between
+    → first_of (answer_probe_cases v t share) ≡ None → length v.log < 2 ^ 64 - 1 → SameLinks h.links between
     → ((x : ℕ) (l : Channel) → lane_in between x l
     ≡ (if is_here t.client t.channel x l then without_first (lane_in h.links x l) else lane_in h.links x l))
     → HasRoom between t.client C

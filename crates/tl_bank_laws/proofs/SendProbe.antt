@@ -1,5 +1,5 @@
 -- A Probe is sent, and its register notes it.
-use Rattle.std.proofs.Common.{◌≡◌, ℕ, ◌^◌, ◌<◌, ◌≤◌, ◌==◌, false, length, Some, if◌then◌else◌, refl, sym, ◌∙◌, ap, subst, arith, nat_le, inl, inr, eqb-true}
+use Rattle.std.proofs.Common.{◌≡◌, ℕ, ◌^◌, ◌-◌, ◌<◌, ◌≤◌, ◌==◌, false, length, Some, if◌then◌else◌, refl, sym, ◌∙◌, ap, subst, arith, nat_le, inl, inr, eqb-true}
 use Rattle.std.proofs.lemmas.Bool.{cases_Bool}
 use Rattle.std.proofs.lemmas.Bool.Decides.{nat_tests}
 use Rattle.std.proofs.lemmas.List.{length-map}
@@ -35,7 +35,7 @@ place-left n h = grind (arith, nat_tests)
 
 -- a channel that is not full has room for one more message
 pub channel-room : (v : View) (h : Layers) (c : ℕ) (k : Channel) → Means v h → c < v.geometry.clients → link_full v c k ≡ false
-    → length v.log < 2 ^ 63 → HasRoom h.links c k
+    → length v.log < 2 ^ 64 - 1 → HasRoom h.links c k
 channel-room v h c k m l free small =
     let counted : sent (lane_at v c k) ≤ length v.log = m.lawful.counted c k in
     let place : length (lane_at v c k).messages < 64 = place-left (length (lane_at v c k).messages) free in

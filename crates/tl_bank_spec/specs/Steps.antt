@@ -1,5 +1,5 @@
--- What a call leaves: one event more (this project's own).
-use Rattle.std.specs.Prelude.{◌≡◌, ◌+◌, ◌≤◌, [], ◌∷◌, ◌++◌}
+-- What a call leaves: one event more, or fewer that code can read (this project's own).
+use Rattle.std.specs.Prelude.{◌≡◌, ◌+◌, ◌^◌, ◌≤◌, [], ◌∷◌, ◌++◌, length, nat_lt, if◌then◌else◌}
 use Rattle.tl_protocol.specs.declared.event.Event.{Event}
 use Rattle.tl_bank_spec.specs.View.{View}
 
@@ -14,3 +14,9 @@ pub record Extends (old new : View) (event : Event) : Type 0 where
 pub record Appends (old new : View) (event : Event) : Type 0 where
   pub is : new ≡ record old { log = old.log ++ event ∷ []; room = new.room }
   pub room : old.room ≤ new.room + 1
+
+-- All events so far are forgotten, and what they took is room for more; nothing else changed. From 2 ^ 63 events on none are.
+pub record Forgets (old new : View) : Type 0 where
+  pub is : new ≡ record old { forgotten = new.forgotten; room = new.room }
+  pub forgotten : new.forgotten ≡ (if nat_lt (length old.log) (2 ^ 63) then length old.log else old.forgotten)
+  pub room : new.room + old.forgotten ≡ old.room + new.forgotten

@@ -11,12 +11,14 @@ use Rattle.tl_protocol.specs.declared.event.Event.{Event}
 use Rattle.tl_protocol.specs.declared.shape.Shape.{Shape}
 use Rattle.tl_registers.specs.declared.register.Register.{Register}
 
--- a bank: its geometry, number and image, the log and its room, the open registers, and where blocks lie
+-- a bank: its geometry, number and image, the log, how much of it is forgotten and its room, the open registers, and where blocks lie
 pub record View : Type 0 where
   pub geometry : Numbers
   pub number : ℕ
   pub image : List ℕ
   pub log : List Event
+  -- how many of the first events of the log no code can read any more
+  pub forgotten : ℕ
   -- how many more events need no memory
   pub room : ℕ
   -- the open registers, oldest first

@@ -217,3 +217,29 @@ fn a_default_share_is_refused(rt: HostRuntime) -> Result<(), Fail> {
     assert_eq!(rt; failed, None);
     Ok(())
 }
+
+/// What was forgotten is counted, and its room is free; the bank goes on where it was.
+const FORGETS: &[Step] = &[
+    Step::Fetch(0, 0, Grow::NtoT),
+    Step::Call(Call::Store(0, 0, &[7]), Ok(None)),
+    Step::Events(9),
+    Step::ForgetLog,
+    Step::Events(9),
+    Step::Kept(0),
+    Step::Perm(0, 0, Perm::Tip),
+    Step::Call(Call::Load(0, 0, 1), Ok(None)),
+    Step::Events(10),
+    Step::Kept(1),
+    Step::ForgetLog,
+    Step::ForgetLog,
+    Step::GiveUp(0, 0),
+    Step::Kept(3),
+    Step::Perm(0, 0, Perm::None),
+];
+
+#[test]
+fn a_bank_goes_on_after_it_forgot(rt: HostRuntime) -> Result<(), Fail> {
+    let failed = first_that_fails(rt.alloc(), NUMBERS, 0, &[], FORGETS)?;
+    assert_eq!(rt; failed, None);
+    Ok(())
+}

@@ -52,6 +52,11 @@ impl Session {
         self.bank.reserve_steps(count)
     }
 
+    /// Forgets the log so far.
+    pub fn forget_log(&mut self) {
+        self.bank.forget();
+    }
+
     /// Loads bytes: the stamp.
     pub fn load(
         &mut self,
@@ -174,6 +179,11 @@ impl Session {
 impl Session {
     /// How many events were logged.
     pub fn events(&self) -> usize {
+        self.bank.events()
+    }
+
+    /// How many events were logged that are not forgotten.
+    pub fn kept(&self) -> usize {
         self.bank.log().len()
     }
 

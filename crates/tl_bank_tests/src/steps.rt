@@ -41,8 +41,12 @@ pub enum Step {
     Room(usize),
     /// A client's share is no longer there.
     Forget(u32),
+    /// The log so far is forgotten.
+    ForgetLog,
     /// So many events were logged.
     Events(usize),
+    /// So many of them are not forgotten.
+    Kept(usize),
     /// The image of the memory at reset.
     Image(&'static [u8]),
     /// A client's copy of a block.
@@ -134,6 +138,10 @@ impl Session {
                 self.forget_share(ClientId::new(client));
                 true
             }
+            Step::ForgetLog => {
+                self.forget_log();
+                true
+            }
             _ => self.shows(step),
         }
     }
@@ -143,6 +151,7 @@ impl Session {
         match step {
             Step::Oldest(client, copy) => self.oldest(client) == copy,
             Step::Events(count) => self.events() == count,
+            Step::Kept(count) => self.kept() == count,
             Step::Image(bytes) => self.image() == bytes,
             Step::Perm(client, block, perm) => {
                 self.perm(ClientId::new(client), BlockNo::new(block)) == perm

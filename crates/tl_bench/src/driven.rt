@@ -45,7 +45,19 @@ impl Driven {
         let _ = self.bank.reserve_steps(events);
     }
 
-    /// What happened.
+    /// Forgets the log so far where it has no room for a cycle.
+    pub(crate) fn forget_if_full(&mut self) {
+        if self.bank.room() < 32 {
+            self.bank.forget();
+        }
+    }
+
+    /// How many events happened.
+    pub(crate) fn events(&self) -> usize {
+        self.bank.events()
+    }
+
+    /// What happened, without what is forgotten.
     pub(crate) fn log(&self) -> &[Event] {
         self.bank.log()
     }

@@ -19,6 +19,8 @@ enum Work {
     Growing,
     /// The same, with room in the log.
     Misses,
+    /// The same, with room for a million events, and the log is forgotten where that is used up.
+    Forgetting,
     /// Loads of copies that are held.
     Loads,
     /// Loads and stores in turn.
@@ -36,6 +38,7 @@ fn work_of(word: &str) -> Option<Work> {
     match word {
         "growing" => Some(Work::Growing),
         "misses" => Some(Work::Misses),
+        "forgetting" => Some(Work::Forgetting),
         "loads" => Some(Work::Loads),
         "mixed" => Some(Work::Mixed),
         "stream" => Some(Work::Stream),
@@ -127,6 +130,10 @@ fn hit(driven: &mut Driven, plan: &Plan, i: u32, stores: bool) -> Option<()> {
 fn one(driven: &mut Driven, plan: &Plan, i: u32) -> Option<()> {
     match plan.work {
         Work::Growing | Work::Misses => cycle(driven, plan, i),
+        Work::Forgetting => {
+            driven.forget_if_full();
+            cycle(driven, plan, i)
+        }
         Work::Loads => hit(driven, plan, i, false),
         Work::Mixed => hit(driven, plan, i, true),
         Work::Stream => stream(driven, plan, i),
@@ -181,8 +188,10 @@ fn prepare(driven: &mut Driven, plan: &Plan) -> Option<()> {
             driven.fetch(ClientId::new(0), BlockNo::new(number), Grow::NtoT)?;
         }
     }
-    if !matches!(plan.work, Work::Growing) {
-        driven.reserve(plan.cycles as usize * 20);
+    match plan.work {
+        Work::Growing => {}
+        Work::Forgetting => driven.reserve(1_000_000),
+        _ => driven.reserve(plan.cycles as usize * 20),
     }
     Some(())
 }
@@ -190,18 +199,18 @@ fn prepare(driven: &mut Driven, plan: &Plan) -> Option<()> {
 /// Drives a bank, and prints what happened, without its time: the same on every machine.
 fn once(rt: &HostRuntime, driven: &mut Driven, plan: &Plan) -> io::Result<()> {
     let ok = drive(driven, plan).is_some();
-    let events = driven.log().len();
+    let events = driven.events();
     let check = sum(driven.log());
     println!(rt; "events {events} ok {ok} sum {check}")
 }
 
 /// Drives a bank, and prints what an event took.
 fn round(rt: &HostRuntime, driven: &mut Driven, plan: &Plan) -> io::Result<()> {
-    let before = driven.log().len();
+    let before = driven.events();
     let start = Instant::now(rt)?;
     let ok = drive(driven, plan).is_some();
     let nanos = start.elapsed(rt)?.as_nanos();
-    let events = driven.log().len().saturating_sub(before);
+    let events = driven.events().saturating_sub(before);
     let check = sum(driven.log());
     let hundredths = (nanos * 100).checked_div(events as u128).unwrap_or(0);
     let (whole, rest) = (hundredths / 100, hundredths % 100);

@@ -11,7 +11,7 @@ use Rattle.tl_script.specs.declared.script.Script.{Script}
 use Rattle.tl_bank_spec.specs.View.{View, shape_of}
 use Rattle.tl_rules.specs.Certified.{events_of}
 use Rattle.tl_rules.specs.Ordered.{AreRuns}
-use Rattle.tl_conclude.specs.Banks.{IsBankOf, AreBanksOf, logs_in, HasRun}
+use Rattle.tl_conclude.specs.Banks.{IsBankOf, AreBanksOf, IsWhole, logs_in, HasRun}
 
 -- ## Their logs
 
@@ -37,6 +37,10 @@ log_pushed banks i v items log lt is so_far same =
 pub length_banks : (banks : List View) → length (logs_in banks) ≡ length banks
 length_banks [] = refl
 length_banks (x ∷ xs) = let rest = length_banks xs in omega arith
+
+-- the banks of a script have forgotten nothing
+pub all_whole : (script : Script) (banks : List View) → AreBanksOf script banks → All IsWhole banks
+all_whole script banks are i d lt = (are.each i d lt).3
 
 -- ## The runs
 

@@ -1,7 +1,7 @@
 //! The banks of a script.
 ghost use Rattle.std.specs.Prelude.{◌≡◌, ◌↔◌, ◌≤◌, All, IsTrue, length};
 ghost use Rattle.tl_rules.specs.Certified.{events_of};
-ghost use Rattle.tl_conclude.specs.Banks.{IsBankOf, AreBanksOf, HasRun, logs_in};
+ghost use Rattle.tl_conclude.specs.Banks.{IsBankOf, AreBanksOf, HasRun, IsWhole, logs_in};
 
 use arrayvec::ArrayVec;
 use tl_bank::Bank;
@@ -24,7 +24,14 @@ fn same_bytes(one: &[u8], other: &[u8]) -> bool
     one == other
 }
 
-/// Whether a bank has this number, the script's geometry and its image.
+/// Whether a bank has forgotten nothing.
+fn is_whole(bank: &Bank) -> bool
+    ensures { IsTrue result ↔ IsWhole bank.now }
+{
+    bank.forgotten() == 0
+}
+
+/// Whether a bank has this number, the script's geometry and its image, and its whole log.
 pub fn is_bank_of(script: &Script, number: usize, bank: &Bank) -> bool
     ensures { IsTrue result ↔ IsBankOf script.now number bank.now }
 {
@@ -32,6 +39,9 @@ pub fn is_bank_of(script: &Script, number: usize, bank: &Bank) -> bool
         return false;
     }
     if bank.number().number() as usize != number {
+        return false;
+    }
+    if !is_whole(bank) {
         return false;
     }
     same_bytes(bank.image(), script.image.as_slice())
@@ -52,9 +62,10 @@ pub(crate) fn are_banks_of(script: &Script, banks: &[Bank]) -> bool
     true
 }
 
-/// The logs of at most 8 banks. Each is a run on the bank's own blocks.
+/// The logs of at most 8 banks that have forgotten nothing. Each is a run on the bank's own blocks.
 pub(crate) fn logs_of(banks: &[Bank]) -> ArrayVec<&[Event], BANKS>
-    requires { length banks.now ≤ BANKS }
+    requires few { length banks.now ≤ BANKS }
+    requires whole { All IsWhole banks.now }
     ensures logs { events_of result.items ≡ logs_in banks.now }
     ensures runs { All HasRun banks.now }
 {

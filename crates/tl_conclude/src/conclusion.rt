@@ -132,9 +132,12 @@ pub fn conclude(
     if banks.len() > BANKS {
         return Err(RunError::NotOrdered);
     }
+    if !are_banks_of(script, banks) {
+        return Err(RunError::NotOrdered);
+    }
     let lists = logs_of(banks);
     let logs = lists.as_slice();
-    if !certify_events(logs) || !are_banks_of(script, banks) {
+    if !certify_events(logs) {
         return Err(RunError::NotOrdered);
     }
     let Some(clients) = all_lines(alloc, commands_of(script), logs)? else {

@@ -109,6 +109,20 @@ fn accesses_that_do_not(rt: HostRuntime) {
     }
 }
 
+/// Whether nothing is concluded of a bank that has all accesses of the script, and has forgotten what came before them.
+fn has_forgotten(alloc: Global) -> Option<bool> {
+    let mut setting = small(alloc, LOAD)?;
+    setting.take(0, 0, 0)?;
+    setting.forget(0)?;
+    setting.load(0, 0, 0, 1, at(0, 0))?;
+    Some(setting.is_other(alloc))
+}
+
+#[test]
+fn a_bank_that_has_forgotten(rt: HostRuntime) {
+    assert_eq!(rt; has_forgotten(rt.alloc()), Some(true));
+}
+
 /// Whether banks in another order are others, whether there was one to be left out, and whether the banks without it are others.
 fn are_others(alloc: Global, setting: &mut Setting) -> [bool; 3] {
     setting.reverse_banks();

@@ -174,6 +174,12 @@ impl Setting {
         take_block(bank, share, ClientId::new(client), BlockNo::new(block)).ok()
     }
 
+    /// A bank forgets its log so far.
+    pub(crate) fn forget(&mut self, number: usize) -> Option<()> {
+        self.bank(number)?.forget();
+        Some(())
+    }
+
     /// A client stores a byte: the stamp.
     pub(crate) fn store(
         &mut self,

@@ -9,12 +9,12 @@ use Rattle.tl_map.specs.declared.numbers.GeometryError.{GeometryError}
 use Rattle.tl_map.specs.declared.numbers.GeometryNumbers.{GeometryNumbers}
 use Rattle.tl_bank_spec.specs.View.{View}
 use Rattle.tl_words.specs.declared.step.Step.{Step}
-use Rattle.tl_player.specs.NetworkState.{AreFresh, HasRoom, IsFresh, IsReserved, IsReset, NetworkState, SharedBankState, bank_asked, bank_at}
+use Rattle.tl_player.specs.NetworkState.{AreFresh, HasRoom, IsFresh, IsForgotten, IsReserved, IsReset, NetworkState, SharedBankState, bank_asked, bank_at}
 use Rattle.tl_player.specs.NetworkSteps.{IsNetworkStep}
 use Rattle.tl_text.specs.declared.answer.Answer.{Answer as Shown}
 use Rattle.tl_embed.specs.Asked.{asked}
 use Rattle.tl_embed.specs.Calls.{AsksFor, Calls, CallsOn, GoesOn}
-use Rattle.tl_embed.specs.Events.{Reserves}
+use Rattle.tl_embed.specs.Events.{Forgets, Reserves}
 use Rattle.tl_embed.specs.Histories.{AreCalls, EveryHistory, IsLater, IsRunning, RunsOn}
 use Rattle.tl_embed.specs.Told.{only}
 use Rattle.tl_embed.specs.Opens.{OpensBy, OpensOver, as_given, closed}
@@ -104,6 +104,16 @@ reserved-later bank count old new h number before at =
     subst (λ (x : NetworkState). IsLaterIn x.shared_banks number before) (sym h.is)
     (set-later old.shared_banks bank number h.shared_bank h.left before h.is_site (room-later count h.shared_bank h.left h.has_room) at)
 
+-- what was forgotten
+forgotten-later : (bank : ℕ) (old new : NetworkState) → IsForgotten bank old new → AreLater old new
+forgotten-later bank old new h number before at =
+    let kept : IsLater h.shared_bank.bank h.shared_bank.bank = same-later h.shared_bank.bank h.shared_bank.bank refl in
+    subst (λ (x : NetworkState). IsLaterIn x.shared_banks number before) (sym h.is)
+    (set-later old.shared_banks bank number h.shared_bank h.left before h.is_site
+    (subst (λ (v : View). IsLater h.shared_bank.bank v) (sym h.forgets.is)
+    (record { geometry = refl; number = refl; image = refl; since = kept.since; log = kept.log }))
+    at)
+
 -- one number is below another or not
 below-or : (a b : ℕ) → (a < b) ⊎ (b ≤ a)
 below-or a zero = inr (omega arith)
@@ -120,12 +130,21 @@ room-asked bank count old new told h =
       | inr absent ↦ none-later old new (h.absent absent).0
     ]
 
+-- a bank that is asked to forget
+forget-asked : (bank : ℕ) (old new : NetworkState) (told : Answer) → Forgets bank old new told → AreLater old new
+forget-asked bank old new told h =
+    elim (below-or bank old.geometry.banks) [
+      | inl there ↦ forgotten-later bank old new (h.there there).0
+      | inr absent ↦ none-later old new (h.absent absent).0
+    ]
+
 -- what a request asks for
 asks-later : (what : Asked) (old new : NetworkState) (r : Request) (told : Answer) → AsksFor what old r new told → AreLater old new
 asks-later (a.Step step) old new r told (inl played) = step-of-network r.index step old new played.shown played.does
 asks-later (a.Step step) old new r told (inr starved) = none-later old new starved.0.same
 asks-later a.BadArgument old new r told h = none-later old new h.0
 asks-later a.Reserve old new r told h = room-asked r.bank r.serial old new told h
+asks-later a.Forget old new r told h = forget-asked r.bank old new told h
 asks-later a.Other old new r told h = none-later old new h.same
 
 -- A cache was open before, and its banks are later now.

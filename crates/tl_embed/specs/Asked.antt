@@ -77,4 +77,5 @@ asked r =
     else if r.call == 13 then a.Step (block_asked ServeMemory r)
     else if r.call == 14 then a.Step (block_asked TakeMemory r)
     else if r.call == 15 then a.Reserve
+    else if r.call == 16 then a.Forget
     else a.Other

@@ -5,7 +5,7 @@ use Rattle.tl_text.specs.declared.answer.Answer.{Answer as Shown}
 use Rattle.tl_player.specs.NetworkSteps.{IsNetworkStep, IsStarvedNetwork}
 use Rattle.tl_player.specs.NetworkState.{NetworkState}
 use Rattle.tl_embed.specs.Asked.{asked}
-use Rattle.tl_embed.specs.Events.{Reserves}
+use Rattle.tl_embed.specs.Events.{Forgets, Reserves}
 use Rattle.tl_embed.specs.Opens.{closed}
 use Rattle.tl_embed.specs.Told.{only, step_told}
 use Rattle.tl_embed.specs.Views.{Views}
@@ -35,6 +35,7 @@ abbrev pub AsksFor : Asked → NetworkState → Request → NetworkState → Ans
 AsksFor (a.Step step) old r new told = IsPlayed r.index step old new told ⊎ IsStarved step old new told
 AsksFor a.BadArgument old r new told = (new ≡ old) × (told ≡ only 17)
 AsksFor a.Reserve old r new told = Reserves r.bank r.serial old new told
+AsksFor a.Forget old r new told = Forgets r.bank old new told
 AsksFor a.Other old r new told = Others old r new told
 
 -- The cache stays open, and its banks do what is asked.

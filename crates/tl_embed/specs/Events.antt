@@ -1,12 +1,13 @@
 -- What is told of an event of a bank's log, and of the room for more.
-use Rattle.std.specs.Prelude.{◌≡◌, ◌⊎◌, ℕ, ◌<◌, ◌≤◌, Option, Some, None}
+use Rattle.std.specs.Prelude.{◌≡◌, ◌⊎◌, ℕ, ◌<◌, ◌≤◌, Option, Some, None, nat_lt, slice_get, if◌then◌else◌}
 use Rattle.tl_types.specs.Codes.{grow_param, probe_param, prune_param}
 use Rattle.tl_protocol.specs.Protocol.{block_of}
 use Rattle.tl_protocol.specs.declared.event.Access.{Access}
 use Rattle.tl_protocol.specs.declared.event.Event.{Event}
 use Rattle.tl_protocol.specs.declared.event.Event.TheVariants.{Load, Store, SendAcquire, SendRelease, AnswerProbe, TakeGrant, TakeReleaseAck, AcceptAcquire, SendProbe, TakeC, SendGrant, TakeGrantAck, SendGet, Serve, TakeData, Drop, SendPut, TakePutAck}
 use Rattle.tl_protocol.specs.declared.shape.Shape.{Shape}
-use Rattle.tl_player.specs.NetworkState.{NetworkState, IsReserved, IsShort}
+use Rattle.tl_bank_spec.specs.View.{View, shape_of}
+use Rattle.tl_player.specs.NetworkState.{NetworkState, IsForgotten, IsReserved, IsShort}
 use Rattle.tl_embed.specs.Told.{only, with_bytes}
 use Rattle.tl_embed.specs.declared.answer.Answer.{Answer}
 
@@ -73,6 +74,11 @@ abbrev pub event_or_none : Shape → Option Event → Answer
 event_or_none shape None = only 4
 event_or_none shape (Some event) = event_told shape event
 
+-- an event, that it is forgotten, or that the log has none at that place
+abbrev pub event_shown : View → ℕ → Answer
+event_shown v place =
+    if nat_lt place v.forgotten then only 19 else event_or_none (shape_of v.geometry) (slice_get v.log place)
+
 -- ## Room
 
 -- There is no such bank, or its log has the room that is asked for, or there was no memory for it, which changed nothing.
@@ -81,3 +87,8 @@ pub record Reserves (bank count : ℕ) (old new : NetworkState) (told : Answer) 
   pub there :
       bank < old.geometry.banks
       → (IsReserved bank count old new × (told ≡ only 0)) ⊎ (IsShort bank count old new × (told ≡ only 14))
+
+-- There is no such bank, or it has forgotten its log so far.
+pub record Forgets (bank : ℕ) (old new : NetworkState) (told : Answer) : Type 0 where
+  pub absent : old.geometry.banks ≤ bank → (new ≡ old) × (told ≡ only 10)
+  pub there : bank < old.geometry.banks → IsForgotten bank old new × (told ≡ only 0)

@@ -12,11 +12,11 @@ use Rattle.tl_protocol.specs.declared.home.Line.{Line}
 use Rattle.tl_bank.specs.Contents.{line_at, memory_at, message_waiting}
 use Rattle.tl_bank_spec.specs.Cases.{no_client}
 use Rattle.tl_bank_spec.specs.Tables.{copies_at}
-use Rattle.tl_bank_spec.specs.View.{View, shape_of}
+use Rattle.tl_bank_spec.specs.View.{View}
 use Rattle.tl_bank_spec.specs.Views.{IsQuiet, copy_perm_at, outward_at, own_blocks, pairs_at, peeked, recorded_at}
 use Rattle.tl_player.specs.NetworkState.{NetworkState, bank_at}
 use Rattle.tl_embed.specs.Asked.{channel_at, ticket_named}
-use Rattle.tl_embed.specs.Events.{event_or_none}
+use Rattle.tl_embed.specs.Events.{event_shown}
 use Rattle.tl_embed.specs.Told.{message_of, message_told, number_told, only, outward_told, with_bytes}
 use Rattle.tl_embed.specs.declared.answer.Answer.{Answer}
 use Rattle.tl_embed.specs.declared.request.Request.{Request}
@@ -81,6 +81,7 @@ bank_told v r =
     else if r.call == 26 then number_told (pairs_at is_recorded v)
     else if r.call == 27 then number_told (length v.log)
     else if r.call == 29 then number_told v.room
+    else if r.call == 36 then number_told v.forgotten
     else copies_told (if no_client v r.client then None else Some (copies_at v r.client))
 
 -- 1 where nothing is under way in a bank, else 0
@@ -113,7 +114,7 @@ waiting_told v client (Some channel) place =
 
 -- a view of a bank
 pub record BankTells (v : View) (r : Request) (told : Answer) : Type 0 where
-  pub event : r.call ≡ 28 → told ≡ event_or_none (shape_of v.geometry) (slice_get v.log r.serial)
+  pub event : r.call ≡ 28 → told ≡ event_shown v r.serial
   pub quiet : r.call ≡ 31 → QuietTold v told
   pub open_block : r.call ≡ 32 → OpenTold v r.serial told
   pub waiting : r.call ≡ 34 → told ≡ waiting_told v r.client (channel_at r.channel) r.serial
@@ -145,5 +146,6 @@ pub record Views (network : NetworkState) (r : Request) (told : Answer) : Type 0
   pub message : r.call ≡ 33 → told ≡ ticket_told network (ticket_named r)
   pub waiting : r.call ≡ 34 → BankShows (bank_at network r.bank) r told
   pub memory : r.call ≡ 35 → told ≡ block_told network r
+  pub forgotten : r.call ≡ 36 → BankShows (bank_at network r.bank) r told
   pub below : r.call < 20 → told ≡ only 16
-  pub above : 35 < r.call → told ≡ only 16
+  pub above : 36 < r.call → told ≡ only 16

@@ -6,7 +6,7 @@ ghost use Rattle.tl_embed.specs.Told.{only, with_bytes};
 #[repr(C)]
 #[derive(Clone, Copy, Drop)]
 pub struct Answer {
-    /// 0; a bank's refusal, 1 to 15; 16 there is no such call; 17 an argument is out of its range; 18 the cache is closed.
+    /// 0; a bank's refusal, 1 to 15; 16 there is no such call; 17 an argument is out of its range; 18 the cache is closed; 19 the event is forgotten.
     pub status: u32,
     /// What there is to tell: 0 nothing more, 1 a message of a client's link, 2 a message between home and the memory, 3 home
     /// dropped its copy, 4 the bytes of a load, 5 a number, 6 an event, 7 what passes between home and the memory, 8 bytes.

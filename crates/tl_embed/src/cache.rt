@@ -2,7 +2,7 @@
 ghost use Rattle.std.specs.Prelude.{◌≡◌, None};
 ghost use Rattle.tl_embed.specs.Asked.{asked};
 ghost use Rattle.tl_embed.specs.Calls.{AsksFor, Calls};
-ghost use Rattle.tl_embed.specs.Events.{Reserves};
+ghost use Rattle.tl_embed.specs.Events.{Forgets, Reserves};
 ghost use Rattle.tl_embed.specs.Opens.{Opens, as_given, closed};
 ghost use Rattle.tl_embed.specs.Told.{step_told};
 
@@ -114,6 +114,7 @@ fn ask(network: &mut Network, request: &Request) -> Answer
             Err(_) => Answer::only(14),
         },
         Asked::BadArgument => Answer::only(17),
+        Asked::Forget => forget(network, BankNo::new(request.bank)),
         Asked::Reserve => reserve(network, BankNo::new(request.bank), request.serial),
         Asked::Other => view(network, request),
     }
@@ -130,4 +131,15 @@ fn reserve(network: &mut Network, bank: BankNo, count: u64) -> Answer
         Ok(()) => Answer::only(0),
         Err(_) => Answer::only(14),
     }
+}
+
+/// Forgets a bank's log so far.
+fn forget(network: &mut Network, bank: BankNo) -> Answer
+    ensures { Forgets bank network.old network.new result }
+{
+    if bank.number() >= network.geometry().banks() {
+        return Answer::only(10);
+    }
+    network.forget(bank);
+    Answer::only(0)
 }

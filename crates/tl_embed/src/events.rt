@@ -1,8 +1,8 @@
 //! What is told of the events of a bank's log.
-ghost use Rattle.std.specs.Prelude.{◌≡◌, slice_get};
+ghost use Rattle.std.specs.Prelude.{◌≡◌};
 ghost use Rattle.tl_types.specs.Codes.{code_of};
 ghost use Rattle.tl_bank_spec.specs.View.{shape_of};
-ghost use Rattle.tl_embed.specs.Events.{carried, event_number, event_or_none, of_access, of_client};
+ghost use Rattle.tl_embed.specs.Events.{carried, event_number, event_shown, of_access, of_client};
 
 use crate::answer::Answer;
 use tl_bank::Bank;
@@ -10,11 +10,15 @@ use tl_map::Geometry;
 use tl_protocol::{Access, Event, Shape};
 use tl_types::{ClientId, Kind, code};
 
-/// The event at a place of a bank's log, from 0.
+/// The event at a place of a bank's log, from 0; 19 where it is forgotten.
 pub fn event_told(bank: &Bank, place: u64) -> Answer
-    ensures { result ≡ event_or_none (shape_of bank.now.geometry) (slice_get bank.now.log place) }
+    ensures { result ≡ event_shown bank.now place }
 {
-    match bank.log().get(place as usize) {
+    let forgotten = bank.forgotten() as u64;
+    if place < forgotten {
+        return Answer::only(19);
+    }
+    match bank.log().get((place - forgotten) as usize) {
         Some(event) => Answer {
             what: 6,
             opcode: event_number(event),

@@ -16,12 +16,12 @@ use crate::request::Request;
 use std::alloc::Global;
 
 /// Which interface this is: it rises with each change of a struct, a number or a meaning.
-const VERSION: u32 = 2;
+const VERSION: u32 = 3;
 
 /// Which interface this is.
 #[unsafe(no_mangle)]
 pub extern "C" fn jv_version() -> u32
-    ensures { result ≡ 2 }
+    ensures { result ≡ 3 }
 {
     VERSION
 }

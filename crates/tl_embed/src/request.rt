@@ -13,7 +13,7 @@ use tl_words::{BlockCall, Step, TicketCall};
 #[derive(Clone, Copy, Drop)]
 pub struct Request {
     /// Which call: 0 close, 1 load, 2 store, 3 acquire, 4 release, 5 answer_probe, 6 take_grant, 7 take_release_ack, 8 accept,
-    /// 9 advance, 10 take_c, 11 take_grant_ack, 12 evict, 13 serve_memory, 14 take_memory, 15 reserve; from 20 on the views.
+    /// 9 advance, 10 take_c, 11 take_grant_ack, 12 evict, 13 serve_memory, 14 take_memory, 15 reserve, 16 forget; from 20 on the views.
     pub call: u32,
     /// The index of the access, which its event in the log has.
     pub index: u32,
@@ -44,6 +44,8 @@ pub enum Asked {
     BadArgument,
     /// Room in a bank's log for more events.
     Reserve,
+    /// That a bank forgets its log so far.
+    Forget,
     /// None of these.
     Other,
 }
@@ -69,6 +71,7 @@ impl Request {
             13 => Asked::Step(self.by_block(BlockCall::ServeMemory)),
             14 => Asked::Step(self.by_block(BlockCall::TakeMemory)),
             15 => Asked::Reserve,
+            16 => Asked::Forget,
             _ => Asked::Other,
         }
     }

@@ -16,14 +16,14 @@ use tl_protocol::Line;
 use tl_types::{BankNo, BlockBytes, BlockNo, ClientId, Message, Perm, Ticket};
 
 /// What a request that asks for no step is answered: 20 perm, 21 directory, 22 peek, 23 home, 24 outward, 25 held, 26 recorded,
-/// 27 events, 28 event, 29 room, 30 copies, 31 is_quiet, 32 open block, 33 message, 34 waiting, 35 memory; 16 where it is none
+/// 27 events, 28 event, 29 room, 30 copies, 31 is_quiet, 32 open block, 33 message, 34 waiting, 35 memory, 36 forgotten; 16 where it is none
 /// of these.
 pub fn view(network: &Network, request: &Request) -> Answer
     ensures { Views network.now request.now result }
 {
     match request.call {
         20..=24 | 35 => of_block(network, request),
-        25..=32 | 34 => match network.bank(BankNo::new(request.bank)) {
+        25..=32 | 34 | 36 => match network.bank(BankNo::new(request.bank)) {
             Some(bank) => of_bank(bank, request),
             None => Answer::only(10),
         },
@@ -156,8 +156,9 @@ fn number_of(bank: &Bank, request: &Request) -> Answer
     match request.call {
         25 => number_told(bank.held()),
         26 => number_told(bank.outstanding()),
-        27 => number_told(bank.log().len() as u64),
+        27 => number_told(bank.events() as u64),
         29 => number_told(bank.room() as u64),
+        36 => number_told(bank.forgotten() as u64),
         _ => match bank.copies_of(ClientId::new(request.client)) {
             Some(copies) => number_told(copies),
             None => Answer::only(10),

@@ -7,12 +7,13 @@ use Rattle.std.proofs.lemmas.Option.{slice_get-get_or}
 use Rattle.tl_words.specs.declared.step.Step.{Step}
 use Rattle.tl_bank_spec.specs.Refusal.{first_of}
 use Rattle.tl_bank_spec.specs.Share.{Holding}
+use Rattle.tl_bank_spec.specs.Steps.{Forgets}
 use Rattle.tl_bank_spec.specs.View.{View}
 use Rattle.tl_text.specs.declared.answer.Answer.{Answer}
 use Rattle.tl_player.specs.Answers.{IsStarved}
 use Rattle.tl_player.specs.Steps.{IsStep, cases_of}
 use Rattle.tl_player.specs.NetworkSteps.{IsStarvedAt, IsStarvedNetwork, IsStepAt, IsNetworkStep}
-use Rattle.tl_player.specs.NetworkState.{HasRoom, IsReserved, IsShort, SharedBankState, NetworkState, bank_asked, client_named, share_place}
+use Rattle.tl_player.specs.NetworkState.{HasRoom, IsForgotten, IsReserved, IsShort, SharedBankState, NetworkState, bank_asked, client_named, share_place}
 use Rattle.tl_player.proofs.Starved.{step-room}
 
 -- a list of the same length takes the other's place
@@ -107,6 +108,20 @@ reserved-at number count old new shared_bank other left inside is has made = rec
   left = left;
   is_site = slice_get-get_or old.shared_banks number other inside ∙ ap (λ (s : SharedBankState). Some s) (sym is);
   has_room = has;
+  is = made;
+}
+
+-- a bank that forgot, written back
+pub forgotten-at : (number : ℕ) (old new : NetworkState) (shared_bank other left : SharedBankState)
+    → number < length old.shared_banks → shared_bank ≡ get_or old.shared_banks number other → Forgets shared_bank.bank left.bank
+    → left.shares ≡ shared_bank.shares → new ≡ record old { shared_banks = slice_set old.shared_banks number left }
+    → IsForgotten number old new
+forgotten-at number old new shared_bank other left inside is forgets shares made = record {
+  shared_bank = shared_bank;
+  left = left;
+  is_site = slice_get-get_or old.shared_banks number other inside ∙ ap (λ (s : SharedBankState). Some s) (sym is);
+  forgets = forgets;
+  shares = shares;
   is = made;
 }
 

@@ -8,6 +8,7 @@ use Rattle.tl_words.specs.declared.step.Step.{Step}
 use Rattle.tl_words.specs.declared.step.Step.TheVariants.{Load, Store, Acquire, Release, Ticket, Block}
 use Rattle.tl_bank_spec.specs.Coherent.{IsCoherent}
 use Rattle.tl_bank_spec.specs.Share.{Holding, first_shares}
+use Rattle.tl_bank_spec.specs.Steps.{Forgets}
 use Rattle.tl_bank_spec.specs.View.{View}
 use Rattle.tl_bank_spec.specs.Own.{way_at}
 
@@ -37,6 +38,7 @@ pub record IsFresh (g : Numbers) (image : List ℕ) (number : ℕ) (shared_bank 
         number = number;
         image = image;
         log = [];
+        forgotten = 0;
         room = shared_bank.bank.room;
         registers = [];
         ways = shared_bank.bank.ways;
@@ -79,6 +81,15 @@ pub record IsShort (number count : ℕ) (old new : NetworkState) : Type 0 where
   pub shared_bank : SharedBankState
   pub is_site : slice_get old.shared_banks number ≡ Some shared_bank
   pub less : shared_bank.bank.room < count
+
+-- The log of a bank with a number is forgotten so far; nothing else changed.
+pub record IsForgotten (number : ℕ) (old new : NetworkState) : Type 0 where
+  pub shared_bank : SharedBankState
+  pub left : SharedBankState
+  pub is_site : slice_get old.shared_banks number ≡ Some shared_bank
+  pub forgets : Forgets shared_bank.bank left.bank
+  pub shares : left.shares ≡ shared_bank.shares
+  pub is : new ≡ record old { shared_banks = slice_set old.shared_banks number left }
 
 -- ## Whenever
 

@@ -14,11 +14,13 @@ pub(crate) fn closing(alloc: Global, bank: &Bank) -> Result<BankClosing, AllocEr
     ensures closes { IfOk result (Closes bank.now) }
     ensures coherent { OnOk result (IsCoherent bank.now) }
 {
+    // For the prover: what the log leaves is coherent.
+    let _log = bank.log();
     Ok(BankClosing {
         blocks: lines(alloc, bank)?,
         held: bank.held(),
         recorded: bank.outstanding(),
-        events: bank.log().len() as u64,
+        events: bank.events() as u64,
     })
 }
 

@@ -3,7 +3,7 @@ ghost use Rattle.std.specs.Prelude.{◌≡◌, ◌<◌, ◌≤◌, ◌*◌, IfOk
 ghost use Rattle.tl_player.specs.Closing.{Close};
 ghost use Rattle.tl_player.specs.NetworkSteps.{AreNetworkSteps, IsNetworkStep, IsStarvedNetwork};
 ghost use Rattle.std.specs.Option.{option_map};
-ghost use Rattle.tl_player.specs.NetworkState.{AreCoherent, AreFresh, IsReset, IsReserved, IsShort, bank_at};
+ghost use Rattle.tl_player.specs.NetworkState.{AreCoherent, AreFresh, IsForgotten, IsReset, IsReserved, IsShort, bank_at};
 
 use crate::asked::{bank_asked, client_named};
 use crate::closing::closing;
@@ -85,6 +85,14 @@ impl Network {
         ensures room { OnOk result (IsReserved bank count self.old self.new) }
     {
         self.shared_banks[bank.index()].reserve_steps(count)
+    }
+
+    /// Forgets a bank's log so far, whose memory is room for more events.
+    pub fn forget(&mut self, bank: BankNo)
+        requires { bank < self.now.geometry.banks }
+        ensures { IsForgotten bank self.old self.new }
+    {
+        self.shared_banks[bank.index()].forget();
     }
 
     /// The clock of a client; 0 for a client that is not there.

@@ -1,5 +1,6 @@
 //! A bank with its clients' shares.
 ghost use Rattle.std.specs.Prelude.{◌≡◌, ◌<◌, ◌≤◌, ◌*◌, IfOk, OnErr, OnOk, length};
+ghost use Rattle.tl_bank_spec.specs.Steps.{Forgets};
 ghost use Rattle.tl_player.specs.NetworkSteps.{IsStarvedAt, IsStepAt};
 ghost use Rattle.tl_player.specs.NetworkState.{HasRoom, IsFresh, share_place};
 
@@ -79,6 +80,14 @@ impl SharedBank {
         ensures room { OnOk result (HasRoom count self.old self.new) }
     {
         self.bank.reserve_steps(count)
+    }
+
+    /// Forgets the bank's log so far.
+    pub(crate) fn forget(&mut self)
+        ensures shares { self.new.shares ≡ self.old.shares }
+        ensures forgets { Forgets self.old.bank self.new.bank }
+    {
+        self.bank.forget();
     }
 
     /// The place of a client's share; that of client 0's for a client that is not there.

@@ -243,17 +243,17 @@ certified_to logs c =
 -- ## The logs of banks
 
 logged_drop : (logs : List (Bor Journal)) (i : ℕ) (log : Bor Journal) → i < length logs → log ≡ get_or logs i log
-    → take (i + 1) (logs_of logs) ≡ take i (logs_of logs) ++ log.now.events ∷ []
+    → take (i + 1) (logs_of logs) ≡ take i (logs_of logs) ++ drop log.now.forgotten log.now.events ∷ []
 logged_drop [] i log lt is = absurd (omega arith)
-logged_drop (x ∷ xs) zero log lt is = ap (λ (l : Bor Journal). l.now.events ∷ []) (sym is)
-logged_drop (x ∷ xs) (suc i) log lt is = simp unary_clauses (ap (λ (ls : List (List Event)). x.now.events ∷ ls) (simp unary_clauses at (logged_drop xs i log (omega arith) is)))
+logged_drop (x ∷ xs) zero log lt is = ap (λ (l : Bor Journal). drop l.now.forgotten l.now.events ∷ []) (sym is)
+logged_drop (x ∷ xs) (suc i) log lt is = simp unary_clauses (ap (λ (ls : List (List Event)). drop x.now.forgotten x.now.events ∷ ls) (simp unary_clauses at (logged_drop xs i log (omega arith) is)))
 
 events_push : (xs : List (Bor (List Event))) (x : Bor (List Event)) → events_of (xs ++ x ∷ []) ≡ events_of xs ++ x.now ∷ []
 events_push [] x = refl
 events_push (y ∷ ys) x = ap (λ (ls : List (List Event)). y.now ∷ ls) (events_push ys x)
 
 pub pushed : (logs : List (Bor Journal)) (i : ℕ) (log : Bor Journal) (items : List (Bor (List Event))) (events : Bor (List Event))
-    → i < length logs → log ≡ get_or logs i log → events_of items ≡ take i (logs_of logs) → events.now ≡ log.now.events
+    → i < length logs → log ≡ get_or logs i log → events_of items ≡ take i (logs_of logs) → events.now ≡ drop log.now.forgotten log.now.events
     → events_of (items ++ events ∷ []) ≡ take (i + 1) (logs_of logs)
 pushed logs i log items events lt is so_far same =
     events_push items events

@@ -1,5 +1,5 @@
 -- The order of the accesses of several logs: by stamp, and then by client (this project's own).
-use Rattle.std.specs.Prelude.{◌≡◌, ◌≢◌, ◌<◌, ◌≤◌, List, [], ◌∷◌, ◌++◌, length, map, All, AllPairs, filter_map}
+use Rattle.std.specs.Prelude.{◌≡◌, ◌≢◌, ◌<◌, ◌≤◌, List, [], ◌∷◌, ◌++◌, length, map, drop, All, AllPairs, filter_map}
 use Rattle.std.specs.Borrow.{Bor}
 use Rattle.tl_protocol.specs.declared.event.Access.{Access}
 use Rattle.tl_protocol.specs.declared.event.Event.{Event}
@@ -42,6 +42,6 @@ pub record IsCertified (logs : List (List Event)) : Type 0 where
 abbrev pub events_of : List (Bor (List Event)) → List (List Event)
 events_of logs = map (λ log. log.now) logs
 
--- the events that some logs keep
+-- the events that some logs keep: those that are not forgotten
 abbrev pub logs_of : List (Bor Journal) → List (List Event)
-logs_of logs = map (λ log. log.now.events) logs
+logs_of logs = map (λ log. drop log.now.forgotten log.now.events) logs

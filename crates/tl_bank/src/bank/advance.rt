@@ -1,5 +1,5 @@
 //! A register's next action, carried out.
-ghost use Rattle.std.specs.Prelude.{◌≡◌, ◌≢◌, ◌<◌, ◌^◌, ℕ, None, Some, false, length, IfErr, IfOk, OnErr, OnOk};
+ghost use Rattle.std.specs.Prelude.{◌≡◌, ◌≢◌, ◌<◌, ◌-◌, ◌^◌, ℕ, None, Some, false, length, IfErr, IfOk, OnErr, OnOk};
 ghost use Rattle.tl_protocol.specs.Client.{grant_bytes};
 ghost use Rattle.tl_protocol.specs.Protocol.{granted, home_bytes, is_alone};
 ghost use Rattle.tl_registers.specs.declared.due.Due.{Due};
@@ -89,7 +89,7 @@ impl Bank {
         requires permitted { first_of (advance_cases self.old own) ≡ None }
         requires due { due_at self.old own ≡ Some (Due.Probe client block cap) }
         requires room { 0 < self.old.room }
-        requires small { length self.old.log < 2 ^ 63 }
+        requires small { length self.old.log < 2 ^ 64 - 1 }
         ensures { Advances self.old self.new own result }
     {
         let body = Body::ProbeBlock(cap);
@@ -104,7 +104,7 @@ impl Bank {
         requires permitted { first_of (advance_cases self.old own) ≡ None }
         requires due { due_at self.old own ≡ Some (Due.Grant client) }
         requires room { 0 < self.old.room }
-        requires small { length self.old.log < 2 ^ 63 }
+        requires small { length self.old.log < 2 ^ 64 - 1 }
         ensures { Advances self.old self.new own result }
     {
         let acquire = self.accepted(own).unwrap();

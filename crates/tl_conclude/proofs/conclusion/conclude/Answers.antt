@@ -5,7 +5,12 @@ use Rattle.tl_conclude.specs.Conclusion.{AreMatched, AreAllShares}
 use Rattle.tl_conclude.specs.declared.error.RunError.TheVariants.{Memory}
 use Rattle.tl_conclude.proofs.Reported.{all_distinct}
 use Rattle.tl_conclude.proofs.Concluded.{carried, is_ordered, memory_is_other, shown_moved}
+use Rattle.tl_conclude.proofs.ScriptBanks.{all_whole}
 use Rattle.tl_conclude.proofs.conclusion.conclude.Goals as goal
+
+pub logs_of-lists-requires-clause-whole : goal.logs_of-lists-requires-clause-whole
+logs_of-lists-requires-clause-whole c =
+    all_whole c.args.script.now c.args.banks.now (c.are_banks_of.ensures.0 c.if-not-are_banks_of.false)
 
 pub all_lines-requires-clause-distinct : goal.all_lines-requires-clause-distinct
 all_lines-requires-clause-distinct c =

@@ -66,7 +66,7 @@ invariant_of-self c =
     Means (opened_view v (v.log ++ AcceptAcquire t.client block ∷ []) c.append.new.self.room
     (opened block x (acquire_task (record { client = t.client; grow = grow }) victim)))
     (record h { links = c.discard.new.links }) in
-    rw (c.append.ensures.events, c.open_acquire.ensures)
+    rw (c.append.ensures.events, c.append.ensures.forgotten, c.open_acquire.ensures)
     (subst Result (sym held)
     (accept-keeps v h t block grow way victim c.append.new.self.room c.discard.new.links c.self.invariant shows c.discard.ensures.same
     c.discard.ensures.after))
@@ -98,7 +98,7 @@ returns-clause-accepts c =
       way = way;
       is_way = rw block_is at way_is;
       serves =
-          rw (c.append.ensures.events, c.open_acquire.ensures, held, c.in_ok-asked.ensures.victim, block_is)
+          rw (c.append.ensures.events, c.append.ensures.forgotten, c.open_acquire.ensures, held, c.in_ok-asked.ensures.victim, block_is)
           (serves-next old v (AcceptAcquire t.client block) between.room c.append.new.self.room (v.registers ++ opens ∷ [])
           (old.registers ++ opens ∷ []) v.ways (way_at old) made c.make_room.ensures.grows (omega (arith, left, was))
           (ap (λ (w : View). w.registers ++ opens ∷ []) made) (λ b. ap (λ (w : View). way_at w b) made));

@@ -1,4 +1,4 @@
-use Rattle.std.proofs.Common.{rules, ◌≡◌, ◌<◌, ◌^◌, ◌∙◌, None, length, refl, sym, subst}
+use Rattle.std.proofs.Common.{rules, ◌≡◌, ◌<◌, ◌^◌, ◌-◌, ◌∙◌, None, length, refl, sym, subst}
 use Rattle.tl_types.specs.declared.channel.Channel.TheVariants.{A}
 use Rattle.tl_bank_spec.specs.Calls.{acquire_cases}
 use Rattle.tl_bank_spec.specs.Refusal.{first_of}
@@ -21,7 +21,7 @@ send-ticket-requires c =
     let few = all-false (acquire_cases v c.args.client c.args.block c.args.grow) permitted in
     channel-room v h c.args.client A c.self.invariant
     (acquire-allowed v c.args.client c.args.block c.args.grow permitted).client few.1.1.1.1.1.0
-    (subst (λ (w : View). length w.log < 2 ^ 63) (sym c.self.view_is) c.make_room.ensures.small)
+    (subst (λ (w : View). length w.log < 2 ^ 64 - 1) (sym c.self.view_is) c.make_room.ensures.small)
 
 pub wait_for-requires-clause-client : goal.wait_for-requires-clause-client
 wait_for-requires-clause-client c =
@@ -57,7 +57,7 @@ invariant_of-self c =
     let permitted : first_of (acquire_cases v c.args.client c.args.block c.args.grow) ≡ None =
     subst (λ (w : View). first_of (acquire_cases w c.args.client c.args.block c.args.grow) ≡ None)
     (sym (c.self.view_is ∙ c.make_room.ensures.same)) c.in_ok-settle_acquire.ensures.permitted in
-    rw c.append.ensures.events
+    rw (c.append.ensures.events, c.append.ensures.forgotten)
     (acquire-keeps v h c.args.client c.args.block c.args.grow (client_at v c.args.client c.args.block).held
     c.append.new.self.room c.send-ticket.new.links c.wait_for.new.self c.self.invariant
     (record { allowed = permitted; copy_is = refl }) c.send-ticket.ensures.same c.send-ticket.ensures.after c.wait_for.ensures.same

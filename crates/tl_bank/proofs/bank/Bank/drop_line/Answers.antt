@@ -37,7 +37,7 @@ invariant_of-self c =
       orders = c.drop_line.ensures.orders;
       memory = c.drop_line.ensures.memory;
     } in
-    rw (c.append.ensures.events, c.end_victim.ensures)
+    rw (c.append.ensures.events, c.append.ensures.forgotten, c.end_victim.ensures)
     (drop-keeps v (layers c.self.inside) c.args.own c.args.victim c.append.new.self.room (ways_below lies v.geometry.memory_blocks)
     c.drop_line.new.self c.self.invariant
     (acts-at v c.args.self.now (layers c.self.inside) c.args.own (Drop c.args.victim) c.self.invariant c.self.view_is
@@ -57,7 +57,7 @@ returns c =
       orders = c.drop_line.ensures.orders;
       memory = c.drop_line.ensures.memory;
     } in
-    rw c.end_victim.ensures
+    rw (c.append.ensures.forgotten, c.end_victim.ensures)
     (advances-at v c.args.self.now c.args.own (Drop c.args.victim) did_Drop c.append.new.self.events c.append.new.self.room
     (ways_below (way_in c.drop_line.new.self) v.geometry.memory_blocks) c.self.view_is c.requires.due c.append.ensures.events
     (omega (arith, left)) (ways-left c.self.inside.home c.drop_line.new.self v.geometry.memory_blocks c.args.victim gave) refl)

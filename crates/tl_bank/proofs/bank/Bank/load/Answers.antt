@@ -21,7 +21,7 @@ reads c =
 
 pub invariant_of-self : goal.invariant_of-self
 invariant_of-self c =
-    rw (c.append.ensures.events, c.copied.ensures)
+    rw (c.append.ensures.events, c.append.ensures.forgotten, c.copied.ensures)
     (load-keeps (shown c.self.inside) (layers c.self.inside) c.args.client c.args.address c.args.len c.args.when.clock c.in_ok-bytes.bytes
     c.next_stamp-stamp.result c.args.when.index c.append.new.self.room c.self.invariant (reads c))
 

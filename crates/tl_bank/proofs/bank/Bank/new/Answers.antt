@@ -13,7 +13,7 @@ invariant_of-bank c =
       limit = c.registers.result;
       clock = 0;
     } in
-    rw (c.new.ensures, c.in_ok-from_slice.ensures.items, c.new-5.ensures)
+    rw (c.new.ensures.events, c.new.ensures.forgotten, c.in_ok-from_slice.ensures.items, c.new-6.ensures)
     (means-fresh c.args.geometry c.args.number c.args.image.now c.new.result.room h c.clients.ensures.lawful c.in_ok-new.ensures.empty
     c.in_ok-new-2.ensures.empty c.in_ok-new-3.ensures.lines c.in_ok-new-3.ensures.recorded c.in_ok-new-3.ensures.outward
     c.in_ok-new-3.ensures.memory c.in_ok-new-3.ensures.ways c.in_ok-new-3.ensures.free

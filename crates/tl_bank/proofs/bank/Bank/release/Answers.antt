@@ -1,4 +1,4 @@
-use Rattle.std.proofs.Common.{rules, ◌≡◌, ◌<◌, ◌^◌, ◌∙◌, None, length, sym, subst, ap}
+use Rattle.std.proofs.Common.{rules, ◌≡◌, ◌<◌, ◌^◌, ◌-◌, ◌∙◌, None, length, sym, subst, ap}
 use Rattle.tl_map.specs.Limits.{IsLawful}
 use Rattle.tl_types.specs.declared.channel.Channel.TheVariants.{C}
 use Rattle.tl_protocol.specs.Protocol.{is_none}
@@ -24,7 +24,7 @@ send-ticket-requires c =
     let few = all-false (release_cases v c.args.client c.args.block c.args.prune c.args.share.now) permitted in
     channel-room v (layers c.self.inside) c.args.client C c.self.invariant
     (release-allowed v c.args.client c.args.block c.args.prune c.args.share.now permitted).client few.1.1.1.1.0
-    (subst (λ (w : View). length w.log < 2 ^ 63) (sym c.self.view_is) c.make_room.ensures.small)
+    (subst (λ (w : View). length w.log < 2 ^ 64 - 1) (sym c.self.view_is) c.make_room.ensures.small)
 
 pub put-requires : goal.put-requires
 put-requires c =
@@ -63,7 +63,7 @@ invariant_of-self c =
       copy_is = c.in_ok-found.ensures.copy;
       given_is = c.in_ok-found.ensures.given;
     }) in
-    rw c.append.ensures.events
+    rw (c.append.ensures.events, c.append.ensures.forgotten)
     (release-keeps v (layers c.self.inside) c.args.client c.args.block c.args.prune c.args.share.now c.in_ok-found.found.copy
     c.in_ok-found.found.given c.append.new.self.room c.send-ticket.new.links c.put.new.copies c.self.invariant gives
     c.send-ticket.ensures.same c.send-ticket.ensures.after c.put.ensures.same c.put.ensures.after)

@@ -29,7 +29,7 @@ pub invariant_of-self : goal.invariant_of-self
 invariant_of-self c =
     let v : View = shown c.self.inside in
     let lies : ℕ → Option ℕ = way_in c.send_get.new.self in
-    rw c.append.ensures.events
+    rw (c.append.ensures.events, c.append.ensures.forgotten)
     (get-keeps v (layers c.self.inside) c.args.own c.append.new.self.room (ways_below lies v.geometry.memory_blocks) c.send_get.new.self
     c.self.invariant
     (acts-at v c.args.self.now (layers c.self.inside) c.args.own Get c.self.invariant c.self.view_is c.requires.permitted c.requires.due)
@@ -41,6 +41,7 @@ returns c =
     let v : View = shown c.self.inside in
     let left = c.append.ensures.room in
     let same = below-same (way_in c.send_get.new.self) (way_in c.self.inside.home) v.geometry.memory_blocks (λ b l. c.send_get.ensures.home.ways.ways b) in
-    advances-at v c.args.self.now c.args.own Get did_Get c.append.new.self.events c.append.new.self.room
+    rw c.append.ensures.forgotten
+    (advances-at v c.args.self.now c.args.own Get did_Get c.append.new.self.events c.append.new.self.room
     (ways_below (way_in c.send_get.new.self) v.geometry.memory_blocks) c.self.view_is c.requires.due c.append.ensures.events
-    (omega (arith, left)) (λ b. ap (λ ways. slice_index_or ways b None) same) refl
+    (omega (arith, left)) (λ b. ap (λ ways. slice_index_or ways b None) same) refl)

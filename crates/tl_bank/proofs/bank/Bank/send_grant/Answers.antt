@@ -1,4 +1,4 @@
-use Rattle.std.proofs.Common.{◌≢◌, ℕ, ◌∙◌, ◌<◌, ◌^◌, Option, None, length, arith, ap, subst, sym}
+use Rattle.std.proofs.Common.{◌≢◌, ℕ, ◌∙◌, ◌<◌, ◌^◌, ◌-◌, Option, None, length, arith, ap, subst, sym}
 use Rattle.std.specs.Prelude.{slice_index_or}
 use Rattle.tl_types.specs.declared.channel.Channel.TheVariants.{D}
 use Rattle.tl_types.specs.declared.ticket.Ticket.{Ticket}
@@ -31,7 +31,7 @@ send-ticket-requires c =
     c.requires.due in
     channel-room v h c.args.client D c.self.invariant acts.may.1.0
     (grant-free v c.args.self.now c.args.own c.args.client c.self.view_is c.requires.permitted c.requires.due)
-    (subst (λ (w : View). length w.log < 2 ^ 63) (sym c.self.view_is) c.requires.small)
+    (subst (λ (w : View). length w.log < 2 ^ 64 - 1) (sym c.self.view_is) c.requires.small)
 
 pub grant-requires-clause-held : goal.grant-requires-clause-held
 grant-requires-clause-held c =
@@ -107,7 +107,7 @@ invariant_of-self c =
           ∙ ap (λ b. grant_bytes (client_at c.args.self.now c.args.client c.args.own).recorded b) c.home_line-entry.ensures.bytes;
     }) in
     let lies : ℕ → Option ℕ = way_in c.grant.new.self in
-    rw c.append.ensures.events
+    rw (c.append.ensures.events, c.append.ensures.forgotten)
     (grant-keeps v h c.args.own c.args.client c.unwrap-acquire.result c.granted-cap.result c.grant_bytes.result c.append.new.self.room
     (ways_below lies v.geometry.memory_blocks) c.send-ticket.new.links c.grant.new.self c.self.invariant acts gives
     c.send-ticket.ensures.same c.send-ticket.ensures.after
@@ -131,8 +131,9 @@ returns c =
     c.requires.due in
     let left = c.append.ensures.room in
     let same = below-same (way_in c.grant.new.self) (way_in c.self.inside.home) v.geometry.memory_blocks (λ b l. c.grant.ensures.ways b) in
-    advances-at v c.args.self.now c.args.own (Grant c.args.client) (did_Grant c.send-ticket.result) c.append.new.self.events
+    rw c.append.ensures.forgotten
+    (advances-at v c.args.self.now c.args.own (Grant c.args.client) (did_Grant c.send-ticket.result) c.append.new.self.events
     c.append.new.self.room (ways_below (way_in c.grant.new.self) v.geometry.memory_blocks) c.self.view_is c.requires.due
     c.append.ensures.events (omega (arith, left)) (λ b. ap (λ ways. slice_index_or ways b None) same)
     (ap (λ (t : Ticket). did_Grant t)
-    (c.send-ticket.ensures.ticket ∙ ticket-is v h c.args.client D c.self.invariant acts.may.1.0))
+    (c.send-ticket.ensures.ticket ∙ ticket-is v h c.args.client D c.self.invariant acts.may.1.0)))

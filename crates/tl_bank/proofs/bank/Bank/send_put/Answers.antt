@@ -53,7 +53,7 @@ invariant_of-self c =
       orders = c.send_put.ensures.orders;
       memory = c.send_put.ensures.memory;
     } in
-    rw c.append.ensures.events
+    rw (c.append.ensures.events, c.append.ensures.forgotten)
     (put-keeps v (layers c.self.inside) c.args.own c.args.victim c.append.new.self.room (ways_below lies v.geometry.memory_blocks)
     c.send_put.new.self c.self.invariant
     (acts-at v c.args.self.now (layers c.self.inside) c.args.own (Put c.args.victim) c.self.invariant c.self.view_is
@@ -73,6 +73,7 @@ returns c =
       orders = c.send_put.ensures.orders;
       memory = c.send_put.ensures.memory;
     } in
-    advances-at v c.args.self.now c.args.own (Put c.args.victim) (did_Put c.args.victim) c.append.new.self.events c.append.new.self.room
+    rw c.append.ensures.forgotten
+    (advances-at v c.args.self.now c.args.own (Put c.args.victim) (did_Put c.args.victim) c.append.new.self.events c.append.new.self.room
     (ways_below (way_in c.send_put.new.self) v.geometry.memory_blocks) c.self.view_is c.requires.due c.append.ensures.events
-    (omega (arith, left)) (ways-left c.self.inside.home c.send_put.new.self v.geometry.memory_blocks c.args.victim gave) refl
+    (omega (arith, left)) (ways-left c.self.inside.home c.send_put.new.self v.geometry.memory_blocks c.args.victim gave) refl)

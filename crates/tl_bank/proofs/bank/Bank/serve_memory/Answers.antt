@@ -37,7 +37,7 @@ invariant_of-self c =
     let none : first_of (serve_memory_cases v c.args.block) ≡ None =
     subst (λ (w : View). first_of (serve_memory_cases w c.args.block) ≡ None) (sym (c.self.view_is ∙ c.make_room.ensures.same))
     (c.in_ok-settle_serve.ensures.permitted) in
-    rw c.append.ensures.events
+    rw (c.append.ensures.events, c.append.ensures.forgotten)
     (serve-keeps v (layers c.self.inside) c.serve.new.self c.args.block c.append.new.self.room c.self.invariant none
     (record {
       bank = c.serve.ensures.bank;
@@ -56,7 +56,7 @@ returns-clause-serves c =
     ∙ ap (λ (w : View). w.ways) made in
     let left : c.append.new.self.room + 1 ≡ c.self.inside.log.room = c.append.ensures.room in
     let was : c.self.inside.log.room ≡ c.make_room.new.self.room = ap (λ (w : View). w.room) made in
-    rw c.append.ensures.events
+    rw (c.append.ensures.events, c.append.ensures.forgotten)
     (serves-next old v (Serve c.args.block) c.make_room.new.self.room c.append.new.self.room v.registers old.registers
     (ways_below (way_in c.serve.new.self) v.geometry.memory_blocks) (way_at old) made c.make_room.ensures.grows
     (omega (arith, left, was)) (ap (λ (w : View). w.registers) made)

@@ -51,7 +51,7 @@ invariant_of-self c =
     ≡ entry_with copy (client_at v c.args.client block).wait =
     rw (c.offset-offset.ensures.is, c.access_of-access.ensures, shows.1)
     (ap (λ (o : Option Held). option_map (λ (h : Held). stored at c.args.bytes.now h) o) was ∙ stored-entry k.held k.wait at c.args.bytes.now ok.1) in
-    rw (c.append.ensures.events, c.access_of-access.ensures)
+    rw (c.append.ensures.events, c.append.ensures.forgotten, c.access_of-access.ensures)
     (store-keeps v (layers c.self-2.inside) c.args.client c.args.address c.args.bytes.now c.args.when.clock block
     copy (client_at v c.args.client block).wait c.next_stamp-stamp.result c.args.when.index c.append.new.self.room
     c.store.new.self c.self-2.invariant writes c.store.ensures.same

@@ -80,7 +80,7 @@ invariant_of-self c =
       outward = c.receive.ensures.outward;
       memory = c.receive.ensures.memory;
     } in
-    rw c.append.ensures.events
+    rw (c.append.ensures.events, c.append.ensures.forgotten)
     (take_c-keeps v (layers c.self.inside) c.args.ticket c.take-message.result c.take-message.new.links c.answer-sent.new.links
     c.receive.new.self c.append.new.self.room (ways_below (way_in c.receive.new.self) v.geometry.memory_blocks) c.self.invariant none comes
     (subst (λ (r : Bool). Passed c.self.inside.links c.take-message.new.links c.answer-sent.new.links c.args.ticket
@@ -108,7 +108,7 @@ returns-clause-serves c =
     comes.block ∙ ap (λ (w : View). block_named w c.args.ticket C) made in
     let left : c.append.new.self.room + 1 ≡ c.self.inside.log.room = c.append.ensures.room in
     let was : c.self.inside.log.room ≡ c.make_room.new.self.room = ap (λ (w : View). w.room) made in
-    rw (c.append.ensures.events, ← block_is)
+    rw (c.append.ensures.events, c.append.ensures.forgotten, ← block_is)
     (serves-next old v (TakeC c.args.ticket.client c.take-message.result.block) c.make_room.new.self.room c.append.new.self.room v.registers
     old.registers (ways_below (way_in c.receive.new.self) v.geometry.memory_blocks) (way_at old) made c.make_room.ensures.grows
     (omega (arith, left, was)) (ap (λ (w : View). w.registers) made)

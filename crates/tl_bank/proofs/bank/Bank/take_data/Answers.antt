@@ -51,7 +51,7 @@ invariant_of-self c =
     let takes : Takes v c.args.block c.way_of_data-way.result =
     subst (λ (w : View). Takes w c.args.block c.way_of_data-way.result) (sym (c.self.view_is ∙ c.make_room.ensures.same))
     (record { permitted = c.requires.permitted; came = c.requires.data; held = c.way_of_data-way.ensures }) in
-    rw c.append.ensures.events
+    rw (c.append.ensures.events, c.append.ensures.forgotten)
     (data-keeps v (layers c.self.inside) c.take_data.new.self c.args.block c.way_of_data-way.result c.append.new.self.room c.self.invariant
     takes.permitted takes.came takes.held
     (record {
@@ -85,7 +85,7 @@ returns-clause-takes c =
       came = c.requires.data;
       register = register;
       is_register = held.1;
-      serves = rw c.append.ensures.events
+      serves = rw (c.append.ensures.events, c.append.ensures.forgotten)
           (serves-next old v (TakeData block) c.make_room.new.self.room c.append.new.self.room v.registers old.registers (home_ways v home)
           (λ b. if b == block then Some register.way.way else way_at old b) made c.make_room.ensures.grows
           (omega (arith, left, was)) (ap (λ (w : View). w.registers) made)

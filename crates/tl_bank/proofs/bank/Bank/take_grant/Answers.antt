@@ -1,4 +1,4 @@
-use Rattle.std.proofs.Common.{rules, ◌<◌, ◌^◌, ◌∙◌, length, sym, subst, ap}
+use Rattle.std.proofs.Common.{rules, ◌<◌, ◌^◌, ◌-◌, ◌∙◌, length, sym, subst, ap}
 use Rattle.tl_bank_spec.specs.Share.{Holding, recount, recounted}
 use Rattle.tl_bank_spec.specs.View.{View, perm_at}
 use Rattle.tl_bank_spec.proofs.Counted.{others-keep}
@@ -19,7 +19,7 @@ send-sent-requires c =
     let found = c.in_ok-found.ensures in
     let takes = takes-with-room _ c.args.self.now c.args.ticket c.args.share.now c.make_room.new.self.room _ _ _
     (c.self.view_is ∙ c.make_room.ensures.same) found.permitted found.finds in
-    let small = subst (λ (w : View). length w.log < 2 ^ 63) (sym c.self.view_is) c.make_room.ensures.small in
+    let small = subst (λ (w : View). length w.log < 2 ^ 64 - 1) (sym c.self.view_is) c.make_room.ensures.small in
     grant-room _ _ _ _ _ c.self.invariant takes.allowed small c.discard.ensures.same c.discard.ensures.after
 
 pub put-requires : goal.put-requires
@@ -48,7 +48,7 @@ invariant_of-self c =
     let found = c.in_ok-found.ensures in
     let takes = takes-with-room _ c.args.self.now c.args.ticket c.args.share.now c.make_room.new.self.room _ _ _
     (c.self.view_is ∙ c.make_room.ensures.same) found.permitted found.finds in
-    rw c.append.ensures.events
+    rw (c.append.ensures.events, c.append.ensures.forgotten)
     (grant-keeps _ _ _ _ _ _ _ c.append.new.self.room _ _ _ c.self.invariant takes c.discard.ensures.same c.discard.ensures.after
     c.send-sent.ensures.same c.send-sent.ensures.after c.put.ensures.same c.put.ensures.after)
 

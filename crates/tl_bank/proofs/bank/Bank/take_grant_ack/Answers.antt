@@ -20,7 +20,7 @@ invariant_of-self c =
     let block_is : c.in_ok-block.block ≡ block_named v c.args.ticket E =
     subst (λ (w : View). c.in_ok-block.block ≡ block_named w c.args.ticket E) (sym (c.self.view_is ∙ c.make_room.ensures.same))
     c.in_ok-block.ensures.block in
-    rw (c.append.ensures.events, c.close.ensures)
+    rw (c.append.ensures.events, c.append.ensures.forgotten, c.close.ensures)
     (grant_ack-keeps v (layers c.self.inside) c.args.ticket c.in_ok-block.block c.discard.new.links c.append.new.self.room
     (ways_below (way_in c.self.inside.home) v.geometry.memory_blocks) c.self.invariant none block_is
     c.discard.ensures.same c.discard.ensures.after

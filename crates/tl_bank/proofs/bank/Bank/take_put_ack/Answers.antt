@@ -21,7 +21,7 @@ invariant_of-self c =
     c.requires.permitted in
     let waits : (block_at v c.args.block).outward ≡ PutAck =
     subst (λ (w : View). (block_at w c.args.block).outward ≡ PutAck) (sym (c.self.view_is ∙ c.make_room.ensures.same)) c.requires.put_ack in
-    rw (c.append.ensures.events, c.end_victim.ensures)
+    rw (c.append.ensures.events, c.append.ensures.forgotten, c.end_victim.ensures)
     (put_ack-keeps v (layers c.self.inside) c.take_put_ack.new.self c.args.block c.append.new.self.room c.self.invariant none waits
     (record {
       bank = c.take_put_ack.ensures.bank;
@@ -43,7 +43,7 @@ returns-clause-takes c =
     let was : c.self.inside.log.room ≡ c.make_room.new.self.room = ap (λ (w : View). w.room) made in
     record {
       came = c.requires.put_ack;
-      serves = rw (c.append.ensures.events, c.end_victim.ensures)
+      serves = rw (c.append.ensures.events, c.append.ensures.forgotten, c.end_victim.ensures)
           (serves-next old v (TakePutAck c.args.block) c.make_room.new.self.room c.append.new.self.room (ended c.args.block v.registers)
           (ended c.args.block old.registers) (ways_below (way_in c.take_put_ack.new.self) v.geometry.memory_blocks) (way_at old) made
           c.make_room.ensures.grows (omega (arith, left, was)) (ap (λ (w : View). ended c.args.block w.registers) made)

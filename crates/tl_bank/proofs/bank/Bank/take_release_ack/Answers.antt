@@ -43,7 +43,7 @@ invariant_of-self c =
     let shows : Shows v =
     subst Shows (sym (c.self.view_is ∙ c.make_room.ensures.same)) (c.in_ok-block.ensures.permitted, c.in_ok-block.ensures.block) in
     let acks : Acks v c.args.ticket c.in_ok-block.block copy = record { allowed = shows.0; block_is = shows.1; copy_is = refl } in
-    rw c.append.ensures.events
+    rw (c.append.ensures.events, c.append.ensures.forgotten)
     (ack-keeps v h c.args.ticket c.in_ok-block.block copy c.append.new.self.room c.discard.new.links c.end_wait.new.copies
     c.self.invariant acks c.discard.ensures.same c.discard.ensures.after c.end_wait.ensures.same
     (ack-ends v h c.end_wait.new.copies c.args.ticket c.in_ok-block.block copy c.self.invariant acks c.end_wait.ensures.after))
