@@ -1,4 +1,4 @@
-"""Runs tl_bench's rows, in turn where two builds are given, and prints nanoseconds an event. Called by bank.sh."""
+"""Runs bench_bank's rows, in turn where two builds are given, and prints nanoseconds an event. Called by bank.sh."""
 import math
 import os
 import subprocess

@@ -1,5 +1,5 @@
 """A Release crosses a Probe, from Python by ctypes: race.py LIBRARY, a shared library made of the archive (check makes one).
-The numbers of calls, views and statuses are read out of embed/jinavoke.h; jv_echo compares the layout of the structs with the
+The numbers of calls, views and statuses are read out of include/jinavoke.h; jv_echo compares the layout of the structs with the
 library's."""
 import ctypes as c
 import pathlib
@@ -7,7 +7,7 @@ import re
 import sys
 import time
 
-HEADER = pathlib.Path(__file__).resolve().parents[2] / "embed" / "jinavoke.h"
+HEADER = pathlib.Path(__file__).resolve().parents[2] / "include" / "jinavoke.h"
 WORDS = "call index client place param bank channel len"
 TOLD = "status what bank client channel opcode param place address size index len"
 

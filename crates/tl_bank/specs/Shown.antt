@@ -1,5 +1,5 @@
 -- A bank's fields as contracts see them, and its layers.
-use Rattle.tl_home.specs.Homes.{way_in}
+use Rattle.tl_bank_home.specs.Homes.{way_in}
 use Rattle.tl_bank_spec.specs.View.{View}
 use Rattle.tl_bank_spec.specs.Own.{ways_below}
 use Rattle.tl_bank.specs.declared.bank.Bank.TheInside.{Inside}

@@ -29,7 +29,7 @@ use Rattle.tl_bank_spec.specs.View.{View, block_at, client_at, shape_of}
 use Rattle.tl_bank_spec.specs.Own.{IsOwn, way_at}
 use Rattle.tl_bank_spec.specs.Channels.{lane_at}
 use Rattle.tl_bank_spec.specs.Ways.{IsWayFor, registers_full, slots_at, victim_of_way, way_in_set, ways_held}
-use Rattle.tl_home.specs.Homes.{order_at}
+use Rattle.tl_bank_home.specs.Homes.{order_at}
 use Rattle.tl_bank_laws.specs.Entry.{entry_of}
 use Rattle.tl_bank_laws.specs.Layers.{Layers}
 use Rattle.tl_bank_laws.specs.Link.{IsHead}

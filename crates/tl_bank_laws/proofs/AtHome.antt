@@ -15,8 +15,8 @@ use Rattle.tl_protocol.specs.Ledger.{is_recorded, one_if, count_clients, count_p
 use Rattle.tl_protocol.specs.Protocol.{Block}
 use Rattle.tl_protocol.specs.declared.client.Client.{Client}
 use Rattle.tl_protocol.specs.declared.home.Line.{Line}
-use Rattle.tl_home.specs.Homes.{HomeState, line_in, recorded_in}
-use Rattle.tl_home.proofs.DirectoryLaws.{way_of-no_line, recorded_of-none}
+use Rattle.tl_bank_home.specs.Homes.{HomeState, line_in, recorded_in}
+use Rattle.tl_bank_home.proofs.DirectoryLaws.{way_of-no_line, recorded_of-none}
 use Rattle.tl_bank_spec.specs.View.{View, shape_of, block_at, client_at}
 use Rattle.tl_bank_spec.specs.Own.{IsOwn, way_at}
 use Rattle.tl_bank_spec.specs.Views.{not_own, dirty_at, is_at_home, passing_below, blocks_at_home, blocks_below, pairs_below, pairs_at}

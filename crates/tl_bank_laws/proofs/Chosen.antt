@@ -12,7 +12,7 @@ use Rattle.tl_registers.proofs.Order.{first-in-order-is-oldest}
 use Rattle.tl_ways.specs.Orders.{chosen, is_busy, or_else, IsAmong}
 use Rattle.tl_bank_spec.specs.View.{View}
 use Rattle.tl_bank_spec.specs.Ways.{holds_way, slot_at, slots_at, way_in_set, ways_held}
-use Rattle.tl_home.specs.Homes.{HomeState, free_at, order_at}
+use Rattle.tl_bank_home.specs.Homes.{HomeState, free_at, order_at}
 use Rattle.tl_bank_laws.specs.Means.{WaysFit, is_filling, is_filling_by}
 use Rattle.tl_bank_laws.proofs.Slots.{slots-in, slots-length}
 

@@ -11,7 +11,7 @@ use Rattle.tl_protocol.specs.Ledger.{has_copy}
 use Rattle.tl_protocol.specs.Protocol.{is_none, block_of}
 use Rattle.tl_protocol.specs.declared.client.Client.{Client}
 use Rattle.tl_protocol.specs.declared.event.Event.{Event}
-use Rattle.tl_lanes.proofs.Cells.{client-append}
+use Rattle.tl_protocol_lanes.proofs.Cells.{client-append}
 use Rattle.tl_bank_spec.specs.Share.{recount}
 use Rattle.tl_bank_spec.specs.View.{View, shape_of, client_at, perm_at}
 use Rattle.tl_bank_spec.specs.Tables.{copies_at}

@@ -9,7 +9,7 @@ use Rattle.tl_map.specs.Places.{bank_of}
 use Rattle.tl_protocol.specs.declared.home.Outward.TheVariants.{Quiet}
 use Rattle.tl_protocol.specs.declared.shape.Shape.{Shape}
 use Rattle.tl_protocol.specs.Protocol.{Block}
-use Rattle.tl_home.specs.Homes.{EachHasHolder, outward_in}
+use Rattle.tl_bank_home.specs.Homes.{EachHasHolder, outward_in}
 use Rattle.tl_registers.specs.Agree.{Each}
 use Rattle.tl_registers.specs.Fit.{Fits, TaskFits}
 use Rattle.tl_registers.specs.Register.{is_block, victim_in, victim_of, works_on}

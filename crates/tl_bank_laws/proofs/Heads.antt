@@ -10,8 +10,8 @@ use Rattle.tl_types.specs.declared.message.Body.{Body}
 use Rattle.tl_types.specs.declared.message.Message.{Message}
 use Rattle.tl_types.specs.declared.ticket.Ticket.{Ticket}
 use Rattle.tl_types.proofs.Lanes.{same_channel-true}
-use Rattle.tl_lanes.specs.Lists.{list_in}
-use Rattle.tl_lanes.proofs.Logs.{first_heads_its_list}
+use Rattle.tl_protocol_lanes.specs.Lists.{list_in}
+use Rattle.tl_protocol_lanes.proofs.Logs.{first_heads_its_list}
 use Rattle.tl_links.specs.Table.{lane_in}
 use Rattle.tl_bank_spec.specs.Cases.{begins, block_named, first_block, not_head, other_channel}
 use Rattle.tl_bank_spec.specs.View.{View, shape_of, client_at}

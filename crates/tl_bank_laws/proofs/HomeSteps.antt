@@ -11,12 +11,12 @@ use Rattle.tl_protocol.specs.declared.home.Outward.TheVariants.{Quiet, Get, Data
 use Rattle.tl_protocol.specs.declared.shape.Shape.{Shape}
 use Rattle.tl_protocol.specs.Protocol.{Block, block_of, after, served, took_data}
 use Rattle.tl_protocol.specs.Runs.{MayNext}
-use Rattle.tl_lanes.specs.Lanes.{lane_after}
-use Rattle.tl_lanes.specs.Lawful.{TakesFirst}
+use Rattle.tl_protocol_lanes.specs.Lanes.{lane_after}
+use Rattle.tl_protocol_lanes.specs.Lawful.{TakesFirst}
 use Rattle.tl_bank_spec.specs.View.{View, shape_of, block_at, client_at}
 use Rattle.tl_bank_spec.specs.Own.{IsOwn}
 use Rattle.tl_bank_spec.specs.Clock.{IsLater, stamped}
-use Rattle.tl_home.specs.Homes.{HomeState, SameBank, line_in, recorded_in, outward_in, memory_in}
+use Rattle.tl_bank_home.specs.Homes.{HomeState, SameBank, line_in, recorded_in, outward_in, memory_in}
 use Rattle.tl_bank_laws.specs.Entry.{entry_of}
 use Rattle.tl_bank_laws.specs.Layers.{Layers}
 use Rattle.tl_bank_laws.specs.Means.{Means, IsHomeOf}

@@ -8,11 +8,11 @@ use Rattle.tl_protocol.specs.declared.event.Event.{Event}
 use Rattle.tl_protocol.specs.declared.event.Event.TheVariants.{Load, Store, SendAcquire, SendRelease, AnswerProbe, TakeGrant, TakeReleaseAck, AcceptAcquire, SendProbe, TakeC, SendGrant, TakeGrantAck, SendGet, Serve, TakeData, Drop, SendPut, TakePutAck}
 use Rattle.tl_protocol.specs.Protocol.{Block, block_of, after}
 use Rattle.tl_protocol.specs.Runs.{MayNext, end_of}
-use Rattle.tl_lanes.specs.Lanes.{lane_after}
-use Rattle.tl_lanes.specs.Lawful.{TakesFirst}
-use Rattle.tl_lanes.specs.Lists.{leaves_home, SameHome}
-use Rattle.tl_lanes.proofs.Cells.{client-append, field-append, home-append}
-use Rattle.tl_lanes.proofs.Events.{every_such_event_leaves_home}
+use Rattle.tl_protocol_lanes.specs.Lanes.{lane_after}
+use Rattle.tl_protocol_lanes.specs.Lawful.{TakesFirst}
+use Rattle.tl_protocol_lanes.specs.Lists.{leaves_home, SameHome}
+use Rattle.tl_protocol_lanes.proofs.Cells.{client-append, field-append, home-append}
+use Rattle.tl_protocol_lanes.proofs.Events.{every_such_event_leaves_home}
 use Rattle.tl_links.specs.Table.{lane_in, SameSize as SameLinks}
 use Rattle.tl_copies.specs.Copies.{held_at, is_cell, SameSize as SameCopies}
 use Rattle.tl_copies.specs.declared.held.Held.{Held}
@@ -20,7 +20,7 @@ use Rattle.tl_registers.specs.Agree.{LeavesRegisters}
 use Rattle.tl_bank_spec.specs.View.{View, shape_of, block_at, client_at}
 use Rattle.tl_bank_spec.specs.Clock.{IsLater, stamped, clock_of}
 use Rattle.tl_bank_laws.specs.Entry.{entry_of}
-use Rattle.tl_home.specs.Homes.{HomeState, bank_in, geometry_in, way_in, free_at, order_at, outward_in}
+use Rattle.tl_bank_home.specs.Homes.{HomeState, bank_in, geometry_in, way_in, free_at, order_at, outward_in}
 use Rattle.tl_bank_laws.specs.Layers.{Layers}
 use Rattle.tl_bank_laws.specs.Means.{Means, IsHomeOf}
 use Rattle.tl_bank_laws.proofs.Next.{next_view, block_next, blocks-next, NextLayers, means-next}

@@ -13,8 +13,8 @@ use Rattle.tl_protocol.specs.declared.event.Event.TheVariants.{Drop as e_Drop, S
 use Rattle.tl_protocol.specs.declared.home.Line.{Line}
 use Rattle.tl_protocol.specs.declared.home.Outward.TheVariants.{Quiet, Put as o_Put}
 use Rattle.tl_protocol.specs.declared.shape.Shape.{Shape}
-use Rattle.tl_home.specs.Directories.{is_way as is_home_way}
-use Rattle.tl_home.specs.Homes.{EachHasHolder, HomeState, SameBank, SameMemory, SameOutward, free_at, geometry_in, line_in, order_at, outward_in, recorded_in, way_in}
+use Rattle.tl_bank_home.specs.Directories.{is_way as is_home_way}
+use Rattle.tl_bank_home.specs.Homes.{EachHasHolder, HomeState, SameBank, SameMemory, SameOutward, free_at, geometry_in, line_in, order_at, outward_in, recorded_in, way_in}
 use Rattle.tl_registers.specs.Agree.{IsSteady}
 use Rattle.tl_registers.specs.Register.{works_on}
 use Rattle.tl_registers.specs.Registers.{ended, is_busy, register_of}

@@ -2,7 +2,7 @@
 use Rattle.std.proofs.Common.{◌≡◌, ℕ, ◌&&◌, ◌==◌, Bool, true, false, List, [], ◌∷◌, filter, Option, is_none, refl, sym, ◌∙◌, ap, subst, inl, inr}
 use Rattle.std.proofs.lemmas.Bool.{cases_Bool, or_parts}
 use Rattle.std.proofs.lemmas.Map.Views.{any-filter_same}
-use Rattle.tl_home.specs.Homes.{HomeState, order_at}
+use Rattle.tl_bank_home.specs.Homes.{HomeState, order_at}
 use Rattle.tl_registers.specs.Agree.{Each}
 use Rattle.tl_registers.specs.Registers.{is_held}
 use Rattle.tl_registers.specs.VictimWay.{IsInOrder}

@@ -10,9 +10,9 @@ use Rattle.tl_map.specs.Places.{bank_of}
 use Rattle.tl_protocol.specs.declared.event.Event.{Event}
 use Rattle.tl_protocol.specs.Protocol.{Block, block_of}
 use Rattle.tl_protocol.specs.Runs.{MayNext, after_next}
-use Rattle.tl_lanes.specs.Lanes.{Post, Place, post_of, take_of, taken_from, sent_to, lane_after, lane_of}
-use Rattle.tl_lanes.specs.Lawful.{TakesFirst}
-use Rattle.tl_lanes.proofs.Logs.{end_of-append, lanes_grow_by_one, lawful_grows_by_one}
+use Rattle.tl_protocol_lanes.specs.Lanes.{Post, Place, post_of, take_of, taken_from, sent_to, lane_after, lane_of}
+use Rattle.tl_protocol_lanes.specs.Lawful.{TakesFirst}
+use Rattle.tl_protocol_lanes.proofs.Logs.{end_of-append, lanes_grow_by_one, lawful_grows_by_one}
 use Rattle.tl_links.specs.Table.{lane_in, SameSize as SameLinks}
 use Rattle.tl_copies.specs.Copies.{held_at, SameSize as SameCopies}
 use Rattle.tl_registers.specs.declared.register.Register.{Register}
@@ -20,7 +20,7 @@ use Rattle.tl_registers.specs.Agree.{Agree}
 use Rattle.tl_bank_spec.specs.View.{View, shape_of, block_at}
 use Rattle.tl_bank_spec.specs.Own.{IsOwn}
 use Rattle.tl_bank_spec.specs.Clock.{IsLater, StampsRiseFrom, stamped, clock_from, clock_of}
-use Rattle.tl_home.specs.Homes.{SameBank, outward_in}
+use Rattle.tl_bank_home.specs.Homes.{SameBank, outward_in}
 use Rattle.tl_bank_laws.specs.Entry.{entry_of}
 use Rattle.tl_bank_laws.specs.Layers.{Layers}
 use Rattle.tl_bank_laws.specs.Means.{Means, IsHomeOf, RegistersFit, WaysFit}

@@ -22,8 +22,8 @@ use Rattle.tl_bank_spec.specs.HomeCases.{lacks}
 use Rattle.tl_bank_spec.specs.View.{View, block_at, shape_of}
 use Rattle.tl_bank_spec.specs.Own.{IsOwn, way_at}
 use Rattle.tl_bank_spec.specs.Ways.{IsWayFor, holds_way, slot_at, slots_at, victim_of_way, way_in_set, ways_held}
-use Rattle.tl_home.specs.Homes.{HomeState, bank_in, free_at, geometry_in, order_at, way_in}
-use Rattle.tl_home.proofs.DirectoryLaws.{IsThere-of}
+use Rattle.tl_bank_home.specs.Homes.{HomeState, bank_in, free_at, geometry_in, order_at, way_in}
+use Rattle.tl_bank_home.proofs.DirectoryLaws.{IsThere-of}
 use Rattle.tl_bank_laws.specs.Means.{HoldsWay, Means, WaysApart, WaysFit, is_filling}
 use Rattle.tl_bank_laws.specs.Layers.{Layers}
 use Rattle.tl_bank_laws.proofs.Chosen.{Picks, chosen-picks, none-held, picks-chosen, picks-held}

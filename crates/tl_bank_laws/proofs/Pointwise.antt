@@ -4,7 +4,7 @@ use Rattle.std.proofs.lemmas.Bool.{cases_Bool, eqb-false}
 use Rattle.tl_protocol.specs.declared.event.Event.{Event}
 use Rattle.tl_protocol.specs.Protocol.{Block, after, block_of}
 use Rattle.tl_copies.specs.Copies.{held_at}
-use Rattle.tl_home.specs.Homes.{HomeState, outward_in}
+use Rattle.tl_bank_home.specs.Homes.{HomeState, outward_in}
 use Rattle.tl_bank_spec.specs.View.{View, block_at, client_at, shape_of}
 use Rattle.tl_bank_spec.specs.Own.{IsOwn}
 use Rattle.tl_bank_laws.specs.Entry.{entry_of}

@@ -25,8 +25,8 @@ use Rattle.tl_protocol.specs.declared.client.Client.{Client}
 use Rattle.tl_protocol.specs.declared.copy.CachedCopy.{CachedCopy}
 use Rattle.tl_protocol.specs.declared.copy.CachedCopy.TheVariants.{Absent, Readable, Writable}
 use Rattle.tl_protocol.specs.declared.event.Event.TheVariants.{AnswerProbe}
-use Rattle.tl_lanes.specs.Lanes.{answer_post, sent_to}
-use Rattle.tl_lanes.proofs.Logs.{first_heads_its_list}
+use Rattle.tl_protocol_lanes.specs.Lanes.{answer_post, sent_to}
+use Rattle.tl_protocol_lanes.proofs.Logs.{first_heads_its_list}
 use Rattle.tl_links.specs.Table.{LinkTable, lane_in, SameSize as SameLinks}
 use Rattle.tl_copies.specs.Copies.{Tables, held_at, is_cell, SameSize as SameCopies}
 use Rattle.tl_bank_spec.specs.Calls.{answer_probe_cases}

@@ -6,7 +6,7 @@ use Rattle.tl_protocol.specs.Protocol.{Block}
 use Rattle.tl_protocol.specs.Runs.{MayNext}
 use Rattle.tl_protocol.specs.declared.event.Event.TheVariants.{SendGet}
 use Rattle.tl_protocol.specs.declared.home.Outward.TheVariants.{Quiet, Get as o_Get}
-use Rattle.tl_home.specs.Homes.{HomeState, SameBank, SameHome, SameMemory, EachHasHolder, outward_in, way_in}
+use Rattle.tl_bank_home.specs.Homes.{HomeState, SameBank, SameHome, SameMemory, EachHasHolder, outward_in, way_in}
 use Rattle.tl_registers.specs.Agree.{Agree}
 use Rattle.tl_registers.specs.Register.{victim_in, victim_of}
 use Rattle.tl_registers.specs.Registers.{register_of}

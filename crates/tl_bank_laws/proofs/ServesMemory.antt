@@ -8,7 +8,7 @@ use Rattle.tl_protocol.specs.declared.event.Event.TheVariants.{Serve}
 use Rattle.tl_protocol.specs.declared.home.Outward.{Outward}
 use Rattle.tl_protocol.specs.declared.home.Outward.TheVariants.{Quiet, Get, Data, Put, PutAck}
 use Rattle.tl_protocol.proofs.Coherent.{every_run_keeps_sizes}
-use Rattle.tl_home.specs.Homes.{HomeState, SameBank, SameHome, memory_in, outward_in, served_memory, served_outward, way_in}
+use Rattle.tl_bank_home.specs.Homes.{HomeState, SameBank, SameHome, memory_in, outward_in, served_memory, served_outward, way_in}
 use Rattle.tl_bank_spec.specs.Effects.{MemoryReplies}
 use Rattle.tl_bank_spec.specs.HomeCalls.{serve_memory_cases}
 use Rattle.tl_bank_spec.specs.HomeCases.{is_request}

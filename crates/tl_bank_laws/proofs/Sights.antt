@@ -25,14 +25,14 @@ use Rattle.tl_protocol.specs.declared.home.Outward.TheVariants.{Quiet, Get, Data
 use Rattle.tl_protocol.specs.declared.shape.Shape.{Shape}
 use Rattle.tl_protocol.specs.Protocol.{Block, block_of, is_alone, is_none}
 use Rattle.tl_protocol.specs.Runs.{after_next, at_reset, end_from}
-use Rattle.tl_lanes.specs.Lists.{list_in}
+use Rattle.tl_protocol_lanes.specs.Lists.{list_in}
 use Rattle.tl_links.specs.Table.{lane_in, some_has}
 use Rattle.tl_links.specs.Wanted.{is_wanted}
 use Rattle.tl_links.specs.declared.wanted.Wanted.{Wanted}
 use Rattle.tl_links.specs.declared.wanted.Wanted.TheVariants.{Any, ProbeAck, Grant}
 use Rattle.tl_ways.specs.Lines.{Line as Entry}
-use Rattle.tl_home.specs.Directories.{line_of, perm_in, recorded_of, way_of}
-use Rattle.tl_home.specs.Homes.{HomeState, bank_in, geometry_in, line_in, outward_in, recorded_in}
+use Rattle.tl_bank_home.specs.Directories.{line_of, perm_in, recorded_of, way_of}
+use Rattle.tl_bank_home.specs.Homes.{HomeState, bank_in, geometry_in, line_in, outward_in, recorded_in}
 use Rattle.tl_registers.specs.Fit.{Fits}
 use Rattle.tl_registers.specs.Pending.{any_below, grant_pending, has_first, is_granted, is_probed, is_quiet, probe_pending}
 use Rattle.tl_registers.specs.Records.{Records}

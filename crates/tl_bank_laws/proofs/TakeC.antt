@@ -29,10 +29,10 @@ use Rattle.tl_protocol.proofs.Messages.{to_le, to_not_tip}
 use Rattle.tl_protocol.proofs.Pending.{every_run_keeps_messages, every_run_keeps_service}
 use Rattle.tl_protocol.proofs.Blocks.{at_put}
 use Rattle.tl_protocol.proofs.Runs.{cond_at}
-use Rattle.tl_lanes.specs.Lanes.{ack_post, lane_after, sent_to}
-use Rattle.tl_lanes.proofs.First.{every_first_is_first}
+use Rattle.tl_protocol_lanes.specs.Lanes.{ack_post, lane_after, sent_to}
+use Rattle.tl_protocol_lanes.proofs.First.{every_first_is_first}
 use Rattle.tl_links.specs.Table.{LinkTable, lane_in, SameSize as SameLinks}
-use Rattle.tl_home.specs.Homes.{HomeState, SameBank, SameMemory, SameOutward, SameWays, line_in, recorded_in, way_in}
+use Rattle.tl_bank_home.specs.Homes.{HomeState, SameBank, SameMemory, SameOutward, SameWays, line_in, recorded_in, way_in}
 use Rattle.tl_registers.specs.Pending.{has_first, is_probed}
 use Rattle.tl_registers.proofs.Blocks.{first-from}
 use Rattle.tl_bank_spec.specs.Cases.{any_body, begins, block_named, first_block, is_a_release}

@@ -20,7 +20,7 @@ use Rattle.tl_registers.specs.VictimWay.{IsInOrder}
 use Rattle.tl_registers.proofs.Opening.{elsewhere, here}
 use Rattle.tl_registers.proofs.Order.{placing-keeps-order}
 use Rattle.tl_registers.proofs.Tables.{IsOther, each-both, one-among}
-use Rattle.tl_home.specs.Homes.{HomeState, SameBank, SameMemory, bank_in, fetched, free_at, geometry_in, line_in, order_at, outward_in, recorded_in, way_in}
+use Rattle.tl_bank_home.specs.Homes.{HomeState, SameBank, SameMemory, bank_in, fetched, free_at, geometry_in, line_in, order_at, outward_in, recorded_in, way_in}
 use Rattle.tl_bank_spec.specs.HomeCalls.{take_memory_cases}
 use Rattle.tl_bank_spec.specs.Refusal.{first_of}
 use Rattle.tl_bank_spec.specs.View.{View, block_at, shape_of}

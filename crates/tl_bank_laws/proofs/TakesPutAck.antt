@@ -22,7 +22,7 @@ use Rattle.tl_registers.specs.Register.{is_block, victim_in}
 use Rattle.tl_registers.specs.Registers.{ended, is_evict, is_held, task_without, without_evict, without_victim}
 use Rattle.tl_registers.proofs.Closing.{ending-keeps-agreement}
 use Rattle.tl_registers.proofs.Tables.{each-filter, each-follows, each-map}
-use Rattle.tl_home.specs.Homes.{HomeState, SameBank, SameHome, SameMemory, order_at, outward_in, way_in}
+use Rattle.tl_bank_home.specs.Homes.{HomeState, SameBank, SameHome, SameMemory, order_at, outward_in, way_in}
 use Rattle.tl_bank_spec.specs.HomeCalls.{take_memory_cases}
 use Rattle.tl_bank_spec.specs.HomeCases.{is_reply}
 use Rattle.tl_bank_spec.specs.Refusal.{first_of}

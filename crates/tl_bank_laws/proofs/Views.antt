@@ -16,7 +16,7 @@ use Rattle.tl_protocol.specs.declared.home.Outward.TheVariants.{Quiet, Get, Data
 use Rattle.tl_protocol.specs.declared.event.Access.{Access}
 use Rattle.tl_protocol.specs.declared.event.Event.TheVariants.{Load}
 use Rattle.tl_protocol.proofs.Coherent.{every_run_keeps_copies, every_run_reads_last}
-use Rattle.tl_home.specs.Homes.{recorded_in, outward_in}
+use Rattle.tl_bank_home.specs.Homes.{recorded_in, outward_in}
 use Rattle.tl_bank_spec.specs.Cases.{no_client, no_block, elsewhere}
 use Rattle.tl_bank_spec.specs.View.{View, shape_of, block_at, client_at, perm_at}
 use Rattle.tl_bank_spec.specs.Own.{IsOwn}

@@ -17,7 +17,7 @@ use Rattle.tl_registers.specs.declared.register.Register.{Register}
 use Rattle.tl_registers.specs.declared.register.Task.{Task}
 use Rattle.tl_registers.specs.declared.way_of_set.WayOfSet.{WayOfSet}
 use Rattle.tl_registers.proofs.Agreement.{events-leave-registers, every-run-is-steady}
-use Rattle.tl_home.specs.Homes.{HomeState, SameWays, order_at, way_in}
+use Rattle.tl_bank_home.specs.Homes.{HomeState, SameWays, order_at, way_in}
 use Rattle.tl_bank_spec.specs.View.{View, shape_of, block_at}
 use Rattle.tl_bank_spec.specs.Own.{way_at}
 use Rattle.tl_bank_spec.specs.Ways.{is_in_way, lies_in, slot_at, slots_at}

@@ -2,7 +2,7 @@
 use Rattle.std.specs.Prelude.{ℕ}
 use Rattle.tl_links.specs.Table.{LinkTable}
 use Rattle.tl_copies.specs.Copies.{Tables}
-use Rattle.tl_home.specs.Homes.{HomeState}
+use Rattle.tl_bank_home.specs.Homes.{HomeState}
 
 -- the links, the clients' tables of copies, home with the memory, and two numbers that the bank keeps
 pub record Layers : Type 0 where

@@ -6,7 +6,7 @@ use Rattle.tl_map.specs.Limits.{IsLawful}
 use Rattle.tl_map.specs.Places.{set_of}
 use Rattle.tl_protocol.specs.declared.home.Outward.TheVariants.{Quiet}
 use Rattle.tl_protocol.specs.Protocol.{Block, block_of}
-use Rattle.tl_lanes.specs.Lawful.{Lawful}
+use Rattle.tl_protocol_lanes.specs.Lawful.{Lawful}
 use Rattle.tl_links.specs.Table.{lane_in}
 use Rattle.tl_copies.specs.Copies.{held_at, clients_of}
 use Rattle.tl_registers.specs.declared.register.Register.{Register}
@@ -22,7 +22,7 @@ use Rattle.tl_bank_spec.specs.Own.{IsOwn, way_at}
 use Rattle.tl_bank_spec.specs.Clock.{StampsRise, clock_of}
 use Rattle.tl_bank_spec.specs.Channels.{lane_at}
 use Rattle.tl_bank_laws.specs.Entry.{entry_of}
-use Rattle.tl_home.specs.Homes.{HomeState, bank_in, geometry_in, line_in, recorded_in, outward_in, memory_in, way_in, free_at, order_at}
+use Rattle.tl_bank_home.specs.Homes.{HomeState, bank_in, geometry_in, line_in, recorded_in, outward_in, memory_in, way_in, free_at, order_at}
 use Rattle.tl_bank_laws.specs.Layers.{Layers}
 
 -- ## Home

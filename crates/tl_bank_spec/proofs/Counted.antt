@@ -20,8 +20,8 @@ use Rattle.tl_protocol.specs.declared.home.Outward.{Outward}
 use Rattle.tl_protocol.specs.declared.home.Outward.TheVariants.{Quiet, Get, Data, Put, PutAck}
 use Rattle.tl_protocol.specs.declared.shape.Shape.{Shape}
 use Rattle.tl_protocol.proofs.Blocks.{at_put}
-use Rattle.tl_lanes.specs.Lists.{IsOther, client_of}
-use Rattle.tl_lanes.proofs.Events.{every_event_is_of_one_client}
+use Rattle.tl_protocol_lanes.specs.Lists.{IsOther, client_of}
+use Rattle.tl_protocol_lanes.proofs.Events.{every_event_is_of_one_client}
 use Rattle.tl_bank_spec.specs.Counted.{EveryEventLeavesOtherCounts, client_counted}
 use Rattle.tl_bank_spec.proofs.Logged.{block-next}
 use Rattle.tl_bank_spec.specs.View.{View, block_at, client_at, shape_of}

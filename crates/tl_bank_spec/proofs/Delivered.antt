@@ -18,8 +18,8 @@ use Rattle.tl_protocol.specs.declared.event.Event.{Event}
 use Rattle.tl_protocol.specs.declared.event.Event.TheVariants.{SendAcquire, SendRelease, AnswerProbe, TakeGrant, SendProbe, TakeC, SendGrant}
 use Rattle.tl_protocol.specs.declared.home.Accepted.{Accepted}
 use Rattle.tl_protocol.specs.declared.shape.Shape.{Shape}
-use Rattle.tl_lanes.specs.Lanes.{Place, Post, ack_post, answer_post, grant_post, post_of, sent_to, take_of, taken_from}
-use Rattle.tl_lanes.specs.Lawful.{IsNext, TakeInOrder, TakesFirst}
+use Rattle.tl_protocol_lanes.specs.Lanes.{Place, Post, ack_post, answer_post, grant_post, post_of, sent_to, take_of, taken_from}
+use Rattle.tl_protocol_lanes.specs.Lawful.{IsNext, TakeInOrder, TakesFirst}
 use Rattle.tl_bank_spec.specs.Delivered.{EveryMessageSentWaits, EveryMessageTakenIsFirst}
 use Rattle.tl_bank_spec.specs.View.{View, block_at, shape_of}
 use Rattle.tl_bank_spec.specs.Steps.{Extends}

@@ -15,8 +15,8 @@ use Rattle.tl_protocol.specs.Home.{IsRequest, IsData}
 use Rattle.tl_protocol.specs.Queue.{HasFirst}
 use Rattle.tl_protocol.specs.declared.home.Outward.{Outward}
 use Rattle.tl_protocol.specs.declared.home.Outward.TheVariants.{PutAck}
-use Rattle.tl_lanes.specs.Lawful.{Lawful}
-use Rattle.tl_lanes.specs.Lists.{list_in}
+use Rattle.tl_protocol_lanes.specs.Lawful.{Lawful}
+use Rattle.tl_protocol_lanes.specs.Lists.{list_in}
 use Rattle.tl_bank_spec.specs.Calls.{load_cases, store_cases, acquire_cases, release_cases, answer_probe_cases, take_grant_cases, take_release_ack_cases}
 use Rattle.tl_bank_spec.specs.Cases.{awaits_release_ack, is_empty}
 use Rattle.tl_bank_spec.specs.Forbidden.{EveryRefusalIsTheProtocols}

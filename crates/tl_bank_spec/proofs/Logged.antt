@@ -7,8 +7,8 @@ use Rattle.tl_protocol.specs.Protocol.{Block, block_of}
 use Rattle.tl_protocol.specs.Runs.{IsRun, after_next, end_of}
 use Rattle.tl_bank_spec.specs.Forbidden.{MayAt}
 use Rattle.tl_protocol.proofs.Runs.{runs_grow_by_one}
-use Rattle.tl_lanes.specs.Lanes.{lane_after, lane_of}
-use Rattle.tl_lanes.proofs.Logs.{lanes_grow_by_one, end_of-append}
+use Rattle.tl_protocol_lanes.specs.Lanes.{lane_after, lane_of}
+use Rattle.tl_protocol_lanes.proofs.Logs.{lanes_grow_by_one, end_of-append}
 use Rattle.tl_registers.specs.declared.register.Register.{Register}
 use Rattle.std.specs.Prelude.{Option}
 use Rattle.tl_bank_spec.specs.Effects.{Serves}

@@ -21,10 +21,10 @@ use Rattle.tl_protocol.specs.declared.event.Event.{Event}
 use Rattle.tl_protocol.specs.declared.event.Event.TheVariants.{SendAcquire, SendRelease, AnswerProbe, TakeGrant, SendProbe, TakeC, SendGrant}
 use Rattle.tl_protocol.specs.declared.home.Accepted.{Accepted}
 use Rattle.tl_protocol.specs.declared.shape.Shape.{Shape}
-use Rattle.tl_lanes.specs.Lanes.{ack_post, answer_post, grant_post}
-use Rattle.tl_lanes.specs.Lawful.{Lawful}
-use Rattle.tl_lanes.proofs.First.{every_first_is_first}
-use Rattle.tl_lanes.proofs.Logs.{first_heads_its_list}
+use Rattle.tl_protocol_lanes.specs.Lanes.{ack_post, answer_post, grant_post}
+use Rattle.tl_protocol_lanes.specs.Lawful.{Lawful}
+use Rattle.tl_protocol_lanes.proofs.First.{every_first_is_first}
+use Rattle.tl_protocol_lanes.proofs.Logs.{first_heads_its_list}
 use Rattle.tl_bank_spec.specs.Cases.{begins, block_named, first_block, is_a_release, waiting_at}
 use Rattle.tl_bank_spec.specs.Delivered.{Sends}
 use Rattle.tl_bank_spec.specs.Effects.{answer_to}

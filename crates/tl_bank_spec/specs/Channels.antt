@@ -3,7 +3,7 @@ use Rattle.std.specs.Prelude.{ℕ}
 use Rattle.tl_types.specs.Lane.{Lane, sent}
 use Rattle.tl_types.specs.declared.channel.Channel.{Channel}
 use Rattle.tl_types.specs.declared.ticket.Ticket.{Ticket}
-use Rattle.tl_lanes.specs.Lanes.{lane_of}
+use Rattle.tl_protocol_lanes.specs.Lanes.{lane_of}
 use Rattle.tl_bank_spec.specs.View.{View, shape_of}
 
 -- of a channel: the messages that wait, oldest first, and how many were taken before them

@@ -2,7 +2,7 @@
 use Rattle.std.specs.Prelude.{◌≡◌, ℕ, Option, Some, None}
 use Rattle.tl_protocol.specs.declared.event.Event.{Event}
 use Rattle.tl_protocol.specs.declared.event.Event.TheVariants.{SendRelease, AnswerProbe, TakeGrant}
-use Rattle.tl_lanes.specs.Lists.{IsOther}
+use Rattle.tl_protocol_lanes.specs.Lists.{IsOther}
 use Rattle.tl_bank_spec.specs.Forbidden.{MayAt}
 use Rattle.tl_bank_spec.specs.View.{View}
 use Rattle.tl_bank_spec.specs.Steps.{Extends}

@@ -7,8 +7,8 @@ use Rattle.tl_types.specs.declared.message.Message.{Message}
 use Rattle.tl_types.specs.declared.ticket.Ticket.{Ticket}
 use Rattle.tl_protocol.specs.Protocol.{block_of}
 use Rattle.tl_protocol.specs.declared.event.Event.{Event}
-use Rattle.tl_lanes.specs.Lanes.{Place, Post, post_of, take_of}
-use Rattle.tl_lanes.specs.Lawful.{Lawful}
+use Rattle.tl_protocol_lanes.specs.Lanes.{Place, Post, post_of, take_of}
+use Rattle.tl_protocol_lanes.specs.Lawful.{Lawful}
 use Rattle.tl_bank_spec.specs.Calls.{ticket_cases, shared_ticket_cases}
 use Rattle.tl_bank_spec.specs.Forbidden.{MayAt}
 use Rattle.tl_bank_spec.specs.Refusal.{Case, first_of}

@@ -8,7 +8,7 @@ use Rattle.tl_protocol.specs.Runs.{MayNext}
 use Rattle.tl_protocol.specs.declared.event.Access.{Access}
 use Rattle.tl_protocol.specs.declared.event.Event.{Event}
 use Rattle.tl_protocol.specs.declared.event.Event.TheVariants.{Load, Store, SendAcquire, SendRelease, AnswerProbe, TakeGrant, TakeReleaseAck, AcceptAcquire, TakeC, TakeGrantAck, Serve, TakeData, TakePutAck}
-use Rattle.tl_lanes.specs.Lawful.{Lawful}
+use Rattle.tl_protocol_lanes.specs.Lawful.{Lawful}
 use Rattle.tl_bank_spec.specs.Calls.{load_cases, store_cases, acquire_cases, release_cases, answer_probe_cases, take_grant_cases, take_release_ack_cases}
 use Rattle.tl_bank_spec.specs.Cases.{block_named}
 use Rattle.tl_bank_spec.specs.HomeCalls.{accept_cases, take_c_cases, take_grant_ack_cases, serve_memory_cases, take_memory_cases}

@@ -15,7 +15,7 @@ use Rattle.tl_protocol.specs.declared.client.Client.{Client}
 use Rattle.tl_protocol.specs.declared.home.Line.{Line}
 use Rattle.tl_protocol.specs.declared.home.Outward.{Outward}
 use Rattle.tl_protocol.specs.declared.home.Outward.TheVariants.{Quiet, Get, Data, Put, PutAck}
-use Rattle.tl_lanes.specs.Delivery.{all_sent, all_taken}
+use Rattle.tl_protocol_lanes.specs.Delivery.{all_sent, all_taken}
 use Rattle.tl_registers.specs.declared.register.Register.{Register}
 use Rattle.tl_bank_spec.specs.Cases.{no_client, no_block, elsewhere}
 use Rattle.tl_bank_spec.specs.View.{View, block_at, client_at, perm_at, shape_of}

@@ -3,9 +3,9 @@ use Rattle.std.proofs.Common.{◌≡◌, ◌≤◌, ◌<◌, ℕ, List, [], ◌�
 use Rattle.std.specs.List.{All}
 use Rattle.std.proofs.lemmas.List.{length_push}
 use Rattle.std.proofs.lemmas.List.Elements.{All-push}
-use Rattle.tl_words.specs.declared.command.Command.{Command}
-use Rattle.tl_words.specs.declared.command.Command.TheVariants.{Load, Store, Drop}
-use Rattle.tl_ports.specs.declared.port.Success.{Success}
+use Rattle.tl_script_words.specs.declared.command.Command.{Command}
+use Rattle.tl_script_words.specs.declared.command.Command.TheVariants.{Load, Store, Drop}
+use Rattle.tl_client_ports.specs.declared.port.Success.{Success}
 use Rattle.tl_client.specs.Answers.{HasItsBytes, IsAnswer, Told, answered_of, clock_after, commands_of, success_at, successes_of}
 
 -- as many answers as got bytes

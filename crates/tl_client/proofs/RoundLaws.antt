@@ -1,9 +1,9 @@
 -- One more ticket that a round went over.
 use Rattle.std.proofs.Common.{◌≡◌, List, [], ◌∷◌, ◌++◌, true, false, refl, sym, ap, subst, inl, inr, append-nil, append_assoc}
 use Rattle.tl_types.specs.declared.ticket.Ticket.{Ticket}
-use Rattle.tl_mail.specs.Rounds.{AreBarred, is_barred}
-use Rattle.tl_ports.specs.Ports.{asked}
-use Rattle.tl_ports.specs.declared.port.Asked.{Asked}
+use Rattle.tl_client_mail.specs.Rounds.{AreBarred, is_barred}
+use Rattle.tl_client_ports.specs.Ports.{asked}
+use Rattle.tl_client_ports.specs.declared.port.Asked.{Asked}
 use Rattle.tl_client.specs.Homes.{Goes}
 
 -- a round that goes over one more ticket, which is barred

@@ -3,10 +3,10 @@ use Rattle.std.proofs.Common.{◌≡◌, ◌<◌, List, [], ◌∷◌, ◌++◌,
 use Rattle.std.proofs.lemmas.Grind.{common_steps}
 use Rattle.std.proofs.lemmas.List.{append_cancel_left}
 use Rattle.tl_types.specs.declared.ticket.Ticket.{Ticket}
-use Rattle.tl_ports.specs.Ports.{asked}
+use Rattle.tl_client_ports.specs.Ports.{asked}
 use Rattle.tl_client.specs.Homes.{Goes}
-use Rattle.tl_mail.specs.Rounds.{AreBarred, Round, all_of, is_barred}
-use Rattle.tl_ports.specs.declared.port.Asked.{Asked}
+use Rattle.tl_client_mail.specs.Rounds.{AreBarred, Round, all_of, is_barred}
+use Rattle.tl_client_ports.specs.declared.port.Asked.{Asked}
 use Rattle.tl_client.proofs.RoundLaws.{goes-served, goes-refused, goes-passed}
 
 -- of all tickets some were gone over, which was asked behind what was asked before, and those kept and the rest wait

@@ -2,11 +2,11 @@
 use Rattle.std.specs.Prelude.{◌≡◌, ◌≤◌, ℕ, ◌++◌, List, [], ◌∷◌, length, take, map}
 use Rattle.std.specs.List.{All}
 use Rattle.tl_bank_spec.specs.declared.when.When.{When}
-use Rattle.tl_words.specs.declared.command.Command.{Command}
-use Rattle.tl_words.specs.declared.command.Command.TheVariants.{Load, Store, Drop}
+use Rattle.tl_script_words.specs.declared.command.Command.{Command}
+use Rattle.tl_script_words.specs.declared.command.Command.TheVariants.{Load, Store, Drop}
 use Rattle.tl_text.specs.declared.report.Answered.{Answered}
-use Rattle.tl_ports.specs.declared.port.Success.{Success}
-use Rattle.tl_ports.specs.declared.port.Success.TheVariants.{Loaded, Stored}
+use Rattle.tl_client_ports.specs.declared.port.Success.{Success}
+use Rattle.tl_client_ports.specs.declared.port.Success.TheVariants.{Loaded, Stored}
 
 -- the success that carries a command out, which got these bytes and this stamp; none at a drop
 abbrev pub success_at : ℕ → When → Command → List ℕ → ℕ → List Success

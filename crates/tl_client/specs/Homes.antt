@@ -5,11 +5,11 @@ use Rattle.tl_types.specs.Channel.{place_of}
 use Rattle.tl_types.specs.declared.channel.Channel.TheVariants.{A, C, E}
 use Rattle.tl_types.specs.declared.ticket.Ticket.{Ticket}
 use Rattle.tl_tickets.specs.Ends.{InboxEnd}
-use Rattle.tl_mail.specs.Inbox.{Took}
-use Rattle.tl_mail.specs.Rounds.{Round, all_of, is_barred, is_on}
-use Rattle.tl_mail.specs.declared.links.Links.TheVariants.{OfBank}
-use Rattle.tl_ports.specs.Ports.{asked}
-use Rattle.tl_ports.specs.declared.port.Asked.{Asked}
+use Rattle.tl_client_mail.specs.Inbox.{Took}
+use Rattle.tl_client_mail.specs.Rounds.{Round, all_of, is_barred, is_on}
+use Rattle.tl_client_mail.specs.declared.links.Links.TheVariants.{OfBank}
+use Rattle.tl_client_ports.specs.Ports.{asked}
+use Rattle.tl_client_ports.specs.declared.port.Asked.{Asked}
 
 -- a round over tickets, in order: one whose channel and link has one kept is kept unasked; any other is asked, and kept where it was
 -- refused. `all` are those asked, `end` those kept at the end

@@ -11,11 +11,11 @@ use std::marker::Model;
 use std::sync::Wait;
 use std::time::Clock;
 use tl_bank::{Refusal, Share, When};
-use tl_mail::{Mail, Rest};
+use tl_client_mail::{Mail, Rest};
+use tl_client_ports::{Gate, Port};
 use tl_map::Geometry;
-use tl_ports::{Gate, Port};
+use tl_script_words::Command;
 use tl_types::{AccessBytes, ClientId};
-use tl_words::Command;
 
 /// A client's agent. Contracts see its client, its script, what it answered, and its clock: the last stamp that it got. Of what it
 /// answered it keeps the bytes: the commands are the script's.

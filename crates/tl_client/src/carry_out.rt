@@ -3,9 +3,9 @@ ghost use Rattle.std.specs.Prelude.{◌≡◌, ◌++◌, MatchResult};
 ghost use Rattle.tl_client.specs.Answers.{HasItsBytes, clock_after, success_at};
 
 use tl_bank::{Refusal, When};
-use tl_ports::Port;
+use tl_client_ports::Port;
+use tl_script_words::Command;
 use tl_types::{AccessBytes, BlockNo, ClientId, Perm};
-use tl_words::Command;
 
 /// What a command that was carried out got.
 #[derive(Drop)]

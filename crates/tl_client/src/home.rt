@@ -3,8 +3,8 @@ ghost use Rattle.std.specs.Prelude.{◌≡◌, ◌≤◌, ◌++◌, ◌∷◌, [
 ghost use Rattle.std.specs.List.{All};
 ghost use Rattle.tl_client.specs.Homes.{Serves, Takes, Works};
 ghost use Rattle.tl_client.specs.declared.turn.Turn.{Turn};
-ghost use Rattle.tl_mail.specs.Ways.{HasRoom};
-ghost use Rattle.tl_ports.specs.Ports.{Asks, asked};
+ghost use Rattle.tl_client_mail.specs.Ways.{HasRoom};
+ghost use Rattle.tl_client_ports.specs.Ports.{Asks, asked};
 
 use crate::progress::Progress;
 use crate::turn::Turn;
@@ -13,8 +13,8 @@ use std::marker::Model;
 use std::sync::Wait;
 use std::time::Clock;
 use tl_bank::{Action, Refusal};
-use tl_mail::{BATCH, Links, Mail, Rest, Waiting};
-use tl_ports::{Gate, HomePort};
+use tl_client_mail::{BATCH, Links, Mail, Rest, Waiting};
+use tl_client_ports::{Gate, HomePort};
 use tl_types::{BankNo, BlockNo, Channel, Ticket};
 
 /// A bank's home. Contracts see its bank, and the tickets that wait.

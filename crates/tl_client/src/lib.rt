@@ -10,5 +10,5 @@ mod turn;
 
 pub use agent::Agent;
 pub use home::Home;
-pub use tl_words::Command;
+pub use tl_script_words::Command;
 pub use turn::Turn;

@@ -6,11 +6,11 @@ use crate::progress::Progress;
 use std::alloc::{AllocError, Global};
 use std::sync::Wait;
 use tl_bank::{Refusal, Share};
-use tl_mail::{BATCH, Links, Mail, Waiting};
+use tl_client_mail::{BATCH, Links, Mail, Waiting};
+use tl_client_ports::Port;
 use tl_map::Geometry;
-use tl_ports::Port;
+use tl_script_words::Command;
 use tl_types::{BankNo, BlockNo, Channel, ClientId, Grow, Perm, Prune, Ticket};
-use tl_words::Command;
 
 /// The answer of home that the present command waits for.
 #[derive(Clone, Copy, Debug, PartialEq, Eq)]

@@ -8,9 +8,9 @@ use Rattle.tl_map.specs.Refusals.{numbers_of, refusal_of}
 use Rattle.tl_map.specs.declared.numbers.GeometryError.{GeometryError}
 use Rattle.tl_map.specs.declared.numbers.GeometryNumbers.{GeometryNumbers}
 use Rattle.tl_bank_spec.specs.View.{View}
-use Rattle.tl_words.specs.declared.step.Step.{Step}
-use Rattle.tl_player.specs.NetworkState.{AreFresh, HasRoom, IsFresh, IsForgotten, IsReserved, IsReset, NetworkState, SharedBankState, bank_asked, bank_at}
-use Rattle.tl_player.specs.NetworkSteps.{IsNetworkStep}
+use Rattle.tl_script_words.specs.declared.step.Step.{Step}
+use Rattle.tl_trace.specs.NetworkState.{AreFresh, HasRoom, IsFresh, IsForgotten, IsReserved, IsReset, NetworkState, SharedBankState, bank_asked, bank_at}
+use Rattle.tl_trace.specs.NetworkSteps.{IsNetworkStep}
 use Rattle.tl_text.specs.declared.answer.Answer.{Answer as Shown}
 use Rattle.tl_embed.specs.Asked.{asked}
 use Rattle.tl_embed.specs.Calls.{AsksFor, Calls, CallsOn, GoesOn}

@@ -9,16 +9,16 @@ use Rattle.tl_bank_spec.specs.Share.{Holding}
 use Rattle.tl_bank_spec.specs.Steps.{Appends}
 use Rattle.tl_bank_spec.specs.View.{View}
 use Rattle.tl_bank_spec.specs.declared.refusal.Refusal.{Refusal}
-use Rattle.tl_words.specs.declared.step.BlockCall.{BlockCall}
-use Rattle.tl_words.specs.declared.step.BlockCall.TheVariants.{Advance, Evict, ServeMemory, TakeMemory}
-use Rattle.tl_words.specs.declared.step.Step.{Step}
-use Rattle.tl_words.specs.declared.step.Step.TheVariants as step
-use Rattle.tl_words.specs.declared.step.TicketCall.{TicketCall}
-use Rattle.tl_words.specs.declared.step.TicketCall.TheVariants.{AnswerProbe, TakeGrant, TakeReleaseAck, Accept, TakeC, TakeGrantAck}
+use Rattle.tl_script_words.specs.declared.step.BlockCall.{BlockCall}
+use Rattle.tl_script_words.specs.declared.step.BlockCall.TheVariants.{Advance, Evict, ServeMemory, TakeMemory}
+use Rattle.tl_script_words.specs.declared.step.Step.{Step}
+use Rattle.tl_script_words.specs.declared.step.Step.TheVariants as step
+use Rattle.tl_script_words.specs.declared.step.TicketCall.{TicketCall}
+use Rattle.tl_script_words.specs.declared.step.TicketCall.TheVariants.{AnswerProbe, TakeGrant, TakeReleaseAck, Accept, TakeC, TakeGrantAck}
 use Rattle.tl_types.specs.declared.ticket.Ticket.{Ticket}
 use Rattle.tl_text.specs.declared.answer.Answer.{Answer}
-use Rattle.tl_player.specs.Answers.{Answers}
-use Rattle.tl_player.specs.Steps.{BlockDoes, Does, IsStep, Scene, TicketDoes, cases_of}
+use Rattle.tl_trace.specs.Answers.{Answers}
+use Rattle.tl_trace.specs.Steps.{BlockDoes, Does, IsStep, Scene, TicketDoes, cases_of}
 use Rattle.tl_embed.specs.Histories.{IsLater}
 
 -- ## One bank

@@ -5,12 +5,12 @@ use Rattle.tl_types.specs.Decoding.{grow_at, prune_at}
 use Rattle.tl_types.specs.declared.channel.Channel.{Channel}
 use Rattle.tl_types.specs.declared.channel.Channel.TheVariants.{A, B, C, D, E}
 use Rattle.tl_types.specs.declared.ticket.Ticket.{Ticket}
-use Rattle.tl_words.specs.declared.step.TicketCall.{TicketCall}
-use Rattle.tl_words.specs.declared.step.TicketCall.TheVariants.{AnswerProbe, TakeGrant, TakeReleaseAck, Accept, TakeC, TakeGrantAck}
-use Rattle.tl_words.specs.declared.step.BlockCall.{BlockCall}
-use Rattle.tl_words.specs.declared.step.BlockCall.TheVariants.{Advance, Evict, ServeMemory, TakeMemory}
-use Rattle.tl_words.specs.declared.step.Step.{Step}
-use Rattle.tl_words.specs.declared.step.Step.TheVariants as step
+use Rattle.tl_script_words.specs.declared.step.TicketCall.{TicketCall}
+use Rattle.tl_script_words.specs.declared.step.TicketCall.TheVariants.{AnswerProbe, TakeGrant, TakeReleaseAck, Accept, TakeC, TakeGrantAck}
+use Rattle.tl_script_words.specs.declared.step.BlockCall.{BlockCall}
+use Rattle.tl_script_words.specs.declared.step.BlockCall.TheVariants.{Advance, Evict, ServeMemory, TakeMemory}
+use Rattle.tl_script_words.specs.declared.step.Step.{Step}
+use Rattle.tl_script_words.specs.declared.step.Step.TheVariants as step
 use Rattle.tl_embed.specs.declared.request.Asked.{Asked}
 use Rattle.tl_embed.specs.declared.request.Asked.TheVariants as a
 use Rattle.tl_embed.specs.declared.request.Request.{Request}

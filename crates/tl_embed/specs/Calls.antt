@@ -1,9 +1,9 @@
 -- What one call does to a cache, and what it answers.
 use Rattle.std.specs.Prelude.{◌≡◌, ◌≢◌, ◌⊎◌, ℕ, Option, Some, None}
-use Rattle.tl_words.specs.declared.step.Step.{Step}
+use Rattle.tl_script_words.specs.declared.step.Step.{Step}
 use Rattle.tl_text.specs.declared.answer.Answer.{Answer as Shown}
-use Rattle.tl_player.specs.NetworkSteps.{IsNetworkStep, IsStarvedNetwork}
-use Rattle.tl_player.specs.NetworkState.{NetworkState}
+use Rattle.tl_trace.specs.NetworkSteps.{IsNetworkStep, IsStarvedNetwork}
+use Rattle.tl_trace.specs.NetworkState.{NetworkState}
 use Rattle.tl_embed.specs.Asked.{asked}
 use Rattle.tl_embed.specs.Events.{Forgets, Reserves}
 use Rattle.tl_embed.specs.Opens.{closed}

@@ -7,7 +7,7 @@ use Rattle.tl_protocol.specs.declared.event.Event.{Event}
 use Rattle.tl_protocol.specs.declared.event.Event.TheVariants.{Load, Store, SendAcquire, SendRelease, AnswerProbe, TakeGrant, TakeReleaseAck, AcceptAcquire, SendProbe, TakeC, SendGrant, TakeGrantAck, SendGet, Serve, TakeData, Drop, SendPut, TakePutAck}
 use Rattle.tl_protocol.specs.declared.shape.Shape.{Shape}
 use Rattle.tl_bank_spec.specs.View.{View, shape_of}
-use Rattle.tl_player.specs.NetworkState.{NetworkState, IsForgotten, IsReserved, IsShort}
+use Rattle.tl_trace.specs.NetworkState.{NetworkState, IsForgotten, IsReserved, IsShort}
 use Rattle.tl_embed.specs.Told.{only, with_bytes}
 use Rattle.tl_embed.specs.declared.answer.Answer.{Answer}
 

@@ -3,10 +3,10 @@ use Rattle.std.specs.Prelude.{◌≡◌, ℕ, ◌<◌, List, [], ◌∷◌, ◌+
 use Rattle.tl_map.specs.Numbers.{Numbers as Shape}
 use Rattle.tl_map.specs.Refusals.{numbers_of}
 use Rattle.tl_protocol.specs.declared.event.Event.{Event}
-use Rattle.tl_lanes.specs.Lawful.{Lawful}
+use Rattle.tl_protocol_lanes.specs.Lawful.{Lawful}
 use Rattle.tl_bank_spec.specs.Coherent.{IsCoherent}
 use Rattle.tl_bank_spec.specs.View.{View, shape_of}
-use Rattle.tl_player.specs.NetworkState.{NetworkState, bank_at}
+use Rattle.tl_trace.specs.NetworkState.{NetworkState, bank_at}
 use Rattle.tl_embed.specs.Calls.{Calls}
 use Rattle.tl_embed.specs.Opens.{Opens, as_given}
 use Rattle.tl_embed.specs.declared.answer.Answer.{Answer}

@@ -4,7 +4,7 @@ use Rattle.tl_map.specs.Numbers.{Numbers as Shape}
 use Rattle.tl_map.specs.Refusals.{numbers_of, refusal_number, refusal_of}
 use Rattle.tl_map.specs.declared.numbers.GeometryError.{GeometryError}
 use Rattle.tl_map.specs.declared.numbers.GeometryNumbers.{GeometryNumbers}
-use Rattle.tl_player.specs.NetworkState.{NetworkState, IsReset}
+use Rattle.tl_trace.specs.NetworkState.{NetworkState, IsReset}
 use Rattle.tl_embed.specs.declared.cache.Cache.{Cache}
 use Rattle.tl_embed.specs.declared.cache.Numbers.{Numbers}
 

@@ -12,7 +12,7 @@ use Rattle.tl_protocol.specs.declared.home.Outward.TheVariants as outward
 use Rattle.tl_bank_spec.specs.Refusal.{refusal_number}
 use Rattle.tl_bank_spec.specs.View.{View}
 use Rattle.tl_bank_spec.specs.Views.{in_flight_at}
-use Rattle.tl_player.specs.NetworkState.{NetworkState, bank_at}
+use Rattle.tl_trace.specs.NetworkState.{NetworkState, bank_at}
 use Rattle.tl_text.specs.Memory.{log_of_size, memory_kind}
 use Rattle.tl_text.specs.declared.answer.Answer.{Answer as Shown}
 use Rattle.tl_text.specs.declared.answer.Answer.TheVariants.{Sent, Memory, Dropped, Loaded, Done, Refused}

@@ -14,7 +14,7 @@ use Rattle.tl_bank_spec.specs.Cases.{no_client}
 use Rattle.tl_bank_spec.specs.Tables.{copies_at}
 use Rattle.tl_bank_spec.specs.View.{View}
 use Rattle.tl_bank_spec.specs.Views.{IsQuiet, copy_perm_at, outward_at, own_blocks, pairs_at, peeked, recorded_at}
-use Rattle.tl_player.specs.NetworkState.{NetworkState, bank_at}
+use Rattle.tl_trace.specs.NetworkState.{NetworkState, bank_at}
 use Rattle.tl_embed.specs.Asked.{channel_at, ticket_named}
 use Rattle.tl_embed.specs.Events.{event_shown}
 use Rattle.tl_embed.specs.Told.{message_of, message_told, number_told, only, outward_told, with_bytes}

@@ -12,7 +12,7 @@ use crate::tell::step_told;
 use crate::views::view;
 use std::alloc::Global;
 use tl_map::{Geometry, GeometryNumbers};
-use tl_player::Network;
+use tl_trace::Network;
 use tl_types::BankNo;
 
 /// All banks with their clients, until it is closed.

@@ -1,10 +1,10 @@
 //! What holds after any sequence of calls.
 ghost use Rattle.std.specs.Prelude.{IfSome};
-ghost use Rattle.tl_player.specs.NetworkState.{bank_at};
+ghost use Rattle.tl_trace.specs.NetworkState.{bank_at};
 ghost use Rattle.tl_embed.specs.Histories.{EveryHistory, IsRunning};
 
 use crate::cache::Cache;
-use tl_player::Network;
+use tl_trace::Network;
 use tl_types::BankNo;
 
 /// Whatever was asked of a cache since it was opened, each of its banks holds what its log leaves, which is a run of the protocol

@@ -5,8 +5,8 @@ ghost use Rattle.tl_embed.specs.Asked.{channel_at, load_asked, store_asked, acqu
 ghost use Rattle.tl_embed.specs.Told.{echoed};
 
 use crate::answer::Answer;
+use tl_script_words::{BlockCall, Step, TicketCall};
 use tl_types::{AccessBytes, BankNo, BlockNo, Channel, ClientId, Grow, Prune, Ticket};
-use tl_words::{BlockCall, Step, TicketCall};
 
 /// A call with all that any call takes; a call takes no notice of what it does not use.
 #[repr(C)]

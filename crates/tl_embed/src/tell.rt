@@ -3,9 +3,9 @@ ghost use Rattle.std.specs.Prelude.{◌≡◌};
 ghost use Rattle.tl_embed.specs.Told.{coded, message_of, message_told, memory_told, number_told, outward_told, passing, step_told};
 
 use crate::answer::Answer;
-use tl_player::Network;
 use tl_protocol::Outward;
 use tl_text::{Answer as Shown, BlockSize, MemoryMessage};
+use tl_trace::Network;
 use tl_types::{Body, Kind, Message, Ticket, code};
 
 /// A number.

@@ -11,8 +11,8 @@ use crate::events::event_told;
 use crate::request::{Request, channel_at};
 use crate::tell::{message_of, message_told, number_told, outward_told};
 use tl_bank::Bank;
-use tl_player::Network;
 use tl_protocol::Line;
+use tl_trace::Network;
 use tl_types::{BankNo, BlockBytes, BlockNo, ClientId, Message, Perm, Ticket};
 
 /// What a request that asks for no step is answered: 20 perm, 21 directory, 22 peek, 23 home, 24 outward, 25 held, 26 recorded,

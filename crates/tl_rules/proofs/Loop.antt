@@ -3,7 +3,7 @@ use Rattle.std.proofs.Common.{◌≡◌, ℕ, zero, suc, ◌+◌, ◌<◌, ◌�
 use native.Mathlib.Numerals.{unary_clauses}
 use Rattle.std.specs.List.{cons_option}
 use Rattle.std.specs.Borrow.{Bor}
-use Rattle.tl_log.specs.Journal.{Journal}
+use Rattle.tl_protocol.specs.Journal.{Journal}
 use Rattle.tl_protocol.specs.declared.event.Access.{Access}
 use Rattle.tl_protocol.specs.declared.event.Event.{Event}
 use Rattle.tl_rules.specs.declared.merge.Mark.{Mark}

@@ -4,7 +4,7 @@ use Rattle.std.specs.Borrow.{Bor}
 use Rattle.tl_protocol.specs.declared.event.Access.{Access}
 use Rattle.tl_protocol.specs.declared.event.Event.{Event}
 use Rattle.tl_protocol.specs.OneMemory.{access_of}
-use Rattle.tl_log.specs.Journal.{Journal}
+use Rattle.tl_protocol.specs.Journal.{Journal}
 
 -- the accesses among some events, oldest first
 abbrev pub accesses_of : List Event → List Access

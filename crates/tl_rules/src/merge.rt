@@ -7,8 +7,7 @@ ghost use Rattle.tl_rules.specs.Left.{left, stamp_in, AreOrdered, FollowsMark, I
 ghost use Rattle.std.specs.Option.{option_copied};
 
 use arrayvec::ArrayVec;
-use tl_log::Log;
-use tl_protocol::{Access, Event};
+use tl_protocol::{Access, Event, Log};
 use tl_types::{BANKS, CLIENTS};
 
 /// Whether the clients of a log are known, and its stamps rise.

@@ -1,6 +1,6 @@
 -- What a job is answered with (this project's own).
 use Rattle.std.specs.Prelude.{◌≡◌, ℕ, Bool, true, false, List, Option, Ok, IfSome}
-use Rattle.tl_conclude.specs.Conclusion.{IsRunReport}
+use Rattle.tl_runner_report.specs.Conclusion.{IsRunReport}
 use Rattle.tl_text.specs.Report.{report_text}
 use Rattle.tl_text.specs.declared.report.Report.{Report}
 use Rattle.tl_runner.specs.Trace.{IsTraceOf}

@@ -1,13 +1,13 @@
 -- Which fault it is: that of the words, the file or the script (this project's own).
 use Rattle.std.specs.Prelude.{◌≡◌, ℕ, Bool, false, List, Option, None, Some, Result, Ok, Err, IfSome}
-use Rattle.tl_job.specs.declared.asked.Job.{Job}
-use Rattle.tl_job.specs.declared.asked.JobError.{JobError}
+use Rattle.tl_runner.specs.declared.asked.Job.{Job}
+use Rattle.tl_runner.specs.declared.asked.JobError.{JobError}
 use Rattle.tl_script.specs.declared.script.Script.{Script}
 use Rattle.tl_script.specs.Each.{Fails}
 use Rattle.tl_script.specs.Script.{read_of, value_of}
-use Rattle.tl_conclude.specs.RunError.{TellsTurns}
-use Rattle.tl_conclude.specs.declared.error.RunError.{RunError}
-use Rattle.tl_conclude.specs.declared.error.RunError.TheVariants as run
+use Rattle.tl_runner_report.specs.RunError.{TellsTurns}
+use Rattle.tl_runner_report.specs.declared.error.RunError.{RunError}
+use Rattle.tl_runner_report.specs.declared.error.RunError.TheVariants as run
 use Rattle.tl_runner.specs.Fault.{fault_of_job}
 use Rattle.tl_runner.specs.declared.fault.Fault.{Fault}
 use Rattle.tl_runner.specs.declared.fault.Fault.TheVariants as its

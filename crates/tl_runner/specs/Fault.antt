@@ -1,15 +1,15 @@
 -- What each fault prints, and its status (this project's own).
 use Rattle.std.specs.Prelude.{ℕ, List, ◌++◌, codes}
-use Rattle.tl_job.specs.declared.asked.JobError.{JobError}
-use Rattle.tl_job.specs.declared.asked.JobError.TheVariants.{Usage as j_Usage, Memory as j_Memory}
+use Rattle.tl_runner.specs.declared.asked.JobError.{JobError}
+use Rattle.tl_runner.specs.declared.asked.JobError.TheVariants.{Usage as j_Usage, Memory as j_Memory}
 use Rattle.tl_streams.specs.declared.reading.ReadError.{ReadError}
 use Rattle.tl_streams.specs.declared.reading.ReadError.TheVariants as read
 use Rattle.tl_script.specs.declared.error.ScriptError.{ScriptError}
 use Rattle.tl_script.specs.declared.error.ScriptError.TheVariants as script
 use Rattle.tl_script.specs.ScriptError.{script_error_text}
-use Rattle.tl_conclude.specs.RunError.{run_error_text}
-use Rattle.tl_conclude.specs.declared.error.RunError.{RunError}
-use Rattle.tl_conclude.specs.declared.error.RunError.TheVariants.{Memory as r_Memory}
+use Rattle.tl_runner_report.specs.RunError.{run_error_text}
+use Rattle.tl_runner_report.specs.declared.error.RunError.{RunError}
+use Rattle.tl_runner_report.specs.declared.error.RunError.TheVariants.{Memory as r_Memory}
 use Rattle.tl_runner.specs.declared.fault.Fault.{Fault}
 use Rattle.tl_runner.specs.declared.fault.Fault.TheVariants.{Usage, File, Memory, Script, Run}
 

@@ -2,3 +2,5 @@ pub mod Answer
 pub mod Cause
 pub mod Fault
 pub mod Trace
+pub mod Job
+pub mod Error

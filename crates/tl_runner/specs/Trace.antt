@@ -3,7 +3,7 @@ use Rattle.std.specs.Prelude.{◌≡◌, ℕ, List}
 use Rattle.tl_script.specs.declared.script.Script.{Script}
 use Rattle.tl_text.specs.Trace.{trace_text}
 use Rattle.tl_text.specs.declared.trace.Trace.{Trace}
-use Rattle.tl_player.specs.NetworkSteps.{IsTrace}
+use Rattle.tl_trace.specs.NetworkSteps.{IsTrace}
 
 -- The text of a trace of the script's steps, over banks of its numbers and its image.
 abbrev pub IsTraceOf : Script → List ℕ → Type 0

@@ -3,11 +3,11 @@ ghost use Rattle.std.specs.Prelude.{◌≡◌};
 ghost use Rattle.tl_runner.specs.declared.fault.Fault.TheVariants as a;
 ghost use Rattle.tl_runner.specs.Fault.{fault_of_job, fault_of_read};
 
+use crate::asked::JobError;
 use std::alloc::AllocError;
 use std::fmt;
 use thiserror::Error;
-use tl_conclude::RunError;
-use tl_job::JobError;
+use tl_runner_report::RunError;
 use tl_script::ScriptError;
 use tl_streams::ReadError;
 

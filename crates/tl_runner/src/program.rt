@@ -8,6 +8,7 @@ ghost use Rattle.tl_runner.specs.Cause.{IsFaultOf};
 ghost use Rattle.tl_runner.specs.Fault.{fault_line, fault_of_job, status_of};
 ghost use Rattle.tl_runner.specs.declared.fault.Fault.{Fault};
 
+use crate::asked::{Job, JobError};
 use crate::fault::Fault;
 use crate::step_trace::trace;
 use std::alloc::Global;
@@ -15,9 +16,8 @@ use std::io::{Read, Write};
 use std::sync::Wait;
 use std::thread::Threads;
 use std::time::Clock;
-use tl_job::{Job, JobError};
-use tl_machine::run;
-use tl_ports::Gate;
+use tl_client_ports::Gate;
+use tl_runner_threads::run;
 use tl_script::read_script;
 use tl_streams::{read_whole, tell, write_whole};
 

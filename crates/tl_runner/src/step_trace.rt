@@ -3,9 +3,9 @@ ghost use Rattle.std.specs.Prelude.{◌≡◌, IfOk, IfErr, string_bytes};
 ghost use Rattle.tl_runner.specs.Trace.{IsTraceOf};
 
 use std::alloc::Global;
-use tl_conclude::RunError;
-use tl_player::play;
+use tl_runner_report::RunError;
 use tl_script::Script;
+use tl_trace::play;
 
 /// Plays a script's steps, one after another, over banks of its numbers and its image: the text has what each step answered, a
 /// refusal too, and then what each bank holds. An error is a request for memory that was refused.

@@ -2,7 +2,7 @@
 use Rattle.std.proofs.Common.{◌≡◌, ℕ, ◌+◌, ◌<◌, ◌≤◌, List, [], ◌∷◌, ◌++◌, length, get_or, drop, map, Bool, Result, Ok, Err, refl, sym, ap, ◌∙◌, append_assoc, arith}
 use Rattle.std.proofs.lemmas.List.{append-nil, drop_more, drop_all, map_push}
 use Rattle.std.proofs.Common.{Vec, Global}
-use Rattle.tl_words.specs.declared.command.Command.{Command}
+use Rattle.tl_script_words.specs.declared.command.Command.{Command}
 use Rattle.std.proofs.Common.{suc, ◌-◌, replicate, length-append, Option, Some, None, true, false, cond}
 use Rattle.std.proofs.lemmas.Str.{IsUtf8-from_is_utf8, is_utf8-from_IsUtf8}
 use Rattle.std.specs.Str.{IsUtf8, is_utf8}

@@ -3,12 +3,12 @@ use Rattle.std.proofs.Common.{◌≡◌, ℕ, zero, suc, ◌+◌, ◌-◌, ◌*�
 use Rattle.std.proofs.lemmas.Bool.{and_from, ltb-false}
 use Rattle.std.proofs.lemmas.List.Folds.{list_all-append}
 use Rattle.std.specs.List.{list_all, list_any}
-use Rattle.tl_words.specs.Command.{command_of}
+use Rattle.tl_script_words.specs.Command.{command_of}
 use Rattle.std.proofs.lemmas.List.{length-replicate, length-map}
 use Rattle.std.specs.Prelude.{◌||◌}
 use Rattle.toml.specs.Data.{Data, Members, get_member}
 use Rattle.tl_map.specs.Numbers.{Numbers}
-use Rattle.tl_words.specs.declared.command.Command.{Command}
+use Rattle.tl_script_words.specs.declared.command.Command.{Command}
 use Rattle.tl_script.specs.declared.key.Key.TheVariants as key
 use Rattle.tl_script.specs.declared.error.ScriptError.{ScriptError}
 use Rattle.tl_script.specs.declared.error.ScriptError.TheVariants as error
@@ -18,7 +18,7 @@ use Rattle.tl_script.specs.Image.{bytes_in, image_in, image_of}
 use Rattle.tl_script.specs.Commands.{fits, all_fit, if_fits, is_long, command_at, commands_of_client, commands, commands_of}
 use Rattle.tl_script.specs.Steps.{step_at, steps_of}
 use Rattle.tl_script.specs.Script.{are_too_many, counted_of}
-use Rattle.tl_words.specs.declared.step.Step.{Step}
+use Rattle.tl_script_words.specs.declared.step.Step.{Step}
 
 -- ## The image
 

@@ -5,9 +5,9 @@ use Rattle.std.specs.declared.alloc.Global.{Global}
 use Rattle.toml.specs.Data.{Data, Members, as_array, get_member}
 use Rattle.tl_map.specs.Numbers.{Numbers}
 use Rattle.tl_map.specs.Places.{has_bytes}
-use Rattle.tl_words.specs.declared.command.Command.{Command}
-use Rattle.tl_words.specs.declared.command.Command.TheVariants.{Load, Store, Drop}
-use Rattle.tl_words.specs.Command.{command_of}
+use Rattle.tl_script_words.specs.declared.command.Command.{Command}
+use Rattle.tl_script_words.specs.declared.command.Command.TheVariants.{Load, Store, Drop}
+use Rattle.tl_script_words.specs.Command.{command_of}
 use Rattle.tl_script.specs.declared.key.Key.TheVariants as key
 use Rattle.tl_script.specs.declared.error.ScriptError.{ScriptError}
 use Rattle.tl_script.specs.declared.error.ScriptError.TheVariants as error

@@ -2,7 +2,7 @@
 use Rattle.std.specs.Prelude.{ℕ, ◌*◌, nat_lt, List, [], length, Option, Some, None, Result, Ok, Err, if◌then◌else◌}
 use Rattle.toml.specs.Data.{Data, Members, get_member}
 use Rattle.tl_map.specs.Numbers.{Numbers}
-use Rattle.tl_words.specs.Words.{bytes_of}
+use Rattle.tl_script_words.specs.Words.{bytes_of}
 use Rattle.tl_script.specs.declared.key.Key.TheVariants as key
 use Rattle.tl_script.specs.declared.error.ScriptError.{ScriptError}
 use Rattle.tl_script.specs.declared.error.ScriptError.TheVariants as error

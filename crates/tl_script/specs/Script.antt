@@ -3,8 +3,8 @@ use Rattle.std.specs.Prelude.{ℕ, ◌||◌, nat_lt, Bool, List, length, Result,
 use Rattle.std.specs.List.{list_any}
 use Rattle.toml.specs.Data.{Members}
 use Rattle.tl_map.specs.Numbers.{Numbers}
-use Rattle.tl_words.specs.declared.command.Command.{Command}
-use Rattle.tl_words.specs.declared.step.Step.{Step}
+use Rattle.tl_script_words.specs.declared.command.Command.{Command}
+use Rattle.tl_script_words.specs.declared.step.Step.{Step}
 use Rattle.tl_script.specs.declared.error.ScriptError.{ScriptError}
 use Rattle.tl_script.specs.declared.error.ScriptError.TheVariants as error
 use Rattle.tl_script.specs.declared.script.Script.{Script}

@@ -1,8 +1,8 @@
 -- The steps of a script (this project's own format).
 use Rattle.std.specs.Prelude.{ℕ, List, [], Option, Some, None, Result, Ok}
 use Rattle.toml.specs.Data.{Data, Members, get_member}
-use Rattle.tl_words.specs.declared.step.Step.{Step}
-use Rattle.tl_words.specs.Step.{step_of}
+use Rattle.tl_script_words.specs.declared.step.Step.{Step}
+use Rattle.tl_script_words.specs.Step.{step_of}
 use Rattle.tl_script.specs.declared.key.Key.TheVariants as key
 use Rattle.tl_script.specs.declared.error.ScriptError.{ScriptError}
 use Rattle.tl_script.specs.declared.error.ScriptError.TheVariants as error

@@ -13,7 +13,7 @@ use crate::error::ScriptError;
 use crate::key::Key;
 use std::alloc::Global;
 use tl_map::Geometry;
-use tl_words::{COMMANDS, Command};
+use tl_script_words::{COMMANDS, Command};
 use toml::{Table, Value};
 
 /// The list of each client's commands: each an array of texts.

@@ -3,7 +3,7 @@
 ghost use Rattle.std.specs.Prelude.{◌≡◌, option_map, map};
 ghost use Rattle.toml.specs.Data.{get_member};
 ghost use Rattle.toml.specs.View.{view, table_view};
-ghost use Rattle.tl_words.specs.Words.{texts};
+ghost use Rattle.tl_script_words.specs.Words.{texts};
 ghost use Rattle.tl_script.specs.Each.{Gives, each, or_fault};
 ghost use Rattle.tl_script.specs.Key.{name_of};
 ghost use Rattle.tl_script.specs.Document.{document_of, integer_at, text_in, texts_in};

@@ -10,7 +10,7 @@ use crate::error::ScriptError;
 use crate::key::Key;
 use std::alloc::Global;
 use tl_map::Geometry;
-use tl_words::{ParseError, parse_bytes};
+use tl_script_words::{ParseError, parse_bytes};
 use toml::{Table, Value};
 
 /// The first bytes of the memory: no more than it has.

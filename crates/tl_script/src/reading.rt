@@ -2,7 +2,7 @@
 
 ghost use Rattle.std.specs.Prelude.{◌≡◌};
 ghost use Rattle.toml.specs.View.{table_view};
-ghost use Rattle.tl_words.specs.Words.{texts};
+ghost use Rattle.tl_script_words.specs.Words.{texts};
 ghost use Rattle.tl_script.specs.Each.{Gives};
 ghost use Rattle.tl_script.specs.Values.{lists};
 ghost use Rattle.tl_script.specs.Commands.{commands};
@@ -17,7 +17,7 @@ use crate::script::Script;
 use crate::steps::{step_texts, steps};
 use std::alloc::Global;
 use tl_map::Geometry;
-use tl_words::{Command, STEPS};
+use tl_script_words::{Command, STEPS};
 use toml::{Table, Value};
 
 /// The script that the bytes write, or the first thing that is wrong with them. Memory only where a request for memory

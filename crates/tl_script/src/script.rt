@@ -4,7 +4,7 @@ ghost use Rattle.std.specs.Prelude.{◌≡◌, ◌*◌, ◌≤◌, length, map, 
 ghost use Rattle.tl_script.specs.Commands.{all_fit};
 
 use tl_map::Geometry;
-use tl_words::{Command, Step};
+use tl_script_words::{Command, Step};
 
 /// What a script asks for.
 #[derive(Debug, Drop)]

@@ -2,7 +2,7 @@
 
 ghost use Rattle.std.specs.Prelude.{◌≡◌};
 ghost use Rattle.toml.specs.View.{table_view};
-ghost use Rattle.tl_words.specs.Words.{texts};
+ghost use Rattle.tl_script_words.specs.Words.{texts};
 ghost use Rattle.tl_script.specs.Each.{Gives};
 ghost use Rattle.tl_script.specs.Steps.{step_texts_of, step_at, steps_of};
 
@@ -10,7 +10,7 @@ use crate::document::{texts_in, value_at};
 use crate::error::ScriptError;
 use crate::key::Key;
 use std::alloc::Global;
-use tl_words::{ParseError, Step};
+use tl_script_words::{ParseError, Step};
 use toml::Table;
 
 /// The texts of the steps.

@@ -5,7 +5,7 @@ use Rattle.tl_types.specs.Bodies.{body_kind, body_bytes}
 use Rattle.tl_types.specs.Text.{kind_text}
 use Rattle.tl_types.specs.Ticket.{ticket_text}
 use Rattle.tl_types.specs.declared.kind.Kind.{Kind}
-use Rattle.tl_words.specs.Hex.{hex_text}
+use Rattle.tl_script_words.specs.Hex.{hex_text}
 use Rattle.tl_bank_spec.specs.Refusal.{refusal_number}
 use Rattle.tl_text.specs.Memory.{log_of_size, memory_kind, operands_text}
 use Rattle.tl_text.specs.declared.answer.Answer.{Answer}

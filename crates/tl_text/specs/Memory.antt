@@ -2,7 +2,7 @@
 use Rattle.std.specs.Prelude.{ℕ, List, [], ◌++◌, codes}
 use Rattle.tl_types.specs.declared.kind.Kind.{Kind}
 use Rattle.tl_types.specs.declared.kind.Kind.TheVariants as kind
-use Rattle.tl_words.specs.Hex.{hex_text, address_text}
+use Rattle.tl_script_words.specs.Hex.{hex_text, address_text}
 use Rattle.tl_text.specs.declared.memory.BlockSize.{BlockSize}
 use Rattle.tl_text.specs.declared.memory.BlockSize.TheVariants.{Bytes8, Bytes16, Bytes32, Bytes64}
 use Rattle.tl_text.specs.declared.memory.MemoryMessage.{MemoryMessage}

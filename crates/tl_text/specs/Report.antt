@@ -1,12 +1,12 @@
 -- The report of a run, as text (this project's own format).
 use Rattle.std.specs.Prelude.{ℕ, ◌+◌, List, [], ◌∷◌, ◌++◌, codes, decimal, Vec}
 use Rattle.std.specs.declared.alloc.Global.{Global}
-use Rattle.tl_words.specs.declared.command.Command.{Command}
-use Rattle.tl_words.specs.declared.command.Command.TheVariants.{Load, Store, Drop}
+use Rattle.tl_script_words.specs.declared.command.Command.{Command}
+use Rattle.tl_script_words.specs.declared.command.Command.TheVariants.{Load, Store, Drop}
 use Rattle.tl_text.specs.declared.report.Answered.{Answered}
 use Rattle.tl_text.specs.declared.report.BankLine.{BankLine}
 use Rattle.tl_text.specs.declared.report.Report.{Report}
-use Rattle.tl_words.specs.Hex.{hex_text, address_text}
+use Rattle.tl_script_words.specs.Hex.{hex_text, address_text}
 
 -- the command, and the bytes that a load got
 abbrev pub command_text : Command → List ℕ → List ℕ

@@ -7,8 +7,8 @@ ghost use Rattle.tl_text.specs.Answer.{coded_text, carried_text, answer_text};
 use crate::memory::{BlockSize, MemoryMessage, Operands};
 use std::fmt;
 use tl_bank_spec::Refusal;
+use tl_script_words::Hex;
 use tl_types::{AccessBytes, BlockBytes, BlockNo, Body, Kind, Ticket, code};
-use tl_words::Hex;
 
 /// What a step answered. It prints as the rest of the step's line, after its index.
 #[derive(Debug, Drop)]

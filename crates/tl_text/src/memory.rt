@@ -5,8 +5,8 @@ ghost use Rattle.tl_text.specs.Memory.{bytes_of_size, log_of_size, memory_kind, 
 
 use std::fmt;
 use tl_map::Geometry;
+use tl_script_words::{Address, Hex};
 use tl_types::{BlockBytes, Kind};
-use tl_words::{Address, Hex};
 
 /// The size of a block: 8, 16, 32 or 64 bytes. It prints as the base-2 logarithm of its bytes.
 #[derive(Clone, Copy, Debug, PartialEq, Eq)]

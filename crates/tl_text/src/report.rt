@@ -2,8 +2,8 @@
 
 use crate::report_lines;
 use std::alloc::{AllocError, Global};
+use tl_script_words::Command;
 use tl_types::AccessBytes;
-use tl_words::Command;
 
 // About how many bytes a line takes: four digits of a command's number, the verb, the address, eight bytes, and what lies between.
 // Room for the whole text is asked for at once, so that it is not moved as it grows.

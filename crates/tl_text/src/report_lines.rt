@@ -2,12 +2,12 @@
 
 ghost use Rattle.std.specs.Prelude.{◌≡◌, ◌++◌, ◌≤◌, OnOk, codes, decimal, length, string_bytes};
 ghost use Rattle.tl_text.specs.Report.{lines_from, answered_text, answered_line, client_lines, bank_line};
-ghost use Rattle.tl_words.specs.Hex.{hex_text, address_text};
+ghost use Rattle.tl_script_words.specs.Hex.{hex_text, address_text};
 
 use crate::report::{Answered, BankLine};
 use itoa::Buffer;
 use std::alloc::AllocError;
-use tl_words::{Command, push_address, push_bytes_at};
+use tl_script_words::{Command, push_address, push_bytes_at};
 
 /// A whole number in decimal digits.
 fn push_number(text: &mut String, number: u64) -> Result<(), AllocError>

@@ -2,9 +2,9 @@
 use Rattle.std.specs.Prelude.{ℕ, List, codes}
 use Rattle.tl_script.specs.declared.error.ScriptError.{ScriptError}
 use Rattle.tl_script.specs.declared.error.ScriptError.TheVariants as script
-use Rattle.tl_picture.specs.Draw.{draw_error_text}
-use Rattle.tl_picture.specs.declared.draw.DrawError.{DrawError}
-use Rattle.tl_picture.specs.declared.draw.DrawError.TheVariants as draw
+use Rattle.tlchart_draw.specs.Draw.{draw_error_text}
+use Rattle.tlchart_draw.specs.declared.draw.DrawError.{DrawError}
+use Rattle.tlchart_draw.specs.declared.draw.DrawError.TheVariants as draw
 use Rattle.tlchart.specs.declared.asked.AskedError.{AskedError}
 use Rattle.tlchart.specs.declared.asked.AskedError.TheVariants as words
 use Rattle.tlchart.specs.declared.fault.Fault.{Fault}

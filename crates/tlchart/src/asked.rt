@@ -3,9 +3,9 @@
 use clap::error::ErrorKind;
 use clap::{Arg, ArgAction, ArgMatches, Command};
 use std::alloc::{AllocError, Global};
-use tl_picture::Form;
+use tl_script_words::parse_number;
 use tl_types::BlockNo;
-use tl_words::parse_number;
+use tlchart_draw::Form;
 
 /// What the words ask for: a file, a form, and the block of the bands.
 #[derive(Debug, Drop)]

@@ -6,9 +6,9 @@ ghost use Rattle.tlchart.specs.Fault.{fault_of_words, status_of};
 use crate::asked::AskedError;
 use std::fmt;
 use std::io::Write;
-use tl_picture::DrawError;
 use tl_script::ScriptError;
 use tl_streams::{ReadError, tell};
+use tlchart_draw::DrawError;
 
 /// What stops the program. It prints as the one fault line.
 #[derive(Debug, Drop)]

@@ -8,8 +8,8 @@ use asked::{Asked, asked_by, title_of};
 use fault::{Fault, show};
 use std::fs::File;
 use std::process::ExitCode;
-use tl_picture::draw_script;
 use tl_streams::{read_whole, words, write_whole};
+use tlchart_draw::draw_script;
 
 /// The bytes of the file that is asked for.
 fn bytes(rt: &HostRuntime, file: &str) -> Result<Vec<u8>, Fault> {

@@ -1,15 +1,11 @@
 //! `tlcheck FILE`: whether a record of events is a lawful run. `-` stands for standard input.
 #![tactic(auto)]
 
-mod ending;
-mod verdict;
-
-use ending::{Ending, show};
 use std::fs::File;
 use std::io::{BufReader, Read};
 use std::process::ExitCode;
 use tl_streams::words;
-use verdict::answer;
+use tlcheck_reader::{Ending, answer, show};
 
 /// Checks what a reader has.
 fn judge<R: Read + Drop>(rt: &HostRuntime, reader: R) -> u8 {

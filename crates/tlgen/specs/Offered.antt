@@ -1,6 +1,6 @@
 -- What the generator prints (this project's own).
 use Rattle.std.specs.Prelude.{◌≡◌, ◌++◌, ℕ, Bool, true, false, List, Ok, codes, count_by, decimal, length}
-use Rattle.tl_player.specs.NetworkSteps.{IsTrace}
+use Rattle.tl_trace.specs.NetworkSteps.{IsTrace}
 use Rattle.tl_script.specs.Script.{read_of, value_of}
 use Rattle.tl_script.specs.declared.script.Script.{Script}
 use Rattle.tl_text.specs.declared.answer.Answer.{Answer}

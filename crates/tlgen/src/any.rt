@@ -2,8 +2,8 @@
 use crate::dice::Dice;
 use crate::spots::Spots;
 use std::alloc::AllocError;
+use tl_script_words::{push_address, push_hex};
 use tl_types::{BlockNo, Channel, ClientId, Ticket};
-use tl_words::{push_address, push_hex};
 
 const GROWS: [&str; 3] = ["NtoB", "NtoT", "BtoT"];
 

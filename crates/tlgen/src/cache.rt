@@ -6,8 +6,8 @@ use crate::spots::Spots;
 use std::alloc::{AllocError, Global};
 use tl_bank::Refusal;
 use tl_map::Geometry;
+use tl_script_words::{ParseError, Step};
 use tl_types::{BankNo, Ticket};
-use tl_words::{ParseError, Step};
 
 /// How many steps are asked where the banks refuse them.
 const TRIES: u32 = 1000;

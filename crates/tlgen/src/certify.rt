@@ -6,9 +6,9 @@ use crate::fault::Fault;
 use crate::request::Request;
 use crate::script::{Draft, draft_of};
 use std::alloc::{AllocError, Global};
-use tl_player::play;
 use tl_script::{Script, read_script};
 use tl_text::{Answer, Trace};
+use tl_trace::play;
 
 /// Whether a step was refused.
 fn is_refused(answer: &Answer) -> bool

@@ -1,7 +1,7 @@
 //! What the words of the command line ask for.
 use crate::fault::Fault;
 use std::alloc::Global;
-use tl_words::parse_number;
+use tl_script_words::parse_number;
 
 /// What may be asked for by its number: each number of the geometry, how many commands a client has or how many steps there are, and
 /// among how many blocks they choose.

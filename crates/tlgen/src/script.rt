@@ -8,7 +8,7 @@ use crate::request::Request;
 use crate::spots::Spots;
 use std::alloc::{AllocError, Global};
 use tl_map::Geometry;
-use tl_words::push_address;
+use tl_script_words::push_address;
 
 /// No client has so many commands, and no trace so many steps: of what is asked for beyond, so many are made, and then refused.
 const TOO_MANY: u32 = 4097;

@@ -6,8 +6,8 @@ use std::alloc::{AllocError, Global};
 use std::marker::Model;
 use tl_bank::{Action, Bank, Refusal, Share, When};
 use tl_map::Geometry;
+use tl_script_words::{BlockCall, Step, TicketCall};
 use tl_types::{BankNo, BlockNo, ClientId, Prune, Ticket};
-use tl_words::{BlockCall, Step, TicketCall};
 
 /// What a call answers: the ticket of the message that it sent, if it sent one.
 pub(crate) type Answer = Result<Option<Ticket>, Refusal>;

@@ -3,8 +3,8 @@
 
 use std::fs::File;
 use std::process::ExitCode;
-use tl_monitor::{Ending, Form, answer, show};
 use tl_streams::{read_whole, words};
+use tlwire_answer::{Ending, Form, answer, show};
 
 /// The bytes of a file.
 fn bytes(rt: &HostRuntime, name: &str) -> Result<Vec<u8>, Ending> {

@@ -6,14 +6,14 @@ ghost use Rattle.tl_bank_spec.specs.HomeCalls.{serve_memory_cases, take_memory_c
 ghost use Rattle.tl_bank_spec.specs.Refusal.{IsRefused, first_of};
 ghost use Rattle.tl_bank_spec.specs.View.{block_at};
 ghost use Rattle.tl_bank_spec.specs.Own.{way_at};
-ghost use Rattle.tl_home.specs.Homes.{outward_in};
+ghost use Rattle.tl_bank_home.specs.Homes.{outward_in};
 ghost use Rattle.tl_protocol.specs.Home.{IsData};
 ghost use Rattle.tl_protocol.specs.declared.event.Event.{Event};
 ghost use Rattle.tl_protocol.specs.declared.home.Outward.{Outward};
 
 use crate::bank::Bank;
+use tl_bank_home::Home;
 use tl_bank_spec::{Refusal, Reply};
-use tl_home::Home;
 use tl_protocol::{Event, Outward};
 use tl_types::BlockNo;
 use tl_ways::Way;

@@ -1,7 +1,7 @@
 use Rattle.std.proofs.Common.{◌≡◌, refl, Global, Option, None, Some, String, Result, Ok, Err, IfErr, IfOk, IfNone, List, ℕ}
 use Rattle.std.specs.Option.{option_map}
-use Rattle.tl_job.specs.declared.asked.Job.{Job}
-use Rattle.tl_job.specs.declared.asked.JobError.{JobError}
+use Rattle.tl_runner.specs.declared.asked.Job.{Job}
+use Rattle.tl_runner.specs.declared.asked.JobError.{JobError}
 use Rattle.tl_runner.specs.Cause.{IsFaultOf}
 use Rattle.tl_runner.specs.Fault.{fault_of_job}
 use Rattle.tl_runner.specs.declared.fault.Fault.{Fault}

@@ -2,13 +2,13 @@ use Rattle.std.proofs.Common.{◌≡◌, ◌∙◌, refl, ap, sym, subst, ℕ, B
 use Rattle.std.proofs.Common.{false, Global, List, Option, Some, None, Result, String, Ok, Err, IfErr, IfOk, IfSome}
 use Rattle.std.proofs.lemmas.Result.{err_from_is_err_and}
 use Rattle.tl_script.specs.Script.{read_of, ScriptValue, value_of}
-use Rattle.tl_job.specs.declared.asked.Job.{Job}
-use Rattle.tl_job.specs.declared.asked.JobError.{JobError}
+use Rattle.tl_runner.specs.declared.asked.Job.{Job}
+use Rattle.tl_runner.specs.declared.asked.JobError.{JobError}
 use Rattle.tl_runner.specs.Answer.{IsAnswerTo}
 use Rattle.std.specs.Option.{option_map}
-use Rattle.tl_conclude.specs.RunError.{TellsTurns}
-use Rattle.tl_conclude.specs.declared.error.RunError.{RunError}
-use Rattle.tl_conclude.specs.declared.error.RunError.TheVariants as run
+use Rattle.tl_runner_report.specs.RunError.{TellsTurns}
+use Rattle.tl_runner_report.specs.declared.error.RunError.{RunError}
+use Rattle.tl_runner_report.specs.declared.error.RunError.TheVariants as run
 use Rattle.tl_streams.specs.declared.reading.ReadError.{ReadError}
 use Rattle.tl_streams.specs.declared.reading.ReadError.TheVariants as read
 use Rattle.tl_script.specs.Each.{Fails}

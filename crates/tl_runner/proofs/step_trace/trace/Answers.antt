@@ -1,7 +1,7 @@
 use Rattle.std.proofs.Common.{ℕ, List, subst}
 use Rattle.tl_map.specs.Numbers.{Numbers}
-use Rattle.tl_words.specs.declared.step.Step.{Step}
-use Rattle.tl_player.specs.NetworkSteps.{IsTrace}
+use Rattle.tl_script_words.specs.declared.step.Step.{Step}
+use Rattle.tl_trace.specs.NetworkSteps.{IsTrace}
 use Rattle.tl_runner.proofs.step_trace.trace.Goals as goal
 
 -- the script's numbers make the geometry, and its image and steps were played

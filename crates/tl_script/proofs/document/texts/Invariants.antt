@@ -1,6 +1,6 @@
 use Rattle.std.proofs.Common.{◌≡◌, drop, map}
 use Rattle.toml.specs.View.{view}
-use Rattle.tl_words.specs.Words.{texts}
+use Rattle.tl_script_words.specs.Words.{texts}
 use Rattle.tl_script.specs.Each.{each}
 use Rattle.tl_script.specs.Document.{text_in}
 use Rattle.tl_script.proofs.EachLemmas.{with_front}

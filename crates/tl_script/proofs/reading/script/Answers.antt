@@ -1,5 +1,5 @@
 use Rattle.std.proofs.Common.{ap, sym, ◌∙◌}
-use Rattle.tl_words.specs.Words.{texts}
+use Rattle.tl_script_words.specs.Words.{texts}
 use Rattle.tl_script.specs.Steps.{steps_of}
 use Rattle.tl_script.specs.Commands.{commands}
 use Rattle.tl_script.proofs.ScriptLemmas.{inside_of, each_client, all_fit_of, few}

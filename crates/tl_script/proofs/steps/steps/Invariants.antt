@@ -1,5 +1,5 @@
 use Rattle.std.proofs.Common.{◌≡◌, drop}
-use Rattle.tl_words.specs.Words.{texts}
+use Rattle.tl_script_words.specs.Words.{texts}
 use Rattle.tl_script.specs.Each.{each}
 use Rattle.tl_script.specs.Steps.{step_at}
 use Rattle.tl_script.proofs.EachLemmas.{with_front}

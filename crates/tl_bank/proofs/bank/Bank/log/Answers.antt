@@ -1,5 +1,5 @@
 use Rattle.std.proofs.Common.{subst}
-use Rattle.tl_lanes.proofs.Delivery.{every_message_is_delivered_in_order}
+use Rattle.tl_protocol_lanes.proofs.Delivery.{every_message_is_delivered_in_order}
 use Rattle.tl_bank_spec.proofs.Coherent.{run-coherent}
 use Rattle.tl_bank_spec.specs.View.{View, shape_of}
 use Rattle.tl_bank_laws.specs.Means.{Means}

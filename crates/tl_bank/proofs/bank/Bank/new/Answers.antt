@@ -1,5 +1,5 @@
 use Rattle.std.proofs.Common.{◌∙◌, refl}
-use Rattle.tl_home.specs.Homes.{way_in}
+use Rattle.tl_bank_home.specs.Homes.{way_in}
 use Rattle.tl_bank_laws.specs.Layers.{Layers}
 use Rattle.tl_bank_laws.proofs.Fresh.{lies-nowhere, means-fresh}
 use Rattle.tl_bank.proofs.bank.Bank.new.Goals as goal

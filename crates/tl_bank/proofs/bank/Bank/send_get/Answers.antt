@@ -1,6 +1,6 @@
 use Rattle.std.proofs.Common.{ℕ, Option, None, arith, ap, refl}
 use Rattle.std.specs.Prelude.{slice_index_or}
-use Rattle.tl_home.specs.Homes.{way_in}
+use Rattle.tl_bank_home.specs.Homes.{way_in}
 use Rattle.tl_registers.specs.declared.due.Due.TheVariants.{Get}
 use Rattle.tl_bank_spec.specs.View.{View}
 use Rattle.tl_bank_spec.specs.Own.{ways_below}

@@ -3,7 +3,7 @@ use Rattle.std.specs.Prelude.{slice_index_or}
 use Rattle.tl_types.specs.declared.channel.Channel.TheVariants.{D}
 use Rattle.tl_types.specs.declared.ticket.Ticket.{Ticket}
 use Rattle.tl_protocol.specs.Client.{grant_bytes}
-use Rattle.tl_home.specs.Homes.{way_in}
+use Rattle.tl_bank_home.specs.Homes.{way_in}
 use Rattle.tl_registers.specs.declared.due.Due.TheVariants.{Grant}
 use Rattle.tl_bank_spec.specs.View.{View, block_at, client_at}
 use Rattle.tl_bank_spec.specs.Own.{ways_below}

@@ -2,7 +2,7 @@ use Rattle.std.proofs.Common.{◌≡◌, ℕ, ◌+◌, List, Option, None, slice
 use Rattle.tl_map.specs.Numbers.{Numbers}
 use Rattle.tl_protocol.specs.Sizes.{IsWhole, outward_bytes}
 use Rattle.tl_protocol.specs.declared.event.Event.TheVariants.{Serve}
-use Rattle.tl_home.specs.Homes.{outward_in, way_in}
+use Rattle.tl_bank_home.specs.Homes.{outward_in, way_in}
 use Rattle.tl_bank_spec.specs.Effects.{MemoryReplies}
 use Rattle.tl_bank_spec.specs.HomeCalls.{serve_memory_cases}
 use Rattle.tl_bank_spec.specs.Refusal.{first_of}

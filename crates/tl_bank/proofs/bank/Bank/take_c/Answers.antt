@@ -3,13 +3,13 @@ use Rattle.tl_types.specs.declared.channel.Channel.TheVariants.{C}
 use Rattle.tl_types.specs.declared.permission.Perm.{Perm}
 use Rattle.tl_map.specs.Numbers.{Numbers}
 use Rattle.tl_protocol.specs.declared.event.Event.TheVariants.{TakeC}
-use Rattle.tl_home.specs.Homes.{way_in}
+use Rattle.tl_bank_home.specs.Homes.{way_in}
 use Rattle.tl_bank_spec.specs.Cases.{block_named}
 use Rattle.tl_bank_spec.specs.HomeCalls.{take_c_cases}
 use Rattle.tl_bank_spec.specs.Refusal.{first_of}
 use Rattle.tl_bank_spec.specs.View.{View, shape_of}
 use Rattle.tl_bank_spec.specs.Own.{way_at, ways_below}
-use Rattle.tl_lanes.specs.Lawful.{Lawful}
+use Rattle.tl_protocol_lanes.specs.Lawful.{Lawful}
 use Rattle.tl_bank_spec.proofs.Logged.{extends-serves}
 use Rattle.tl_bank_spec.proofs.Sent.{sends-if}
 use Rattle.tl_bank.specs.Shown.{shown, layers}

@@ -1,7 +1,7 @@
 use Rattle.std.proofs.Common.{◌≡◌, ℕ, ◌+◌, ◌==◌, Option, Some, None, if◌then◌else◌, sym, ◌∙◌, ap, subst, arith}
 use Rattle.tl_protocol.specs.Home.{IsData}
 use Rattle.tl_protocol.specs.declared.event.Event.TheVariants.{TakeData}
-use Rattle.tl_home.specs.Homes.{HomeState, way_in}
+use Rattle.tl_bank_home.specs.Homes.{HomeState, way_in}
 use Rattle.tl_registers.specs.declared.register.Register.{Register}
 use Rattle.tl_bank_spec.specs.HomeCalls.{take_memory_cases}
 use Rattle.tl_bank_spec.specs.Refusal.{first_of}

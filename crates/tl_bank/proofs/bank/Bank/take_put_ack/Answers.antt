@@ -1,7 +1,7 @@
 use Rattle.std.proofs.Common.{◌≡◌, ℕ, ◌+◌, List, Option, None, slice_index_or, sym, ◌∙◌, ap, subst, arith}
 use Rattle.tl_protocol.specs.declared.event.Event.TheVariants.{TakePutAck}
 use Rattle.tl_protocol.specs.declared.home.Outward.TheVariants.{PutAck}
-use Rattle.tl_home.specs.Homes.{way_in}
+use Rattle.tl_bank_home.specs.Homes.{way_in}
 use Rattle.tl_registers.specs.Registers.{ended}
 use Rattle.tl_bank_spec.specs.HomeCalls.{take_memory_cases}
 use Rattle.tl_bank_spec.specs.Refusal.{first_of}

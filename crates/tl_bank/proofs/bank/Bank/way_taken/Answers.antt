@@ -2,7 +2,7 @@ use Rattle.std.proofs.Common.{◌≡◌, ◌<◌, ℕ, List, Option, None, sym, 
 use Rattle.tl_map.specs.Numbers.{Numbers}
 use Rattle.tl_map.specs.Places.{set_of}
 use Rattle.tl_ways.specs.Orders.{chosen}
-use Rattle.tl_home.specs.Homes.{free_at, geometry_in, order_at}
+use Rattle.tl_bank_home.specs.Homes.{free_at, geometry_in, order_at}
 use Rattle.tl_registers.specs.Registers.{held_in}
 use Rattle.tl_bank_spec.specs.View.{View}
 use Rattle.tl_bank_spec.specs.Own.{IsOwn, way_at}

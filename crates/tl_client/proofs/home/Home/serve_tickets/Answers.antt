@@ -1,9 +1,9 @@
 use Rattle.std.proofs.Common.{◌≡◌, ◌<◌, [], ◌∷◌, ◌++◌, List, Bool, true, false, drop, length, take, refl, sym, ◌∙◌, ap, subst, append-nil}
 use Rattle.tl_types.specs.declared.ticket.Ticket.{Ticket}
-use Rattle.tl_ports.specs.Ports.{asked}
+use Rattle.tl_client_ports.specs.Ports.{asked}
 use Rattle.tl_client.specs.Homes.{Waits}
-use Rattle.tl_mail.specs.Rounds.{Round, all_of}
-use Rattle.tl_ports.specs.declared.port.Asked.{Asked}
+use Rattle.tl_client_mail.specs.Rounds.{Round, all_of}
+use Rattle.tl_client_ports.specs.declared.port.Asked.{Asked}
 use Rattle.tl_client.proofs.ServeLaws.{Went, went-passed, went-served, went-refused, went-all, fewer}
 use Rattle.tl_client.proofs.home.Home.serve_tickets.Goals as goal
 

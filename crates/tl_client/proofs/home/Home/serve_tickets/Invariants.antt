@@ -1,5 +1,5 @@
 use Rattle.std.proofs.Common.{◌≡◌, length}
-use Rattle.tl_mail.specs.Rounds.{all_of}
+use Rattle.tl_client_mail.specs.Rounds.{all_of}
 use Rattle.tl_client.proofs.ServeLaws.{Went}
 use Rattle.tl_client.proofs.home.Home.serve_tickets.Given as goal
 

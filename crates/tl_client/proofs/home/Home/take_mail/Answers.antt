@@ -3,11 +3,11 @@ use Rattle.std.specs.List.{filter}
 use Rattle.tl_types.specs.Channel.{place_of}
 use Rattle.tl_types.specs.declared.channel.Channel.TheVariants.{A, C, E}
 use Rattle.tl_types.specs.declared.ticket.Ticket.{Ticket}
-use Rattle.tl_mail.specs.Inbox.{Took}
+use Rattle.tl_client_mail.specs.Inbox.{Took}
 use Rattle.tl_client.specs.Homes.{Waits, in_order}
-use Rattle.tl_mail.specs.Rounds.{Round, all_of, is_on}
+use Rattle.tl_client_mail.specs.Rounds.{Round, all_of, is_on}
 use Rattle.tl_client.specs.declared.home.Home.TheInside.{Inside}
-use Rattle.tl_mail.specs.declared.links.Links.TheVariants.{OfBank}
+use Rattle.tl_client_mail.specs.declared.links.Links.TheVariants.{OfBank}
 use Rattle.tl_client.proofs.ServeLaws.{laid}
 use Rattle.tl_client.proofs.home.Home.take_mail.Goals.{then-take_tickets, else-take_tickets}
 use Rattle.tl_client.proofs.home.Home.take_mail.Goals as goal

@@ -1,6 +1,6 @@
 use Rattle.std.proofs.Common.{◌≡◌, ◌∙◌, ap, subst}
 use Rattle.tl_registers.specs.Pending.{is_quiet}
-use Rattle.tl_home.specs.Homes.{outward_in}
+use Rattle.tl_bank_home.specs.Homes.{outward_in}
 use Rattle.tl_bank_spec.specs.View.{View, block_at}
 use Rattle.tl_bank.specs.Shown.{shown, layers}
 use Rattle.tl_bank_laws.proofs.Sights.{outward-read, quiet-test}

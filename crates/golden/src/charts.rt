@@ -1,0 +1,47 @@
+//! Whether each script is drawn as its pictures.
+
+use crate::answers::script_of;
+use crate::names::DRAWN;
+use std::alloc::Global;
+use std::{fs, io};
+use tlchart_draw::{Form, draw_script};
+
+/// Whether the picture of a script is this one.
+fn is_drawn(alloc: Global, script: &[u8], name: &str, form: Form, picture: &[u8]) -> bool {
+    match draw_script(alloc, script, name, form, None) {
+        Ok(text) => text.as_bytes() == picture,
+        Err(_) => false,
+    }
+}
+
+/// Prints whether a script is drawn as its picture of this form.
+fn print_picture(
+    rt: &HostRuntime,
+    name: &str,
+    script: &[u8],
+    form: Form,
+    ending: &str,
+) -> io::Result<()> {
+    let picture = fs::read(rt, format!(in rt.alloc(); "{name}.{ending}")?.as_str())?;
+    let told = if is_drawn(rt.alloc(), script, name, form, &picture) {
+        "as before"
+    } else {
+        "otherwise"
+    };
+    println!(rt; "{name}.{ending} drawn {told}")
+}
+
+/// Prints for each picture of a script whether it is drawn so.
+fn print_pictures(rt: &HostRuntime, name: &str) -> io::Result<()> {
+    let script = script_of(rt, name)?;
+    print_picture(rt, name, &script, Form::Svg, "svg")?;
+    print_picture(rt, name, &script, Form::Mermaid, "mmd")
+}
+
+/// Prints for each picture whether its script is drawn so.
+pub fn print_rows(rt: &HostRuntime) -> io::Result<()> {
+    for name in DRAWN {
+        print_pictures(rt, name)?;
+    }
+    Ok(())
+}

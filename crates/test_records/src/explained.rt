@@ -1,0 +1,130 @@
+//! Small records of messages, some of them damaged, with what is said of them.
+use std::alloc::{AllocError, Global};
+use std::test::Fail;
+use tl_rules::Shape;
+use tl_types::{
+    AccessBytes, BlockBytes, BlockNo, ClientId, DirtyPrune, GrantCap, Grow, Kind, ProbeCap,
+};
+use tlcheck_rules::Shown;
+use tlwire_search::{Explanation, Seen, explain};
+
+/// What is said of a record, without the run.
+#[derive(Clone, Copy, Debug, PartialEq, Eq)]
+enum Said {
+    Explained(usize),
+    NotExplained(usize),
+}
+
+/// What is wrong with a record.
+#[derive(Clone, Copy, Debug, PartialEq, Eq)]
+enum Damage {
+    Nothing,
+    GrantsOldBytes,
+    GrantsTip,
+    LoadsOldBytes,
+}
+
+/// A message of block 0 with eight times a byte, if it has some.
+fn shown(kind: Kind, byte: Option<u8>) -> Shown {
+    let bytes = match byte {
+        Some(byte) => BlockBytes::from_slice(&[byte; 8]),
+        None => None,
+    };
+    Shown { kind, bytes }
+}
+
+fn on_link(client: u32, kind: Kind, byte: Option<u8>) -> Seen {
+    Seen::OnLink(ClientId::new(client), BlockNo::new(0), shown(kind, byte))
+}
+
+fn on_memory(kind: Kind, byte: Option<u8>) -> Seen {
+    Seen::OnMemory(BlockNo::new(0), shown(kind, byte))
+}
+
+fn word(byte: u8) -> AccessBytes {
+    match AccessBytes::from_slice(&[byte; 8]) {
+        Some(word) => word,
+        None => AccessBytes::new(),
+    }
+}
+
+/// The Grant to the second client.
+fn grant(damage: Damage) -> Seen {
+    match damage {
+        Damage::GrantsOldBytes => on_link(1, Kind::GrantData(GrantCap::ToB), Some(0)),
+        Damage::GrantsTip => on_link(1, Kind::GrantData(GrantCap::ToT), Some(7)),
+        _ => on_link(1, Kind::GrantData(GrantCap::ToB), Some(7)),
+    }
+}
+
+/// A client takes a block and stores to it; another one wants to read it, so the first is probed.
+fn line(number: usize, damage: Damage) -> Seen {
+    match number {
+        0 => on_link(0, Kind::AcquireBlock(Grow::NtoT), None),
+        1 => on_memory(Kind::Get, None),
+        2 => on_memory(Kind::AccessAckData, Some(0)),
+        3 => on_link(0, Kind::GrantData(GrantCap::ToT), Some(0)),
+        4 => on_link(0, Kind::GrantAck, None),
+        5 => Seen::Store(ClientId::new(0), 0, word(7)),
+        6 => on_link(1, Kind::AcquireBlock(Grow::NtoB), None),
+        7 => on_link(0, Kind::ProbeBlock(ProbeCap::ToB), None),
+        8 => on_link(0, Kind::ProbeAckData(DirtyPrune::TtoB), Some(7)),
+        9 => grant(damage),
+        10 => on_link(1, Kind::GrantAck, None),
+        _ if damage == Damage::LoadsOldBytes => Seen::Load(ClientId::new(1), 0, word(0)),
+        _ => Seen::Load(ClientId::new(1), 0, word(7)),
+    }
+}
+
+fn answer_to(alloc: Global, damage: Damage, order: &[usize]) -> Result<Said, AllocError> {
+    let mut seen = Vec::new(alloc);
+    for number in order {
+        seen.push(line(*number, damage))?;
+    }
+    let shape = Shape {
+        clients: 2,
+        block_bytes: 8,
+        blocks: 1,
+    };
+    Ok(match explain(alloc, shape, &[], &seen)? {
+        Explanation::Explained(run) => Said::Explained(run.len()),
+        Explanation::NotExplained(place) => Said::NotExplained(place),
+    })
+}
+
+/// The lines of a whole record, in order.
+const IN_ORDER: &[usize] = &[0, 1, 2, 3, 4, 5, 6, 7, 8, 9, 10, 11];
+
+/// Records, what is wrong with them, and what is said of them.
+const RECORDS: &[(Damage, &[usize], Said)] = &[
+    (Damage::Nothing, &[], Said::Explained(0)),
+    (Damage::Nothing, IN_ORDER, Said::Explained(17)),
+    (
+        Damage::Nothing,
+        &[0, 3, 1, 2, 4, 5, 6, 8, 7, 9, 10, 11],
+        Said::Explained(17),
+    ),
+    (
+        Damage::Nothing,
+        &[0, 1, 2, 4, 5, 3, 6, 9, 7, 8, 10, 11],
+        Said::Explained(17),
+    ),
+    (Damage::GrantsOldBytes, IN_ORDER, Said::NotExplained(9)),
+    (Damage::GrantsTip, IN_ORDER, Said::NotExplained(9)),
+    (Damage::LoadsOldBytes, IN_ORDER, Said::NotExplained(11)),
+    (
+        Damage::Nothing,
+        &[0, 1, 2, 3, 4, 5, 6, 7, 9, 10, 11],
+        Said::NotExplained(8),
+    ),
+    (Damage::Nothing, &[1, 2, 3, 4], Said::NotExplained(0)),
+];
+
+#[test]
+fn what_is_explained_and_what_is_not(rt: HostRuntime) -> Result<(), Fail> {
+    for (damage, order, said) in RECORDS {
+        let found = answer_to(rt.alloc(), *damage, *order)?;
+        assert_eq!(rt; found, *said, "at {damage:?}");
+    }
+    Ok(())
+}

@@ -1,0 +1,35 @@
+use Rattle.std.proofs.Common.{true, ap}
+use Rattle.tl_ways.specs.Lines.{Line as Entry}
+use Rattle.tl_bank_home.specs.Directories.{IsHeld}
+use Rattle.tl_bank_home.proofs.DirectoryLaws.{Replaces, dir, replaces, written_here, written_other, ways-kept, lines-written, recorded-kept, free-kept, orders-kept}
+use Rattle.tl_bank_home.proofs.directory.Directory.write.Goals as goal
+
+-- the block's entry is replaced by the one that is marked dirty, and no other way's bytes change
+step : (c : goal.After-write) → Replaces c.args.self.now (dir c.self.inside.geometry c.self.inside.bank c.place.new.self c.write.new.self) c.args.block c.unwrap-held.result.set c.unwrap-held.result.way c.unwrap-held.result.entry c.set_dirty.new.self
+step c =
+    let held : IsHeld c.args.self.now c.args.block c.unwrap-held.result.set c.unwrap-held.result.way c.unwrap-held.result.entry =
+    rw c.unwrap-held.ensures at c.find.ensures.is in
+    replaces c.args.self.now c.self.inside.geometry c.self.inside.bank c.self.inside.ways c.place.new.self c.self.inside.store c.write.new.self c.args.block c.unwrap-held.result.set c.unwrap-held.result.way c.unwrap-held.result.entry c.set_dirty.new.self
+    c.self.view_is held (ap (λ (e : Entry). e.tag) c.set_dirty.ensures.dirty) c.place.ensures.size c.place.ensures.lines
+    (written_other c.self.inside.geometry c.self.inside.bank c.self.inside.ways c.self.inside.store c.write.new.self c.unwrap-held.result.set c.unwrap-held.result.way c.args.bytes c.self.invariant c.write.ensures.bytes)
+
+pub returns-clause-ways : goal.returns-clause-ways
+returns-clause-ways c = ways-kept (step c)
+
+pub returns-clause-lines : goal.returns-clause-lines
+returns-clause-lines c =
+    let held : IsHeld c.args.self.now c.args.block c.unwrap-held.result.set c.unwrap-held.result.way c.unwrap-held.result.entry =
+    rw c.unwrap-held.ensures at c.find.ensures.is in
+    lines-written (step c) c.args.bytes true
+    (written_here c.args.self.now c.self.inside.geometry c.self.inside.bank c.self.inside.ways c.self.inside.store c.write.new.self c.args.block c.unwrap-held.result.set c.unwrap-held.result.way c.unwrap-held.result.entry c.args.bytes c.self.view_is c.self.invariant held c.write.ensures.bytes)
+    (ap (λ (e : Entry). e.dirty) c.set_dirty.ensures.dirty)
+
+pub returns-clause-recorded : goal.returns-clause-recorded
+returns-clause-recorded c = recorded-kept (step c) c.set_dirty.ensures.perms
+
+pub returns-clause-free : goal.returns-clause-free
+returns-clause-free c = free-kept (step c)
+
+pub returns-clause-orders : goal.returns-clause-orders
+returns-clause-orders c =
+    orders-kept c.args.self.now c.self.inside.geometry c.self.inside.bank c.self.inside.ways c.place.new.self c.self.inside.store c.write.new.self c.self.view_is c.place.ensures.orders

@@ -1,6 +1,0 @@
-use Rattle.std.proofs.Common.{◌≡◌, ◌+◌, drop}
-use Rattle.tl_chart.specs.Arrow.{taker}
-use Rattle.tl_chart.proofs.arrow.taker.Given as goal
-
-abbrev pub invariant-loop-index : goal.invariant-loop-index
-invariant-loop-index l = taker l.place (l.after + l.index) (drop l.index l.later) ≡ taker l.place l.after l.later

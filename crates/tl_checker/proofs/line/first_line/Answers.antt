@@ -1,5 +1,0 @@
-use Rattle.tl_checker.proofs.Takes.{first}
-use Rattle.tl_checker.proofs.line.first_line.Goals as goal
-
-pub returns-in-Ok-clause-takes : goal.returns-in-Ok-clause-takes
-returns-in-Ok-clause-takes c = first c.args.text.now c.in-Ok.shape (c.in-Ok.ensures {u = tt}).value

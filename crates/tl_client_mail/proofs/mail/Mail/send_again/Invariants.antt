@@ -1,0 +1,10 @@
+use Rattle.std.proofs.Common.{◌≡◌, vec_len, map}
+use Rattle.tl_client_mail.specs.Ways.{sent_on}
+use Rattle.tl_client_mail.proofs.mail.Mail.send_again.Given as goal
+
+-- what was sent stays, and so does the inbox
+abbrev pub invariant-loop-to : goal.invariant-loop-to
+invariant-loop-to g l =
+    (map sent_on l.self-inside.sending.items ≡ map sent_on l.initial.self-inside.sending.items)
+    × (vec_len l.self-inside.sending ≡ vec_len l.initial.self-inside.sending)
+    × (l.self-inside.inbox ≡ l.initial.self-inside.inbox)

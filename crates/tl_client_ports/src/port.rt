@@ -1,0 +1,130 @@
+//! The calls through which a client's agent and a bank's home reach the banks.
+ghost use Rattle.std.specs.Prelude.{◌≡◌, ◌++◌, ◌∷◌, [], List, MatchResult};
+ghost use Rattle.tl_client_ports.specs.Ports.{Asks};
+ghost use Rattle.tl_client_ports.specs.declared.port.Asked.{Asked};
+ghost use Rattle.tl_client_ports.specs.declared.port.Success.{Success};
+ghost use Rattle.tl_client_ports.specs.declared.port.Success.TheVariants.{Loaded as WasLoaded, Stored as WasStored};
+
+use arrayvec::ArrayVec;
+use tl_bank::{Action, Loaded, Refusal, Reply, Share, When};
+use tl_types::{AccessBytes, BankNo, BlockNo, ClientId, Grow, Perm, Prune, Ticket};
+
+/// A load or a store that succeeded at a port: what was asked, when, and the stamp that the bank gave it.
+#[derive(Debug, Drop)]
+pub enum Success {
+    /// `len` bytes were asked for from an address on, and these were read.
+    Loaded {
+        client: ClientId,
+        address: u32,
+        len: usize,
+        bytes: AccessBytes,
+        when: When,
+        stamp: u64,
+    },
+    /// These bytes were written from an address on.
+    Stored {
+        client: ClientId,
+        address: u32,
+        bytes: AccessBytes,
+        when: When,
+        stamp: u64,
+    },
+}
+
+/// A ticket that a home asked, and whether it was served.
+#[derive(Clone, Copy, Debug, PartialEq, Eq)]
+pub struct Asked {
+    pub ticket: Ticket,
+    pub served: bool,
+}
+
+/// A client's calls. `successes` is the list of the loads and stores that succeeded at this port, in order; contracts alone see it.
+pub trait Port {
+    ghost successes: { Self → List Success };
+
+    fn load(
+        &mut self,
+        client: ClientId,
+        address: u32,
+        len: usize,
+        when: When,
+    ) -> Result<Loaded, Refusal>
+        ensures { MatchResult result
+            (λ loaded. successes self.new ≡ successes self.old ++ WasLoaded client address len loaded.bytes when loaded.stamp ∷ [])
+            (λ _. successes self.new ≡ successes self.old) };
+
+    fn store(
+        &mut self,
+        client: ClientId,
+        address: u32,
+        bytes: &[u8],
+        when: When,
+    ) -> Result<u64, Refusal>
+        ensures { MatchResult result
+            (λ stamp. successes self.new ≡ successes self.old ++ WasStored client address bytes.now when stamp ∷ [])
+            (λ _. successes self.new ≡ successes self.old) };
+
+    fn acquire(&mut self, client: ClientId, block: BlockNo, grow: Grow) -> Result<Ticket, Refusal>
+        ensures { successes self.new ≡ successes self.old };
+
+    fn release(
+        &mut self,
+        client: ClientId,
+        block: BlockNo,
+        prune: Prune,
+        share: &mut Share,
+    ) -> Result<Ticket, Refusal>
+        ensures { successes self.new ≡ successes self.old };
+
+    fn answer_probe(&mut self, ticket: Ticket, share: &mut Share) -> Result<Ticket, Refusal>
+        ensures { successes self.new ≡ successes self.old };
+
+    fn take_grant(&mut self, ticket: Ticket, share: &mut Share) -> Result<Ticket, Refusal>
+        ensures { successes self.new ≡ successes self.old };
+
+    fn take_release_ack(&mut self, ticket: Ticket) -> Result<(), Refusal>
+        ensures { successes self.new ≡ successes self.old };
+
+    /// What a client may do with a block.
+    fn perm(&self, client: ClientId, block: BlockNo) -> Perm;
+
+    /// Of a client's copies in a bank, the one that was granted longest ago.
+    fn oldest_copy(&self, client: ClientId, bank: BankNo) -> Option<BlockNo>;
+}
+
+/// The calls of a bank's home. `asked` is the list of the tickets that were asked in a turn, in order, each with
+/// whether it was served.
+pub trait HomePort {
+    ghost asked: { Self → List Asked };
+
+    /// A turn begins, in which nothing was asked yet.
+    fn begin(&mut self)
+        ensures { asked self.new ≡ [] };
+
+    fn accept(&mut self, ticket: Ticket) -> Result<(), Refusal>
+        ensures { Asks ticket result (asked self.old) (asked self.new) };
+
+    fn take_c(&mut self, ticket: Ticket) -> Result<Option<Ticket>, Refusal>
+        ensures { Asks ticket result (asked self.old) (asked self.new) };
+
+    fn take_grant_ack(&mut self, ticket: Ticket) -> Result<(), Refusal>
+        ensures { Asks ticket result (asked self.old) (asked self.new) };
+
+    fn advance(&mut self, block: BlockNo) -> Result<Action, Refusal>
+        ensures { asked self.new ≡ asked self.old };
+
+    fn evict(&mut self, block: BlockNo) -> Result<(), Refusal>
+        ensures { asked self.new ≡ asked self.old };
+
+    fn serve_memory(&mut self, block: BlockNo) -> Result<Reply, Refusal>
+        ensures { asked self.new ≡ asked self.old };
+
+    fn take_memory(&mut self, block: BlockNo) -> Result<(), Refusal>
+        ensures { asked self.new ≡ asked self.old };
+
+    /// The own blocks of open registers, by rising number.
+    fn open_blocks(&self) -> ArrayVec<BlockNo, 8>;
+
+    /// Whether nothing is under way in the bank.
+    fn is_quiet(&self) -> bool;
+}

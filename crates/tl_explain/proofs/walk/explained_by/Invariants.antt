@@ -1,6 +1,0 @@
-use Rattle.tl_explain.specs.Left.{GoesAlong}
-use Rattle.tl_explain.proofs.walk.explained_by.Given as goal
-
--- the run so far goes along what was seen
-abbrev pub invariant-loop-event : goal.invariant-loop-event
-invariant-loop-event l = GoesAlong l.fn.shape l.image l.seen l.walk.run.items l.walk.judge l.walk.marks

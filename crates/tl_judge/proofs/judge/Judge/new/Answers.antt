@@ -1,5 +1,0 @@
-use Rattle.tl_judge.proofs.Judging.{starts}
-use Rattle.tl_judge.proofs.judge.Judge.new.Goals as goal
-
-pub returns : goal.returns
-returns c = starts c.args.shape c.args.image.now _ c.in_ok-plain.ensures c.in_ok-order.ensures.empty

@@ -1,5 +1,0 @@
-use Rattle.tl_judge.proofs.Judging.{every_lawful_record, no_broken_entry}
-use Rattle.tl_judge.proofs.judge.every_record.Goals as goal
-
-pub returns : goal.returns
-returns c = record { lawful = every_lawful_record; broken = no_broken_entry }

@@ -1,6 +1,0 @@
-//! A bank's log: its events, oldest first, with room for more.
-#![tactic(auto)]
-
-mod log;
-
-pub use log::Log;

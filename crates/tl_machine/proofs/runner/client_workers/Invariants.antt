@@ -1,7 +1,0 @@
-use Rattle.std.proofs.Common.{◌≡◌, ◌+◌, length, vec_len}
-use Rattle.std.specs.Vec.Iter.{into_iter_len}
-use Rattle.tl_machine.proofs.runner.client_workers.Given as goal
-
--- each list of shares that is left has its mail and its commands
-abbrev pub invariant-loop-own : goal.invariant-loop-own
-invariant-loop-own g l = (vec_len l.posts ≡ into_iter_len l.own-iterator) × (l.number + into_iter_len l.own-iterator ≡ length l.fn.commands)

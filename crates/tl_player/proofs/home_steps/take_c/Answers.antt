@@ -1,6 +1,0 @@
-use Rattle.tl_player.proofs.Posted.{there-if}
-use Rattle.tl_player.proofs.home_steps.take_c.Goals as goal
-
--- the ReleaseAck waits where its ticket says
-pub sent-requires : goal.sent-requires
-sent-requires c = there-if _ _ _ c.in-Ok-Some.field-0 _ c.in-Ok-Some.field-0-is c.in-Ok-Some.ensures.sends

@@ -1,6 +1,0 @@
-use Rattle.std.proofs.Common.{take}
-use Rattle.tl_player.specs.NetworkSteps.{AreNetworkSteps}
-use Rattle.tl_player.proofs.network.Network.steps.Given as goal
-
-abbrev pub invariant-loop-index : goal.invariant-loop-index
-invariant-loop-index l = AreNetworkSteps 0 (take l.index l.steps) l.initial.self l.answers.items l.self

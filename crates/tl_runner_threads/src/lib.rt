@@ -1,0 +1,13 @@
+//! Runs a script: a thread for each client and one for each bank's home, over inboxes, bells and locked banks.
+#![tactic(auto)]
+
+mod banks;
+mod deal;
+mod mailbox;
+mod mailroom;
+mod runner;
+mod threads;
+mod workers;
+
+pub use runner::{CAPACITY, run, run_sized};
+pub use tl_runner_report::RunError;

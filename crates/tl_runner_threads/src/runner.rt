@@ -1,0 +1,282 @@
+//! A run of a script over banks and threads.
+ghost use Rattle.std.specs.Prelude.{◌≡◌, ◌<◌, ◌≤◌, IfErr, IfOk, length, vec_len};
+ghost use Rattle.tl_runner_report.specs.Conclusion.{IsRunReport};
+ghost use Rattle.tl_runner_report.specs.RunError.{TellsTurns};
+
+use crate::banks::{Opened, no_shares, open_banks};
+use crate::deal::Post;
+use crate::mailroom::{AllKeys, Mailroom, Posts, deal_out, open_mailroom};
+use crate::threads::{Joined, run_threads};
+use crate::workers::{ClientWorker, End, HomeWorker, Shared};
+use std::alloc::{AllocError, Global};
+use std::sync::Wait;
+use std::thread::Threads;
+use std::time::Clock;
+use tl_bank::{Bank, Share};
+use tl_client::{Agent, Command, Home};
+use tl_client_ports::{Gate, Locked};
+use tl_map::Geometry;
+use tl_runner_report::{RunError, conclude};
+use tl_script::Script;
+use tl_text::Report;
+use tl_types::{BANKS, BankNo, CLIENTS, ClientId};
+
+/// How many tickets an inbox of `run` holds.
+pub const CAPACITY: usize = 512;
+
+// For how many events of each command the banks' logs have room ahead. A hit is one; a miss that sends another block away some fifteen.
+const EVENTS: usize = 16;
+
+/// Runs a script's commands, with a thread for each client and one for each bank's home, and answers the report of their banks: all
+/// shares were given back, the banks' accesses carry out the script, and they are one memory's.
+pub fn run<R: Threads + Wait + Clock + Sync, G: Gate + Sync>(
+    rt: &R,
+    alloc: Global,
+    script: &Script,
+    gate: &G,
+) -> Result<Report, RunError>
+    ensures report { IfOk result (IsRunReport script.now) }
+    ensures stalled { IfErr result (TellsTurns script.now.turns) }
+{
+    run_sized(rt, alloc, script, gate, CAPACITY)
+}
+
+/// The same with inboxes that hold so many tickets.
+///
+/// Memory where a request for memory was refused or a thread could not be started; else Stalled, with the script's turns, where a
+/// thread made them all and was not finished; else what `conclude` answers.
+pub fn run_sized<R: Threads + Wait + Clock + Sync, G: Gate + Sync>(
+    rt: &R,
+    alloc: Global,
+    script: &Script,
+    gate: &G,
+    capacity: usize,
+) -> Result<Report, RunError>
+    requires { (0 < capacity) × (capacity ≤ 4096) }
+    ensures report { IfOk result (IsRunReport script.now) }
+    ensures stalled { IfErr result (TellsTurns script.now.turns) }
+{
+    let geometry = script.geometry();
+    let Opened { banks, shares } = open_banks(
+        alloc,
+        geometry,
+        &script.image,
+        events_ahead(script),
+    )?;
+    let locked = Locked::new(alloc, geometry, banks)?;
+    let shares = run_locked(rt, alloc, script, gate, capacity, &locked, shares)?;
+    let banks = locked.into_banks(alloc)?;
+    concluded(alloc, script, &banks, &shares)
+}
+
+/// For how many events of a script's commands each bank makes room ahead.
+fn events_ahead(script: &Script) -> usize {
+    let mut commands: usize = 0;
+    for list in &script.commands {
+        commands = commands.saturating_add(list.len());
+    }
+    commands.saturating_mul(EVENTS) / (script.geometry().banks() as usize)
+}
+
+/// What `conclude` answers, as a run: it says nothing of which banks and shares these are.
+fn concluded(
+    alloc: Global,
+    script: &Script,
+    banks: &[Bank],
+    shares: &[Vec<Share>],
+) -> Result<Report, RunError>
+    ensures report { IfOk result (IsRunReport script.now) }
+    ensures stalled { IfErr result (TellsTurns script.now.turns) }
+{
+    conclude(alloc, script, banks, shares)
+}
+
+/// Runs the threads over locked banks. The shares of each bank come back.
+fn run_locked<R: Threads + Wait + Clock + Sync, G: Gate + Sync>(
+    rt: &R,
+    alloc: Global,
+    script: &Script,
+    gate: &G,
+    capacity: usize,
+    locked: &Locked,
+    shares: Vec<Vec<Share>>,
+) -> Result<Vec<Vec<Share>>, RunError>
+    requires capacity { (0 < capacity) × (capacity ≤ 4096) }
+    requires shares { vec_len shares ≡ length script.now.commands.items }
+    ensures { IfErr result (TellsTurns script.now.turns) }
+{
+    let geometry = script.geometry();
+    let shared = Shared {
+        alloc,
+        locked,
+        gate,
+        clients: geometry.clients(),
+        turns: script.turns,
+    };
+    let (mailroom, keys) = open_mailroom(alloc, geometry, capacity)?;
+    let posts = deal_out(alloc, geometry, &mailroom, keys);
+    run_posts(rt, script, &shared, posts, shares)
+}
+
+/// Runs the threads with what each uses, where there was memory for that. The shares of each bank come back.
+fn run_posts<R: Threads + Wait + Clock + Sync, G: Gate + Sync>(
+    rt: &R,
+    script: &Script,
+    shared: &Shared<'_, G>,
+    posts: Result<Posts<'_>, AllocError>,
+    shares: Vec<Vec<Share>>,
+) -> Result<Vec<Vec<Share>>, RunError>
+    requires shares { vec_len shares ≡ length script.now.commands.items }
+    requires clients { IfOk posts (λ p. vec_len p.clients ≡ script.now.geometry.clients) }
+    requires homes { IfOk posts (λ p. vec_len p.homes ≡ script.now.geometry.banks) }
+    ensures { IfErr result (TellsTurns script.now.turns) }
+{
+    let geometry = script.geometry();
+    let Posts {
+        clients,
+        homes,
+        stop,
+    } = posts?;
+    let clients = client_workers(shared, geometry, &script.commands, clients, shares)?;
+    let homes = home_workers(shared, homes)?;
+    let joined = run_threads(rt, shared.alloc, stop, clients, homes)?;
+    end_of(&joined, script.turns)?;
+    Ok(given_back(shared.alloc, geometry.banks(), joined.clients)?)
+}
+
+/// The worker of a client, with its commands and shares.
+fn client_worker<'s, 'x, 'y, G: Gate>(
+    shared: &'y Shared<'y, G>,
+    geometry: Geometry,
+    client: ClientId,
+    commands: &'s [Command],
+    post: Post<'x>,
+    own: Vec<Share>,
+) -> Result<ClientWorker<'s, 'x, 'y, G>, AllocError> {
+    let agent = Agent::new(shared.alloc, client, geometry, commands, own)?;
+    Ok(ClientWorker {
+        shared,
+        client,
+        agent,
+        mail: post.mail,
+        stop: post.stop,
+        end: End::Stopped,
+    })
+}
+
+/// The workers of the clients, with their commands and shares.
+fn client_workers<'s, 'x, 'y, G: Gate>(
+    shared: &'y Shared<'y, G>,
+    geometry: Geometry,
+    commands: &'s [Vec<Command>],
+    mut posts: Vec<Post<'x>>,
+    shares: Vec<Vec<Share>>,
+) -> Result<Vec<ClientWorker<'s, 'x, 'y, G>>, AllocError>
+    requires shares { vec_len shares ≡ length commands.now }
+    requires posts { vec_len posts ≡ length commands.now }
+    requires few { length commands.now ≤ CLIENTS }
+{
+    let mut workers = Vec::with_capacity(shared.alloc, shares.len())?;
+    let mut number: u32 = 0;
+    for own in shares {
+        let post = posts.remove(0);
+        let commands = commands[number as usize].as_slice();
+        let client = ClientId::new(number);
+        let worker = client_worker(shared, geometry, client, commands, post, own)?;
+        workers.push(worker)?;
+        number += 1;
+    }
+    Ok(workers)
+}
+
+/// The worker of a bank's home.
+fn home_worker<'x, 'y, G: Gate>(
+    shared: &'y Shared<'y, G>,
+    bank: BankNo,
+    post: Post<'x>,
+) -> Result<HomeWorker<'x, 'y, G>, AllocError> {
+    let home = Home::new(shared.alloc, bank)?;
+    Ok(HomeWorker {
+        shared,
+        number: bank,
+        home,
+        mail: post.mail,
+        stop: post.stop,
+        end: End::Stopped,
+    })
+}
+
+/// The workers of the homes.
+fn home_workers<'x, 'y, G: Gate>(
+    shared: &'y Shared<'y, G>,
+    posts: Vec<Post<'x>>,
+) -> Result<Vec<HomeWorker<'x, 'y, G>>, AllocError>
+    requires { vec_len posts ≤ BANKS }
+{
+    let mut workers = Vec::with_capacity(shared.alloc, posts.len())?;
+    let mut number: u32 = 0;
+    for post in posts {
+        let worker = home_worker(shared, BankNo::new(number), post)?;
+        workers.push(worker)?;
+        number += 1;
+    }
+    Ok(workers)
+}
+
+/// Whether all threads finished. Want of memory goes before a stall; a thread that was stopped says nothing of why.
+fn end_of<G>(
+    joined: &Joined<ClientWorker<'_, '_, '_, G>, HomeWorker<'_, '_, G>>,
+    turns: u32,
+) -> Result<(), RunError>
+    ensures { IfErr result (TellsTurns turns) }
+{
+    let mut are_finished = true;
+    for worker in &joined.clients {
+        match worker.end {
+            End::Memory => return Err(RunError::Memory),
+            End::Stalled | End::Stopped => are_finished = false,
+            End::Finished => {}
+        }
+    }
+    for worker in &joined.homes {
+        match worker.end {
+            End::Memory => return Err(RunError::Memory),
+            End::Stalled | End::Stopped => are_finished = false,
+            End::Finished => {}
+        }
+    }
+    if are_finished {
+        Ok(())
+    } else {
+        Err(RunError::Stalled(turns))
+    }
+}
+
+/// Lays each share to those of its bank.
+fn sort_by_bank(shares: &mut Vec<Vec<Share>>, own: Vec<Share>) -> Result<(), AllocError> {
+    for share in own {
+        if let Some(list) = shares.get_mut(share.bank().index()) {
+            list.push(share)?;
+        }
+    }
+    Ok(())
+}
+
+/// The shares that a client's agent gives back.
+fn shares_of<G>(worker: ClientWorker<'_, '_, '_, G>) -> Vec<Share> {
+    let (_, own) = worker.agent.into_parts();
+    own
+}
+
+/// The shares of each bank, as the agents give them back.
+fn given_back<G>(
+    alloc: Global,
+    banks: u32,
+    workers: Vec<ClientWorker<'_, '_, '_, G>>,
+) -> Result<Vec<Vec<Share>>, AllocError> {
+    let mut shares = no_shares(alloc, banks)?;
+    for worker in workers {
+        sort_by_bank(&mut shares, shares_of(worker))?;
+    }
+    Ok(shares)
+}

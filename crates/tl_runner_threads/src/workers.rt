@@ -1,0 +1,164 @@
+//! What each thread owns, and what it does.
+use crate::threads::Work;
+use std::alloc::Global;
+use std::sync::Wait;
+use std::time::Clock;
+use tl_client::{Agent, Home, Turn};
+use tl_client_mail::Mail;
+use tl_client_ports::{Gate, HomePort, Locked, Port};
+use tl_tickets::Ringer;
+use tl_types::{BankNo, ClientId};
+
+/// How a thread ended.
+#[derive(Clone, Copy, Debug, PartialEq, Eq)]
+pub(crate) enum End {
+    /// All clients were done.
+    Finished,
+    /// It heard the stop bell.
+    Stopped,
+    /// It made the script's turns before.
+    Stalled,
+    /// A request for memory was refused.
+    Memory,
+}
+
+/// What all threads share.
+#[derive(Drop)]
+pub(crate) struct Shared<'y, G> {
+    pub(crate) alloc: Global,
+    pub(crate) locked: &'y Locked,
+    pub(crate) gate: &'y G,
+    pub(crate) clients: u32,
+    pub(crate) turns: u32,
+}
+
+/// A client's thread owns its agent, its mail, and a seat at the stop bell.
+#[derive(Drop)]
+pub(crate) struct ClientWorker<'s, 'x, 'y, G> {
+    pub(crate) shared: &'y Shared<'y, G>,
+    pub(crate) client: ClientId,
+    pub(crate) agent: Agent<'s>,
+    pub(crate) mail: Mail<'x>,
+    pub(crate) stop: Ringer<'x>,
+    pub(crate) end: End,
+}
+
+/// A home's thread owns its home, its mail, and a seat at the stop bell.
+#[derive(Drop)]
+pub(crate) struct HomeWorker<'x, 'y, G> {
+    pub(crate) shared: &'y Shared<'y, G>,
+    pub(crate) number: BankNo,
+    pub(crate) home: Home,
+    pub(crate) mail: Mail<'x>,
+    pub(crate) stop: Ringer<'x>,
+    pub(crate) end: End,
+}
+
+/// What a turn comes to, for the thread that made it: its end, if it was the last.
+fn end_after(turn: Turn) -> Option<End> {
+    match turn {
+        Turn::Finished => Some(End::Finished),
+        Turn::Memory => Some(End::Memory),
+        Turn::Worked | Turn::Idle => None,
+    }
+}
+
+/// An agent's turns, until one is the last, the run is stopped, or the turns are used up.
+fn client_turns<P: Port, R: Wait + Clock, G: Gate>(
+    rt: &R,
+    shared: &Shared<'_, G>,
+    port: &mut P,
+    agent: &mut Agent<'_>,
+    mail: &mut Mail<'_>,
+    stop: &mut Ringer<'_>,
+) -> End {
+    for _ in 0..shared.turns {
+        if stop.heard() != 0 {
+            return End::Stopped;
+        }
+        if let Some(end) = end_after(agent.turn(rt, port, shared.gate, shared.clients, mail)) {
+            return end;
+        }
+    }
+    End::Stalled
+}
+
+/// A home's turns, likewise.
+fn home_turns<P: HomePort, R: Wait + Clock, G: Gate>(
+    rt: &R,
+    shared: &Shared<'_, G>,
+    port: &mut P,
+    home: &mut Home,
+    mail: &mut Mail<'_>,
+    stop: &mut Ringer<'_>,
+) -> End {
+    for _ in 0..shared.turns {
+        if stop.heard() != 0 {
+            return End::Stopped;
+        }
+        if let Some(end) = end_after(home.turn(rt, port, shared.gate, shared.clients, mail)) {
+            return end;
+        }
+    }
+    End::Stalled
+}
+
+/// Stops the run where a thread stalled or found no memory: then its answer is known.
+fn stop_if_known(end: End, stop: &mut Ringer<'_>) {
+    match end {
+        End::Stalled | End::Memory => {
+            stop.ring();
+        }
+        End::Finished | End::Stopped => {}
+    }
+}
+
+impl<'s, 'x, 'y, G: Gate> Work for ClientWorker<'s, 'x, 'y, G> {
+    fn work<R: Wait + Clock>(self, rt: &R) -> Self {
+        let ClientWorker {
+            shared,
+            client,
+            mut agent,
+            mut mail,
+            mut stop,
+            end: _,
+        } = self;
+        let mut port = shared.locked.client_port(rt, shared.gate, client);
+        let end = client_turns(rt, shared, &mut port, &mut agent, &mut mail, &mut stop);
+        stop_if_known(end, &mut stop);
+        ClientWorker {
+            shared,
+            client,
+            agent,
+            mail,
+            stop,
+            end,
+        }
+    }
+}
+
+impl<'x, 'y, G: Gate> Work for HomeWorker<'x, 'y, G> {
+    fn work<R: Wait + Clock>(self, rt: &R) -> Self {
+        let HomeWorker {
+            shared,
+            number,
+            mut home,
+            mut mail,
+            mut stop,
+            end: _,
+        } = self;
+        let end = match shared.locked.home_port(rt, shared.gate, number) {
+            Some(mut port) => home_turns(rt, shared, &mut port, &mut home, &mut mail, &mut stop),
+            None => End::Stopped,
+        };
+        stop_if_known(end, &mut stop);
+        HomeWorker {
+            shared,
+            number,
+            home,
+            mail,
+            stop,
+            end,
+        }
+    }
+}

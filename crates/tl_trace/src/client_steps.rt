@@ -1,0 +1,178 @@
+//! The steps that are calls of clients.
+ghost use Rattle.std.specs.Prelude.{◌≡◌, IfOk, OnErr, length};
+ghost use Rattle.tl_types.specs.declared.channel.Channel.{Channel};
+ghost use Rattle.tl_protocol.specs.declared.event.Event.{Event};
+ghost use Rattle.tl_bank_spec.specs.Calls.{load_cases, store_cases, acquire_cases, release_cases, answer_probe_cases, take_grant_cases, take_release_ack_cases};
+ghost use Rattle.tl_bank_spec.specs.Cases.{block_named};
+ghost use Rattle.tl_bank_spec.specs.Refusal.{first_of};
+ghost use Rattle.tl_bank_spec.specs.Channels.{next_ticket};
+ghost use Rattle.tl_trace.specs.Answers.{Answers, IsStarved};
+ghost use Rattle.tl_trace.specs.Steps.{Loads, Logs, Posts, Recounts, Stores};
+
+use crate::answers::{refused, sent};
+use std::alloc::AllocError;
+use tl_bank::{Bank, Share, When};
+use tl_text::Answer;
+use tl_types::{AccessBytes, BlockNo, ClientId, Grow, Prune, Ticket};
+
+/// A client reads. Its clock becomes the stamp of the access.
+pub(crate) fn load(
+    bank: &mut Bank,
+    clock: &mut u64,
+    index: u32,
+    client: ClientId,
+    address: u32,
+    len: u8,
+) -> Result<Answer, AllocError>
+    ensures memory { OnErr result
+        (IsStarved (first_of (load_cases bank.old client address len clock.old)) bank.old.room
+        ((bank.new ≡ bank.old) × (clock.new ≡ clock.old))) }
+    ensures answer { IfOk result
+        (λ answer. Answers (first_of (load_cases bank.old client address len clock.old))
+        ((bank.new ≡ bank.old) × (clock.new ≡ clock.old))
+        (Loads index bank.old bank.new clock.old clock.new client address len answer) answer) }
+{
+    let when = When {
+        clock: *clock,
+        index,
+    };
+    match bank.load(client, address, usize::from(len), when) {
+        Ok(loaded) => {
+            *clock = loaded.stamp;
+            Ok(Answer::Loaded(loaded.bytes))
+        }
+        Err(refusal) => refused(refusal),
+    }
+}
+
+/// A client writes. Its clock becomes the stamp of the access.
+pub(crate) fn store(
+    bank: &mut Bank,
+    clock: &mut u64,
+    index: u32,
+    client: ClientId,
+    address: u32,
+    bytes: &AccessBytes,
+) -> Result<Answer, AllocError>
+    ensures memory { OnErr result
+        (IsStarved (first_of (store_cases bank.old client address (length bytes.now) clock.old)) bank.old.room
+        ((bank.new ≡ bank.old) × (clock.new ≡ clock.old))) }
+    ensures answer { IfOk result
+        (λ answer. Answers (first_of (store_cases bank.old client address (length bytes.now) clock.old))
+        ((bank.new ≡ bank.old) × (clock.new ≡ clock.old))
+        (Stores index bank.old bank.new clock.old clock.new client address bytes.now answer) answer) }
+{
+    let when = When {
+        clock: *clock,
+        index,
+    };
+    match bank.store(client, address, bytes.as_slice(), when) {
+        Ok(stamp) => {
+            *clock = stamp;
+            Ok(Answer::Done)
+        }
+        Err(refusal) => refused(refusal),
+    }
+}
+
+/// A client asks home for a copy.
+pub(crate) fn acquire(
+    bank: &mut Bank,
+    client: ClientId,
+    block: BlockNo,
+    grow: Grow,
+) -> Result<Answer, AllocError>
+    ensures memory { OnErr result
+        (IsStarved (first_of (acquire_cases bank.old client block grow)) bank.old.room
+        (bank.new ≡ bank.old)) }
+    ensures answer { IfOk result
+        (λ answer. Answers (first_of (acquire_cases bank.old client block grow)) (bank.new ≡ bank.old)
+        (Posts bank.old bank.new (Event.SendAcquire client block grow) (next_ticket bank.old client Channel.A) answer) answer) }
+{
+    match bank.acquire(client, block, grow) {
+        Ok(ticket) => Ok(sent(bank, ticket)),
+        Err(refusal) => refused(refusal),
+    }
+}
+
+/// A client gives up a part of a copy, or all of it.
+pub(crate) fn release(
+    bank: &mut Bank,
+    share: &mut Share,
+    client: ClientId,
+    block: BlockNo,
+    prune: Prune,
+) -> Result<Answer, AllocError>
+    ensures memory { OnErr result
+        (IsStarved (first_of (release_cases bank.old client block prune share.old)) bank.old.room
+        ((bank.new ≡ bank.old) × (share.new ≡ share.old))) }
+    ensures answer { IfOk result
+        (λ answer. Answers (first_of (release_cases bank.old client block prune share.old))
+        ((bank.new ≡ bank.old) × (share.new ≡ share.old))
+        (Posts bank.old bank.new (Event.SendRelease client block prune) (next_ticket bank.old client Channel.C) answer
+        × Recounts bank.old bank.new client block share.old share.new) answer) }
+{
+    match bank.release(client, block, prune, share) {
+        Ok(ticket) => Ok(sent(bank, ticket)),
+        Err(refusal) => refused(refusal),
+    }
+}
+
+/// A client answers a Probe.
+pub(crate) fn answer_probe(
+    bank: &mut Bank,
+    share: &mut Share,
+    ticket: Ticket,
+) -> Result<Answer, AllocError>
+    ensures memory { OnErr result
+        (IsStarved (first_of (answer_probe_cases bank.old ticket share.old)) bank.old.room
+        ((bank.new ≡ bank.old) × (share.new ≡ share.old))) }
+    ensures answer { IfOk result
+        (λ answer. Answers (first_of (answer_probe_cases bank.old ticket share.old))
+        ((bank.new ≡ bank.old) × (share.new ≡ share.old))
+        (Posts bank.old bank.new (Event.AnswerProbe ticket.client (block_named bank.old ticket Channel.B))
+        (next_ticket bank.old ticket.client Channel.C) answer
+        × Recounts bank.old bank.new ticket.client (block_named bank.old ticket Channel.B) share.old share.new) answer) }
+{
+    match bank.answer_probe(ticket, share) {
+        Ok(answer) => Ok(sent(bank, answer)),
+        Err(refusal) => refused(refusal),
+    }
+}
+
+/// A client takes a Grant, and sends a GrantAck.
+pub(crate) fn take_grant(
+    bank: &mut Bank,
+    share: &mut Share,
+    ticket: Ticket,
+) -> Result<Answer, AllocError>
+    ensures memory { OnErr result
+        (IsStarved (first_of (take_grant_cases bank.old ticket share.old)) bank.old.room
+        ((bank.new ≡ bank.old) × (share.new ≡ share.old))) }
+    ensures answer { IfOk result
+        (λ answer. Answers (first_of (take_grant_cases bank.old ticket share.old))
+        ((bank.new ≡ bank.old) × (share.new ≡ share.old))
+        (Posts bank.old bank.new (Event.TakeGrant ticket.client (block_named bank.old ticket Channel.D))
+        (next_ticket bank.old ticket.client Channel.E) answer
+        × Recounts bank.old bank.new ticket.client (block_named bank.old ticket Channel.D) share.old share.new) answer) }
+{
+    match bank.take_grant(ticket, share) {
+        Ok(ack) => Ok(sent(bank, ack)),
+        Err(refusal) => refused(refusal),
+    }
+}
+
+/// A client takes the answer to its Release.
+pub(crate) fn take_release_ack(bank: &mut Bank, ticket: Ticket) -> Result<Answer, AllocError>
+    ensures memory { OnErr result
+        (IsStarved (first_of (take_release_ack_cases bank.old ticket)) bank.old.room
+        (bank.new ≡ bank.old)) }
+    ensures answer { IfOk result
+        (λ answer. Answers (first_of (take_release_ack_cases bank.old ticket)) (bank.new ≡ bank.old)
+        (Logs bank.old bank.new (Event.TakeReleaseAck ticket.client (block_named bank.old ticket Channel.D)) answer) answer) }
+{
+    match bank.take_release_ack(ticket) {
+        Ok(()) => Ok(Answer::Done),
+        Err(refusal) => refused(refusal),
+    }
+}

@@ -1,0 +1,162 @@
+//! All banks, and the steps that are asked of them.
+ghost use Rattle.std.specs.Prelude.{◌≡◌, ◌<◌, ◌≤◌, ◌*◌, IfOk, OnErr, OnOk, length, slice_index, slice_set};
+ghost use Rattle.tl_trace.specs.Closing.{Close};
+ghost use Rattle.tl_trace.specs.NetworkSteps.{AreNetworkSteps, IsNetworkStep, IsStarvedNetwork};
+ghost use Rattle.std.specs.Option.{option_map};
+ghost use Rattle.tl_trace.specs.NetworkState.{AreCoherent, AreFresh, IsForgotten, IsReset, IsReserved, IsShort, bank_at};
+
+use crate::asked::{bank_asked, client_named};
+use crate::closing::closing;
+use crate::shared_bank::SharedBank;
+use std::alloc::{AllocError, Global};
+use std::marker::Model;
+use tl_bank::{Bank, Refusal};
+use tl_map::Geometry;
+use tl_script_words::{STEPS, Step};
+use tl_text::{Answer, BankClosing};
+use tl_types::{BankNo, ClientId};
+
+/// Every bank with its clients' shares, by number, and the clock of each client: all that steps are asked of.
+#[derive(Drop)]
+pub struct Network {
+    geometry: Geometry,
+    shared_banks: Vec<SharedBank>,
+    clocks: Vec<u64>,
+}
+
+impl Model for Network {
+    ghost use Rattle.std.specs.Prelude.{◌≡◌, length};
+    ghost use Rattle.tl_trace.specs.NetworkState.{NetworkState};
+
+    ghost Value = { NetworkState };
+
+    ghost view = { λ p. record { geometry = p.geometry; shared_banks = p.shared_banks.items; clocks = p.clocks.items } };
+
+    ghost invariant = { λ p. length p.shared_banks.items ≡ p.geometry.banks };
+}
+
+impl Network {
+    /// All banks at reset over an image that is no longer than the memory.
+    pub fn new(alloc: Global, geometry: Geometry, image: &[u8]) -> Result<Network, AllocError>
+        requires { length image.now ≤ geometry.memory_blocks * geometry.block_bytes }
+        ensures { IfOk result (IsReset geometry image.now) }
+    {
+        Ok(Network {
+            geometry,
+            shared_banks: shared_banks(alloc, geometry, image)?,
+            clocks: vec![in alloc; 0; geometry.clients() as usize]?,
+        })
+    }
+
+    /// One step, and its answer. An error is a request for memory that was refused: then nothing changed, and the log of the bank
+    /// that the step names had no room.
+    pub fn step(&mut self, index: u32, step: &Step) -> Result<Answer, AllocError>
+        ensures memory { OnErr result (IsStarvedNetwork step.now self.old self.new) }
+        ensures answer { IfOk result (IsNetworkStep index step.now self.old self.new) }
+    {
+        let place = bank_asked(self.geometry, step);
+        let client = client_named(step);
+        let mut clock = self.clock(client);
+        let shared_bank = &mut self.shared_banks[place];
+        let answer = shared_bank.ask(&mut clock, index, step)?;
+        self.set_clock(client, clock);
+        Ok(answer)
+    }
+
+    /// The geometry of all banks.
+    pub fn geometry(&self) -> Geometry
+        ensures { result ≡ self.now.geometry }
+    {
+        self.geometry
+    }
+
+    /// A bank, if it is there.
+    pub fn bank(&self, number: BankNo) -> Option<&Bank>
+        ensures { option_map (λ bank. bank.now) result ≡ bank_at self.now number }
+    {
+        Some(self.shared_banks.get(number.index())?.bank())
+    }
+
+    /// Makes room in a bank's log for `count` more events, which then need no memory. It is refused only for want of memory, and
+    /// where there was less room; then nothing changed.
+    pub fn reserve_steps(&mut self, bank: BankNo, count: usize) -> Result<(), Refusal>
+        requires { bank < self.now.geometry.banks }
+        ensures short { OnErr result (IsShort bank count self.old self.new) }
+        ensures room { OnOk result (IsReserved bank count self.old self.new) }
+    {
+        self.shared_banks[bank.index()].reserve_steps(count)
+    }
+
+    /// Forgets a bank's log so far, whose memory is room for more events.
+    pub fn forget(&mut self, bank: BankNo)
+        requires { bank < self.now.geometry.banks }
+        ensures { IsForgotten bank self.old self.new }
+    {
+        self.shared_banks[bank.index()].forget();
+    }
+
+    /// The clock of a client; 0 for a client that is not there.
+    fn clock(&self, client: ClientId) -> u64
+        ensures { result ≡ slice_index self.now.clocks client }
+    {
+        self.clocks.get(client.index()).copied().unwrap_or(0)
+    }
+
+    /// Sets the clock of a client, if it is there.
+    fn set_clock(&mut self, client: ClientId, clock: u64)
+        ensures { self.new ≡ record self.old { clocks = slice_set self.old.clocks client clock } }
+    {
+        if client.index() < self.clocks.len() {
+            self.clocks[client.index()] = clock;
+        }
+    }
+
+    /// All steps, and the answer to each. An error is a request for memory that was refused.
+    pub(crate) fn steps(&mut self, alloc: Global, steps: &[Step]) -> Result<Vec<Answer>, AllocError>
+        requires { length steps.now ≤ STEPS }
+        ensures { IfOk result (λ answers. AreNetworkSteps 0 steps.now self.old answers.items self.new) }
+    {
+        let mut answers = Vec::new(alloc);
+        for (index, step) in steps.iter().enumerate() {
+            answers.push(self.step(index as u32, step)?)?;
+        }
+        Ok(answers)
+    }
+
+    /// What each bank shows.
+    pub(crate) fn closings(&self, alloc: Global) -> Result<Vec<BankClosing>, AllocError>
+        ensures closes { IfOk result (λ closings. Close self.now.shared_banks closings.items) }
+        ensures coherent { OnOk result (AreCoherent self.now.shared_banks) }
+    {
+        closings(alloc, &self.shared_banks)
+    }
+}
+
+/// All banks, by number, each at reset over an image that is no longer than the memory.
+fn shared_banks(
+    alloc: Global,
+    geometry: Geometry,
+    image: &[u8],
+) -> Result<Vec<SharedBank>, AllocError>
+    requires { length image.now ≤ geometry.memory_blocks * geometry.block_bytes }
+    ensures count { IfOk result (λ shared_banks. length shared_banks.items ≡ geometry.banks) }
+    ensures fresh { IfOk result (λ shared_banks. AreFresh geometry image.now 0 shared_banks.items) }
+{
+    let mut shared_banks = Vec::new(alloc);
+    for number in 0..geometry.banks() {
+        shared_banks.push(SharedBank::new(alloc, geometry, BankNo::new(number), image)?)?;
+    }
+    Ok(shared_banks)
+}
+
+/// What each bank shows.
+fn closings(alloc: Global, shared_banks: &[SharedBank]) -> Result<Vec<BankClosing>, AllocError>
+    ensures closes { IfOk result (λ closings. Close shared_banks.now closings.items) }
+    ensures coherent { OnOk result (AreCoherent shared_banks.now) }
+{
+    let mut closings = Vec::new(alloc);
+    for shared_bank in shared_banks {
+        closings.push(closing(alloc, shared_bank.bank())?)?;
+    }
+    Ok(closings)
+}

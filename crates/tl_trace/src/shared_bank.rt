@@ -1,0 +1,104 @@
+//! A bank with its clients' shares.
+ghost use Rattle.std.specs.Prelude.{◌≡◌, ◌<◌, ◌≤◌, ◌*◌, IfOk, OnErr, OnOk, length};
+ghost use Rattle.tl_bank_spec.specs.Steps.{Forgets};
+ghost use Rattle.tl_trace.specs.NetworkSteps.{IsStarvedAt, IsStepAt};
+ghost use Rattle.tl_trace.specs.NetworkState.{HasRoom, IsFresh, share_place};
+
+use crate::act::act;
+use crate::asked::client_named;
+use arrayvec::ArrayVec;
+use std::alloc::{AllocError, Global};
+use std::marker::Model;
+use tl_bank::{Bank, Refusal, Share};
+use tl_map::Geometry;
+use tl_script_words::Step;
+use tl_text::Answer;
+use tl_types::{BankNo, ClientId};
+
+/// A bank, and the share of each client in it.
+#[derive(Drop)]
+pub(crate) struct SharedBank {
+    bank: Bank,
+    shares: ArrayVec<Share, 16>,
+}
+
+impl Model for SharedBank {
+    ghost use Rattle.std.specs.Prelude.{◌<◌, length};
+    ghost use Rattle.tl_trace.specs.NetworkState.{SharedBankState};
+
+    ghost Value = { SharedBankState };
+
+    ghost view = { λ s. record { bank = s.bank; shares = s.shares.items } };
+
+    ghost invariant = { λ s. 0 < length s.shares.items };
+}
+
+impl SharedBank {
+    /// A bank at reset over an image that is no longer than the memory.
+    pub(crate) fn new(
+        alloc: Global,
+        geometry: Geometry,
+        number: BankNo,
+        image: &[u8],
+    ) -> Result<SharedBank, AllocError>
+        requires number { number < geometry.banks }
+        requires image { length image.now ≤ geometry.memory_blocks * geometry.block_bytes }
+        ensures { IfOk result (IsFresh geometry image.now number) }
+    {
+        // For the prover: a geometry has a client.
+        let _clients = geometry.clients();
+        let (bank, shares) = Bank::new(alloc, geometry, number, image)?;
+        Ok(SharedBank { bank, shares })
+    }
+
+    /// The bank.
+    pub(crate) fn bank(&self) -> &Bank
+        ensures { result.now ≡ self.now.bank }
+    {
+        &self.bank
+    }
+
+    /// A step, asked of the bank, with the clock of the client that it names.
+    pub(crate) fn ask(
+        &mut self,
+        clock: &mut u64,
+        index: u32,
+        step: &Step,
+    ) -> Result<Answer, AllocError>
+        ensures memory { OnErr result (IsStarvedAt self.old self.new clock.old clock.new) }
+        ensures answer { IfOk result (IsStepAt index step.now self.old self.new clock.old clock.new) }
+    {
+        let place = self.share_place(client_named(step));
+        let share = &mut self.shares[place];
+        act(&mut self.bank, share, clock, index, step)
+    }
+
+    /// Makes room in the bank's log for `count` more events. It is refused only for want of memory, and then nothing changed.
+    pub(crate) fn reserve_steps(&mut self, count: usize) -> Result<(), Refusal>
+        ensures unchanged { OnErr result (self.new ≡ self.old) }
+        ensures short { OnErr result (self.old.bank.room < count) }
+        ensures room { OnOk result (HasRoom count self.old self.new) }
+    {
+        self.bank.reserve_steps(count)
+    }
+
+    /// Forgets the bank's log so far.
+    pub(crate) fn forget(&mut self)
+        ensures shares { self.new.shares ≡ self.old.shares }
+        ensures forgets { Forgets self.old.bank self.new.bank }
+    {
+        self.bank.forget();
+    }
+
+    /// The place of a client's share; that of client 0's for a client that is not there.
+    fn share_place(&self, client: ClientId) -> usize
+        ensures is { result ≡ share_place self.now.shares client }
+        ensures inside { result < length self.now.shares }
+    {
+        if client.index() < self.shares.len() {
+            client.index()
+        } else {
+            0
+        }
+    }
+}

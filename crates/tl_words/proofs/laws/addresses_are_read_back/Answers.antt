@@ -1,5 +1,0 @@
-use Rattle.tl_words.proofs.HexLaws.{address_read}
-use Rattle.tl_words.proofs.laws.addresses_are_read_back.Goals as goal
-
-pub returns : goal.returns
-returns c = address_read

@@ -1,5 +1,0 @@
-use Rattle.tl_words.proofs.HexLaws.{bytes_read}
-use Rattle.tl_words.proofs.laws.bytes_are_read_back.Goals as goal
-
-pub returns : goal.returns
-returns c = bytes_read

@@ -1,5 +1,0 @@
-use Rattle.tl_words.proofs.TicketLaws.{ticket_read}
-use Rattle.tl_words.proofs.laws.tickets_are_read_back.Goals as goal
-
-pub returns : goal.returns
-returns c = ticket_read

@@ -1,0 +1,60 @@
+//! The chart of a trace.
+ghost use Rattle.std.specs.Prelude.{◌≡◌, IfOk};
+ghost use Rattle.tlchart_model.specs.Chart.{IsChart, chosen};
+
+use crate::arrow::{Arrow, arrows};
+use crate::change::{Change, changes};
+use crate::turn::{Turn, turns};
+use std::alloc::{AllocError, Global};
+use tl_map::Geometry;
+use tl_script_words::Step;
+use tl_text::Trace;
+use tl_types::BlockNo;
+
+/// What is drawn of a trace: what each step did, a row a step; an arrow for each message; and where clients gain and lose
+/// permissions to one block.
+#[derive(Debug, Drop)]
+pub struct Chart {
+    pub clients: u32,
+    pub banks: u32,
+    pub block: BlockNo,
+    pub turns: Vec<Turn>,
+    pub arrows: Vec<Arrow>,
+    pub changes: Vec<Change>,
+}
+
+/// The block that was asked for, or else that of the first message; block 0 where there is none.
+fn chosen(block: Option<BlockNo>, arrows: &[Arrow]) -> BlockNo
+    ensures { result ≡ chosen block arrows.now }
+{
+    match (block, arrows) {
+        (Some(block), _) => block,
+        (None, [first, ..]) => first.message.block,
+        (None, []) => BlockNo::new(0),
+    }
+}
+
+/// The chart of the trace of some steps, with the permissions to the block that is asked for, or else to that of the first message.
+/// An error is a request for memory that was refused.
+pub fn chart_of(
+    alloc: Global,
+    geometry: Geometry,
+    steps: &[Step],
+    trace: &Trace,
+    block: Option<BlockNo>,
+) -> Result<Chart, AllocError>
+    ensures { IfOk result (IsChart geometry steps.now trace.now block) }
+{
+    let turns = turns(alloc, geometry, steps, &trace.answers)?;
+    let arrows = arrows(alloc, &turns)?;
+    let block = chosen(block, &arrows);
+    let changes = changes(alloc, block, &arrows)?;
+    Ok(Chart {
+        clients: geometry.clients(),
+        banks: geometry.banks(),
+        block,
+        turns,
+        arrows,
+        changes,
+    })
+}

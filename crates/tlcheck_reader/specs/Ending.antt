@@ -1,0 +1,80 @@
+-- What the program ends with, what it prints then, and its status (this project's own format).
+use Rattle.std.specs.Prelude.{◌≡◌, ◌≢◌, ◌<◌, ◌≤◌, ℕ, List, [], ◌++◌, Option, IfSome, codes, decimal}
+use Rattle.std.specs.Io.KnownBytes.{Appends}
+use Rattle.tlcheck_reader.specs.Outcome.{IsOutcome}
+use Rattle.tlcheck_reader.specs.declared.outcome.Outcome.{Outcome}
+use Rattle.tlcheck_reader.specs.declared.outcome.Outcome.TheVariants.{Lawful, Broken, Unreadable, Empty}
+use Rattle.tlcheck_record.specs.Reason.{reason_text}
+use Rattle.tl_streams.specs.Written.{AppendsBeginning}
+use Rattle.tlcheck_record.specs.State.{end_lines, state_lines}
+use Rattle.tlcheck_reader.specs.declared.ending.Ending.{Ending}
+use Rattle.tlcheck_reader.specs.declared.ending.Ending.TheVariants.{Usage, Judged, Memory, File}
+
+-- the status of what was said of a record: 0 lawful, 1 not lawful, 3 not readable as a record
+abbrev pub outcome_status : Outcome → ℕ
+outcome_status (Lawful judge count) = 0
+outcome_status (Broken line broken) = 1
+outcome_status (Unreadable line) = 3
+outcome_status Empty = 3
+
+-- usage ends with 2, want of memory with 4, the file with 5
+abbrev pub status_of : Ending → ℕ
+status_of Usage = 2
+status_of (Judged outcome) = outcome_status outcome
+status_of Memory = 4
+status_of File = 5
+
+-- what was said of a record
+abbrev pub outcome_text : Outcome → List ℕ
+outcome_text (Lawful judge count) = codes "lawful: " ++ decimal count ++ codes " entries"
+outcome_text (Broken line broken) =
+    codes "not lawful: line " ++ decimal line ++ codes ", entry " ++ decimal broken.number ++ codes ": " ++ reason_text broken.breach
+outcome_text (Unreadable line) = codes "error 50 line " ++ decimal line
+outcome_text Empty = codes "error 51 empty"
+
+-- what stands beside it: the state at the record's end, or before the entry that is not permitted, of the entry's block
+abbrev pub beside : Outcome → List ℕ
+beside (Lawful judge count) = end_lines judge.plain
+beside (Broken line broken) = state_lines broken.judge.plain broken.block
+beside (Unreadable line) = []
+beside Empty = []
+
+-- what the program ends with
+abbrev pub ending_text : Ending → List ℕ
+ending_text Usage = codes "error usage"
+ending_text (Judged outcome) = outcome_text outcome
+ending_text Memory = codes "error 41 memory"
+ending_text File = codes "error file"
+
+-- that, as a line
+abbrev pub ending_line : Ending → List ℕ
+ending_line ending = ending_text ending ++ codes "\n"
+
+-- that line, and what stands beside it
+abbrev pub ending_lines : Ending → List ℕ
+ending_lines Usage = ending_line Usage
+ending_lines (Judged outcome) = ending_line (Judged outcome) ++ beside outcome
+ending_lines Memory = ending_line Memory
+ending_lines File = ending_line File
+
+-- What a check of a record may end with: what is said holds of the record's bytes, where those are known.
+abbrev pub MayEnd : Option (List ℕ) → Ending → Type 0
+MayEnd known Usage = ⊥
+MayEnd known (Judged outcome) = IfSome known (λ text. IsOutcome text outcome)
+MayEnd known Memory = Unit {0}
+MayEnd known File = Unit {0}
+
+-- A verdict stands in the output, with the state beside it, and nothing in the faults.
+pub record IsVerdict (ending : Ending) (output output_new faults faults_new : Option (List ℕ)) : Type 0 where
+  pub lines : Appends output output_new (ending_lines ending)
+  pub quiet : faults_new ≡ faults
+
+-- A fault stands in the faults, as far as they take it, and nothing in the output, unless that could not be written.
+pub record IsFault (ending : Ending) (output output_new faults faults_new : Option (List ℕ)) : Type 0 where
+  pub line : AppendsBeginning faults faults_new (ending_line ending)
+  pub nothing : status_of ending ≢ 5 → output_new ≡ output
+
+-- which of the two stands for a status
+pub record IsTold (status : ℕ) (ending : Ending) (output output_new faults faults_new : Option (List ℕ)) : Type 0 where
+  pub verdict : status ≤ 1 → IsVerdict ending output output_new faults faults_new
+  pub fault : 1 < status → IsFault ending output output_new faults faults_new

@@ -1,0 +1,4 @@
+pub mod Lines
+pub mod Outcome
+pub mod Reading
+pub mod Ending

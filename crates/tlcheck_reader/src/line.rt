@@ -1,0 +1,130 @@
+//! One line of a record.
+ghost use Rattle.std.specs.Prelude.{◌≡◌, ◌<◌, ◌≤◌, ℕ, List, IfOk, length};
+ghost use Rattle.tl_protocol.specs.declared.shape.Shape.{Shape};
+ghost use Rattle.tlcheck_rules.specs.declared.entry.Entry.{Entry};
+ghost use Rattle.tlcheck_rules.specs.Judged.{Follows, IsLawful, events_of};
+ghost use Rattle.tlcheck_reader.specs.declared.outcome.LineFault.TheVariants.{Unreadable, Memory};
+ghost use Rattle.tlcheck_reader.specs.Outcome.{Agrees, IsFit, IsJudged, Takes, fault_of, stopped_at};
+ghost use Rattle.tlcheck_reader.specs.Reading.{Reading, after_text, next};
+
+use crate::outcome::{BrokenEntry, LineFault, Stage};
+use std::alloc::Global;
+use tl_rules::Shape;
+use tl_script_words::ParseError;
+use tl_types::{BLOCK_BYTES, BLOCKS};
+use tlcheck_record::{is_blank, read_entry, read_image, read_shape};
+use tlcheck_rules::{Breach, Entry, Judge, Refusal};
+
+/// A line that could not be read is outside the grammar, or there was no memory.
+fn fault(error: ParseError) -> LineFault
+    ensures { result ≡ fault_of error }
+{
+    match error {
+        ParseError::Malformed => LineFault::Unreadable,
+        ParseError::Memory => LineFault::Memory,
+    }
+}
+
+/// An entry that breaks something, with the judge of those before it.
+fn stop_at(judge: Judge, entry: &Entry, number: u64, breach: Breach) -> LineFault
+    ensures { result ≡ stopped_at judge entry.now number breach }
+{
+    let block = entry.event.block(judge.plain().shape());
+    LineFault::Broken(BrokenEntry {
+        judge,
+        block,
+        number,
+        breach,
+    })
+}
+
+/// Judges one more entry.
+fn judge_entry(mut judge: Judge, count: u64, entry: &Entry) -> Result<Stage, LineFault>
+    ensures judges { (shape : Shape) (image : List ℕ) (entries : List Entry)
+        → Follows shape image (events_of entries) judge → IsLawful shape image entries → length entries ≡ count
+        → IsJudged shape image entries entry.now result }
+    ensures fit { IfOk result IsFit }
+{
+    if count == u64::MAX {
+        return Err(LineFault::Memory);
+    }
+    let number = count + 1;
+    match judge.step(entry) {
+        Ok(()) => Ok(Stage::Judging(judge, number)),
+        Err(Refusal::Broken(breach)) => Err(stop_at(judge, entry, number, breach)),
+        Err(Refusal::Memory) => Err(LineFault::Memory),
+    }
+}
+
+/// Takes the first line that is not blank.
+fn first_line(alloc: Global, text: &str) -> Result<Stage, LineFault>
+    ensures takes { (reading : Reading) → Agrees reading Stage.Fresh → Takes (next reading text.now) result }
+    ensures fit { IfOk result IsFit }
+{
+    match read_shape(alloc, text) {
+        Ok(shape) => Ok(Stage::Shaped(shape)),
+        Err(error) => Err(fault(error)),
+    }
+}
+
+/// Takes a line that has an entry.
+fn entry_line(alloc: Global, judge: Judge, count: u64, text: &str) -> Result<Stage, LineFault>
+    ensures takes { (reading : Reading) → Agrees reading (Stage.Judging judge count) → Takes (next reading text.now) result }
+    ensures fit { IfOk result IsFit }
+{
+    match read_entry(alloc, text) {
+        Ok(entry) => judge_entry(judge, count, &entry),
+        Err(error) => Err(fault(error)),
+    }
+}
+
+/// Takes the line after the geometry.
+fn second_line(alloc: Global, shape: Shape, text: &str) -> Result<Stage, LineFault>
+    requires bytes { (0 < shape.block_bytes) × (shape.block_bytes ≤ BLOCK_BYTES) }
+    requires blocks { shape.blocks ≤ BLOCKS }
+    ensures takes { (reading : Reading) → Agrees reading (Stage.Shaped shape) → Takes (next reading text.now) result }
+    ensures fit { IfOk result IsFit }
+{
+    match read_image(alloc, text) {
+        Ok(image) => match Judge::new(alloc, shape, &image) {
+            Ok(judge) => Ok(Stage::Judging(judge, 0)),
+            Err(_) => Err(LineFault::Memory),
+        },
+        Err(ParseError::Memory) => Err(LineFault::Memory),
+        Err(ParseError::Malformed) => match read_entry(alloc, text) {
+            Ok(entry) => match Judge::new(alloc, shape, &[]) {
+                Ok(judge) => judge_entry(judge, 0, &entry),
+                Err(_) => Err(LineFault::Memory),
+            },
+            Err(error) => Err(fault(error)),
+        },
+    }
+}
+
+/// Takes a line that is not blank.
+fn full_line(alloc: Global, stage: Stage, text: &str) -> Result<Stage, LineFault>
+    requires { IsFit stage }
+    ensures takes { (reading : Reading) → Agrees reading stage → Takes (next reading text.now) result }
+    ensures fit { IfOk result IsFit }
+{
+    match stage {
+        Stage::Fresh => first_line(alloc, text),
+        Stage::Shaped(shape) => second_line(alloc, shape, text),
+        Stage::Judging(judge, count) => entry_line(alloc, judge, count, text),
+    }
+}
+
+/// Takes a line without its line feed.
+pub fn take_line(alloc: Global, stage: Stage, text: &[u8]) -> Result<Stage, LineFault>
+    requires { IsFit stage }
+    ensures takes { (reading : Reading) → Agrees reading stage → Takes (after_text reading text.now) result }
+    ensures fit { IfOk result IsFit }
+{
+    if is_blank(text) {
+        return Ok(stage);
+    }
+    match std::str::from_utf8(text) {
+        Ok(text) => full_line(alloc, stage, text),
+        Err(_) => Err(LineFault::Unreadable),
+    }
+}

@@ -1,0 +1,90 @@
+//! The check of a whole record.
+ghost use Rattle.std.specs.Prelude.{◌≡◌, ◌↔◌, [], IfOk, IfSome, IsTrue, Some};
+ghost use Rattle.std.specs.Io.BufRead.{strip_last};
+ghost use Rattle.tlcheck_reader.specs.Outcome.{IsOutcome, ending_of, stop_of};
+
+use crate::line::take_line;
+use crate::outcome::{LineFault, Outcome, Stage};
+use std::alloc::Global;
+use std::io;
+use std::io::{BufRead, ErrorKind};
+
+/// Why a check answers nothing.
+#[derive(Clone, Copy, Debug, PartialEq, Eq)]
+pub enum CheckFault {
+    /// A request for memory was refused.
+    Memory,
+    /// The record could not be read to its end.
+    File,
+}
+
+fn fault(error: &io::Error) -> CheckFault {
+    match error.kind() {
+        ErrorKind::OutOfMemory => CheckFault::Memory,
+        _ => CheckFault::File,
+    }
+}
+
+/// A line without the line feed at its end.
+fn text_of(line: &[u8]) -> &[u8]
+    ensures { result.now ≡ strip_last 10 line.now }
+{
+    if line.len() > 0 && line[line.len() - 1] == b'\n' {
+        &line[..line.len() - 1]
+    } else {
+        line
+    }
+}
+
+/// Nothing was read, since nothing is left.
+fn is_end(line: &[u8]) -> bool
+    ensures { IsTrue result ↔ (line.now ≡ []) }
+{
+    line.is_empty()
+}
+
+/// What is said at the end of a record.
+fn ending(stage: Stage) -> Outcome
+    ensures { result ≡ ending_of stage }
+{
+    match stage {
+        Stage::Fresh | Stage::Shaped(_) => Outcome::Empty,
+        Stage::Judging(judge, count) => Outcome::Lawful(judge, count),
+    }
+}
+
+/// What is said where a line is not taken.
+fn stop(number: u64, fault: LineFault) -> Result<Outcome, CheckFault>
+    ensures { IfOk result (λ outcome. stop_of number fault ≡ Some outcome) }
+{
+    match fault {
+        LineFault::Unreadable => Ok(Outcome::Unreadable(number)),
+        LineFault::Broken(broken) => Ok(Outcome::Broken(number, broken)),
+        LineFault::Memory => Err(CheckFault::Memory),
+    }
+}
+
+/// Checks a record line by line, as it is read: it takes memory for one line, for blocks, clients and the messages that wait. It says
+/// whether each entry is permitted, or which is the first that is not and what it breaks, or which line is outside the grammar; and it
+/// gives the judge of the entries that are permitted.
+pub fn check<R: BufRead>(alloc: Global, reader: &mut R) -> Result<Outcome, CheckFault>
+    ensures { IfOk result (λ outcome. IfSome (R.remaining reader.old) (λ text. IsOutcome text outcome)) }
+{
+    let mut stage = Stage::Fresh;
+    let mut line = Vec::new(alloc);
+    for number in 0..u64::MAX {
+        line.clear();
+        match reader.read_until(b'\n', &mut line) {
+            Ok(_) => {}
+            Err(error) => return Err(fault(&error)),
+        }
+        if is_end(&line) {
+            return Ok(ending(stage));
+        }
+        stage = match take_line(alloc, stage, text_of(&line)) {
+            Ok(next) => next,
+            Err(fault) => return stop(number + 1, fault),
+        };
+    }
+    Err(CheckFault::File)
+}

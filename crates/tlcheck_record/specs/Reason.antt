@@ -1,0 +1,150 @@
+-- Why an entry is not permitted, in words (this project's own format; the sections are those of docs/PROTOCOL.md and docs/RECORD.md).
+use Rattle.std.specs.Prelude.{ℕ, List, ◌++◌, codes}
+use Rattle.tlcheck_rules.specs.declared.judge.Breach.{Breach}
+use Rattle.tlcheck_rules.specs.declared.judge.Breach.TheVariants.{NotPermitted, OutOfOrder, NotAsShown}
+use Rattle.tlcheck_rules.specs.declared.rule.Rule.{Rule}
+use Rattle.tlcheck_rules.specs.declared.rule.Rule.TheVariants.{BlockIsThere, ClientIsThere, AccessFits, CopyIsReadable, LoadHasItsBytes, CopyIsWritable, WaitsForNothing, StartsFromItsCopy, ProbeWaits, NoReleaseUnanswered, GrantIsFirst, ReleaseAckIsFirst, AcquireWaits, ServesNoAcquire, RecordIsAbove, ClientHasNoProbe, NoGrantIsPending, MessageIsOnC, ServesThisClient, OthersLeaveRoom, HomeHasTheBlock, NoProbeIsPending, GrantAckWaits, ServesAnAcquire, HomeLacksTheBlock, NothingIsOutward, RequestIsOutward, DataIsOutward, PutAckIsOutward, CopyIsClean, CopyIsDirty, NobodyIsRecorded}
+use Rattle.tlcheck_record.specs.declared.reason.Source.{Source}
+use Rattle.tlcheck_record.specs.declared.reason.Source.TheVariants.{TileLink, Own}
+use Rattle.tlcheck_record.specs.declared.reason.Place.{Place}
+use Rattle.tlcheck_record.specs.declared.reason.Place.TheVariants.{Permissions, Rules, Events, Channels, Verdict}
+
+-- what a rule says
+abbrev pub rule_sentence : Rule → List ℕ
+rule_sentence BlockIsThere = codes "the block is one of the memory"
+rule_sentence ClientIsThere = codes "the client is one of the clients"
+rule_sentence AccessFits = codes "an access is of 1 to 8 bytes in one block"
+rule_sentence CopyIsReadable = codes "a load needs a copy at Branch or Tip"
+rule_sentence LoadHasItsBytes = codes "a load gets the bytes of its copy"
+rule_sentence CopyIsWritable = codes "a store needs a copy at Tip"
+rule_sentence WaitsForNothing = codes "a client with an unanswered Acquire or Release of the block sends neither"
+rule_sentence StartsFromItsCopy = codes "what is asked for or given up starts from the permission of the copy"
+rule_sentence ProbeWaits = codes "an answer to a Probe needs a Probe on B"
+rule_sentence NoReleaseUnanswered = codes "no Probe is answered between a Release and its ReleaseAck"
+rule_sentence GrantIsFirst = codes "a Grant is taken where one is first on D"
+rule_sentence ReleaseAckIsFirst = codes "a ReleaseAck is taken where one is first on D"
+rule_sentence AcquireWaits = codes "an Acquire is accepted where one is on A"
+rule_sentence ServesNoAcquire = codes "home serves no other Acquire of the block"
+rule_sentence RecordIsAbove = codes "a Probe asks for less than home records"
+rule_sentence ClientHasNoProbe = codes "no earlier Probe of the block is unanswered at the client"
+rule_sentence NoGrantIsPending = codes "no Grant of the block is pending"
+rule_sentence MessageIsOnC = codes "home takes a message of C where one waits"
+rule_sentence ServesThisClient = codes "a Grant answers the Acquire that home serves"
+rule_sentence OthersLeaveRoom = codes "beside a Grant toT every other record is None, and beside a Grant toB none is Tip"
+rule_sentence HomeHasTheBlock = codes "home has a copy of the block"
+rule_sentence NoProbeIsPending = codes "no Probe of the block is unanswered"
+rule_sentence GrantAckWaits = codes "a GrantAck is taken where one is on E"
+rule_sentence ServesAnAcquire = codes "home serves an Acquire of the block"
+rule_sentence HomeLacksTheBlock = codes "home has no copy of the block"
+rule_sentence NothingIsOutward = codes "nothing passes between home and the memory for the block"
+rule_sentence RequestIsOutward = codes "the memory answers a Get or a PutFullData that is on its way"
+rule_sentence DataIsOutward = codes "home takes data where the answer to a Get is on its way"
+rule_sentence PutAckIsOutward = codes "home takes an acknowledgement where that of a PutFullData is on its way"
+rule_sentence CopyIsClean = codes "a copy that is dropped is clean"
+rule_sentence CopyIsDirty = codes "a copy that is written back is dirty"
+rule_sentence NobodyIsRecorded = codes "home gives up only a block of which nobody has a copy"
+
+-- who laid it down: what is not TileLink's is this project's choice
+abbrev pub rule_source : Rule → Source
+rule_source BlockIsThere = Own
+rule_source ClientIsThere = Own
+rule_source AccessFits = Own
+rule_source CopyIsReadable = TileLink
+rule_source LoadHasItsBytes = TileLink
+rule_source CopyIsWritable = TileLink
+rule_source WaitsForNothing = Own
+rule_source StartsFromItsCopy = TileLink
+rule_source ProbeWaits = TileLink
+rule_source NoReleaseUnanswered = Own
+rule_source GrantIsFirst = TileLink
+rule_source ReleaseAckIsFirst = TileLink
+rule_source AcquireWaits = TileLink
+rule_source ServesNoAcquire = Own
+rule_source RecordIsAbove = Own
+rule_source ClientHasNoProbe = TileLink
+rule_source NoGrantIsPending = TileLink
+rule_source MessageIsOnC = TileLink
+rule_source ServesThisClient = TileLink
+rule_source OthersLeaveRoom = TileLink
+rule_source HomeHasTheBlock = Own
+rule_source NoProbeIsPending = TileLink
+rule_source GrantAckWaits = TileLink
+rule_source ServesAnAcquire = Own
+rule_source HomeLacksTheBlock = Own
+rule_source NothingIsOutward = Own
+rule_source RequestIsOutward = TileLink
+rule_source DataIsOutward = TileLink
+rule_source PutAckIsOutward = TileLink
+rule_source CopyIsClean = TileLink
+rule_source CopyIsDirty = Own
+rule_source NobodyIsRecorded = Own
+
+-- where docs/PROTOCOL.md has it
+abbrev pub rule_place : Rule → Place
+rule_place BlockIsThere = Events
+rule_place ClientIsThere = Events
+rule_place AccessFits = Events
+rule_place CopyIsReadable = Permissions
+rule_place LoadHasItsBytes = Events
+rule_place CopyIsWritable = Permissions
+rule_place WaitsForNothing = Rules
+rule_place StartsFromItsCopy = Events
+rule_place ProbeWaits = Events
+rule_place NoReleaseUnanswered = Rules
+rule_place GrantIsFirst = Events
+rule_place ReleaseAckIsFirst = Events
+rule_place AcquireWaits = Events
+rule_place ServesNoAcquire = Rules
+rule_place RecordIsAbove = Events
+rule_place ClientHasNoProbe = Rules
+rule_place NoGrantIsPending = Rules
+rule_place MessageIsOnC = Events
+rule_place ServesThisClient = Events
+rule_place OthersLeaveRoom = Events
+rule_place HomeHasTheBlock = Events
+rule_place NoProbeIsPending = Rules
+rule_place GrantAckWaits = Events
+rule_place ServesAnAcquire = Events
+rule_place HomeLacksTheBlock = Events
+rule_place NothingIsOutward = Events
+rule_place RequestIsOutward = Events
+rule_place DataIsOutward = Events
+rule_place PutAckIsOutward = Events
+rule_place CopyIsClean = Rules
+rule_place CopyIsDirty = Rules
+rule_place NobodyIsRecorded = Rules
+
+-- what an entry breaks, as a sentence
+abbrev pub sentence_of : Breach → List ℕ
+sentence_of (NotPermitted rule) = rule_sentence rule
+sentence_of OutOfOrder = codes "a message is taken where it is the first of its channel"
+sentence_of NotAsShown = codes "what is shown is what the event sends"
+
+-- who laid it down
+abbrev pub source_of : Breach → Source
+source_of (NotPermitted rule) = rule_source rule
+source_of OutOfOrder = TileLink
+source_of NotAsShown = Own
+
+-- where it stands
+abbrev pub place_of : Breach → Place
+place_of (NotPermitted rule) = rule_place rule
+place_of OutOfOrder = Channels
+place_of NotAsShown = Verdict
+
+-- how its source prints
+abbrev pub source_text : Source → List ℕ
+source_text TileLink = codes "TileLink 1.8"
+source_text Own = codes "this project's profile"
+
+-- how its place prints
+abbrev pub place_text : Place → List ℕ
+place_text Permissions = codes "docs/PROTOCOL.md, Permissions"
+place_text Rules = codes "docs/PROTOCOL.md, Rules"
+place_text Events = codes "docs/PROTOCOL.md, Events, state and runs"
+place_text Channels = codes "docs/PROTOCOL.md, Channels of all blocks, and serials"
+place_text Verdict = codes "docs/RECORD.md, Verdict"
+
+-- the sentence, its source and its place
+abbrev pub reason_text : Breach → List ℕ
+reason_text breach = sentence_of breach ++ codes " (" ++ source_text (source_of breach) ++ codes "), " ++ place_text (place_of breach)

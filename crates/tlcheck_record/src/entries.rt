@@ -1,0 +1,242 @@
+//! The lines of a record that stand for events.
+ghost use Rattle.std.specs.Prelude.{◌≡◌, None};
+ghost use Rattle.tl_script_words.specs.Reads.{Reads};
+ghost use Rattle.tl_script_words.specs.Words.{number_of, texts};
+ghost use Rattle.tlcheck_record.specs.Entry.{access_in, acquire_in, client_entry, client_event, entry_by, entry_in, entry_of, home_entry, home_event, probe_in, release_in};
+
+use crate::shown::{parse_probe_cap, parse_shown};
+use std::alloc::Global;
+use tl_rules::{Access, Event};
+use tl_script_words::{
+    ParseError, parse_access, parse_address, parse_grow, parse_number, parse_prune, split_words,
+};
+use tl_types::{BlockNo, ClientId};
+use tlcheck_rules::Entry;
+
+/// A verb of a client and a block.
+#[derive(Clone, Copy, Debug, PartialEq, Eq)]
+pub enum ClientCall {
+    AnswerProbe,
+    TakeGrant,
+    TakeReleaseAck,
+    AcceptAcquire,
+    TakeC,
+    SendGrant,
+    TakeGrantAck,
+}
+
+/// A verb of a block.
+#[derive(Clone, Copy, Debug, PartialEq, Eq)]
+pub enum HomeCall {
+    SendGet,
+    Serve,
+    TakeData,
+    Drop,
+    SendPut,
+    TakePutAck,
+}
+
+fn client_event(verb: ClientCall, c: ClientId, b: BlockNo) -> Event
+    ensures { result ≡ client_event verb c b }
+{
+    match verb {
+        ClientCall::AnswerProbe => Event::AnswerProbe(c, b),
+        ClientCall::TakeGrant => Event::TakeGrant(c, b),
+        ClientCall::TakeReleaseAck => Event::TakeReleaseAck(c, b),
+        ClientCall::AcceptAcquire => Event::AcceptAcquire(c, b),
+        ClientCall::TakeC => Event::TakeC(c, b),
+        ClientCall::SendGrant => Event::SendGrant(c, b),
+        ClientCall::TakeGrantAck => Event::TakeGrantAck(c, b),
+    }
+}
+
+fn home_event(verb: HomeCall, b: BlockNo) -> Event
+    ensures { result ≡ home_event verb b }
+{
+    match verb {
+        HomeCall::SendGet => Event::SendGet(b),
+        HomeCall::Serve => Event::Serve(b),
+        HomeCall::TakeData => Event::TakeData(b),
+        HomeCall::Drop => Event::Drop(b),
+        HomeCall::SendPut => Event::SendPut(b),
+        HomeCall::TakePutAck => Event::TakePutAck(b),
+    }
+}
+
+fn client(text: &str) -> Result<ClientId, ParseError>
+    ensures { Reads (λ x. x) result (number_of text.now) }
+{
+    Ok(ClientId::new(parse_number(text).ok_or(ParseError::Malformed)?))
+}
+
+fn block(text: &str) -> Result<BlockNo, ParseError>
+    ensures { Reads (λ x. x) result (number_of text.now) }
+{
+    Ok(BlockNo::new(parse_number(text).ok_or(ParseError::Malformed)?))
+}
+
+#[tactic(auto, unfolding(crate::specs::Entry::access_in))]
+fn access(arguments: &[&str]) -> Result<Access, ParseError>
+    ensures { Reads (λ x. x) result (access_in (texts arguments.now)) }
+{
+    match arguments {
+        [] | [_] => Err(ParseError::Malformed),
+        [who, address, rest @ ..] => match *rest {
+            [bytes] => {
+                let client = client(who)?;
+                let address = parse_address(address).ok_or(ParseError::Malformed)?;
+                let bytes = parse_access(bytes).ok_or(ParseError::Malformed)?;
+                Ok(Access {
+                    client,
+                    address,
+                    bytes,
+                    stamp: 0,
+                    index: 0,
+                })
+            }
+            _ => Err(ParseError::Malformed),
+        },
+    }
+}
+
+#[tactic(auto, unfolding(crate::specs::Entry::client_entry))]
+fn client_entry(alloc: Global, verb: ClientCall, arguments: &[&str]) -> Result<Entry, ParseError>
+    ensures { Reads (λ x. x) result (client_entry verb (texts arguments.now)) }
+{
+    match arguments {
+        [] | [_] => Err(ParseError::Malformed),
+        [who, place, rest @ ..] => {
+            let c = client(who)?;
+            let b = block(place)?;
+            let shown = parse_shown(alloc, rest)?;
+            Ok(Entry {
+                event: client_event(verb, c, b),
+                shown,
+            })
+        }
+    }
+}
+
+#[tactic(auto, unfolding(crate::specs::Entry::home_entry))]
+fn home_entry(verb: HomeCall, arguments: &[&str]) -> Result<Entry, ParseError>
+    ensures { Reads (λ x. x) result (home_entry verb (texts arguments.now)) }
+{
+    match *arguments {
+        [place] => {
+            let b = block(place)?;
+            Ok(Entry {
+                event: home_event(verb, b),
+                shown: None,
+            })
+        }
+        _ => Err(ParseError::Malformed),
+    }
+}
+
+#[tactic(auto, unfolding(crate::specs::Entry::acquire_in))]
+fn acquire(alloc: Global, arguments: &[&str]) -> Result<Entry, ParseError>
+    ensures { Reads (λ x. x) result (acquire_in (texts arguments.now)) }
+{
+    match arguments {
+        [] | [_] | [_, _] => Err(ParseError::Malformed),
+        [who, place, word, rest @ ..] => {
+            let c = client(who)?;
+            let b = block(place)?;
+            let param = parse_grow(word)?;
+            let shown = parse_shown(alloc, rest)?;
+            Ok(Entry {
+                event: Event::SendAcquire(c, b, param),
+                shown,
+            })
+        }
+    }
+}
+
+#[tactic(auto, unfolding(crate::specs::Entry::release_in))]
+fn release(alloc: Global, arguments: &[&str]) -> Result<Entry, ParseError>
+    ensures { Reads (λ x. x) result (release_in (texts arguments.now)) }
+{
+    match arguments {
+        [] | [_] | [_, _] => Err(ParseError::Malformed),
+        [who, place, word, rest @ ..] => {
+            let c = client(who)?;
+            let b = block(place)?;
+            let param = parse_prune(word)?;
+            let shown = parse_shown(alloc, rest)?;
+            Ok(Entry {
+                event: Event::SendRelease(c, b, param),
+                shown,
+            })
+        }
+    }
+}
+
+#[tactic(auto, unfolding(crate::specs::Entry::probe_in))]
+fn probe(alloc: Global, arguments: &[&str]) -> Result<Entry, ParseError>
+    ensures { Reads (λ x. x) result (probe_in (texts arguments.now)) }
+{
+    match arguments {
+        [] | [_] | [_, _] => Err(ParseError::Malformed),
+        [who, place, word, rest @ ..] => {
+            let c = client(who)?;
+            let b = block(place)?;
+            let param = parse_probe_cap(word)?;
+            let shown = parse_shown(alloc, rest)?;
+            Ok(Entry {
+                event: Event::SendProbe(c, b, param),
+                shown,
+            })
+        }
+    }
+}
+
+fn quiet(event: Event) -> Entry
+    ensures { result ≡ record { event = event; shown = None } }
+{
+    Entry { event, shown: None }
+}
+
+#[tactic(auto, unfolding(crate::specs::Entry::entry_by))]
+fn entry_by(alloc: Global, verb: &str, arguments: &[&str]) -> Result<Entry, ParseError>
+    ensures { Reads (λ x. x) result (entry_by verb.now (texts arguments.now)) }
+{
+    match verb {
+        "load" => Ok(quiet(Event::Load(access(arguments)?))),
+        "store" => Ok(quiet(Event::Store(access(arguments)?))),
+        "acquire" => acquire(alloc, arguments),
+        "release" => release(alloc, arguments),
+        "probe" => probe(alloc, arguments),
+        "answer_probe" => client_entry(alloc, ClientCall::AnswerProbe, arguments),
+        "take_grant" => client_entry(alloc, ClientCall::TakeGrant, arguments),
+        "take_release_ack" => client_entry(alloc, ClientCall::TakeReleaseAck, arguments),
+        "accept" => client_entry(alloc, ClientCall::AcceptAcquire, arguments),
+        "take_c" => client_entry(alloc, ClientCall::TakeC, arguments),
+        "grant" => client_entry(alloc, ClientCall::SendGrant, arguments),
+        "take_grant_ack" => client_entry(alloc, ClientCall::TakeGrantAck, arguments),
+        "get" => home_entry(HomeCall::SendGet, arguments),
+        "serve" => home_entry(HomeCall::Serve, arguments),
+        "take_data" => home_entry(HomeCall::TakeData, arguments),
+        "drop" => home_entry(HomeCall::Drop, arguments),
+        "put" => home_entry(HomeCall::SendPut, arguments),
+        "take_put_ack" => home_entry(HomeCall::TakePutAck, arguments),
+        _ => Err(ParseError::Malformed),
+    }
+}
+
+#[tactic(auto, unfolding(crate::specs::Entry::entry_in))]
+fn entry_in(alloc: Global, words: &[&str]) -> Result<Entry, ParseError>
+    ensures { Reads (λ x. x) result (entry_in (texts words.now)) }
+{
+    match words {
+        [] => Err(ParseError::Malformed),
+        [verb, arguments @ ..] => entry_by(alloc, verb, arguments),
+    }
+}
+
+/// The entry that a line writes. Malformed where the line is outside the grammar.
+pub fn read_entry(alloc: Global, line: &str) -> Result<Entry, ParseError>
+    ensures { Reads (λ x. x) result (entry_of line.now) }
+{
+    let words = split_words(alloc, line)?;
+    entry_in(alloc, &words)
+}

@@ -1,0 +1,228 @@
+//! Why an entry is not permitted, in words.
+ghost use Rattle.std.specs.Prelude.{◌≡◌, Some};
+ghost use Rattle.tlcheck_record.specs.Reason.{place_of, place_text, reason_text, rule_place, rule_sentence, rule_source, sentence_of, source_of, source_text};
+
+use std::fmt;
+use tlcheck_rules::{Breach, Rule};
+
+/// Who laid a rule down.
+#[derive(Clone, Copy, Debug, PartialEq, Eq)]
+pub enum Source {
+    /// The TileLink specification, 1.8.
+    TileLink,
+    /// This project, where the specification leaves a choice open, and for its own format.
+    Own,
+}
+
+/// The section of the documents that has a rule.
+#[derive(Clone, Copy, Debug, PartialEq, Eq)]
+pub enum Place {
+    /// PROTOCOL.md, "Permissions".
+    Permissions,
+    /// PROTOCOL.md, "Rules".
+    Rules,
+    /// PROTOCOL.md, "Events, state and runs".
+    Events,
+    /// PROTOCOL.md, "Channels of all blocks, and serials".
+    Channels,
+    /// RECORD.md, "Verdict".
+    Verdict,
+}
+
+fn rule_sentence(rule: Rule) -> &'static str
+    ensures { result.now ≡ rule_sentence rule }
+{
+    match rule {
+        Rule::BlockIsThere => "the block is one of the memory",
+        Rule::ClientIsThere => "the client is one of the clients",
+        Rule::AccessFits => "an access is of 1 to 8 bytes in one block",
+        Rule::CopyIsReadable => "a load needs a copy at Branch or Tip",
+        Rule::LoadHasItsBytes => "a load gets the bytes of its copy",
+        Rule::CopyIsWritable => "a store needs a copy at Tip",
+        Rule::WaitsForNothing =>
+            "a client with an unanswered Acquire or Release of the block sends neither",
+        Rule::StartsFromItsCopy =>
+            "what is asked for or given up starts from the permission of the copy",
+        Rule::ProbeWaits => "an answer to a Probe needs a Probe on B",
+        Rule::NoReleaseUnanswered => "no Probe is answered between a Release and its ReleaseAck",
+        Rule::GrantIsFirst => "a Grant is taken where one is first on D",
+        Rule::ReleaseAckIsFirst => "a ReleaseAck is taken where one is first on D",
+        Rule::AcquireWaits => "an Acquire is accepted where one is on A",
+        Rule::ServesNoAcquire => "home serves no other Acquire of the block",
+        Rule::RecordIsAbove => "a Probe asks for less than home records",
+        Rule::ClientHasNoProbe => "no earlier Probe of the block is unanswered at the client",
+        Rule::NoGrantIsPending => "no Grant of the block is pending",
+        Rule::MessageIsOnC => "home takes a message of C where one waits",
+        Rule::ServesThisClient => "a Grant answers the Acquire that home serves",
+        Rule::OthersLeaveRoom =>
+            "beside a Grant toT every other record is None, and beside a Grant toB none is Tip",
+        Rule::HomeHasTheBlock => "home has a copy of the block",
+        Rule::NoProbeIsPending => "no Probe of the block is unanswered",
+        Rule::GrantAckWaits => "a GrantAck is taken where one is on E",
+        Rule::ServesAnAcquire => "home serves an Acquire of the block",
+        Rule::HomeLacksTheBlock => "home has no copy of the block",
+        Rule::NothingIsOutward => "nothing passes between home and the memory for the block",
+        Rule::RequestIsOutward => "the memory answers a Get or a PutFullData that is on its way",
+        Rule::DataIsOutward => "home takes data where the answer to a Get is on its way",
+        Rule::PutAckIsOutward =>
+            "home takes an acknowledgement where that of a PutFullData is on its way",
+        Rule::CopyIsClean => "a copy that is dropped is clean",
+        Rule::CopyIsDirty => "a copy that is written back is dirty",
+        Rule::NobodyIsRecorded => "home gives up only a block of which nobody has a copy",
+    }
+}
+
+fn rule_source(rule: Rule) -> Source
+    ensures { result ≡ rule_source rule }
+{
+    match rule {
+        Rule::BlockIsThere
+        | Rule::ClientIsThere
+        | Rule::AccessFits
+        | Rule::WaitsForNothing
+        | Rule::NoReleaseUnanswered
+        | Rule::ServesNoAcquire
+        | Rule::RecordIsAbove
+        | Rule::HomeHasTheBlock
+        | Rule::ServesAnAcquire
+        | Rule::HomeLacksTheBlock
+        | Rule::NothingIsOutward
+        | Rule::CopyIsDirty
+        | Rule::NobodyIsRecorded => Source::Own,
+        Rule::CopyIsReadable
+        | Rule::LoadHasItsBytes
+        | Rule::CopyIsWritable
+        | Rule::StartsFromItsCopy
+        | Rule::ProbeWaits
+        | Rule::GrantIsFirst
+        | Rule::ReleaseAckIsFirst
+        | Rule::AcquireWaits
+        | Rule::ClientHasNoProbe
+        | Rule::NoGrantIsPending
+        | Rule::MessageIsOnC
+        | Rule::ServesThisClient
+        | Rule::OthersLeaveRoom
+        | Rule::NoProbeIsPending
+        | Rule::GrantAckWaits
+        | Rule::RequestIsOutward
+        | Rule::DataIsOutward
+        | Rule::PutAckIsOutward
+        | Rule::CopyIsClean => Source::TileLink,
+    }
+}
+
+fn rule_place(rule: Rule) -> Place
+    ensures { result ≡ rule_place rule }
+{
+    match rule {
+        Rule::CopyIsReadable | Rule::CopyIsWritable => Place::Permissions,
+        Rule::WaitsForNothing
+        | Rule::NoReleaseUnanswered
+        | Rule::ServesNoAcquire
+        | Rule::ClientHasNoProbe
+        | Rule::NoGrantIsPending
+        | Rule::NoProbeIsPending
+        | Rule::CopyIsClean
+        | Rule::CopyIsDirty
+        | Rule::NobodyIsRecorded => Place::Rules,
+        Rule::BlockIsThere
+        | Rule::ClientIsThere
+        | Rule::AccessFits
+        | Rule::LoadHasItsBytes
+        | Rule::StartsFromItsCopy
+        | Rule::ProbeWaits
+        | Rule::GrantIsFirst
+        | Rule::ReleaseAckIsFirst
+        | Rule::AcquireWaits
+        | Rule::RecordIsAbove
+        | Rule::MessageIsOnC
+        | Rule::ServesThisClient
+        | Rule::OthersLeaveRoom
+        | Rule::HomeHasTheBlock
+        | Rule::GrantAckWaits
+        | Rule::ServesAnAcquire
+        | Rule::HomeLacksTheBlock
+        | Rule::NothingIsOutward
+        | Rule::RequestIsOutward
+        | Rule::DataIsOutward
+        | Rule::PutAckIsOutward => Place::Events,
+    }
+}
+
+/// What an entry breaks. It prints as the sentence, who laid it down, and where it stands.
+#[derive(Clone, Copy, Debug, PartialEq, Eq)]
+pub struct Reason(pub Breach);
+
+impl Reason {
+    /// What the entry does not keep, in one sentence.
+    pub fn sentence(self) -> &'static str
+        ensures { result.now ≡ sentence_of self.0 }
+    {
+        match self.0 {
+            Breach::NotPermitted(rule) => rule_sentence(rule),
+            Breach::OutOfOrder => "a message is taken where it is the first of its channel",
+            Breach::NotAsShown => "what is shown is what the event sends",
+        }
+    }
+
+    /// Whether it is TileLink's or this project's own.
+    pub fn source(self) -> Source
+        ensures { result ≡ source_of self.0 }
+    {
+        match self.0 {
+            Breach::NotPermitted(rule) => rule_source(rule),
+            Breach::OutOfOrder => Source::TileLink,
+            Breach::NotAsShown => Source::Own,
+        }
+    }
+
+    /// Where it is written.
+    pub fn place(self) -> Place
+        ensures { result ≡ place_of self.0 }
+    {
+        match self.0 {
+            Breach::NotPermitted(rule) => rule_place(rule),
+            Breach::OutOfOrder => Place::Channels,
+            Breach::NotAsShown => Place::Verdict,
+        }
+    }
+}
+
+impl fmt::Display for Source {
+    ghost output = { λ x. Some (source_text x) };
+
+    fn fmt<W: fmt::Write>(&self, f: &mut fmt::Formatter<W>) -> fmt::Result {
+        match self {
+            Source::TileLink => f.write_str("TileLink 1.8"),
+            Source::Own => f.write_str("this project's profile"),
+        }
+    }
+}
+
+impl fmt::Display for Place {
+    ghost output = { λ x. Some (place_text x) };
+
+    fn fmt<W: fmt::Write>(&self, f: &mut fmt::Formatter<W>) -> fmt::Result {
+        match self {
+            Place::Permissions => f.write_str("docs/PROTOCOL.md, Permissions"),
+            Place::Rules => f.write_str("docs/PROTOCOL.md, Rules"),
+            Place::Events => f.write_str("docs/PROTOCOL.md, Events, state and runs"),
+            Place::Channels => f.write_str("docs/PROTOCOL.md, Channels of all blocks, and serials"),
+            Place::Verdict => f.write_str("docs/RECORD.md, Verdict"),
+        }
+    }
+}
+
+impl fmt::Display for Reason {
+    ghost output = { λ x. Some (reason_text x.0) };
+
+    fn fmt<W: fmt::Write>(&self, f: &mut fmt::Formatter<W>) -> fmt::Result {
+        write!(
+            f,
+            "{} ({}), {}",
+            self.sentence(),
+            self.source(),
+            self.place()
+        )
+    }
+}

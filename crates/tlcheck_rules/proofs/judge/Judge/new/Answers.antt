@@ -1,0 +1,5 @@
+use Rattle.tlcheck_rules.proofs.Judging.{starts}
+use Rattle.tlcheck_rules.proofs.judge.Judge.new.Goals as goal
+
+pub returns : goal.returns
+returns c = starts c.args.shape c.args.image.now _ c.in_ok-plain.ensures c.in_ok-order.ensures.empty

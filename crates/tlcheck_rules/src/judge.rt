@@ -1,0 +1,185 @@
+//! The judge of a record.
+ghost use Rattle.std.specs.Prelude.{◌≡◌, ◌↔◌, ◌<◌, ◌≤◌, ◌∷◌, ◌++◌, ℕ, List, [], drop, IsTrue, IfOk, IfErr, OnOk, MatchOption};
+ghost use Rattle.std.specs.Option.{option_map};
+ghost use Rattle.tl_protocol.specs.declared.event.Event.{Event};
+ghost use Rattle.tl_protocol.specs.declared.shape.Shape.{Shape};
+ghost use Rattle.tlcheck_rules.specs.Judged.{EveryLawfulRecordIsALawfulLog, NoBrokenEntryIsPermitted};
+ghost use Rattle.tlcheck_rules.specs.declared.judge.Refusal.TheVariants.{Broken};
+ghost use Rattle.tlcheck_rules.specs.declared.judge.Breach.{Breach};
+
+use crate::entry::Entry;
+use crate::keeps::broken_rule;
+use crate::order::Order;
+use crate::rule::{Rule, client_of};
+use crate::sent::{is_shown, sent_by, taken_channel};
+use std::alloc::{AllocError, Global};
+use std::marker::Model;
+use tl_rules::{Event, Plain, Shape};
+use tl_types::{BLOCK_BYTES, BLOCKS, BlockNo, Body, Channel, ClientId};
+
+/// What an entry of a record breaks.
+#[derive(Clone, Copy, Debug, PartialEq, Eq)]
+pub enum Breach {
+    /// A rule of the protocol.
+    NotPermitted(Rule),
+    /// Another message is first on the channel.
+    OutOfOrder,
+    /// The event sends another message than the record shows, or none.
+    NotAsShown,
+}
+
+/// Why a judge goes no further.
+#[derive(Clone, Copy, Debug, PartialEq, Eq)]
+pub enum Refusal {
+    /// The entry breaks this.
+    Broken(Breach),
+    /// A request for memory was refused.
+    Memory,
+}
+
+/// Where the entries so far lead. It takes memory for blocks, clients and the messages that wait, and none for the entries.
+#[derive(Drop)]
+pub struct Judge {
+    plain: Plain,
+    order: Order,
+}
+
+impl Model for Judge {
+    ghost use Rattle.std.specs.Prelude.{◌≡◌};
+    ghost use Rattle.tlcheck_rules.specs.Judged.{JudgeState};
+
+    ghost Value = { JudgeState };
+
+    ghost view = { λ j. record { plain = j.plain; order = j.order } };
+
+    ghost invariant = { λ j. j.order.clients ≡ j.plain.shape.clients };
+}
+
+impl Judge {
+    ghost use Rattle.tlcheck_rules.specs.Judged.{Allows, Breaks, Carries, Follows, IsPermitted, IsShown, Rejects, own_block};
+    ghost use Rattle.tlcheck_rules.specs.Order.{IsNextIn, post_at, waiting_in};
+    ghost use Rattle.tlcheck_rules.specs.Rules.{client_of};
+    ghost use Rattle.tl_protocol.specs.Protocol.{May, block_of};
+    ghost use Rattle.tl_protocol_lanes.specs.Lanes.{post_of, take_of};
+
+    /// A judge of a record from reset over an image.
+    pub fn new(alloc: Global, shape: Shape, image: &[u8]) -> Result<Judge, AllocError>
+        requires bytes { (0 < shape.block_bytes) × (shape.block_bytes ≤ BLOCK_BYTES) }
+        requires blocks { shape.blocks ≤ BLOCKS }
+        ensures { IfOk result (λ j. Follows shape image.now [] j) }
+    {
+        let plain = Plain::new(alloc, shape, image)?;
+        let order = Order::new(alloc, plain.shape().clients)?;
+        Ok(Judge { plain, order })
+    }
+
+    /// The state where the entries so far lead.
+    pub fn plain(&self) -> &Plain
+        ensures { result.now ≡ self.now.plain }
+    {
+        &self.plain
+    }
+
+    /// The block of the message that is first on a channel.
+    pub fn first_on(&self, client: ClientId, channel: Channel) -> Option<BlockNo>
+        ensures { MatchOption result (waiting_in self.now.order client channel ≡ [])
+            (λ block. waiting_in self.now.order client channel ≡ block ∷ drop 1 (waiting_in self.now.order client channel)) }
+    {
+        self.order.first(client, channel)
+    }
+
+    /// Whether the event takes no message, or its block's is the first on the channel.
+    fn takes_first(&self, event: &Event) -> bool
+        ensures { IsTrue result ↔ IsNextIn self.now.order (block_of self.now.plain.shape event.now) (take_of event.now) }
+    {
+        match taken_channel(event) {
+            None => true,
+            Some(channel) => match self.order.first(client_of(event), channel) {
+                None => false,
+                Some(first) => first.number() == event.block(self.plain.shape()),
+            },
+        }
+    }
+
+    /// What an event that may come next sends on a link, with its channel.
+    pub fn sent(&self, event: &Event) -> Option<(Channel, Body)>
+        requires { May self.now.plain.shape (own_block self.now event.now) event.now }
+        ensures { option_map (λ sent. post_at (client_of event.now) sent.0 sent.1) result
+            ≡ post_of self.now.plain.shape (own_block self.now event.now) event.now }
+    {
+        let shape = self.plain.shape();
+        let block = self.plain.block(event.block(shape))?;
+        sent_by(block, shape, event)
+    }
+
+    /// What is shown, if something is, is what the event sends.
+    fn is_as_shown(&self, entry: &Entry) -> bool
+        requires { May self.now.plain.shape (own_block self.now entry.now.event) entry.now.event }
+        ensures { IsTrue result
+            ↔ IsShown (post_of self.now.plain.shape (own_block self.now entry.now.event) entry.now.event) entry.now.shown }
+    {
+        if entry.shown.is_none() {
+            return true;
+        }
+        is_shown(&self.sent(&entry.event), &entry.shown)
+    }
+
+    /// The first test that an entry does not meet.
+    pub fn breach(&self, entry: &Entry) -> Option<Breach>
+        ensures { MatchOption result (Allows self.now entry.now) (λ breach. Rejects self.now entry.now breach) }
+    {
+        if let Some(rule) = broken_rule(&self.plain, &entry.event) {
+            return Some(Breach::NotPermitted(rule));
+        }
+        if !self.takes_first(&entry.event) {
+            return Some(Breach::OutOfOrder);
+        }
+        if !self.is_as_shown(entry) {
+            return Some(Breach::NotAsShown);
+        }
+        None
+    }
+
+    /// Carries out an event that may come next.
+    fn carry_out(&mut self, event: &Event) -> Result<(), AllocError>
+        requires { May self.old.plain.shape (own_block self.old event.now) event.now }
+        ensures { OnOk result (Carries self.old self.new event.now) }
+    {
+        let sent = self.sent(event);
+        let block = BlockNo::new(event.block(self.plain.shape()));
+        if self.plain.apply(event).is_err() {
+            return Err(AllocError);
+        }
+        let client = client_of(event);
+        self.order.leave(client, taken_channel(event));
+        self.order.join(client, &sent, block)
+    }
+
+    /// Takes the next entry of a record, if it is permitted after those before it; else it says what the entry breaks. Memory where a
+    /// request for memory was refused: then the judge is where nothing is claimed.
+    pub fn step(&mut self, entry: &Entry) -> Result<(), Refusal>
+        ensures ok { OnOk result
+            ((shape : Shape) (image : List ℕ) (log : List Event)
+            → Follows shape image log self.old
+            → IsPermitted shape image log entry.now × Follows shape image (log ++ entry.now.event ∷ []) self.new) }
+        ensures broken { IfErr result
+            (λ refusal. (breach : Breach) → refusal ≡ Broken breach → (shape : Shape) (image : List ℕ) (log : List Event)
+            → Follows shape image log self.old → Breaks shape image log entry.now breach) }
+        ensures unchanged { IfErr result (λ refusal. (breach : Breach) → refusal ≡ Broken breach → self.new ≡ self.old) }
+    {
+        if let Some(breach) = self.breach(entry) {
+            return Err(Refusal::Broken(breach));
+        }
+        match self.carry_out(&entry.event) {
+            Ok(()) => Ok(()),
+            Err(_) => Err(Refusal::Memory),
+        }
+    }
+}
+
+/// A record whose entries are each permitted after those before it is a run that takes each channel's messages in order; and an entry
+/// that breaks something is not permitted.
+pub fn every_record()
+    ensures lawful { EveryLawfulRecordIsALawfulLog }
+    ensures broken { NoBrokenEntryIsPermitted }
+{}

@@ -1,0 +1,27 @@
+-- What the answer to a record of messages ends with.
+use Rattle.std.specs.Prelude.{◌≡◌, ℕ, List, Ok, Err}
+use Rattle.tlwire_search.specs.Explained.{IsExplanation}
+use Rattle.tlwire_record.specs.Messages.{MessagesState}
+use Rattle.tlwire_record.specs.Read.{IsRead}
+use Rattle.tlwire_record.specs.declared.record.ReadFault.TheVariants as read
+use Rattle.tlwire_answer.specs.declared.ending.Ending.{Ending}
+use Rattle.tlwire_answer.specs.declared.ending.Ending.TheVariants.{Usage, Answered, Wrong, Empty, Memory, File}
+
+-- What may be said of a record's lines: what was seen is what they say, and what is said of it holds; or the first line that is outside
+-- the format, and what is wrong with it; or that there is nothing seen.
+abbrev pub MayEnd : List (List ℕ) → Ending → Type 0
+MayEnd lines Usage = ⊥
+MayEnd lines (Answered m explanation) = IsRead lines (Ok m) × IsExplanation m.setting.shape m.image m.seen explanation
+MayEnd lines (Wrong line fault) = IsRead lines (Err (read.Line line fault))
+MayEnd lines Empty = IsRead lines (Err read.Empty)
+MayEnd lines Memory = Unit {0}
+MayEnd lines File = Unit {0}
+
+-- what may be said of what was seen
+abbrev pub IsEnding : MessagesState → Ending → Type 0
+IsEnding seen Usage = ⊥
+IsEnding seen (Answered m explanation) = (m ≡ seen) × IsExplanation m.setting.shape m.image m.seen explanation
+IsEnding seen (Wrong line fault) = ⊥
+IsEnding seen Empty = ⊥
+IsEnding seen Memory = Unit {0}
+IsEnding seen File = ⊥

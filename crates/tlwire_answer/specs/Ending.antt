@@ -1,0 +1,133 @@
+-- What an answer ends with, what is written then, and its status (this project's own format).
+use Rattle.std.specs.Prelude.{◌≡◌, ◌≢◌, ℕ, ◌-◌, ◌==◌, List, [], ◌++◌, length, slice_get, codes, decimal, Option, Some, None, if◌then◌else◌}
+use Rattle.std.specs.Io.KnownBytes.{Appends}
+use Rattle.std.specs.Borrow.{Bor}
+use Rattle.tl_protocol.specs.declared.event.Event.{Event}
+use Rattle.tl_streams.specs.Written.{AppendsBeginning}
+use Rattle.tl_streams.specs.declared.reading.ReadError.{ReadError}
+use Rattle.tl_streams.specs.declared.reading.ReadError.TheVariants as read
+use Rattle.tlwire_search.specs.declared.answer.Explanation.{Explanation}
+use Rattle.tlwire_search.specs.declared.answer.Explanation.TheVariants.{Explained, NotExplained}
+use Rattle.tlwire_record.specs.Fault.{is_outside, sentence}
+use Rattle.tlwire_record.specs.Messages.{MessagesState}
+use Rattle.tlwire_record.specs.declared.fault.Fault.{Fault}
+use Rattle.tlwire_answer.specs.Run.{run_text}
+use Rattle.tlwire_answer.specs.declared.ending.Ending.{Ending}
+use Rattle.tlwire_answer.specs.declared.ending.Ending.TheVariants.{Usage, Answered, Wrong, Empty, Memory, File}
+use Rattle.tlwire_answer.specs.declared.ending.Form.{Form}
+use Rattle.tlwire_answer.specs.declared.ending.Form.TheVariants.{Summary, Run}
+
+-- explained ends with 0, not explained with 6
+abbrev pub explanation_status : Explanation → ℕ
+explanation_status (Explained events) = 0
+explanation_status (NotExplained place) = 6
+
+-- usage ends with 2, what is no record of messages with 3, want of memory with 4, the file with 5
+abbrev pub status_of : Ending → ℕ
+status_of Usage = 2
+status_of (Answered messages explanation) = explanation_status explanation
+status_of (Wrong line fault) = 3
+status_of Empty = 3
+status_of Memory = 4
+status_of File = 5
+
+-- 50 is outside the format, 52 TileLink's and outside the profile
+abbrev pub wrong_text : ℕ → Fault → List ℕ
+wrong_text line fault =
+    if is_outside fault then codes "error 52 line " ++ decimal line ++ codes ": " ++ sentence fault
+    else codes "error 50 line " ++ decimal line ++ codes ": " ++ sentence fault
+
+-- a fault as it prints
+abbrev pub fault_text : Ending → List ℕ
+fault_text Usage = codes "error usage"
+fault_text (Answered messages explanation) = []
+fault_text (Wrong line fault) = wrong_text line fault
+fault_text Empty = codes "error 51 empty"
+fault_text Memory = codes "error 41 memory"
+fault_text File = codes "error file"
+
+-- the line of a fault
+abbrev pub fault_line : Ending → List ℕ
+fault_line ending = fault_text ending ++ codes "\n"
+
+-- a file that is not read to its end ends as a read, or for want of memory
+abbrev pub ending_of_read : ReadError → Ending
+ending_of_read read.Memory = Memory
+ending_of_read read.File = File
+
+-- so much was seen, and so many events explain it
+abbrev pub summary_text : ℕ → ℕ → List ℕ
+summary_text seen events = codes "explained: " ++ decimal seen ++ codes " seen, " ++ decimal events ++ codes " events\n"
+
+-- how much was seen, and how many events explain it
+abbrev pub summary_line : MessagesState → List Event → List ℕ
+summary_line m events = summary_text (length m.seen) (length events)
+
+-- the run, as a record of events
+abbrev pub run_of : MessagesState → List Event → List ℕ
+run_of m events = run_text m.setting.shape m.image events
+
+-- a number that may be absent
+abbrev pub number_or_zero : Option ℕ → ℕ
+number_or_zero None = 0
+number_or_zero (Some n) = n
+
+-- the number of the line of a thing seen
+abbrev pub number_at : List ℕ → ℕ → ℕ
+number_at numbers place = number_or_zero (slice_get numbers place)
+
+-- a line that may be absent
+abbrev pub line_or_none : Option (List ℕ) → List ℕ
+line_or_none None = []
+line_or_none (Some line) = line
+
+-- that of a reference to it
+abbrev pub lent_line : Option (Bor (List ℕ)) → List ℕ
+lent_line None = []
+lent_line (Some line) = line.now
+
+-- the line with a number, from 1 on
+abbrev pub text_at : List (List ℕ) → ℕ → List ℕ
+text_at lines number = if number == 0 then [] else line_or_none (slice_get lines (number - 1))
+
+-- the line that no attempt reached
+abbrev pub not_explained_text : ℕ → List ℕ → List ℕ
+not_explained_text number line =
+    codes "not explained: line " ++ decimal number ++ codes ": " ++ line
+    ++ codes "\nno attempt reached it; this is no verdict that it is unlawful\n"
+
+-- what is written of a run that was found
+abbrev pub explained_text : Form → MessagesState → List Event → List ℕ
+explained_text Summary m events = summary_line m events
+explained_text Run m events = run_of m events
+
+-- what is written of what was said
+abbrev pub answer_text : Form → List (List ℕ) → MessagesState → Explanation → List ℕ
+answer_text form lines m (Explained events) = explained_text form m events.items
+answer_text form lines m (NotExplained place) =
+    not_explained_text (number_at m.lines place) (text_at lines (number_at m.lines place))
+
+-- what is written of an ending that is an answer
+abbrev pub ending_text : Form → List (List ℕ) → Ending → List ℕ
+ending_text form lines (Answered messages explanation) = answer_text form lines messages explanation
+ending_text form lines Usage = []
+ending_text form lines (Wrong line fault) = []
+ending_text form lines Empty = []
+ending_text form lines Memory = []
+ending_text form lines File = []
+
+-- An answer stands in the output, and nothing in the faults.
+pub record IsAnswer (written : List ℕ) (output output_new faults faults_new : Option (List ℕ)) : Type 0 where
+  pub text : Appends output output_new written
+  pub quiet : faults_new ≡ faults
+
+-- A fault stands in the faults, as far as they take it, and nothing in the output, unless that could not be written.
+pub record IsFault (ending : Ending) (output output_new faults faults_new : Option (List ℕ)) : Type 0 where
+  pub line : AppendsBeginning faults faults_new (fault_line ending)
+  pub nothing : status_of ending ≢ 5 → output_new ≡ output
+
+-- which of the two stands for a status
+pub record IsTold (status : ℕ) (form : Form) (lines : List (List ℕ)) (ending : Ending) (output output_new faults faults_new : Option (List ℕ)) : Type 0 where
+  pub explained : status ≡ 0 → IsAnswer (ending_text form lines ending) output output_new faults faults_new
+  pub not_explained : status ≡ 6 → IsAnswer (ending_text form lines ending) output output_new faults faults_new
+  pub fault : status ≢ 0 → status ≢ 6 → IsFault ending output output_new faults faults_new

@@ -1,0 +1,212 @@
+//! What an answer ends with, and how it is told.
+ghost use Rattle.std.specs.Prelude.{◌≡◌, ◌++◌, Some, IfOk, OnOk, slice_get, string_bytes};
+ghost use Rattle.tl_streams.specs.Written.{AppendsBeginning};
+ghost use Rattle.tl_script_words.specs.Words.{texts};
+ghost use Rattle.tlwire_answer.specs.Ending.{answer_text, ending_of_read, explained_text, fault_line, fault_text, lent_line, not_explained_text, number_at, run_of, status_of, summary_line, summary_text, text_at};
+
+use crate::run::RunText;
+use std::alloc::{AllocError, Global};
+use std::fmt;
+use std::fmt::Write as WriteText;
+use std::io::Write;
+use tl_rules::Event;
+use tl_streams::{ReadError, tell};
+use tlwire_record::{Fault, Messages};
+use tlwire_search::Explanation;
+
+/// What is written of a run that was found.
+#[derive(Clone, Copy, Debug, PartialEq, Eq)]
+pub enum Form {
+    /// That it was found, and how many events it has.
+    Summary,
+    /// The run, as a record of events.
+    Run,
+}
+
+/// What an answer ends with. It prints as the text of a fault.
+#[derive(Drop)]
+pub enum Ending {
+    /// The words of the command line are not an option and one file.
+    Usage,
+    /// What was said of what was seen.
+    Answered(Messages, Explanation),
+    /// On this line, from 1 on, this is wrong.
+    Wrong(u64, Fault),
+    /// There is no shape, or neither image nor message.
+    Empty,
+    /// A request for memory was refused.
+    Memory,
+    /// The file could not be read to its end, or the answer not written.
+    File,
+}
+
+impl fmt::Display for Ending {
+    ghost output = { λ e. Some (fault_text e) };
+
+    fn fmt<W: fmt::Write>(&self, f: &mut fmt::Formatter<W>) -> fmt::Result {
+        match self {
+            Ending::Usage => f.write_str("error usage"),
+            Ending::Answered(_, _) => Ok(()),
+            Ending::Wrong(line, fault) => {
+                if fault.is_outside() {
+                    write!(f, "error 52 line {line}: {fault}")
+                } else {
+                    write!(f, "error 50 line {line}: {fault}")
+                }
+            }
+            Ending::Empty => f.write_str("error 51 empty"),
+            Ending::Memory => f.write_str("error 41 memory"),
+            Ending::File => f.write_str("error file"),
+        }
+    }
+}
+
+impl From<ReadError> for Ending {
+    ghost from_gives = { λ error ending. ending ≡ ending_of_read error };
+
+    fn from(error: ReadError) -> Ending {
+        match error {
+            ReadError::Memory => Ending::Memory,
+            ReadError::File => Ending::File,
+        }
+    }
+}
+
+impl Ending {
+    /// The status of it: 0 and 6 are answers, the others faults.
+    pub fn status(&self) -> u8
+        ensures { result ≡ status_of self.now }
+    {
+        match self {
+            Ending::Answered(_, Explanation::Explained(_)) => 0,
+            Ending::Answered(_, Explanation::NotExplained(_)) => 6,
+            Ending::Usage => 2,
+            Ending::Wrong(_, _) | Ending::Empty => 3,
+            Ending::Memory => 4,
+            Ending::File => 5,
+        }
+    }
+}
+
+/// The number of the line of a thing seen.
+fn number_at(messages: &Messages, place: usize) -> u64
+    ensures { result ≡ number_at messages.now.lines place }
+{
+    match messages.lines().get(place) {
+        Some(number) => *number,
+        None => 0,
+    }
+}
+
+fn line_at<'a>(lines: &[&'a [u8]], place: usize) -> &'a [u8]
+    ensures { result.now ≡ lent_line (slice_get lines.now place) }
+{
+    match lines.get(place) {
+        Some(line) => line,
+        None => b"",
+    }
+}
+
+/// The line with a number, from 1 on.
+#[tactic(auto, using(crate::proofs::Texts::lent_at))]
+fn text_at<'a>(lines: &[&'a [u8]], number: u64) -> &'a [u8]
+    ensures { result.now ≡ text_at (texts lines.now) number }
+{
+    if number == 0 {
+        b""
+    } else {
+        line_at(lines, (number - 1) as usize)
+    }
+}
+
+// How much was seen, and how many events explain it.
+#[derive(Clone, Copy)]
+struct SummaryLine {
+    seen: usize,
+    events: usize,
+}
+
+impl fmt::Display for SummaryLine {
+    ghost output = { λ x. Some (summary_text x.seen x.events) };
+
+    fn fmt<W: fmt::Write>(&self, f: &mut fmt::Formatter<W>) -> fmt::Result {
+        write!(f, "explained: {} seen, {} events\n", self.seen, self.events)
+    }
+}
+
+fn push_summary(text: &mut String, messages: &Messages, events: &[Event]) -> Result<(), AllocError>
+    ensures { OnOk result (string_bytes text.new ≡ string_bytes text.old ++ summary_line messages.now events.now) }
+{
+    let line = SummaryLine {
+        seen: messages.seen().len(),
+        events: events.len(),
+    };
+    write!(text, "{line}")?;
+    Ok(())
+}
+
+fn push_run(text: &mut String, messages: &Messages, events: &[Event]) -> Result<(), AllocError>
+    ensures { OnOk result (string_bytes text.new ≡ string_bytes text.old ++ run_of messages.now events.now) }
+{
+    let run = RunText {
+        shape: messages.setting().shape(),
+        image: messages.image(),
+        events,
+    };
+    write!(text, "{run}")?;
+    Ok(())
+}
+
+fn explained(
+    alloc: Global,
+    form: Form,
+    messages: &Messages,
+    events: &[Event],
+) -> Result<Vec<u8>, AllocError>
+    ensures { IfOk result (λ text. text.items ≡ explained_text form messages.now events.now) }
+{
+    let mut text = String::new(alloc);
+    match form {
+        Form::Summary => push_summary(&mut text, messages, events)?,
+        Form::Run => push_run(&mut text, messages, events)?,
+    }
+    Ok(text.into_bytes())
+}
+
+fn not_explained(alloc: Global, number: u64, line: &[u8]) -> Result<Vec<u8>, AllocError>
+    ensures { IfOk result (λ text. text.items ≡ not_explained_text number line.now) }
+{
+    let head = format!(in alloc; "not explained: line {number}: ")?;
+    let mut text = head.into_bytes();
+    text.extend_from_slice(line)?;
+    text.extend_from_slice(b"\nno attempt reached it; this is no verdict that it is unlawful\n")?;
+    Ok(text)
+}
+
+/// What is written of what was said. Err is a refused request for memory.
+pub(crate) fn text_of(
+    alloc: Global,
+    form: Form,
+    lines: &[&[u8]],
+    messages: &Messages,
+    explanation: &Explanation,
+) -> Result<Vec<u8>, AllocError>
+    ensures { IfOk result (λ text. text.items ≡ answer_text form (texts lines.now) messages.now explanation.now) }
+{
+    match explanation {
+        Explanation::Explained(events) => explained(alloc, form, messages, events),
+        Explanation::NotExplained(place) => {
+            let number = number_at(messages, *place);
+            not_explained(alloc, number, text_at(lines, number))
+        }
+    }
+}
+
+/// Tells a fault, as far as `faults` takes it, and answers its status.
+pub fn show<E: Write>(faults: &mut E, ending: &Ending) -> u8
+    ensures status { result ≡ status_of ending.now }
+    ensures line { AppendsBeginning (E.contents faults.old) (E.contents faults.new) (fault_line ending.now) }
+{
+    let _ = tell(faults, ending);
+    ending.status()
+}

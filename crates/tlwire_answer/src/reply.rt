@@ -1,0 +1,105 @@
+//! The answer to a record, and what is written of it.
+ghost use Rattle.std.specs.Prelude.{◌≡◌};
+ghost use Rattle.tl_script_words.specs.Words.{texts};
+ghost use Rattle.tlwire_record.specs.Reading.{lines_of};
+ghost use Rattle.tlwire_answer.specs.Answer.{IsEnding, MayEnd};
+ghost use Rattle.tlwire_answer.specs.Ending.{IsTold, status_of};
+ghost use Rattle.tlwire_answer.specs.declared.ending.Ending.{Ending};
+
+use crate::ending::{Ending, Form, show, text_of};
+use std::alloc::Global;
+use std::io::Write;
+use tl_streams::write_whole;
+use tlwire_record::{Messages, ReadFault, read, split_lines};
+use tlwire_search::explain;
+
+/// What the answer to what was seen ends with.
+fn explained(alloc: Global, messages: Messages) -> Ending
+    ensures { IsEnding messages result }
+{
+    let shape = messages.setting().shape();
+    match explain(alloc, shape, messages.image(), messages.seen()) {
+        Ok(explanation) => Ending::Answered(messages, explanation),
+        Err(_) => Ending::Memory,
+    }
+}
+
+/// What the answer to a record ends with.
+fn ending(alloc: Global, lines: &[&[u8]]) -> Ending
+    ensures { MayEnd (texts lines.now) result }
+{
+    match read(alloc, lines) {
+        Ok(messages) => explained(alloc, messages),
+        Err(ReadFault::Line(line, fault)) => Ending::Wrong(line, fault),
+        Err(ReadFault::Empty) => Ending::Empty,
+        Err(ReadFault::Memory) => Ending::Memory,
+    }
+}
+
+/// Writes an ending to `output` where it is an answer, else to `faults`, and answers its status: that of the file where it could not be
+/// written, or of want of memory.
+fn write_ending<W: Write, E: Write>(
+    alloc: Global,
+    form: Form,
+    lines: &[&[u8]],
+    ending: &Ending,
+    output: &mut W,
+    faults: &mut E,
+) -> u8
+    requires { MayEnd (texts lines.now) ending.now }
+    ensures { (told : Ending)
+        × MayEnd (texts lines.now) told
+        × (result ≡ status_of told)
+        × IsTold result form (texts lines.now) told (W.contents output.old) (W.contents output.new) (E.contents faults.old) (E.contents faults.new) }
+{
+    match ending {
+        Ending::Answered(messages, explanation) => {
+            match text_of(alloc, form, lines, messages, explanation) {
+                Ok(text) => match write_whole(output, &text) {
+                    Ok(()) => ending.status(),
+                    Err(_) => show(faults, &Ending::File),
+                },
+                Err(_) => show(faults, &Ending::Memory),
+            }
+        }
+        _ => show(faults, ending),
+    }
+}
+
+/// Answers what was seen, and tells it.
+fn reply<W: Write, E: Write>(
+    alloc: Global,
+    form: Form,
+    lines: &[&[u8]],
+    output: &mut W,
+    faults: &mut E,
+) -> u8
+    ensures { (ending : Ending)
+        × MayEnd (texts lines.now) ending
+        × (result ≡ status_of ending)
+        × IsTold result form (texts lines.now) ending (W.contents output.old) (W.contents output.new) (E.contents faults.old) (E.contents faults.new) }
+{
+    let ending = ending(alloc, lines);
+    write_ending(alloc, form, lines, &ending, output, faults)
+}
+
+/// Reads a record of messages, looks for a run that has just what was seen, and writes what it found: an answer to `output`, a fault to
+/// `faults`. It answers the status: 0 where a run explains it, 6 where no attempt found one, 3 where it cannot be read, 4 for want of
+/// memory, 5 where the answer could not be written. A failing `faults` does not change it.
+pub fn answer<W: Write, E: Write>(
+    alloc: Global,
+    form: Form,
+    text: &[u8],
+    output: &mut W,
+    faults: &mut E,
+) -> u8
+    ensures { (ending : Ending)
+        × MayEnd (lines_of text.now) ending
+        × (result ≡ status_of ending)
+        × IsTold result form (lines_of text.now) ending (W.contents output.old) (W.contents output.new) (E.contents faults.old) (E.contents faults.new) }
+{
+    match split_lines(alloc, text) {
+        Ok(lines) => reply(alloc, form, &lines, output, faults),
+        Err(_) => show(faults, &Ending::Memory),
+    }
+}

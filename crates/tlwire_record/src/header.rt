@@ -1,0 +1,294 @@
+//! The lines before the messages: the title, the shape, whose the sources are, the image.
+ghost use Rattle.std.specs.Prelude.{◌≡◌, ◌<◌, ◌≤◌, [], ◌∷◌, Ok};
+ghost use Rattle.std.specs.List.{list_any};
+ghost use Rattle.tl_script_words.specs.Words.{texts};
+ghost use Rattle.tlwire_record.specs.Fault.{Gives};
+ghost use Rattle.tlwire_record.specs.Header.{address_at, address_part, fitting, has_source, has_sources, image_in, is_fit, is_title, number_at, number_part, numbers_in, owns, setting_in, sources_in, sources_taken, with_sources};
+
+use crate::fault::{Fault, WireError};
+use crate::fields::{address, number, split_pair};
+use std::alloc::Global;
+use std::marker::Model;
+use tl_rules::Shape;
+use tl_script_words::parse_bytes;
+use tl_types::{BLOCK_BYTES, BLOCKS, ClientId};
+
+/// The source ids from one to another, both with them, which are a client's.
+#[derive(Clone, Copy, Debug, PartialEq, Eq)]
+pub struct Sources {
+    pub client: ClientId,
+    pub from: u32,
+    pub to: u32,
+}
+
+/// The memory, the clients and their sources.
+#[derive(Drop)]
+pub struct Setting {
+    shape: Shape,
+    base: u32,
+    sources: Vec<Sources>,
+}
+
+impl Model for Setting {
+    ghost use Rattle.std.specs.Prelude.{◌<◌, ◌≤◌};
+    ghost use Rattle.tlwire_record.specs.Header.{SettingState};
+
+    ghost Value = { SettingState };
+
+    ghost view = { λ s. record { shape = s.shape; base = s.base; sources = s.sources.items } };
+
+    ghost invariant = { λ s. (0 < s.shape.block_bytes) × (s.shape.block_bytes ≤ 64) × (s.shape.blocks ≤ 65536) };
+}
+
+impl Sources {
+    /// Whether a source lies between them, and the client is theirs.
+    fn has(&self, client: ClientId, source: u32) -> bool
+        ensures { result ≡ has_source client source self.now }
+    {
+        self.client == client && self.from <= source && source <= self.to
+    }
+}
+
+fn is_owned(sources: &[Sources], client: ClientId, source: u32) -> bool
+    ensures { result ≡ list_any (has_source client source) sources.now }
+{
+    sources.iter().any(|range| range.has(client, source))
+}
+
+fn owns(sources: &[Sources], client: ClientId, source: u32) -> bool
+    ensures { result ≡ owns sources.now client source }
+{
+    if sources.is_empty() {
+        client.number() == source
+    } else {
+        is_owned(sources, client, source)
+    }
+}
+
+impl Setting {
+    /// The numbers of the memory and the clients.
+    pub fn shape(&self) -> Shape
+        ensures shape { result ≡ self.now.shape }
+        ensures bytes { (0 < result.block_bytes) × (result.block_bytes ≤ BLOCK_BYTES) }
+        ensures blocks { result.blocks ≤ BLOCKS }
+    {
+        self.shape
+    }
+
+    /// The address of block 0.
+    pub fn base(&self) -> u32
+        ensures { result ≡ self.now.base }
+    {
+        self.base
+    }
+
+    /// Whether a source is one of a client's; where no line gives sources, a client has the one of its number.
+    pub fn owns(&self, client: ClientId, source: u32) -> bool
+        ensures { result ≡ owns self.now.sources client source }
+    {
+        owns(self.sources.as_slice(), client, source)
+    }
+
+    /// One line of sources more.
+    fn add(&mut self, sources: Sources) -> Result<(), WireError>
+        ensures { Gives (λ _. self.new) result (Ok (with_sources self.old sources)) }
+    {
+        self.sources.push(sources)?;
+        Ok(())
+    }
+}
+
+/// Whether a line is the title.
+pub(crate) fn is_title(words: &[&str]) -> bool
+    ensures { result ≡ is_title (texts words.now) }
+{
+    match *words {
+        [name, version] => name == "jvwire" && version == "1",
+        _ => false,
+    }
+}
+
+fn number_part(key: &str, parts: &[&str]) -> Result<u32, Fault>
+    ensures { result ≡ number_part key.now (texts parts.now) }
+{
+    match *parts {
+        [name, value] => {
+            if name == key {
+                number(value)
+            } else {
+                Err(Fault::Key)
+            }
+        }
+        _ => Err(Fault::Key),
+    }
+}
+
+/// The number at a key.
+fn number_at(alloc: Global, key: &str, word: &str) -> Result<u32, WireError>
+    ensures { Gives (λ x. x) result (number_at key.now word.now) }
+{
+    let parts = split_pair(alloc, word)?;
+    Ok(number_part(key, &parts)?)
+}
+
+fn address_part(key: &str, parts: &[&str]) -> Result<u32, Fault>
+    ensures { result ≡ address_part key.now (texts parts.now) }
+{
+    match *parts {
+        [name, value] => {
+            if name == key {
+                address(value)
+            } else {
+                Err(Fault::Key)
+            }
+        }
+        _ => Err(Fault::Key),
+    }
+}
+
+/// The address at a key.
+fn address_at(alloc: Global, key: &str, word: &str) -> Result<u32, WireError>
+    ensures { Gives (λ x. x) result (address_at key.now word.now) }
+{
+    let parts = split_pair(alloc, word)?;
+    Ok(address_part(key, &parts)?)
+}
+
+fn is_fit(shape: Shape, base: u32) -> bool
+    ensures { result ≡ is_fit shape base }
+{
+    1 <= shape.clients
+        && shape.clients <= 64
+        && (shape.block_bytes == 8
+            || shape.block_bytes == 16
+            || shape.block_bytes == 32
+            || shape.block_bytes == 64)
+        && 1 <= shape.blocks
+        && shape.blocks as usize <= BLOCKS
+        && base % shape.block_bytes == 0
+}
+
+fn fitting(alloc: Global, shape: Shape, base: u32) -> Result<Setting, Fault>
+    ensures { result ≡ fitting shape base }
+{
+    if is_fit(shape, base) {
+        Ok(Setting {
+            shape,
+            base,
+            sources: Vec::new(alloc),
+        })
+    } else {
+        Err(Fault::Range)
+    }
+}
+
+/// The setting of these four words.
+#[tactic(auto, unfolding(crate::specs::Header::numbers_in))]
+fn setting_of(
+    alloc: Global,
+    clients: &str,
+    block: &str,
+    blocks: &str,
+    base: &str,
+) -> Result<Setting, WireError>
+    ensures { Gives (λ x. x) result (numbers_in (clients.now ∷ block.now ∷ blocks.now ∷ base.now ∷ [])) }
+{
+    let clients = number_at(alloc, "clients", clients)?;
+    let block_bytes = number_at(alloc, "block", block)?;
+    let blocks = number_at(alloc, "blocks", blocks)?;
+    let base = address_at(alloc, "base", base)?;
+    let shape = Shape {
+        clients,
+        block_bytes,
+        blocks,
+    };
+    Ok(fitting(alloc, shape, base)?)
+}
+
+/// `clients=N block=N blocks=N base=ADDR`, behind the word `shape`.
+#[tactic(auto, unfolding(crate::specs::Header::numbers_in))]
+fn parse_numbers(alloc: Global, words: &[&str]) -> Result<Setting, WireError>
+    ensures { Gives (λ x. x) result (numbers_in (texts words.now)) }
+{
+    match *words {
+        [clients, block, blocks, base] => setting_of(alloc, clients, block, blocks, base),
+        _ => Err(WireError::Wrong(Fault::Shape)),
+    }
+}
+
+/// `shape clients=N block=N blocks=N base=ADDR`.
+#[tactic(auto, unfolding(crate::specs::Header::setting_in))]
+pub(crate) fn parse_setting(alloc: Global, words: &[&str]) -> Result<Setting, WireError>
+    ensures { Gives (λ x. x) result (setting_in (texts words.now)) }
+{
+    match words {
+        [] => Err(WireError::Wrong(Fault::Shape)),
+        [word, rest @ ..] => match *word {
+            "shape" => parse_numbers(alloc, rest),
+            _ => Err(WireError::Wrong(Fault::Shape)),
+        },
+    }
+}
+
+fn has_sources(shape: Shape, sources: Sources) -> bool
+    ensures { result ≡ has_sources shape sources }
+{
+    sources.client.number() < shape.clients && sources.from <= sources.to
+}
+
+/// The sources of these three words.
+#[tactic(auto, unfolding(crate::specs::Header::sources_in))]
+fn sources_of(
+    alloc: Global,
+    shape: Shape,
+    client: &str,
+    from: &str,
+    to: &str,
+) -> Result<Sources, WireError>
+    ensures { Gives (λ x. x) result (sources_in shape (client.now ∷ from.now ∷ to.now ∷ [])) }
+{
+    let client = ClientId::new(number_at(alloc, "client", client)?);
+    let from = number_at(alloc, "from", from)?;
+    let to = number_at(alloc, "to", to)?;
+    let sources = Sources { client, from, to };
+    if has_sources(shape, sources) {
+        Ok(sources)
+    } else {
+        Err(WireError::Wrong(Fault::Sources))
+    }
+}
+
+/// `source client=N from=N to=N`.
+#[tactic(auto, unfolding(crate::specs::Header::sources_in))]
+fn parse_sources(alloc: Global, shape: Shape, words: &[&str]) -> Result<Sources, WireError>
+    ensures { Gives (λ x. x) result (sources_in shape (texts words.now)) }
+{
+    match *words {
+        [client, from, to] => sources_of(alloc, shape, client, from, to),
+        _ => Err(WireError::Wrong(Fault::Sources)),
+    }
+}
+
+/// The setting with what a line of sources gives.
+pub(crate) fn take_sources(
+    alloc: Global,
+    mut setting: Setting,
+    words: &[&str],
+) -> Result<Setting, WireError>
+    ensures { Gives (λ x. x) result (sources_taken setting (texts words.now)) }
+{
+    let sources = parse_sources(alloc, setting.shape(), words)?;
+    setting.add(sources)?;
+    Ok(setting)
+}
+
+/// `HEX`, behind the word `image`.
+#[tactic(auto, unfolding(crate::specs::Header::image_in))]
+pub(crate) fn parse_image(alloc: Global, words: &[&str]) -> Result<Vec<u8>, WireError>
+    ensures { Gives (λ x. x.items) result (image_in (texts words.now)) }
+{
+    match *words {
+        [bytes] => Ok(parse_bytes(alloc, bytes)?),
+        _ => Err(WireError::Wrong(Fault::Bytes)),
+    }
+}

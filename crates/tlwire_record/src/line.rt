@@ -1,0 +1,184 @@
+//! A line of a message, of a load or of a store.
+ghost use Rattle.std.specs.Prelude.{◌≡◌, [], ◌∷◌};
+ghost use Rattle.tl_script_words.specs.Words.{texts};
+ghost use Rattle.tlwire_record.specs.Fault.{Gives};
+ghost use Rattle.tlwire_record.specs.Line.{access_in, channel_of_word, client_of_word, line_in, link_of, message_in, said_in, same_link};
+
+use crate::fault::{Fault, WireError};
+use crate::fields::{Fields, address, no_fields, number, parse_fields};
+use std::alloc::Global;
+use tl_script_words::{parse_access, parse_number};
+use tl_types::{AccessBytes, Channel, ClientId};
+
+/// Whose link.
+#[derive(Clone, Copy, Debug, PartialEq, Eq)]
+pub enum Link {
+    /// A client's.
+    Client(ClientId),
+    /// The memory's.
+    Memory,
+}
+
+impl Link {
+    /// Whether it is the same link.
+    pub(crate) fn is(&self, other: &Link) -> bool
+        ensures { result ≡ same_link self.now other.now }
+    {
+        match self {
+            Link::Client(one) => match other {
+                Link::Client(two) => one == two,
+                Link::Memory => false,
+            },
+            Link::Memory => match other {
+                Link::Client(_) => false,
+                Link::Memory => true,
+            },
+        }
+    }
+
+    /// The same link again.
+    pub(crate) fn copied(&self) -> Link
+        ensures { result ≡ self.now }
+    {
+        match self {
+            Link::Client(client) => Link::Client(*client),
+            Link::Memory => Link::Memory,
+        }
+    }
+}
+
+/// What a line says of its link.
+#[derive(Drop)]
+pub enum Said {
+    /// The client reads these bytes from an address on.
+    Load(u32, AccessBytes),
+    /// The client writes these bytes from an address on.
+    Store(u32, AccessBytes),
+    /// A message with this opcode is sent on a channel.
+    Message(Channel, u32, Fields),
+}
+
+/// A line of a message, of a load or of a store.
+#[derive(Drop)]
+pub struct Line {
+    /// When.
+    pub cycle: u32,
+    /// Where.
+    pub link: Link,
+    /// What.
+    pub said: Said,
+}
+
+fn client_of_word(text: &str) -> Option<u32>
+    ensures { result ≡ client_of_word text.now }
+{
+    if !text.starts_with("c") {
+        return None;
+    }
+    let digits = &text[1..];
+    parse_number(digits)
+}
+
+fn parse_link(text: &str) -> Result<Link, Fault>
+    ensures { result ≡ link_of text.now }
+{
+    if text == "m" {
+        return Ok(Link::Memory);
+    }
+    match client_of_word(text) {
+        Some(number) => Ok(Link::Client(ClientId::new(number))),
+        None => Err(Fault::Link),
+    }
+}
+
+#[tactic(auto, unfolding(crate::specs::Line::channel_of_word))]
+fn parse_channel(text: &str) -> Result<Channel, Fault>
+    ensures { result ≡ channel_of_word text.now }
+{
+    match text {
+        "A" => Ok(Channel::A),
+        "B" => Ok(Channel::B),
+        "C" => Ok(Channel::C),
+        "D" => Ok(Channel::D),
+        "E" => Ok(Channel::E),
+        _ => Err(Fault::Channel),
+    }
+}
+
+/// An address, and the bytes from it on.
+#[tactic(auto, unfolding(crate::specs::Line::access_in))]
+fn parse_words_of_access(words: &[&str]) -> Result<(u32, AccessBytes), WireError>
+    ensures { Gives (λ x. x) result (access_in (texts words.now)) }
+{
+    match *words {
+        [place, bytes] => {
+            let address = address(place)?;
+            let bytes = parse_access(bytes).ok_or(WireError::Wrong(Fault::Bytes))?;
+            Ok((address, bytes))
+        }
+        _ => Err(WireError::Wrong(Fault::Words)),
+    }
+}
+
+/// A message's opcode and fields.
+#[tactic(auto, unfolding(crate::specs::Line::message_in))]
+fn message(alloc: Global, channel: Channel, words: &[&str]) -> Result<Said, WireError>
+    ensures { Gives (λ x. x) result (message_in channel (texts words.now)) }
+{
+    match words {
+        [] => Err(WireError::Wrong(Fault::Words)),
+        [opcode, rest @ ..] => {
+            let opcode = number(opcode)?;
+            let fields = parse_fields(alloc, no_fields(), rest)?;
+            Ok(Said::Message(channel, opcode, fields))
+        }
+    }
+}
+
+#[tactic(auto, unfolding(crate::specs::Line::said_in))]
+fn parse_said(alloc: Global, verb: &str, words: &[&str]) -> Result<Said, WireError>
+    ensures { Gives (λ x. x) result (said_in verb.now (texts words.now)) }
+{
+    match verb {
+        "load" => {
+            let (address, bytes) = parse_words_of_access(words)?;
+            Ok(Said::Load(address, bytes))
+        }
+        "store" => {
+            let (address, bytes) = parse_words_of_access(words)?;
+            Ok(Said::Store(address, bytes))
+        }
+        _ => {
+            let channel = parse_channel(verb)?;
+            message(alloc, channel, words)
+        }
+    }
+}
+
+/// The line with this cycle, this link, this verb and these words behind it.
+#[tactic(auto, unfolding(crate::specs::Line::line_in))]
+fn line_of(
+    alloc: Global,
+    when: &str,
+    place: &str,
+    verb: &str,
+    rest: &[&str],
+) -> Result<Line, WireError>
+    ensures { Gives (λ x. x) result (line_in (when.now ∷ place.now ∷ verb.now ∷ texts rest.now)) }
+{
+    let cycle = number(when)?;
+    let link = parse_link(place)?;
+    let said = parse_said(alloc, verb, rest)?;
+    Ok(Line { cycle, link, said })
+}
+
+/// The line that some words write: `CYCLE LINK CHANNEL OPCODE FIELD..`, `CYCLE LINK load ADDR HEX` or `CYCLE LINK store ADDR HEX`.
+#[tactic(auto, unfolding(crate::specs::Line::line_in))]
+pub(crate) fn parse_line(alloc: Global, words: &[&str]) -> Result<Line, WireError>
+    ensures { Gives (λ x. x) result (line_in (texts words.now)) }
+{
+    match words {
+        [] | [_] | [_, _] => Err(WireError::Wrong(Fault::Words)),
+        [when, place, verb, rest @ ..] => line_of(alloc, when, place, verb, rest),
+    }
+}

@@ -1,0 +1,241 @@
+//! What was seen, with the client and the block that its ids stand for.
+ghost use Rattle.std.specs.Prelude.{◌≡◌};
+ghost use Rattle.tlwire_record.specs.Fault.{Gives};
+ghost use Rattle.tlwire_record.specs.declared.line.Said.TheVariants as its;
+ghost use Rattle.tlwire_record.specs.Messages.{began, has_own_source, is_there, owner_of, seen_on, wrong_in};
+
+use crate::code::{is_on_link, kind_of, role_of};
+use crate::fault::{Fault, WireError};
+use crate::fields::Fields;
+use crate::header::Setting;
+use crate::line::{Line, Link, Said};
+use crate::place::{has_its_data, has_other_fields, is_size, offset_of};
+use crate::tables::Tables;
+use std::alloc::Global;
+use std::marker::Model;
+use tl_types::{AccessBytes, BlockNo, Channel, ClientId, Kind};
+use tlcheck_rules::Shown;
+use tlwire_search::Seen;
+
+/// Whether a source that stands is one of the client's.
+fn has_own_source(setting: &Setting, link: &Link, source: Option<u32>) -> bool
+    ensures { result ≡ has_own_source setting.now link.now source }
+{
+    match link {
+        Link::Memory => true,
+        Link::Client(client) => match source {
+            Some(source) => setting.owns(*client, source),
+            None => true,
+        },
+    }
+}
+
+/// What is wrong with a message of a kind on a link, if anything.
+fn wrong_in(
+    setting: &Setting,
+    link: &Link,
+    channel: Channel,
+    kind: &Kind,
+    fields: &Fields,
+) -> Option<Fault>
+    ensures { result ≡ wrong_in setting.now link.now channel kind.now fields.now }
+{
+    let shape = setting.shape();
+    if !is_on_link(kind, link) {
+        return Some(Fault::Profile);
+    }
+    if has_other_fields(channel, fields) {
+        return Some(Fault::Extra);
+    }
+    if !is_size(shape, fields.size) {
+        return Some(Fault::Size);
+    }
+    if !has_own_source(setting, link, fields.source) {
+        return Some(Fault::Source);
+    }
+    if !has_its_data(shape, kind, &fields.bytes) {
+        return Some(Fault::Data);
+    }
+    None
+}
+
+/// A message of a block, on a link.
+fn seen_on(link: &Link, block: BlockNo, shown: Shown) -> Seen
+    ensures { result ≡ seen_on link.now block shown }
+{
+    match link {
+        Link::Client(client) => Seen::OnLink(*client, block, shown),
+        Link::Memory => Seen::OnMemory(block, shown),
+    }
+}
+
+/// Whether a link is the memory's or that of a client that is there.
+fn is_there(clients: u32, link: &Link) -> bool
+    ensures { result ≡ is_there clients link.now }
+{
+    match link {
+        Link::Client(client) => client.number() < clients,
+        Link::Memory => true,
+    }
+}
+
+/// The client whose link it is.
+fn owner_of(link: &Link) -> Result<ClientId, Fault>
+    ensures { result ≡ owner_of link.now }
+{
+    match link {
+        Link::Client(client) => Ok(*client),
+        Link::Memory => Err(Fault::Client),
+    }
+}
+
+/// What was seen, and the lines that stand for it.
+#[derive(Drop)]
+pub struct Messages {
+    setting: Setting,
+    image: Vec<u8>,
+    cycle: u32,
+    tables: Tables,
+    seen: Vec<Seen>,
+    lines: Vec<u64>,
+}
+
+impl Model for Messages {
+    ghost use Rattle.tlwire_record.specs.Messages.{MessagesState};
+
+    ghost Value = { MessagesState };
+
+    ghost view = { λ m. record {
+      setting = m.setting;
+      image = m.image.items;
+      cycle = m.cycle;
+      tables = m.tables;
+      seen = m.seen.items;
+      lines = m.lines.items;
+    } };
+}
+
+impl Messages {
+    ghost use Rattle.tlwire_record.specs.Messages.{line_taken, message_taken, said_taken};
+
+    /// The memory, the clients and their sources.
+    pub fn setting(&self) -> &Setting
+        ensures { result.now ≡ self.now.setting }
+    {
+        &self.setting
+    }
+
+    /// The bytes of the memory at reset, 0 past their end.
+    pub fn image(&self) -> &[u8]
+        ensures { result.now ≡ self.now.image }
+    {
+        &self.image
+    }
+
+    /// What was seen, in the order of the lines.
+    pub fn seen(&self) -> &[Seen]
+        ensures { result.now ≡ self.now.seen }
+    {
+        &self.seen
+    }
+
+    /// The number of the line of each thing seen.
+    pub fn lines(&self) -> &[u64]
+        ensures { result.now ≡ self.now.lines }
+    {
+        &self.lines
+    }
+
+    /// Nothing was seen.
+    pub(crate) fn begin(alloc: Global, setting: Setting, image: Vec<u8>) -> Messages
+        ensures { result ≡ began setting image.items }
+    {
+        Messages {
+            setting,
+            image,
+            cycle: 0,
+            tables: Tables::new(alloc),
+            seen: Vec::new(alloc),
+            lines: Vec::new(alloc),
+        }
+    }
+
+    #[tactic(auto, unfolding(crate::specs::Messages::message_taken))]
+    fn message(
+        &mut self,
+        link: &Link,
+        channel: Channel,
+        opcode: u32,
+        fields: Fields,
+    ) -> Result<Seen, WireError>
+        ensures gives { Gives (λ seen. (seen, self.new.tables)) result
+            (message_taken self.old.setting self.old.tables link.now channel opcode fields) }
+        ensures kept { self.new ≡ record self.old { tables = self.new.tables } }
+    {
+        let kind = kind_of(channel, opcode, fields.param.unwrap_or(0))?;
+        if let Some(fault) = wrong_in(&self.setting, link, channel, &kind, &fields) {
+            return Err(WireError::Wrong(fault));
+        }
+        let block = self
+            .tables
+            .take(&self.setting, role_of(&kind), link, &fields)?;
+        let shown = Shown {
+            kind,
+            bytes: fields.bytes,
+        };
+        Ok(seen_on(link, block, shown))
+    }
+
+    /// What is seen of a load.
+    #[tactic(auto, unfolding(crate::specs::Messages::said_taken))]
+    fn load(&self, link: &Link, address: u32, bytes: AccessBytes) -> Result<Seen, WireError>
+        ensures { Gives (λ seen. (seen, self.now.tables)) result
+            (said_taken self.now.setting self.now.tables link.now (its.Load address bytes)) }
+    {
+        let client = owner_of(link)?;
+        let offset = offset_of(self.setting.shape(), self.setting.base(), address, &bytes)?;
+        Ok(Seen::Load(client, offset, bytes))
+    }
+
+    /// What is seen of a store.
+    #[tactic(auto, unfolding(crate::specs::Messages::said_taken))]
+    fn store(&self, link: &Link, address: u32, bytes: AccessBytes) -> Result<Seen, WireError>
+        ensures { Gives (λ seen. (seen, self.now.tables)) result
+            (said_taken self.now.setting self.now.tables link.now (its.Store address bytes)) }
+    {
+        let client = owner_of(link)?;
+        let offset = offset_of(self.setting.shape(), self.setting.base(), address, &bytes)?;
+        Ok(Seen::Store(client, offset, bytes))
+    }
+
+    /// What is seen of what a line says, on a link of a client that is there or of the memory.
+    #[tactic(auto, unfolding(crate::specs::Messages::said_taken))]
+    fn said(&mut self, link: &Link, said: Said) -> Result<Seen, WireError>
+        ensures gives { Gives (λ seen. (seen, self.new.tables)) result (said_taken self.old.setting self.old.tables link.now said) }
+        ensures kept { self.new ≡ record self.old { tables = self.new.tables } }
+    {
+        match said {
+            Said::Load(address, bytes) => self.load(link, address, bytes),
+            Said::Store(address, bytes) => self.store(link, address, bytes),
+            Said::Message(channel, opcode, fields) => self.message(link, channel, opcode, fields),
+        }
+    }
+
+    /// Takes the line with this number.
+    pub(crate) fn take(&mut self, number: u64, line: Line) -> Result<(), WireError>
+        ensures { Gives (λ _. self.new) result (line_taken self.old number line) }
+    {
+        let Line { cycle, link, said } = line;
+        if cycle < self.cycle {
+            return Err(WireError::Wrong(Fault::Backwards));
+        }
+        if !is_there(self.setting.shape().clients, &link) {
+            return Err(WireError::Wrong(Fault::Client));
+        }
+        let seen = self.said(&link, said)?;
+        self.cycle = cycle;
+        self.seen.push(seen)?;
+        self.lines.push(number)?;
+        Ok(())
+    }
+}

@@ -1,0 +1,92 @@
+//! Where a message or an access is, and whether its size and its bytes are a block's.
+ghost use Rattle.std.specs.Prelude.{◌≡◌, ◌<◌};
+ghost use Rattle.tl_types.specs.declared.kind.Kind.{Kind};
+ghost use Rattle.tlwire_record.specs.Place.{block_at, has_its_data, has_other_fields, is_size, offset_of};
+
+use crate::code::has_data;
+use crate::fault::Fault;
+use crate::fields::Fields;
+use tl_rules::Shape;
+use tl_types::{AccessBytes, BlockBytes, BlockNo, Channel, Kind};
+
+/// The block whose first byte lies at an address.
+pub(crate) fn block_at(shape: Shape, base: u32, address: u32) -> Result<BlockNo, Fault>
+    requires { 0 < shape.block_bytes }
+    ensures { result ≡ block_at shape base address }
+{
+    if address < base {
+        return Err(Fault::Outside);
+    }
+    let offset = address - base;
+    if offset / shape.block_bytes >= shape.blocks {
+        return Err(Fault::Outside);
+    }
+    if offset % shape.block_bytes != 0 {
+        return Err(Fault::Unaligned);
+    }
+    Ok(BlockNo::new(offset / shape.block_bytes))
+}
+
+/// How far behind the memory's first byte an access begins.
+pub(crate) fn offset_of(
+    shape: Shape,
+    base: u32,
+    address: u32,
+    bytes: &AccessBytes,
+) -> Result<u32, Fault>
+    requires { 0 < shape.block_bytes }
+    ensures { result ≡ offset_of shape base address bytes.now }
+{
+    if address < base {
+        return Err(Fault::Outside);
+    }
+    let offset = address - base;
+    if offset / shape.block_bytes >= shape.blocks {
+        return Err(Fault::Outside);
+    }
+    let from = (offset % shape.block_bytes) as usize;
+    if from + bytes.as_slice().len() > shape.block_bytes as usize {
+        return Err(Fault::Access);
+    }
+    Ok(offset)
+}
+
+/// Whether a size, where it stands, is a block's.
+pub(crate) fn is_size(shape: Shape, size: Option<u32>) -> bool
+    ensures { result ≡ is_size shape size }
+{
+    match size {
+        None => true,
+        Some(3) => shape.block_bytes == 8,
+        Some(4) => shape.block_bytes == 16,
+        Some(5) => shape.block_bytes == 32,
+        Some(6) => shape.block_bytes == 64,
+        Some(_) => false,
+    }
+}
+
+/// Whether a message has a block's bytes where its kind has bytes, and else none.
+pub(crate) fn has_its_data(shape: Shape, kind: &Kind, bytes: &Option<BlockBytes>) -> bool
+    ensures { result ≡ has_its_data shape kind.now bytes.now }
+{
+    match bytes {
+        None => !has_data(kind),
+        Some(bytes) => { has_data(kind) && bytes.as_slice().len() == shape.block_bytes as usize }
+    }
+}
+
+/// Whether a field stands that the channel has not.
+pub(crate) fn has_other_fields(channel: Channel, fields: &Fields) -> bool
+    ensures { result ≡ has_other_fields channel fields.now }
+{
+    match channel {
+        Channel::A | Channel::B | Channel::C => fields.sink.is_some(),
+        Channel::D => fields.address.is_some(),
+        Channel::E => {
+            fields.address.is_some()
+                || fields.param.is_some()
+                || fields.size.is_some()
+                || fields.source.is_some()
+        }
+    }
+}

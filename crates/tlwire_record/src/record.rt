@@ -1,0 +1,63 @@
+//! A whole record of messages.
+ghost use Rattle.std.specs.Prelude.{◌≡◌, IfOk};
+ghost use Rattle.std.specs.Borrow.{Bor};
+ghost use Rattle.tl_script_words.specs.Words.{texts};
+ghost use Rattle.tlwire_record.specs.Read.{IsAfter, IsRead, ending_of};
+ghost use Rattle.tlwire_record.specs.Reading.{lines_of};
+
+use crate::fault::{Fault, WireError};
+use crate::messages::Messages;
+use crate::stage::{Stage, take_line};
+use std::alloc::{AllocError, Global};
+
+/// Why a text is no record of messages.
+#[derive(Clone, Copy, Debug, PartialEq, Eq)]
+pub enum ReadFault {
+    /// On this line, from 1 on, this is wrong.
+    Line(u64, Fault),
+    /// There is no shape, or neither image nor message.
+    Empty,
+    /// A request for memory was refused.
+    Memory,
+}
+
+/// The lines of a text, without their line feeds.
+pub fn split_lines(alloc: Global, text: &[u8]) -> Result<Vec<&[u8]>, AllocError>
+    ensures { IfOk result (λ lines. texts lines.items ≡ lines_of text.now) }
+{
+    text.split(|byte| *byte == b'\n').collect(alloc)
+}
+
+/// What is said at the end of a text.
+fn ending(stage: Stage) -> Result<Messages, ReadFault>
+    ensures { result ≡ ending_of stage }
+{
+    match stage {
+        Stage::Going(messages) => Ok(messages),
+        Stage::Fresh | Stage::Titled | Stage::Shaped(_) => Err(ReadFault::Empty),
+    }
+}
+
+/// Where the lines of a record lead.
+fn take_lines(alloc: Global, lines: &[&[u8]]) -> Result<Stage, ReadFault>
+    ensures { IsAfter (texts lines.now) result }
+{
+    let mut stage = Stage::Fresh;
+    let mut number: u64 = 0;
+    for line in lines {
+        number += 1;
+        stage = match take_line(alloc, stage, number, line) {
+            Ok(after) => after,
+            Err(WireError::Wrong(fault)) => return Err(ReadFault::Line(number, fault)),
+            Err(WireError::Memory) => return Err(ReadFault::Memory),
+        };
+    }
+    Ok(stage)
+}
+
+/// What the lines of a record have seen. It names the first line that is outside the format, by its number from 1 on, with what is wrong.
+pub fn read(alloc: Global, lines: &[&[u8]]) -> Result<Messages, ReadFault>
+    ensures { IsRead (texts lines.now) result }
+{
+    ending(take_lines(alloc, lines)?)
+}

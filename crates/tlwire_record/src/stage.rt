@@ -1,0 +1,123 @@
+//! What the lines of a record lead to, one after another.
+ghost use Rattle.std.specs.Prelude.{◌≡◌};
+ghost use Rattle.tlcheck_record.specs.Header.{is_blank};
+ghost use Rattle.tl_script_words.specs.Words.{texts};
+ghost use Rattle.tlwire_record.specs.Fault.{Gives};
+ghost use Rattle.tlwire_record.specs.Reading.{after_text, going, next, next_shaped, shaped_by, text_taken};
+
+use crate::fault::{Fault, WireError};
+use crate::header::{Setting, is_title, parse_image, parse_setting, take_sources};
+use crate::line::parse_line;
+use crate::messages::Messages;
+use std::alloc::Global;
+use tl_script_words::split_words;
+use tlcheck_record::is_blank;
+
+/// Where a reader of a record is.
+#[derive(Drop)]
+pub enum Stage {
+    /// Nothing was read.
+    Fresh,
+    /// The title was read.
+    Titled,
+    /// The shape was read, and maybe sources.
+    Shaped(Setting),
+    /// The image was read, or a line of a message, of a load or of a store.
+    Going(Messages),
+}
+
+/// One line more of what was seen.
+fn going(
+    alloc: Global,
+    mut messages: Messages,
+    number: u64,
+    words: &[&str],
+) -> Result<Stage, WireError>
+    ensures { Gives (λ s. s) result (going messages number (texts words.now)) }
+{
+    let line = parse_line(alloc, words)?;
+    messages.take(number, line)?;
+    Ok(Stage::Going(messages))
+}
+
+/// A line behind the shape, by its first word.
+fn shaped_by(
+    alloc: Global,
+    setting: Setting,
+    number: u64,
+    word: &str,
+    rest: &[&str],
+    words: &[&str],
+) -> Result<Stage, WireError>
+    ensures { Gives (λ s. s) result (shaped_by setting number word.now (texts rest.now) (texts words.now)) }
+{
+    match word {
+        "source" => Ok(Stage::Shaped(take_sources(alloc, setting, rest)?)),
+        "image" => {
+            let image = parse_image(alloc, rest)?;
+            Ok(Stage::Going(Messages::begin(alloc, setting, image)))
+        }
+        _ => {
+            let messages = Messages::begin(alloc, setting, Vec::new(alloc));
+            going(alloc, messages, number, words)
+        }
+    }
+}
+
+/// A line behind the shape.
+fn next_shaped(
+    alloc: Global,
+    setting: Setting,
+    number: u64,
+    words: &[&str],
+) -> Result<Stage, WireError>
+    ensures { Gives (λ s. s) result (next_shaped setting number (texts words.now)) }
+{
+    match words {
+        [] => Err(WireError::Wrong(Fault::Words)),
+        [word, rest @ ..] => shaped_by(alloc, setting, number, word, rest, words),
+    }
+}
+
+/// A line that is not blank.
+fn next(alloc: Global, stage: Stage, number: u64, words: &[&str]) -> Result<Stage, WireError>
+    ensures { Gives (λ s. s) result (next stage number (texts words.now)) }
+{
+    match stage {
+        Stage::Fresh => {
+            if is_title(words) {
+                Ok(Stage::Titled)
+            } else {
+                Err(WireError::Wrong(Fault::Title))
+            }
+        }
+        Stage::Titled => Ok(Stage::Shaped(parse_setting(alloc, words)?)),
+        Stage::Shaped(setting) => next_shaped(alloc, setting, number, words),
+        Stage::Going(messages) => going(alloc, messages, number, words),
+    }
+}
+
+fn text_taken(alloc: Global, stage: Stage, number: u64, text: &str) -> Result<Stage, WireError>
+    ensures { Gives (λ s. s) result (text_taken stage number text.now) }
+{
+    let words = split_words(alloc, text)?;
+    next(alloc, stage, number, &words)
+}
+
+/// Takes the line with this number, without its line feed.
+pub(crate) fn take_line(
+    alloc: Global,
+    stage: Stage,
+    number: u64,
+    text: &[u8],
+) -> Result<Stage, WireError>
+    ensures { Gives (λ s. s) result (after_text stage number text.now) }
+{
+    if is_blank(text) {
+        return Ok(stage);
+    }
+    match std::str::from_utf8(text) {
+        Ok(text) => text_taken(alloc, stage, number, text),
+        Err(_) => Err(WireError::Wrong(Fault::Text)),
+    }
+}

@@ -1,0 +1,274 @@
+//! What has to come before an event that may not come yet.
+use crate::clients::{Which, in_way};
+use crate::seen::{Seen, Wire};
+use crate::sooner::granted_first;
+use crate::target::target;
+use crate::wires::Wires;
+use tl_rules::{BlockState, Client, Event, Outward};
+use tl_types::{BlockNo, Channel, ClientId, GrantCap, Wait};
+use tlcheck_rules::{Breach, Judge, Rule, client_of};
+
+/// What takes the next step between home and the memory.
+fn outward_step(state: &BlockState, block: BlockNo) -> Option<Event> {
+    match state.outward() {
+        Outward::Quiet => None,
+        Outward::Get | Outward::Put(_) => Some(Event::Serve(block)),
+        Outward::Data(_) => Some(Event::TakeData(block)),
+        Outward::PutAck => Some(Event::TakePutAck(block)),
+    }
+}
+
+/// The event of what is next of a block on a wire.
+fn next_of(
+    judge: &Judge,
+    wires: &Wires,
+    seen: &[Seen],
+    wire: Wire,
+    block: BlockNo,
+) -> Option<Event> {
+    let place = wires.next_of(judge.plain().shape(), seen, wire, block)?;
+    target(seen.get(place)?)
+}
+
+/// What is next of a block on a client's channel.
+fn on_channel(
+    judge: &Judge,
+    wires: &Wires,
+    seen: &[Seen],
+    c: ClientId,
+    channel: Channel,
+    block: BlockNo,
+) -> Option<Event> {
+    next_of(judge, wires, seen, Wire::Link(c, channel), block)
+}
+
+/// What a client does next that needs more of its copy, or waits for an answer.
+fn client_step(
+    judge: &Judge,
+    wires: &Wires,
+    seen: &[Seen],
+    k: &Client,
+    c: ClientId,
+    block: BlockNo,
+) -> Option<Event> {
+    match k.wait {
+        Wait::Nothing => on_channel(judge, wires, seen, c, Channel::A, block),
+        Wait::ForGrant => Some(Event::TakeGrant(c, block)),
+        Wait::ForReleaseAck => Some(Event::TakeReleaseAck(c, block)),
+    }
+}
+
+/// Whether a client is to be granted a block that home does not serve it yet.
+fn is_before_a_grant(judge: &Judge, wires: &Wires, seen: &[Seen], c: ClientId) -> bool {
+    let Some(granted) = wires.next_granted(seen, c) else {
+        return false;
+    };
+    match judge.plain().block(granted.number()) {
+        Some(state) => match state.accepted() {
+            Some(acquire) => acquire.client != c,
+            None => true,
+        },
+        None => false,
+    }
+}
+
+/// A client whose Acquire of a block is first on A, and stands before one that is granted, if there is such a client; else one whose
+/// Acquire is first, else one that has it on A.
+fn asking(
+    judge: &Judge,
+    wires: &Wires,
+    seen: &[Seen],
+    state: &BlockState,
+    clients: u32,
+    block: BlockNo,
+) -> Option<ClientId> {
+    let mut first = None;
+    for number in 0..clients {
+        let c = ClientId::new(number);
+        if judge.first_on(c, Channel::A) == Some(block) {
+            if is_before_a_grant(judge, wires, seen, c) {
+                return Some(c);
+            }
+            if first.is_none() {
+                first = Some(c);
+            }
+        }
+    }
+    match first {
+        Some(c) => Some(c),
+        None => in_way(state, clients, Which::Asking),
+    }
+}
+
+/// What a client does first.
+fn client_before(
+    judge: &Judge,
+    wires: &Wires,
+    seen: &[Seen],
+    event: &Event,
+    k: &Client,
+    rule: Rule,
+) -> Option<Event> {
+    let c = client_of(event);
+    let block = BlockNo::new(event.block(judge.plain().shape()));
+    match rule {
+        Rule::WaitsForNothing | Rule::CopyIsReadable | Rule::CopyIsWritable => {
+            client_step(judge, wires, seen, k, c, block)
+        }
+        Rule::LoadHasItsBytes => on_channel(judge, wires, seen, c, Channel::C, block),
+        Rule::StartsFromItsCopy => match event {
+            Event::SendRelease(_, _, _) => on_channel(judge, wires, seen, c, Channel::A, block),
+            _ => on_channel(judge, wires, seen, c, Channel::C, block),
+        },
+        Rule::ProbeWaits => on_channel(judge, wires, seen, c, Channel::B, block),
+        Rule::NoReleaseUnanswered => Some(Event::TakeReleaseAck(c, block)),
+        Rule::GrantIsFirst if k.may_take_release_ack() => Some(Event::TakeReleaseAck(c, block)),
+        Rule::ReleaseAckIsFirst if k.may_take_grant() => Some(Event::TakeGrant(c, block)),
+        Rule::GrantIsFirst | Rule::ReleaseAckIsFirst | Rule::RecordIsAbove => {
+            on_channel(judge, wires, seen, c, Channel::D, block)
+        }
+        Rule::AcquireWaits => on_channel(judge, wires, seen, c, Channel::A, block),
+        Rule::ClientHasNoProbe => Some(Event::TakeC(c, block)),
+        Rule::MessageIsOnC => on_channel(judge, wires, seen, c, Channel::C, block),
+        Rule::GrantAckWaits => Some(Event::TakeGrant(c, block)),
+        _ => None,
+    }
+}
+
+/// What home and the memory do first.
+fn home_before(
+    judge: &Judge,
+    wires: &Wires,
+    seen: &[Seen],
+    event: &Event,
+    state: &BlockState,
+    rule: Rule,
+) -> Option<Event> {
+    let clients = judge.plain().shape().clients;
+    let c = client_of(event);
+    let block = BlockNo::new(event.block(judge.plain().shape()));
+    match rule {
+        Rule::ServesNoAcquire => Some(Event::TakeGrantAck(state.accepted()?.client, block)),
+        Rule::NoGrantIsPending => Some(Event::TakeGrantAck(
+            in_way(state, clients, Which::Granted)?,
+            block,
+        )),
+        Rule::NoProbeIsPending => Some(Event::TakeC(in_way(state, clients, Which::Probed)?, block)),
+        Rule::NobodyIsRecorded | Rule::CopyIsDirty => {
+            Some(Event::TakeC(in_way(state, clients, Which::Recorded)?, block))
+        }
+        Rule::OthersLeaveRoom => room_for(state, clients, c, block),
+        Rule::ServesThisClient => match state.accepted() {
+            Some(acquire) => Some(Event::TakeGrantAck(acquire.client, block)),
+            None => Some(Event::AcceptAcquire(c, block)),
+        },
+        Rule::ServesAnAcquire => {
+            if state.is_at_home() {
+                Some(Event::Drop(block))
+            } else {
+                Some(Event::AcceptAcquire(
+                    match granted_first(clients, wires, seen, block) {
+                        Some(first) => first,
+                        None => asking(judge, wires, seen, state, clients, block)?,
+                    },
+                    block,
+                ))
+            }
+        }
+        Rule::HomeHasTheBlock => match state.outward() {
+            Outward::Quiet => Some(Event::SendGet(block)),
+            _ => outward_step(state, block),
+        },
+        Rule::HomeLacksTheBlock => Some(Event::Drop(block)),
+        Rule::CopyIsClean => Some(Event::SendPut(block)),
+        Rule::NothingIsOutward => outward_step(state, block),
+        Rule::RequestIsOutward => match state.outward() {
+            Outward::Quiet => next_of(judge, wires, seen, Wire::Memory(Channel::A), block),
+            _ => outward_step(state, block),
+        },
+        _ => None,
+    }
+}
+
+/// The client that is to give up before a Grant of the Acquire that home serves.
+fn room_for(state: &BlockState, clients: u32, c: ClientId, block: BlockNo) -> Option<Event> {
+    let which = match state.granted(state.accepted()?) {
+        GrantCap::ToT => Which::OtherThan(c),
+        GrantCap::ToB => Which::AtTip,
+    };
+    Some(Event::TakeC(in_way(state, clients, which)?, block))
+}
+
+/// What comes first where an event may come, but is not seen as it would be: a store before a copy is given up, and what others give up
+/// before a Grant.
+fn unlike(
+    judge: &Judge,
+    wires: &Wires,
+    seen: &[Seen],
+    event: &Event,
+    state: &BlockState,
+) -> Option<Event> {
+    let c = client_of(event);
+    let block = BlockNo::new(event.block(judge.plain().shape()));
+    match event {
+        Event::AnswerProbe(_, _) | Event::SendRelease(_, _, _) => {
+            next_of(judge, wires, seen, Wire::Core(c), block)
+        }
+        Event::SendGrant(_, _) => {
+            let clients = judge.plain().shape().clients;
+            let other = in_way(state, clients, Which::Giving(c));
+            Some(Event::TakeC(other.unwrap_or(c), block))
+        }
+        _ => None,
+    }
+}
+
+/// The event that takes the message which is first on the channel that an event takes from.
+fn first_taken(judge: &Judge, event: &Event) -> Option<Event> {
+    let c = client_of(event);
+    match event {
+        Event::AcceptAcquire(_, _) => Some(Event::AcceptAcquire(c, judge.first_on(c, Channel::A)?)),
+        Event::AnswerProbe(_, _) => Some(Event::AnswerProbe(c, judge.first_on(c, Channel::B)?)),
+        Event::TakeC(_, _) => Some(Event::TakeC(c, judge.first_on(c, Channel::C)?)),
+        Event::TakeGrantAck(_, _) => Some(Event::TakeGrantAck(c, judge.first_on(c, Channel::E)?)),
+        Event::TakeGrant(_, _) | Event::TakeReleaseAck(_, _) => {
+            let block = judge.first_on(c, Channel::D)?;
+            let k = judge.plain().block(block.number())?.client(c)?;
+            if k.may_take_grant() {
+                Some(Event::TakeGrant(c, block))
+            } else {
+                Some(Event::TakeReleaseAck(c, block))
+            }
+        }
+        _ => None,
+    }
+}
+
+/// An event that has to come before one that breaks something, or that is not seen as it would be.
+pub(crate) fn remedy(
+    judge: &Judge,
+    wires: &Wires,
+    seen: &[Seen],
+    event: &Event,
+    breach: Option<Breach>,
+) -> Option<Event> {
+    let state = judge.plain().block(event.block(judge.plain().shape()))?;
+    match breach {
+        None => unlike(judge, wires, seen, event, state),
+        Some(Breach::NotAsShown) => None,
+        Some(Breach::OutOfOrder) => first_taken(judge, event),
+        Some(Breach::NotPermitted(rule)) => {
+            match home_before(judge, wires, seen, event, state, rule) {
+                Some(first) => Some(first),
+                None => client_before(
+                    judge,
+                    wires,
+                    seen,
+                    event,
+                    state.client(client_of(event))?,
+                    rule,
+                ),
+            }
+        }
+    }
+}

@@ -1,0 +1,80 @@
+//! What is seen of an event.
+ghost use Rattle.std.specs.Prelude.{◌≡◌, Some};
+ghost use Rattle.tl_protocol_lanes.specs.Lanes.{post_of};
+ghost use Rattle.tl_protocol.specs.Protocol.{May, block_of, home_bytes};
+ghost use Rattle.tlcheck_rules.specs.Judged.{own_block};
+ghost use Rattle.tlwire_search.specs.Explained.{answer_seen, link_seen, memory_seen, seen_of};
+
+use crate::seen::Seen;
+use tl_rules::{BlockState, Event, Outward};
+use tl_types::{BlockBytes, BlockNo, Kind};
+use tlcheck_rules::{Judge, Shown, client_of};
+
+fn on_memory(block: BlockNo, kind: Kind, bytes: Option<BlockBytes>) -> Option<Seen>
+    ensures { result ≡ memory_seen block kind bytes }
+{
+    Some(Seen::OnMemory(block, Shown { kind, bytes }))
+}
+
+/// The memory's answer.
+fn answer(block: BlockNo, state: &BlockState) -> Option<Seen>
+    ensures { result ≡ answer_seen block state.now.memory state.now.outward }
+{
+    match state.outward() {
+        Outward::Get => on_memory(block, Kind::AccessAckData, Some(state.memory().copied())),
+        Outward::Put(_) => on_memory(block, Kind::AccessAck, None),
+        Outward::Quiet | Outward::Data(_) | Outward::PutAck => None,
+    }
+}
+
+/// What home writes back.
+fn written_back(block: BlockNo, state: &BlockState) -> Option<Seen>
+    ensures { result ≡ memory_seen block Kind.PutFullData (Some (home_bytes state.now.home)) }
+{
+    let bytes = match state.home() {
+        Some(line) => line.bytes.copied(),
+        None => BlockBytes::new(),
+    };
+    on_memory(block, Kind::PutFullData, Some(bytes))
+}
+
+/// What an event sends on a link.
+fn on_link(judge: &Judge, event: &Event) -> Option<Seen>
+    requires { May judge.now.plain.shape (own_block judge.now event.now) event.now }
+    ensures { result ≡ link_seen (block_of judge.now.plain.shape event.now) (post_of judge.now.plain.shape (own_block judge.now event.now) event.now) }
+{
+    let (_, body) = judge.sent(event)?;
+    let bytes = match body.bytes() {
+        Some(bytes) => Some(bytes.copied()),
+        None => None,
+    };
+    let message = Shown {
+        kind: body.kind(),
+        bytes,
+    };
+    let block = BlockNo::new(event.block(judge.plain().shape()));
+    Some(Seen::OnLink(client_of(event), block, message))
+}
+
+/// What is seen of an event that may come next.
+pub(crate) fn seen_of(judge: &Judge, event: &Event) -> Option<Seen>
+    requires { May judge.now.plain.shape (own_block judge.now event.now) event.now }
+    ensures { result ≡ seen_of judge.now.plain.shape (own_block judge.now event.now) event.now }
+{
+    match event {
+        Event::Load(access) => Some(Seen::Load(
+            access.client,
+            access.address,
+            access.bytes.copied(),
+        )),
+        Event::Store(access) => Some(Seen::Store(
+            access.client,
+            access.address,
+            access.bytes.copied(),
+        )),
+        Event::SendGet(block) => on_memory(*block, Kind::Get, None),
+        Event::SendPut(block) => written_back(*block, judge.plain().block(block.number())?),
+        Event::Serve(block) => answer(*block, judge.plain().block(block.number())?),
+        _ => on_link(judge, event),
+    }
+}

@@ -1,0 +1,185 @@
+//! What has to come before an event that may come, by what is seen later.
+use crate::clients::{Which, in_way};
+use crate::seen::{Seen, Wire};
+use crate::wires::Wires;
+use tl_rules::{BlockState, Client, Event};
+use tl_types::{BlockNo, Channel, ClientId, GrantCap, Grow, Kind, Perm, ProbeCap, Upward, Wait};
+use tlcheck_rules::Judge;
+
+/// What is next of a block on a client's channel, where it is seen.
+fn kind_next(
+    judge: &Judge,
+    wires: &Wires,
+    seen: &[Seen],
+    c: ClientId,
+    channel: Channel,
+    block: BlockNo,
+) -> Option<Kind> {
+    let place = wires.next_of(judge.plain().shape(), seen, Wire::Link(c, channel), block)?;
+    match seen.get(place)? {
+        Seen::OnLink(_, _, message) => Some(message.kind),
+        _ => None,
+    }
+}
+
+/// The client whose Grant of a block is seen first.
+pub(crate) fn granted_first(
+    clients: u32,
+    wires: &Wires,
+    seen: &[Seen],
+    block: BlockNo,
+) -> Option<ClientId> {
+    let mut first = None;
+    let mut least = seen.len();
+    for number in 0..clients {
+        let c = ClientId::new(number);
+        if let Some(place) = wires.next_grant(seen, c, block) {
+            if place < least {
+                least = place;
+                first = Some(c);
+            }
+        }
+    }
+    first
+}
+
+/// Home accepts the Acquires of a block in the order of their Grants; and it has given its copy up where a Get is seen before the Grant.
+fn before_accepting(
+    judge: &Judge,
+    wires: &Wires,
+    seen: &[Seen],
+    state: &BlockState,
+    c: ClientId,
+    block: BlockNo,
+) -> Option<Event> {
+    match granted_first(judge.plain().shape().clients, wires, seen, block) {
+        Some(other) => {
+            if other != c {
+                return Some(Event::TakeGrantAck(other, block));
+            }
+        }
+        None => {}
+    }
+    if !state.is_at_home() {
+        return None;
+    }
+    let get = wires.next_get(seen, block)?;
+    match wires.next_grant(seen, c, block) {
+        Some(grant) if grant < get => None,
+        _ => Some(Event::Drop(block)),
+    }
+}
+
+/// A client that asks for Tip from Branch does so before it loses its copy.
+fn before_answering(
+    judge: &Judge,
+    wires: &Wires,
+    seen: &[Seen],
+    k: &Client,
+    c: ClientId,
+    block: BlockNo,
+) -> Option<Event> {
+    if k.wait != Wait::Nothing || k.held.perm() != Perm::Branch || k.b.first()? != ProbeCap::ToN {
+        return None;
+    }
+    match kind_next(judge, wires, seen, c, Channel::A, block)? {
+        Kind::AcquireBlock(Grow::BtoT) => Some(Event::SendAcquire(c, block, Grow::BtoT)),
+        _ => None,
+    }
+}
+
+/// The Probe that home may send next to a client, where it is seen before a Grant to it.
+fn crossing(
+    judge: &Judge,
+    wires: &Wires,
+    seen: &[Seen],
+    k: &Client,
+    c: ClientId,
+    block: BlockNo,
+) -> Option<ProbeCap> {
+    if !k.has_no_probe() {
+        return None;
+    }
+    let probe = wires.next_of(
+        judge.plain().shape(),
+        seen,
+        Wire::Link(c, Channel::B),
+        block,
+    )?;
+    if let Some(grant) = wires.next_grant(seen, c, block) {
+        if grant < probe {
+            return None;
+        }
+    }
+    match kind_next(judge, wires, seen, c, Channel::B, block)? {
+        Kind::ProbeBlock(cap) => Some(cap),
+        _ => None,
+    }
+}
+
+/// Before home takes a Release, it sends the Probe that crosses it, which asks for no less than the Release leaves; and the Grant toB that
+/// needs the record which the Release ends.
+fn before_taking(
+    judge: &Judge,
+    wires: &Wires,
+    seen: &[Seen],
+    state: &BlockState,
+    c: ClientId,
+    block: BlockNo,
+) -> Option<Event> {
+    let k = state.client(c)?;
+    let [Upward::Release(given), ..] = k.c.as_slice() else {
+        return None;
+    };
+    let left = given.prune().to();
+    if let Some(cap) = crossing(judge, wires, seen, k, c, block) {
+        if left <= cap.perm() {
+            return Some(Event::SendProbe(c, block, cap));
+        }
+    }
+    if left == Perm::None {
+        grant_before(judge, wires, seen, state, c, block)
+    } else {
+        None
+    }
+}
+
+/// The Grant toB to another client, where no third one is recorded.
+fn grant_before(
+    judge: &Judge,
+    wires: &Wires,
+    seen: &[Seen],
+    state: &BlockState,
+    c: ClientId,
+    block: BlockNo,
+) -> Option<Event> {
+    let clients = judge.plain().shape().clients;
+    let other = granted_first(clients, wires, seen, block)?;
+    if other == c || in_way(state, clients, Which::NeitherOf(c, other)).is_some() {
+        return None;
+    }
+    match seen.get(wires.next_grant(seen, other, block)?)? {
+        Seen::OnLink(_, _, message) => match message.kind {
+            Kind::Grant(GrantCap::ToB) | Kind::GrantData(GrantCap::ToB) => Some(Event::SendGrant(
+                other, block,
+            )),
+            _ => None,
+        },
+        _ => None,
+    }
+}
+
+/// An event that has to come before this one, if one has.
+pub(crate) fn sooner(judge: &Judge, wires: &Wires, seen: &[Seen], event: &Event) -> Option<Event> {
+    let state = judge.plain().block(event.block(judge.plain().shape()))?;
+    match event {
+        Event::AcceptAcquire(c, block) => {
+            before_accepting(judge, wires, seen, state, *c, *block)
+        }
+        Event::AnswerProbe(c, block) => {
+            before_answering(judge, wires, seen, state.client(*c)?, *c, *block)
+        }
+        Event::TakeC(c, block) => before_taking(judge, wires, seen, state, *c, *block),
+        _ => None,
+    }
+}

@@ -1,0 +1,103 @@
+//! A walk along what was seen, by the events of a run.
+ghost use Rattle.std.specs.Prelude.{◌≡◌, ◌<◌, ◌≤◌, ◌∷◌, ◌++◌, ℕ, List, [], IfOk, IfSome, IsTrue};
+ghost use Rattle.tl_protocol.specs.declared.event.Event.{Event};
+ghost use Rattle.tl_protocol.specs.declared.shape.Shape.{Shape};
+ghost use Rattle.tlwire_search.specs.Explained.{Explains};
+ghost use Rattle.tlwire_search.specs.Left.{GoesAlong, IsMarking};
+
+use crate::marks::Marks;
+use crate::seen::Seen;
+use crate::sight::seen_of;
+use std::alloc::{AllocError, Global};
+use tl_rules::{Event, Shape};
+use tl_types::{BLOCK_BYTES, BLOCKS};
+use tlcheck_rules::{Entry, Judge, Refusal};
+
+/// Takes one more event, where it is permitted and what is seen of it was seen next.
+fn goes_on(
+    judge: &mut Judge,
+    marks: &mut Marks,
+    seen: &[Seen],
+    entry: &Entry,
+) -> Result<bool, AllocError>
+    requires { IsMarking seen.now marks.old }
+    ensures { IfOk result (λ yes. IsTrue yes → (shape : Shape) (image : List ℕ) (run : List Event)
+        → GoesAlong shape image seen.now run judge.old marks.old
+        → GoesAlong shape image seen.now (run ++ entry.now.event ∷ []) judge.new marks.new) }
+{
+    if let Some(_) = judge.breach(entry) {
+        return Ok(false);
+    }
+    if let Some(shown) = seen_of(judge, &entry.event) {
+        if !marks.mark(seen, &shown) {
+            return Ok(false);
+        }
+    }
+    match judge.step(entry) {
+        Ok(()) => Ok(true),
+        Err(Refusal::Broken(_)) => Ok(false),
+        Err(Refusal::Memory) => Err(AllocError),
+    }
+}
+
+/// A run so far, where it leads, and what is marked of what was seen.
+#[derive(Drop)]
+struct Walk {
+    judge: Judge,
+    marks: Marks,
+    run: Vec<Event>,
+}
+
+impl Walk {
+    /// No event is taken, and nothing is marked.
+    fn new(alloc: Global, shape: Shape, image: &[u8], seen: &[Seen]) -> Result<Walk, AllocError>
+        requires bytes { (0 < shape.block_bytes) × (shape.block_bytes ≤ BLOCK_BYTES) }
+        requires blocks { shape.blocks ≤ BLOCKS }
+        ensures { IfOk result (λ walk. GoesAlong shape image.now seen.now walk.run.items walk.judge walk.marks) }
+    {
+        let judge = Judge::new(alloc, shape, image)?;
+        let marks = Marks::new(alloc, seen.len())?;
+        let run = Vec::new(alloc);
+        Ok(Walk { judge, marks, run })
+    }
+
+    /// Takes one more event, where it goes on.
+    fn take(&mut self, seen: &[Seen], event: Event) -> Result<bool, AllocError>
+        requires { IsMarking seen.now self.old.marks }
+        ensures { IfOk result (λ yes. IsTrue yes → (shape : Shape) (image : List ℕ)
+            → GoesAlong shape image seen.now self.old.run.items self.old.judge self.old.marks
+            → GoesAlong shape image seen.now self.new.run.items self.new.judge self.new.marks) }
+    {
+        let entry = Entry { event, shown: None };
+        if !goes_on(&mut self.judge, &mut self.marks, seen, &entry)? {
+            return Ok(false);
+        }
+        self.run.push(entry.event)?;
+        Ok(true)
+    }
+}
+
+/// The run of these events, where it explains what was seen.
+pub(crate) fn explained_by(
+    alloc: Global,
+    shape: Shape,
+    image: &[u8],
+    seen: &[Seen],
+    events: Vec<Event>,
+) -> Result<Option<Vec<Event>>, AllocError>
+    requires bytes { (0 < shape.block_bytes) × (shape.block_bytes ≤ BLOCK_BYTES) }
+    requires blocks { shape.blocks ≤ BLOCKS }
+    ensures { IfOk result (λ found. IfSome found (λ run. Explains shape image.now seen.now run.items)) }
+{
+    let mut walk = Walk::new(alloc, shape, image, seen)?;
+    for event in events {
+        if !walk.take(seen, event)? {
+            return Ok(None);
+        }
+    }
+    if walk.marks.is_full(seen) {
+        Ok(Some(walk.run))
+    } else {
+        Ok(None)
+    }
+}
