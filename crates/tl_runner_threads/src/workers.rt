@@ -34,8 +34,7 @@ pub(crate) struct Shared<'y, G> {
 
 /// A client's thread owns its agent, its mail, and a seat at the stop bell.
 #[derive(Drop)]
-pub(crate) struct ClientWorker<'s, 'x, 'y, G> {
-    pub(crate) shared: &'y Shared<'y, G>,
+pub(crate) struct ClientWorker<'s, 'x> {
     pub(crate) client: ClientId,
     pub(crate) agent: Agent<'s>,
     pub(crate) mail: Mail<'x>,
@@ -45,8 +44,7 @@ pub(crate) struct ClientWorker<'s, 'x, 'y, G> {
 
 /// A home's thread owns its home, its mail, and a seat at the stop bell.
 #[derive(Drop)]
-pub(crate) struct HomeWorker<'x, 'y, G> {
-    pub(crate) shared: &'y Shared<'y, G>,
+pub(crate) struct HomeWorker<'x> {
     pub(crate) number: BankNo,
     pub(crate) home: Home,
     pub(crate) mail: Mail<'x>,
@@ -113,10 +111,9 @@ fn stop_if_known(end: End, stop: &mut Ringer<'_>) {
     }
 }
 
-impl<'s, 'x, 'y, G: Gate> Work for ClientWorker<'s, 'x, 'y, G> {
-    fn work<R: Wait + Clock>(self, rt: &R) -> Self {
+impl<'s, 'x, 'y, G: Gate> Work<Shared<'y, G>> for ClientWorker<'s, 'x> {
+    fn work<R: Wait + Clock>(self, rt: &R, shared: &Shared<'y, G>) -> Self {
         let ClientWorker {
-            shared,
             client,
             mut agent,
             mut mail,
@@ -127,7 +124,6 @@ impl<'s, 'x, 'y, G: Gate> Work for ClientWorker<'s, 'x, 'y, G> {
         let end = client_turns(rt, shared, &mut port, &mut agent, &mut mail, &mut stop);
         stop_if_known(end, &mut stop);
         ClientWorker {
-            shared,
             client,
             agent,
             mail,
@@ -137,10 +133,9 @@ impl<'s, 'x, 'y, G: Gate> Work for ClientWorker<'s, 'x, 'y, G> {
     }
 }
 
-impl<'x, 'y, G: Gate> Work for HomeWorker<'x, 'y, G> {
-    fn work<R: Wait + Clock>(self, rt: &R) -> Self {
+impl<'x, 'y, G: Gate> Work<Shared<'y, G>> for HomeWorker<'x> {
+    fn work<R: Wait + Clock>(self, rt: &R, shared: &Shared<'y, G>) -> Self {
         let HomeWorker {
-            shared,
             number,
             mut home,
             mut mail,
@@ -153,7 +148,6 @@ impl<'x, 'y, G: Gate> Work for HomeWorker<'x, 'y, G> {
         };
         stop_if_known(end, &mut stop);
         HomeWorker {
-            shared,
             number,
             home,
             mail,
