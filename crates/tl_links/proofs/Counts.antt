@@ -1,10 +1,10 @@
 -- How many messages wait on each channel, as one channel of one client changes.
-use Rattle.std.proofs.Common.{◌≡◌, ◌≢◌, ℕ, zero, suc, ◌+◌, ◌-◌, ◌*◌, ◌<◌, ◌≤◌, false, true, List, [], ◌∷◌, length, refl, sym, ◌∙◌, ap, arith, inl, inr}
+use Rattle.std.proofs.Common.{◌≡◌, ◌≢◌, ℕ, zero, suc, ◌+◌, ◌-◌, ◌*◌, ◌<◌, ◌≤◌, false, true, List, [], ◌∷◌, length, slice_index_or, refl, sym, ◌∙◌, ap, arith, inl, inr}
 use Rattle.std.proofs.Math.Bool.{or-true}
 use Rattle.std.specs.Prelude.{slice_index, slice_set}
 use Rattle.std.specs.List.{list_any}
 use Rattle.std.proofs.lemmas.Bool.{cases_eq}
-use Rattle.std.proofs.lemmas.List.{get_or-set_same, get_or-set_other, length_push, nil_from_length, length-set}
+use Rattle.std.proofs.lemmas.List.{get_or-set_same, get_or-set_other, get_or_default, length_push, nil_from_length, length-set}
 use Rattle.tl_types.specs.Channel.{place_of}
 use Rattle.tl_types.specs.Lane.{Lane, bodies_of, empty_lane, first_taken, with_message, without_first}
 use Rattle.tl_types.specs.declared.channel.Channel.{Channel}
@@ -203,6 +203,14 @@ module _ {t : LinkTable} {numbers : List ℕ} (counted : IsCounted t numbers) wh
                   ∙ sym (waiting-other t c k lane l e t.clients)
             ];
       }
+
+  -- what a channel's place holds is its lane
+  pub lane-read : (c : ℕ) (k : Channel) (place : ℕ) (lane : Lane) → c < t.clients → place ≡ c * 5 + place_of k
+      → lane ≡ slice_index_or t.lanes place lane → lane ≡ lane_in t c k
+  unfolding lane_in
+  lane-read c k place lane h e read =
+      read ∙ ap (λ p. slice_index_or t.lanes p lane) e
+      ∙ get_or_default t.lanes (c * 5 + place_of k) lane empty_lane (inside-lanes c k h)
 
   -- one message more
   pub IsCounted-sent : (c : ℕ) (k : Channel) (message : Message) (new : Lane) → c < t.clients

@@ -15,10 +15,6 @@ pub record LinkTable : Type 0 where
   pub clients : ℕ
   pub lanes : List Lane
 
--- a channel by its number
-abbrev pub lane_at : List Lane → ℕ → Lane
-lane_at lanes place = slice_index_or lanes place empty_lane
-
 -- a client's channel
 unfoldable pub lane_in : LinkTable → ℕ → Channel → Lane
 lane_in table client channel = slice_index_or table.lanes (client * 5 + place_of channel) empty_lane
