@@ -207,6 +207,17 @@ impl Session {
         self.bank.perm(client, block)
     }
 
+    /// What home records of a client and a block.
+    pub fn directory(&self, client: ClientId, block: BlockNo) -> Perm {
+        self.bank.directory(client, block)
+    }
+
+    /// The number of the client that may write a block, if one may.
+    pub fn writer_of(&self, block: u32) -> Option<u32> {
+        let writer = self.bank.writer(BlockNo::new(block))?;
+        Some(writer.number())
+    }
+
     /// How many copies a client has.
     pub fn copies_of(&self, client: ClientId) -> Option<u64> {
         self.bank.copies_of(client)

@@ -5,6 +5,7 @@ ghost use Rattle.tl_runner_report.specs.declared.error.RunError.TheVariants.{Mem
 use std::alloc::{AllocError, AllocFailed};
 use std::fmt;
 use thiserror::Error;
+use tl_streams::ProgramFault;
 
 /// Why a run gave no report. It prints as the one fault line.
 #[derive(Debug, Drop, Error)]
@@ -28,7 +29,7 @@ impl fmt::Display for RunError {
     fn fmt<W: fmt::Write>(&self, f: &mut fmt::Formatter<W>) -> fmt::Result {
         match self {
             RunError::Stalled(turns) => write!(f, "error 40 stalled {turns}"),
-            RunError::Memory => write!(f, "error 41 memory"),
+            RunError::Memory => write!(f, "{}", ProgramFault::Memory),
             RunError::NotOrdered => write!(f, "error 42 not ordered"),
             RunError::Shares => write!(f, "error 43 shares"),
         }
