@@ -183,7 +183,7 @@ fn wait_for<R: Wait + Clock>(
     let (rooms, keys) = open_two(alloc)?;
     let mails = mails(alloc, silent, to_silent, &rooms, keys);
     let workers = Workers::new(alloc, ClientId::new(1), agent, mails);
-    play_out(rt, locked, &Free, workers, 2)
+    play_out(rt, alloc, locked, &Free, workers, 2)
 }
 
 /// The turns of client 1's agent and of the home, while client 0 is silent.

@@ -123,7 +123,7 @@ impl<'s, 'x, 'y, G: Gate> Work for ClientWorker<'s, 'x, 'y, G> {
             mut stop,
             end: _,
         } = self;
-        let mut port = shared.locked.client_port(rt, shared.gate, client);
+        let mut port = shared.locked.client_port(rt, shared.alloc, shared.gate, client);
         let end = client_turns(rt, shared, &mut port, &mut agent, &mut mail, &mut stop);
         stop_if_known(end, &mut stop);
         ClientWorker {
