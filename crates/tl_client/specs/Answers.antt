@@ -1,10 +1,11 @@
 -- What an agent's answers say of loads and stores (this project's own).
-use Rattle.std.specs.Prelude.{◌≡◌, ◌≤◌, ℕ, ◌++◌, List, [], ◌∷◌, length, take, map}
-use Rattle.std.specs.List.{All}
+use Rattle.std.specs.Prelude.{◌≡◌, ◌≤◌, ℕ, true, ◌++◌, List, [], ◌∷◌, length, take, map}
+use Rattle.std.specs.List.{All, list_all}
 use Rattle.tl_bank_spec.specs.declared.when.When.{When}
 use Rattle.tl_script_words.specs.declared.command.Command.{Command}
 use Rattle.tl_script_words.specs.declared.command.Command.TheVariants.{Load, Store, Drop}
 use Rattle.tl_text.specs.declared.report.Answered.{Answered}
+use Rattle.tl_client_mail.specs.Ways.{Post, has_none_back}
 use Rattle.tl_client_ports.specs.declared.port.Success.{Success}
 use Rattle.tl_client_ports.specs.declared.port.Success.TheVariants.{Loaded, Stored}
 
@@ -71,3 +72,7 @@ Gains old was new is =
 -- the answered commands are a beginning of the script's, each with its bytes
 abbrev pub IsBeginning : Told → Type 0
 IsBeginning t = (commands_of t.answered ≡ take (length t.answered) t.script) × All IsAnswer t.answered
+
+-- all is answered, and no ticket that an inbox handed back waits to be put
+abbrev pub IsDone : Told → Post → Type 0
+IsDone t mail = (length t.answered ≡ length t.script) × (list_all has_none_back mail.ways ≡ true)

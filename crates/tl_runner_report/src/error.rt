@@ -10,7 +10,7 @@ use tl_streams::ProgramFault;
 /// Why a run gave no report. It prints as the one fault line.
 #[derive(Debug, Drop, Error)]
 pub enum RunError {
-    /// A client's command was not answered within the script's turns.
+    /// A thread made the script's turns before it ended. A script of no command can meet this too.
     Stalled(u32),
     /// A request for memory was refused.
     Memory,
