@@ -189,7 +189,7 @@ pub(crate) fn end_wait(copies: &mut Copies, client: ClientId, block: BlockNo)
     ensures after { (x y : ℕ)
         → held_at copies.new x y ≡ (if is_cell client block x y then ended (held_at copies.old client block) else held_at copies.old x y) }
 {
-    if has_copy(copies.of(client, block)) {
+    if has_copy(copies.held(client, block)) {
         copies.wait_for(client, block, Wait::Nothing);
     } else {
         copies.clear(client, block);

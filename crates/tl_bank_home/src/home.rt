@@ -9,7 +9,7 @@ ghost use Rattle.tl_protocol.specs.Protocol.{home_after, home_bytes};
 ghost use Rattle.tl_protocol.specs.Sizes.{IsWhole, outward_bytes};
 ghost use Rattle.tl_protocol.specs.declared.home.Line.{Line};
 ghost use Rattle.tl_protocol.specs.declared.home.Outward.TheVariants.{Quiet, Get, Put, PutAck};
-ghost use Rattle.tl_ways.specs.Lines.{line_perm};
+ghost use Rattle.tl_ways.specs.Entries.{IsOfClients, entry_perm};
 ghost use Rattle.tl_ways.specs.Orders.{chosen, is_busy, rising};
 ghost use Rattle.tl_bank_home.specs.Directories.{is_way, order_after, perm_in};
 ghost use Rattle.tl_bank_home.specs.Homes.{geometry_in, bank_in, line_in, recorded_in, outward_in, crossing_count, memory_in, way_in, free_at, order_at, SameBank, SameWays, SameOutward, SameHome, SameMemory, EachHasHolder, served_outward, served_memory, fetched};
@@ -21,7 +21,7 @@ use std::marker::Model;
 use tl_map::{Geometry, Set};
 use tl_memory::Memory;
 use tl_protocol::Outward;
-use tl_types::{BankNo, BlockBytes, BlockNo, CLIENTS, ClientId, Perm};
+use tl_types::{BankNo, BlockBytes, BlockNo, ClientId, Perm};
 use tl_ways::{Entry, Way};
 
 /// Of how many blocks something can pass between home and the memory at one time.
@@ -116,12 +116,13 @@ impl Home {
         self.directory.bytes(block)
     }
 
-    /// The entry of a block in home's directory, if home holds it.
+    /// The entry of a block in home's directory, if home holds it. It records the geometry's clients alone.
     pub fn entry(&self, block: BlockNo) -> Option<Entry>
         requires { block < (geometry_in self.now).memory_blocks }
         ensures dirty { MatchOption result (line_in self.now block ≡ None)
             (λ entry. option_map (λ (line : Line). line.dirty) (line_in self.now block) ≡ Some entry.dirty) }
         ensures recorded { (client : ℕ) → perm_in result client ≡ recorded_in self.now client block }
+        ensures clients { IfSome result (λ entry. IsOfClients (geometry_in self.now).clients entry) }
     {
         self.directory.entry(block)
     }
@@ -131,7 +132,7 @@ impl Home {
         requires { block < (geometry_in self.now).memory_blocks }
         ensures is { MatchOption result (line_in self.now block ≡ None)
             (λ line. line_in self.now block ≡ Some (record { bytes = line.1.now; dirty = line.0.dirty })) }
-        ensures recorded { IfSome result (λ line. (client : ℕ) → recorded_in self.now client block ≡ line_perm line.0 client) }
+        ensures recorded { IfSome result (λ line. (client : ℕ) → recorded_in self.now client block ≡ entry_perm line.0 client) }
     {
         self.directory.line(block)
     }
@@ -218,29 +219,12 @@ impl Home {
         self.directory.block_at(set, way)
     }
 
-    /// The first block from this number on that home holds.
-    pub fn next_held(&self, from: u32) -> Option<BlockNo>
-        ensures held { IfSome result (λ block. IsSome (line_in self.now block)) }
-        ensures from { IfSome result (λ block. from ≤ block) }
-        ensures inside { IfSome result (λ block. block < (geometry_in self.now).memory_blocks) }
-        ensures first { IfSome result (λ block. (b : ℕ) → from ≤ b → b < block → line_in self.now b ≡ None) }
-        ensures none { IfNone result ((b : ℕ) → from ≤ b → b < (geometry_in self.now).memory_blocks → line_in self.now b ≡ None) }
-    {
-        for number in from..self.geometry().memory_blocks() {
-            let block = BlockNo::new(number);
-            if self.is_dirty(block).is_some() {
-                return Some(block);
-            }
-        }
-        None
-    }
-
     /// Home takes what a client gives up of a block that home holds: what is recorded then, and the bytes where they were
     /// dirty. Beside Tip no other client may have any permission.
     pub fn receive(&mut self, client: ClientId, block: BlockNo, to: Perm, bytes: Option<BlockBytes>)
         requires block { block < (geometry_in self.old).memory_blocks }
         requires held { IsSome (line_in self.old block) }
-        requires known { client < CLIENTS }
+        requires known { client < (geometry_in self.old).clients }
         requires tip { to ≡ Tip → (other : ℕ) → other ≢ client → recorded_in self.old other block ≡ NoAccess }
         requires branch { to ≡ Branch → (other : ℕ) → other ≢ client → recorded_in self.old other block ≢ Tip }
         ensures bank { SameBank self.old self.new }
@@ -261,7 +245,7 @@ impl Home {
     pub fn grant(&mut self, client: ClientId, block: BlockNo, perm: Perm)
         requires block { block < (geometry_in self.old).memory_blocks }
         requires held { IsSome (line_in self.old block) }
-        requires known { client < CLIENTS }
+        requires known { client < (geometry_in self.old).clients }
         requires tip { perm ≡ Tip → (other : ℕ) → other ≢ client → recorded_in self.old other block ≡ NoAccess }
         requires branch { perm ≡ Branch → (other : ℕ) → other ≢ client → recorded_in self.old other block ≢ Tip }
         ensures bank { SameBank self.old self.new }

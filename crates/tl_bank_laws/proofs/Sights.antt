@@ -30,7 +30,7 @@ use Rattle.tl_links.specs.Table.{lane_in, some_has}
 use Rattle.tl_links.specs.Wanted.{is_wanted}
 use Rattle.tl_links.specs.declared.wanted.Wanted.{Wanted}
 use Rattle.tl_links.specs.declared.wanted.Wanted.TheVariants.{Any, ProbeAck, Grant}
-use Rattle.tl_ways.specs.Lines.{Line as Entry}
+use Rattle.tl_ways.specs.Entries.{Entry}
 use Rattle.tl_bank_home.specs.Directories.{line_of, perm_in, recorded_of, way_of}
 use Rattle.tl_bank_home.specs.Homes.{HomeState, bank_in, geometry_in, line_in, outward_in, recorded_in}
 use Rattle.tl_registers.specs.Fit.{Fits}

@@ -64,7 +64,16 @@ impl Copies {
     }
 
     /// What a client holds of a block, where its table has an entry of it.
-    pub fn of(&self, client: ClientId, block: BlockNo) -> Option<&Held>
+    pub fn of(&self, client: ClientId, block: BlockNo) -> Option<Held>
+        requires { client < clients_of self.now }
+        ensures { result ≡ held_at self.now client block }
+    {
+        let held = self.held(client, block)?;
+        Some(held.copied())
+    }
+
+    /// The same where it lies, for a call that only looks at it.
+    pub fn held(&self, client: ClientId, block: BlockNo) -> Option<&Held>
         requires { client < clients_of self.now }
         ensures { option_copied result ≡ held_at self.now client block }
     {

@@ -3,11 +3,11 @@ ghost use Rattle.tl_bank_spec.specs.View.{block_at, shape_of};
 
 use crate::bank::Bank;
 use tl_links::Wanted;
-use tl_registers::Protocol;
+use tl_registers::RegisterView;
 use tl_types::{BlockNo, Channel};
 use tl_ways::Entry;
 
-impl Protocol for Bank {
+impl RegisterView for Bank {
     ghost shape = { λ v. shape_of v.geometry };
 
     ghost state = { λ v. block_at v };

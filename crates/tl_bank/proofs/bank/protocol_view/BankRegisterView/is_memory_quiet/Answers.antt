@@ -4,7 +4,7 @@ use Rattle.tl_bank_home.specs.Homes.{outward_in}
 use Rattle.tl_bank_spec.specs.View.{View, block_at}
 use Rattle.tl_bank.specs.Shown.{shown, layers}
 use Rattle.tl_bank_laws.proofs.Sights.{outward-read, quiet-test}
-use Rattle.tl_bank.proofs.bank.protocol_view.BankProtocol.is_memory_quiet.Goals as goal
+use Rattle.tl_bank.proofs.bank.protocol_view.BankRegisterView.is_memory_quiet.Goals as goal
 
 pub returns : goal.returns
 returns c =

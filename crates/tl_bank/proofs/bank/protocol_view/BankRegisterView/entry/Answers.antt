@@ -3,7 +3,7 @@ use Rattle.tl_registers.specs.Records.{Records}
 use Rattle.tl_bank_spec.specs.View.{View, block_at}
 use Rattle.tl_bank.specs.Shown.{shown, layers}
 use Rattle.tl_bank_laws.proofs.Sights.{entry-read}
-use Rattle.tl_bank.proofs.bank.protocol_view.BankProtocol.entry.Goals as goal
+use Rattle.tl_bank.proofs.bank.protocol_view.BankRegisterView.entry.Goals as goal
 
 pub returns : goal.returns
 returns c =

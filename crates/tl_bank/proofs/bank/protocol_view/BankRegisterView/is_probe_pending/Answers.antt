@@ -6,7 +6,7 @@ use Rattle.tl_registers.specs.Pending.{probe_pending}
 use Rattle.tl_bank_spec.specs.View.{View, block_at, shape_of}
 use Rattle.tl_bank.specs.Shown.{shown, layers}
 use Rattle.tl_bank_laws.proofs.Sights.{or-fails, or-passes, probe_pending-read}
-use Rattle.tl_bank.proofs.bank.protocol_view.BankProtocol.is_probe_pending.Goals as goal
+use Rattle.tl_bank.proofs.bank.protocol_view.BankRegisterView.is_probe_pending.Goals as goal
 
 pub returns-then-some_has : goal.returns-then-some_has
 returns-then-some_has c =

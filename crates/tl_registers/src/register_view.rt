@@ -9,7 +9,7 @@ use tl_types::BlockNo;
 use tl_ways::Entry;
 
 /// The protocol's state of each block, as far as a register's next action rests on it.
-pub trait Protocol {
+pub trait RegisterView {
     ghost shape: { Self → Shape };
 
     ghost state: { Self → ℕ → Block };
@@ -37,4 +37,11 @@ pub trait Protocol {
     fn is_memory_quiet(&self, block: BlockNo) -> bool
         requires { block < (shape self.now).blocks }
         ensures { result ≡ is_quiet (state self.now block).outward };
+}
+
+/// The protocol's state, with the block whose register is asked.
+#[derive(Drop)]
+pub struct BlockView<'a, V> {
+    pub block: BlockNo,
+    pub view: &'a V,
 }
