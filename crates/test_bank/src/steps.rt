@@ -1,10 +1,10 @@
 //! Tables of steps: calls of a bank with what they answer, and what it shows. A loop walks a table at a session, and owns nothing.
-use crate::session::{Answer, Session};
+use crate::session::{Answer, Copied, Session};
 use std::alloc::Global;
 use std::test::Fail;
 use tl_bank::{Refusal, When};
 use tl_map::GeometryNumbers;
-use tl_types::{BankNo, BlockNo, Channel, ClientId, Grow, Perm, Prune, Ticket};
+use tl_types::{BankNo, BlockNo, Channel, ClientId, Grow, Perm, Prune, Ticket, Wait};
 
 /// The numbers of a ticket: its bank, client, channel and serial.
 pub type Numbers = (u32, u32, Channel, u64);
@@ -51,6 +51,10 @@ pub enum Step {
     Image(&'static [u8]),
     /// A client's copy of a block.
     Perm(u32, u32, Perm),
+    /// A client's copy of a block, with its bytes.
+    Copy(u32, u32, Option<Copied>),
+    /// What a client waits for about a block.
+    WaitsFor(u32, u32, Option<Wait>),
     /// How many copies a client has.
     CopiesOf(u32, Option<u64>),
     /// The client, the bank and the count of each share.
@@ -155,6 +159,12 @@ impl Session {
             Step::Image(bytes) => self.image() == bytes,
             Step::Perm(client, block, perm) => {
                 self.perm(ClientId::new(client), BlockNo::new(block)) == perm
+            }
+            Step::Copy(client, block, copy) => {
+                self.copy(ClientId::new(client), BlockNo::new(block)) == copy
+            }
+            Step::WaitsFor(client, block, wait) => {
+                self.waits_for(ClientId::new(client), BlockNo::new(block)) == wait
             }
             Step::CopiesOf(client, copies) => self.copies_of(ClientId::new(client)) == copies,
             Step::Shares(shares) => self.shares().as_slice() == shares,
