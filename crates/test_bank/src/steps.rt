@@ -1,10 +1,10 @@
 //! Tables of steps: calls of a bank with what they answer, and what it shows. A loop walks a table at a session, and owns nothing.
-use crate::session::{Answer, Session};
+use crate::session::{Answer, Copied, Session};
 use std::alloc::Global;
 use std::test::Fail;
 use tl_bank::{Action, Refusal, When};
 use tl_map::GeometryNumbers;
-use tl_types::{BankNo, BlockNo, Channel, ClientId, Grow, Perm, Prune, Ticket};
+use tl_types::{BankNo, BlockNo, Channel, ClientId, Grow, Perm, Prune, Ticket, Wait};
 
 /// The numbers of a ticket: its bank, client, channel and serial.
 pub type Numbers = (u32, u32, Channel, u64);
@@ -77,6 +77,10 @@ pub enum Step {
     Copies(u64, u64),
     /// Whether nothing is under way.
     IsQuiet(bool),
+    /// A client's copy of a block, with its bytes.
+    Copy(u32, u32, Option<Copied>),
+    /// What a client waits for about a block.
+    WaitsFor(u32, u32, Option<Wait>),
     /// How many copies a client has.
     CopiesOf(u32, Option<u64>),
     /// The client, the bank and the count of each share.
@@ -227,6 +231,12 @@ impl Session {
             Step::Peek(client, address, byte) => self.peek(ClientId::new(client), address) == byte,
             Step::Copies(held, recorded) => self.copies() == (held, recorded),
             Step::IsQuiet(is_quiet) => self.is_quiet() == is_quiet,
+            Step::Copy(client, block, copy) => {
+                self.copy(ClientId::new(client), BlockNo::new(block)) == copy
+            }
+            Step::WaitsFor(client, block, wait) => {
+                self.waits_for(ClientId::new(client), BlockNo::new(block)) == wait
+            }
             Step::CopiesOf(client, copies) => self.copies_of(ClientId::new(client)) == copies,
             Step::Shares(shares) => self.shares().as_slice() == shares,
             _ => false,

@@ -1,5 +1,5 @@
 -- What the calls of home and of the memory leave, and what they answer (this project's own).
-use Rattle.std.specs.Prelude.{◌≡◌, ◌⊎◌, ℕ, ◌+◌, ◌==◌, ◌≤◌, List, [], ◌∷◌, ◌++◌, Option, Some, None, if◌then◌else◌}
+use Rattle.std.specs.Prelude.{◌≡◌, ◌⊎◌, ℕ, ◌+◌, ◌^◌, ◌==◌, ◌≤◌, List, [], ◌∷◌, ◌++◌, Option, Some, None, if◌then◌else◌}
 use Rattle.tl_types.specs.declared.channel.Channel.TheVariants.{A, B, C, D}
 use Rattle.tl_types.specs.declared.message.Body.TheVariants.{AcquireBlock}
 use Rattle.tl_types.specs.declared.message.Message.{Message}
@@ -11,6 +11,8 @@ use Rattle.tl_protocol.specs.Protocol.{Block}
 use Rattle.tl_protocol.specs.declared.event.Event.{Event}
 use Rattle.tl_protocol.specs.declared.event.Event.TheVariants.{AcceptAcquire, TakeData, TakePutAck}
 use Rattle.tl_protocol.specs.declared.home.Outward.TheVariants.{Get, Put, PutAck}
+use Rattle.tl_memory.specs.declared.request.Reply.{Reply}
+use Rattle.tl_memory.specs.declared.request.Reply.TheVariants.{AccessAckData, AccessAck}
 use Rattle.tl_registers.specs.Fit.{event_of}
 use Rattle.tl_registers.specs.Register.{acquire_task, opened}
 use Rattle.tl_registers.specs.Registers.{ended, noted, register_of}
@@ -26,8 +28,6 @@ use Rattle.tl_bank_spec.specs.Own.{way_at}
 use Rattle.tl_bank_spec.specs.Ways.{IsWayFor, victim_of_way, way_in_set}
 use Rattle.tl_bank_spec.specs.declared.action.Action.{Action}
 use Rattle.tl_bank_spec.specs.declared.action.Action.TheVariants.{Probe as did_Probe, Grant as did_Grant, Get as did_Get, Put as did_Put, Drop as did_Drop}
-use Rattle.tl_bank_spec.specs.declared.reply.Reply.{Reply}
-use Rattle.tl_bank_spec.specs.declared.reply.Reply.TheVariants.{AccessAckData, AccessAck}
 
 -- One event at the log's end, and at most one from the room; these registers are open and the blocks lie in these ways;
 -- nothing else changed.
@@ -105,11 +105,17 @@ answer_to v ticket = if begins is_a_release (waiting_at v ticket C) then Some (n
 
 -- ## The memory
 
--- what the memory answers: to a Get the block's bytes, to a Put that they are written
-abbrev pub MemoryReplies : Block → Reply → Type 0
-MemoryReplies block reply =
-    ((block.outward ≡ Get) × (reply ≡ AccessAckData block.memory))
-    ⊎ ((bytes : List ℕ) × (block.outward ≡ Put bytes) × (reply ≡ AccessAck))
+-- what the memory answers to what passes of a block: to a Get the block's bytes, to a Put that they are written
+abbrev pub AnswersRequest : Block → ℕ → Reply → Type 0
+AnswersRequest block size reply =
+    ((block.outward ≡ Get) × (reply ≡ AccessAckData size block.memory))
+    ⊎ ((bytes : List ℕ) × (block.outward ≡ Put bytes) × (reply ≡ AccessAck size))
+
+-- The memory's reply to the request of a block. Its size is the base-2 logarithm of the block's bytes.
+pub record MemoryReplies (v : View) (block : ℕ) (reply : Reply) : Type 0 where
+  pub size : ℕ
+  pub is_size : 2 ^ size ≡ v.geometry.block_bytes
+  pub answers : AnswersRequest (block_at v block) size reply
 
 -- Home takes the bytes that it asked for: the block lies in the way that its register holds.
 pub record TakesData (old new : View) (block : ℕ) : Type 0 where

@@ -3,6 +3,8 @@ use Rattle.std.specs.Prelude.{◌≡◌, ℕ, ◌*◌, List, Option, Some, None}
 use Rattle.tl_types.specs.declared.message.Message.{Message}
 use Rattle.tl_types.specs.declared.ticket.Ticket.{Ticket}
 use Rattle.tl_protocol.specs.declared.home.Outward.TheVariants.{Put}
+use Rattle.tl_memory.specs.declared.request.Reply.{Reply}
+use Rattle.tl_memory.specs.declared.request.Reply.TheVariants as reply
 use Rattle.tl_bank_spec.specs.View.{View, block_at}
 use Rattle.tl_bank_spec.specs.Views.{in_flight_at}
 use Rattle.tl_bank_spec.specs.declared.action.Action.{Action}
@@ -10,8 +12,6 @@ use Rattle.tl_bank_spec.specs.declared.action.Action.TheVariants.{Probe as did_P
 use Rattle.tl_bank_spec.specs.Refusal.{IsRefused}
 use Rattle.tl_bank_spec.specs.declared.refusal.Refusal.{Refusal}
 use Rattle.tl_bank_spec.specs.declared.refusal.Refusal.TheVariants.{Memory as r_Memory}
-use Rattle.tl_bank_spec.specs.declared.reply.Reply.{Reply}
-use Rattle.tl_bank_spec.specs.declared.reply.Reply.TheVariants as reply
 use Rattle.tl_text.specs.Memory.{bytes_of_size}
 use Rattle.tl_text.specs.declared.answer.Answer.{Answer}
 use Rattle.tl_text.specs.declared.answer.Answer.TheVariants.{Sent, Memory, Dropped, Done, Refused}
@@ -58,8 +58,8 @@ ShowsIfSent v (Some ticket) answer = Shows v ticket answer
 
 -- what the memory answered
 abbrev pub message_in : Reply → MemoryMessage
-message_in (reply.AccessAckData bytes) = AccessAckData bytes
-message_in reply.AccessAck = AccessAck
+message_in (reply.AccessAckData size bytes) = AccessAckData bytes
+message_in (reply.AccessAck size) = AccessAck
 
 -- ## Refusals
 

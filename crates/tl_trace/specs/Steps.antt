@@ -27,7 +27,7 @@ use Rattle.tl_bank_spec.specs.Channels.{next_ticket}
 use Rattle.tl_bank_spec.specs.Own.{way_at}
 use Rattle.tl_bank_spec.specs.declared.action.Action.{Action}
 use Rattle.tl_bank_spec.specs.declared.refusal.Refusal.{Refusal}
-use Rattle.tl_bank_spec.specs.declared.reply.Reply.{Reply}
+use Rattle.tl_memory.specs.declared.request.Reply.{Reply}
 use Rattle.tl_text.specs.declared.answer.Answer.{Answer}
 use Rattle.tl_text.specs.declared.answer.Answer.TheVariants.{Loaded, Done}
 use Rattle.tl_trace.specs.Answers.{Answers, Shows, ShowsAction, ShowsIfSent, ShowsMemory, message_in}
@@ -139,7 +139,7 @@ pub record SendsAway (old new : View) (block : ℕ) (answer : Answer) : Type 0 w
 pub record Replies (old new : View) (block : ℕ) (answer : Answer) : Type 0 where
   pub serves : Serves old new (event.Serve block) old.registers (way_at old)
   pub reply : Reply
-  pub replies : MemoryReplies (block_at old block) reply
+  pub replies : MemoryReplies old block reply
   pub shows : ShowsMemory new (message_in reply) answer
 
 -- Home takes what the memory answered.

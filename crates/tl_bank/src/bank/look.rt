@@ -46,7 +46,7 @@ impl Bank {
     }
 
     /// A client's copy of a block.
-    pub(super) fn copy(&self, client: ClientId, block: BlockNo) -> CachedCopy
+    pub(super) fn copy_of(&self, client: ClientId, block: BlockNo) -> CachedCopy
         requires client { client < self.now.geometry.clients }
         requires block { block < self.now.geometry.memory_blocks }
         ensures { result ≡ (client_at self.now client block).held }

@@ -230,7 +230,7 @@ impl Bank {
         ensures { result ≡ byte_at self.now client address }
     {
         let offset = self.geometry.offset(address) as usize;
-        let copy = self.copy(client, self.geometry.block_at(address));
+        let copy = self.copy_of(client, self.geometry.block_at(address));
         copy.into_bytes().as_slice().get(offset).copied()
     }
 

@@ -3,7 +3,7 @@ use Rattle.tl_bank_spec.specs.View.{View, client_at}
 use Rattle.tl_bank_laws.specs.Entry.{copy_in}
 use Rattle.tl_bank.specs.Shown.{shown, layers}
 use Rattle.tl_bank_laws.proofs.Entries.{copy-is}
-use Rattle.tl_bank.proofs.bank.Bank.copy.Goals as goal
+use Rattle.tl_bank.proofs.bank.Bank.copy_of.Goals as goal
 
 pub returns : goal.returns
 returns c =
