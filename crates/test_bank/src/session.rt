@@ -7,7 +7,7 @@ use std::test::Fail;
 use tl_bank::{Action, Bank, Refusal, Share, When};
 use tl_map::{Geometry, GeometryNumbers};
 use tl_protocol::{CachedCopy, Event};
-use tl_types::{BankNo, BlockNo, Channel, ClientId, Grow, Perm, Prune, Ticket, Wait};
+use tl_types::{Awaited, BankNo, BlockNo, Channel, ClientId, Grow, Perm, Prune, Ticket};
 
 /// What a call answers: the ticket of the message that it sent, if it sent one.
 pub type Answer = Result<Option<Ticket>, Refusal>;
@@ -236,7 +236,7 @@ impl Session {
     }
 
     /// What a client waits for about a block.
-    pub fn waits_for(&self, client: ClientId, block: BlockNo) -> Option<Wait> {
+    pub fn waits_for(&self, client: ClientId, block: BlockNo) -> Option<Awaited> {
         self.bank.waits_for(client, block)
     }
 

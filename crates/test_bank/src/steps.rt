@@ -4,7 +4,7 @@ use std::alloc::Global;
 use std::test::Fail;
 use tl_bank::{Action, Refusal, When};
 use tl_map::GeometryNumbers;
-use tl_types::{BankNo, BlockNo, Channel, ClientId, Grow, Perm, Prune, Ticket, Wait};
+use tl_types::{Awaited, BankNo, BlockNo, Channel, ClientId, Grow, Perm, Prune, Ticket};
 
 /// The numbers of a ticket: its bank, client, channel and serial.
 pub type Numbers = (u32, u32, Channel, u64);
@@ -80,7 +80,7 @@ pub enum Step {
     /// A client's copy of a block, with its bytes.
     Copy(u32, u32, Option<Copied>),
     /// What a client waits for about a block.
-    WaitsFor(u32, u32, Option<Wait>),
+    WaitsFor(u32, u32, Option<Awaited>),
     /// How many copies a client has.
     CopiesOf(u32, Option<u64>),
     /// The client, the bank and the count of each share.

@@ -4,7 +4,7 @@ use std::marker::Model;
 use std::test::Fail;
 use tl_copies::{Copies, Held};
 use tl_map::{Geometry, GeometryNumbers};
-use tl_types::{BankNo, BlockBytes, BlockNo, ClientId, Perm, Wait};
+use tl_types::{Awaited, BankNo, BlockBytes, BlockNo, ClientId, Perm};
 
 /// One client, with room for one block.
 const NUMBERS: GeometryNumbers = GeometryNumbers {
@@ -32,7 +32,7 @@ impl Model for OneTable {
 }
 
 /// The permission, whether the copy is dirty, its first byte, and what is waited for.
-type Shown = (Perm, bool, Option<u8>, Wait);
+type Shown = (Perm, bool, Option<u8>, Awaited);
 
 impl OneTable {
     fn new(alloc: Global) -> Result<OneTable, Fail> {
@@ -46,7 +46,7 @@ impl OneTable {
             perm: Perm::Tip,
             dirty: true,
             bytes: BlockBytes::from_slice(&[byte]).unwrap_or(BlockBytes::new()),
-            wait: Wait::ForReleaseAck,
+            wait: Awaited::ForReleaseAck,
         };
         self.copies.clients() > 0
             && block < self.copies.blocks()
@@ -80,7 +80,7 @@ fn a_kept_copy_is_answered(rt: HostRuntime) -> Result<(), Fail> {
         (
             true,
             false,
-            Some((Perm::Tip, true, Some(7), Wait::ForReleaseAck)),
+            Some((Perm::Tip, true, Some(7), Awaited::ForReleaseAck)),
             None
         )
     );

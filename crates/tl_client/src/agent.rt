@@ -33,9 +33,9 @@ pub struct Agent<'s> {
 
 impl<'s> Model for Agent<'s> {
     ghost use Rattle.std.specs.Prelude.{◌≤◌, ◌<◌, ◌^◌, length, vec_capacity};
-    ghost use Rattle.tl_client.specs.Answers.{Told, IsBeginning, answered_of};
+    ghost use Rattle.tl_client.specs.Answers.{AgentView, IsBeginning, answered_of};
 
-    ghost Value = { Told };
+    ghost Value = { AgentView };
 
     ghost view = { λ a. record { client = a.client; script = a.script.now; answered = answered_of a.bytes.items a.script.now; clock = a.clock } };
 

@@ -17,7 +17,7 @@ Asks ticket answer old new =
     MatchResult answer (λ _. new ≡ old ++ asked ticket true ∷ []) (λ refusal. refusal ≢ Memory → new ≡ old ++ asked ticket false ∷ [])
 
 -- what contracts see of a home's port: the number of its bank, and the tickets that were asked in the turn, each with whether it was served
-pub record ToBank : Type 0 where
+pub record BankPortView : Type 0 where
   pub bank : ℕ
   pub asked : List Asked
 

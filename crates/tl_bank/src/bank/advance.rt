@@ -8,7 +8,7 @@ ghost use Rattle.tl_bank_spec.specs.Effects.{Advances};
 ghost use Rattle.tl_bank_spec.specs.HomeCalls.{advance_cases};
 ghost use Rattle.tl_bank_spec.specs.HomeCases.{due_at, due_full};
 ghost use Rattle.tl_bank_spec.specs.Refusal.{IsRefused, first_of};
-ghost use Rattle.tl_bank_spec.specs.View.{block_at, client_at, shape_of};
+ghost use Rattle.tl_bank_spec.specs.View.{end_at, client_at, shape_of};
 ghost use Rattle.tl_bank_spec.specs.Own.{IsOwn};
 
 use crate::bank::Bank;
@@ -167,7 +167,7 @@ impl Bank {
 
     /// The Acquire of a block that home serves.
     fn accepted(&self, block: BlockNo) -> Option<Accepted>
-        ensures { result ≡ (block_at self.now block).accepted }
+        ensures { result ≡ (end_at self.now block).accepted }
     {
         match self.registers.of_block(block)?.task {
             Task::Acquire(acquire) => Some(acquire),
@@ -179,9 +179,9 @@ impl Bank {
     /// Home's entry of a block that it holds, and its bytes.
     fn home_line(&self, block: BlockNo) -> (Entry, &BlockBytes)
         requires own { IsOwn self.now.geometry self.now.number block }
-        requires held { (block_at self.now block).home ≢ None }
+        requires held { (end_at self.now block).home ≢ None }
         ensures recorded { (x : ℕ) → (client_at self.now x block).recorded ≡ entry_perm result.0 x }
-        ensures bytes { result.1.now ≡ home_bytes (block_at self.now block).home }
+        ensures bytes { result.1.now ≡ home_bytes (end_at self.now block).home }
     {
         let Some(line) = self.home.line(block) else {
             unreachable!()
@@ -193,7 +193,7 @@ impl Bank {
     /// copy.
     fn granted(&self, acquire: Accepted, entry: Entry, block: BlockNo) -> GrantCap
         requires { (x : ℕ) → (client_at self.now x block).recorded ≡ entry_perm entry x }
-        ensures { result ≡ granted (shape_of self.now.geometry) (block_at self.now block) acquire }
+        ensures { result ≡ granted (shape_of self.now.geometry) (end_at self.now block) acquire }
     {
         match acquire.grow {
             Grow::NtoB => {
@@ -210,7 +210,7 @@ impl Bank {
     /// Whether home's entry of a block records None for each client but this one.
     fn is_alone(&self, client: ClientId, entry: Entry, block: BlockNo) -> bool
         requires { (x : ℕ) → (client_at self.now x block).recorded ≡ entry_perm entry x }
-        ensures { result ≡ is_alone self.now.geometry.clients client (block_at self.now block).client }
+        ensures { result ≡ is_alone self.now.geometry.clients client (end_at self.now block).client }
     {
         // For the prover: the clauses alone name it.
         let _ = block;

@@ -6,7 +6,7 @@ ghost use Rattle.tl_bank.specs.Contents.{copy_at, wait_at, line_at, memory_at, m
 use crate::bank::Bank;
 use crate::entry;
 use tl_protocol::{CachedCopy, Line};
-use tl_types::{BlockBytes, BlockNo, Channel, ClientId, Message, Ticket, Wait};
+use tl_types::{Awaited, BlockBytes, BlockNo, Channel, ClientId, Message, Ticket};
 
 impl Bank {
     /// A client's copy of a block: its permission, its bytes, and whether they are dirty. None just where there is no such client, or
@@ -22,7 +22,7 @@ impl Bank {
 
     /// The answer that a client waits for about a block. None just where there is no such client, or the block is not of the memory or
     /// of another bank.
-    pub fn waits_for(&self, client: ClientId, block: BlockNo) -> Option<Wait>
+    pub fn waits_for(&self, client: ClientId, block: BlockNo) -> Option<Awaited>
         ensures { result ≡ wait_at self.now client block }
     {
         if self.has_no_part(client, block) {

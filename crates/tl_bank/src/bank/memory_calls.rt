@@ -1,10 +1,10 @@
 //! What passes between home and the memory: the memory answers a request, and home takes the answer.
 ghost use Rattle.std.specs.Prelude.{◌≡◌, None, IfErr, IfOk, OnErr, OnOk};
 ghost use Rattle.tl_bank_laws.specs.Memory.{RegisterHolds};
-ghost use Rattle.tl_bank_spec.specs.Effects.{MemoryReplies, Serves, TakesData, TakesMemory, TakesPutAck};
+ghost use Rattle.tl_bank_spec.specs.Effects.{MemoryReplies, AppendsWith, TakesData, TakesMemory, TakesPutAck};
 ghost use Rattle.tl_bank_spec.specs.HomeCalls.{serve_memory_cases, take_memory_cases};
 ghost use Rattle.tl_bank_spec.specs.Refusal.{IsRefused, first_of};
-ghost use Rattle.tl_bank_spec.specs.View.{block_at};
+ghost use Rattle.tl_bank_spec.specs.View.{end_at};
 ghost use Rattle.tl_bank_spec.specs.Own.{way_at};
 ghost use Rattle.tl_protocol.specs.Home.{IsData};
 ghost use Rattle.tl_protocol.specs.declared.event.Event.{Event};
@@ -25,10 +25,10 @@ impl Bank {
         ensures refused { IfErr result (λ r. IsRefused (first_of (serve_memory_cases self.old block)) self.old.room r) }
         ensures unchanged { OnErr result (self.new ≡ self.old) }
         ensures permitted { OnOk result (first_of (serve_memory_cases self.old block) ≡ None) }
-        ensures serves { OnOk result (Serves self.old self.new (Event.Serve block) self.old.registers (way_at self.old)) }
+        ensures serves { OnOk result (AppendsWith self.old self.new (Event.Serve block) self.old.registers (way_at self.old)) }
         ensures reply { IfOk result (λ reply. MemoryReplies self.old block reply) }
     {
-        self.settle_serve(block)?;
+        self.check_serve(block)?;
         self.make_room()?;
         let reply = self.home.serve(block);
         self.log.append(Event::Serve(block));
@@ -58,7 +58,7 @@ impl Bank {
     /// Home takes the bytes that it asked for.
     fn take_data(&mut self, block: BlockNo) -> Result<(), Refusal>
         requires permitted { first_of (take_memory_cases self.old block) ≡ None }
-        requires data { IsData (block_at self.old block).outward }
+        requires data { IsData (end_at self.old block).outward }
         ensures refused { IfErr result (λ refusal. (refusal ≡ Refusal.Memory) × (self.old.room ≡ 0)) }
         ensures unchanged { OnErr result (self.new ≡ self.old) }
         ensures takes { OnOk result (TakesData self.old self.new block) }
@@ -73,7 +73,7 @@ impl Bank {
     /// Home takes the acknowledgement of a Put: the victim is gone.
     fn take_put_ack(&mut self, block: BlockNo) -> Result<(), Refusal>
         requires permitted { first_of (take_memory_cases self.old block) ≡ None }
-        requires put_ack { (block_at self.old block).outward ≡ PutAck }
+        requires put_ack { (end_at self.old block).outward ≡ PutAck }
         ensures refused { IfErr result (λ refusal. (refusal ≡ Refusal.Memory) × (self.old.room ≡ 0)) }
         ensures unchanged { OnErr result (self.new ≡ self.old) }
         ensures takes { OnOk result (TakesPutAck self.old self.new block) }
@@ -87,7 +87,7 @@ impl Bank {
 
     /// The way that the register of a block holds whose bytes come.
     fn way_of_data(&self, block: BlockNo) -> Way
-        requires { IsData (block_at self.now block).outward }
+        requires { IsData (end_at self.now block).outward }
         ensures { RegisterHolds self.now block result }
     {
         let register = self.registers.of_block(block).unwrap();
@@ -95,7 +95,7 @@ impl Bank {
     }
 
     /// Nothing but why the memory does not answer, for want of memory for the log aside.
-    fn settle_serve(&self, block: BlockNo) -> Result<(), Refusal>
+    fn check_serve(&self, block: BlockNo) -> Result<(), Refusal>
         ensures refused { IfErr result (λ r. first_of (serve_memory_cases self.now block) ≡ Some r) }
         ensures permitted { OnOk result (first_of (serve_memory_cases self.now block) ≡ None) }
     {

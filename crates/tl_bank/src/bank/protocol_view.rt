@@ -1,5 +1,5 @@
 //! What a register looks at: the protocol's state, read off the bank's layers.
-ghost use Rattle.tl_bank_spec.specs.View.{block_at, shape_of};
+ghost use Rattle.tl_bank_spec.specs.View.{end_at, shape_of};
 
 use crate::bank::Bank;
 use tl_links::Wanted;
@@ -10,7 +10,7 @@ use tl_ways::Entry;
 impl RegisterView for Bank {
     ghost shape = { λ v. shape_of v.geometry };
 
-    ghost state = { λ v. block_at v };
+    ghost state = { λ v. end_at v };
 
     fn clients(&self) -> u32 {
         self.geometry.clients()

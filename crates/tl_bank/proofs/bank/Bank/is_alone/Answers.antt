@@ -6,7 +6,7 @@ use Rattle.tl_types.specs.declared.permission.Perm.{Perm}
 use Rattle.tl_types.specs.declared.permission.Perm.TheVariants.{None as p_None, Branch, Tip}
 use Rattle.tl_protocol.specs.Protocol.{is_none}
 use Rattle.tl_ways.specs.Entries.{entry_perm}
-use Rattle.tl_bank_spec.specs.View.{View, block_at, client_at}
+use Rattle.tl_bank_spec.specs.View.{View, end_at, client_at}
 use Rattle.tl_bank_laws.proofs.Sights.{alone-fails, alone-nobody}
 use Rattle.tl_bank.proofs.bank.Bank.is_alone.Goals as goal
 
@@ -18,7 +18,7 @@ not-none Tip h = refl
 
 pub returns-then-is_unshared : goal.returns-then-is_unshared
 returns-then-is_unshared c =
-    sym (alone-nobody c.args.self.now.geometry.clients c.args.client (block_at c.args.self.now c.args.block).client
+    sym (alone-nobody c.args.self.now.geometry.clients c.args.client (end_at c.args.self.now c.args.block).client
     (λ x. c.requires x ∙ c.is_unshared.ensures.0 c.if-is_unshared.true x))
 
 pub returns-then-ne : goal.returns-then-ne
@@ -33,4 +33,4 @@ returns-then-ne c =
     let some : is_none (client_at v x c.args.block).recorded ≡ false =
     ap is_none (sym recorded) ∙ not-none c.perm.result (sym c.ne.ensures ∙ c.if-ne.true) in
     let fails : ((x == c.args.client) || is_none (client_at v x c.args.block).recorded) ≡ false = rw (other, some) refl in
-    sym (alone-fails v.geometry.clients c.args.client x (block_at v c.args.block).client below fails)
+    sym (alone-fails v.geometry.clients c.args.client x (end_at v c.args.block).client below fails)

@@ -6,7 +6,7 @@ use Rattle.tl_map.specs.Numbers.{Numbers}
 use Rattle.tl_protocol.specs.Client.{grant_bytes}
 use Rattle.tl_bank_home.specs.Homes.{way_in}
 use Rattle.tl_registers.specs.declared.due.Due.TheVariants.{Grant}
-use Rattle.tl_bank_spec.specs.View.{View, block_at, client_at}
+use Rattle.tl_bank_spec.specs.View.{View, end_at, client_at}
 use Rattle.tl_bank_spec.specs.Own.{ways_below}
 use Rattle.tl_bank_spec.specs.declared.action.Action.TheVariants.{Grant as did_Grant}
 use Rattle.tl_bank.specs.Shown.{shown, layers}
@@ -22,7 +22,7 @@ home_line-entry-requires-clause-held c =
     let h = layers c.self.inside in
     let acts = acts-at v c.args.self.now h c.args.own (Grant c.args.client) c.self.invariant c.self.view_is c.requires.permitted
     c.requires.due in
-    subst (λ (w : View). (block_at w c.args.own).home ≢ None) c.self.view_is (home-has v c.args.own c.args.client acts)
+    subst (λ (w : View). (end_at w c.args.own).home ≢ None) c.self.view_is (home-has v c.args.own c.args.client acts)
 
 pub send-ticket-requires : goal.send-ticket-requires
 send-ticket-requires c =

@@ -19,7 +19,7 @@ serve-reply-requires-clause-whole c =
     let v : View = shown c.self.inside in
     let none : first_of (serve_memory_cases v c.args.block) ≡ None =
     subst (λ (w : View). first_of (serve_memory_cases w c.args.block) ≡ None) (sym (c.self.view_is ∙ c.make_room.ensures.same))
-    (c.in_ok-settle_serve.ensures.permitted) in
+    (c.in_ok-check_serve.ensures.permitted) in
     subst (λ (g : Numbers). IsWhole g.block_bytes (outward_bytes (outward_in c.self.inside.home c.args.block)))
     (sym c.self.invariant.home_geometry) (serve-whole v (layers c.self.inside) c.args.block c.self.invariant none)
 
@@ -28,7 +28,7 @@ serve-reply-requires-clause-own c =
     let v : View = shown c.self.inside in
     let none : first_of (serve_memory_cases v c.args.block) ≡ None =
     subst (λ (w : View). first_of (serve_memory_cases w c.args.block) ≡ None) (sym (c.self.view_is ∙ c.make_room.ensures.same))
-    (c.in_ok-settle_serve.ensures.permitted) in
+    (c.in_ok-check_serve.ensures.permitted) in
     rw (c.self.invariant.home_geometry, c.self.invariant.home_bank) (serve-allowed v c.args.block none).own.1
 
 pub invariant_of-self : goal.invariant_of-self
@@ -36,7 +36,7 @@ invariant_of-self c =
     let v : View = shown c.self.inside in
     let none : first_of (serve_memory_cases v c.args.block) ≡ None =
     subst (λ (w : View). first_of (serve_memory_cases w c.args.block) ≡ None) (sym (c.self.view_is ∙ c.make_room.ensures.same))
-    (c.in_ok-settle_serve.ensures.permitted) in
+    (c.in_ok-check_serve.ensures.permitted) in
     rw (c.append.ensures.events, c.append.ensures.forgotten)
     (serve-keeps v (layers c.self.inside) c.serve-reply.new.self c.args.block c.append.new.self.room c.self.invariant none
     (record {
@@ -68,7 +68,7 @@ returns-clause-reply c =
     let made : v ≡ record c.args.self.now { room = c.make_room.new.self.room } = c.self.view_is ∙ c.make_room.ensures.same in
     let none : first_of (serve_memory_cases v c.args.block) ≡ None =
     subst (λ (w : View). first_of (serve_memory_cases w c.args.block) ≡ None) (sym made)
-    (c.in_ok-settle_serve.ensures.permitted) in
+    (c.in_ok-check_serve.ensures.permitted) in
     let answer = c.serve-reply.ensures.reply in
     let replies : MemoryReplies v c.args.block c.serve-reply.result =
     serve-reply v (layers c.self.inside) c.args.block answer.0 c.serve-reply.result c.self.invariant none

@@ -24,7 +24,7 @@ receive-requires-clause-block c =
     let v : View = shown c.self.inside in
     let none : first_of (take_c_cases v c.args.ticket) ≡ None =
     subst (λ (w : View). first_of (take_c_cases w c.args.ticket) ≡ None) (sym (c.self.view_is ∙ c.make_room.ensures.same))
-    (c.in_ok-settle_c.ensures.permitted) in
+    (c.in_ok-check_c.ensures.permitted) in
     let comes : Comes v c.args.ticket c.take-message.result =
     take_c-comes v (layers c.self.inside) c.args.ticket c.take-message.result c.take-message.ensures.message.0 c.self.invariant none
     c.take-message.ensures.message.1 in
@@ -35,7 +35,7 @@ receive-requires-clause-held c =
     let v : View = shown c.self.inside in
     let none : first_of (take_c_cases v c.args.ticket) ≡ None =
     subst (λ (w : View). first_of (take_c_cases w c.args.ticket) ≡ None) (sym (c.self.view_is ∙ c.make_room.ensures.same))
-    (c.in_ok-settle_c.ensures.permitted) in
+    (c.in_ok-check_c.ensures.permitted) in
     let comes : Comes v c.args.ticket c.take-message.result =
     take_c-comes v (layers c.self.inside) c.args.ticket c.take-message.result c.take-message.ensures.message.0 c.self.invariant none
     c.take-message.ensures.message.1 in
@@ -46,7 +46,7 @@ receive-requires-clause-known c =
     let v : View = shown c.self.inside in
     let none : first_of (take_c_cases v c.args.ticket) ≡ None =
     subst (λ (w : View). first_of (take_c_cases w c.args.ticket) ≡ None) (sym (c.self.view_is ∙ c.make_room.ensures.same))
-    (c.in_ok-settle_c.ensures.permitted) in
+    (c.in_ok-check_c.ensures.permitted) in
     let comes : Comes v c.args.ticket c.take-message.result =
     take_c-comes v (layers c.self.inside) c.args.ticket c.take-message.result c.take-message.ensures.message.0 c.self.invariant none
     c.take-message.ensures.message.1 in
@@ -57,7 +57,7 @@ receive-requires-clause-branch c =
     let v : View = shown c.self.inside in
     let none : first_of (take_c_cases v c.args.ticket) ≡ None =
     subst (λ (w : View). first_of (take_c_cases w c.args.ticket) ≡ None) (sym (c.self.view_is ∙ c.make_room.ensures.same))
-    (c.in_ok-settle_c.ensures.permitted) in
+    (c.in_ok-check_c.ensures.permitted) in
     let comes : Comes v c.args.ticket c.take-message.result =
     take_c-comes v (layers c.self.inside) c.args.ticket c.take-message.result c.take-message.ensures.message.0 c.self.invariant none
     c.take-message.ensures.message.1 in
@@ -69,7 +69,7 @@ invariant_of-self c =
     let v : View = shown c.self.inside in
     let none : first_of (take_c_cases v c.args.ticket) ≡ None =
     subst (λ (w : View). first_of (take_c_cases w c.args.ticket) ≡ None) (sym (c.self.view_is ∙ c.make_room.ensures.same))
-    (c.in_ok-settle_c.ensures.permitted) in
+    (c.in_ok-check_c.ensures.permitted) in
     let comes : Comes v c.args.ticket c.take-message.result =
     take_c-comes v (layers c.self.inside) c.args.ticket c.take-message.result c.take-message.ensures.message.0 c.self.invariant none
     c.take-message.ensures.message.1 in
@@ -108,7 +108,7 @@ returns-clause-serves c =
     let old : View = c.args.self.now in
     let made : v ≡ record old { room = c.make_room.new.self.room } = c.self.view_is ∙ c.make_room.ensures.same in
     let none : first_of (take_c_cases v c.args.ticket) ≡ None =
-    subst (λ (w : View). first_of (take_c_cases w c.args.ticket) ≡ None) (sym made) (c.in_ok-settle_c.ensures.permitted) in
+    subst (λ (w : View). first_of (take_c_cases w c.args.ticket) ≡ None) (sym made) (c.in_ok-check_c.ensures.permitted) in
     let comes : Comes v c.args.ticket c.take-message.result =
     take_c-comes v (layers c.self.inside) c.args.ticket c.take-message.result c.take-message.ensures.message.0 c.self.invariant none
     c.take-message.ensures.message.1 in

@@ -5,7 +5,7 @@ use Rattle.tl_bank_spec.specs.View.{View}
 use Rattle.tl_bank_laws.specs.Means.{Means}
 use Rattle.tl_bank.specs.Shown.{layers}
 use Rattle.tl_bank_laws.proofs.Loads.{load-fits}
-use Rattle.tl_bank.proofs.bank.Bank.settle_load.Goals as goal
+use Rattle.tl_bank.proofs.bank.Bank.check_load.Goals as goal
 
 pub read_in-bytes-requires-clause-inside : goal.read_in-bytes-requires-clause-inside
 read_in-bytes-requires-clause-inside c =

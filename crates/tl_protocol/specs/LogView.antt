@@ -3,7 +3,7 @@ use Rattle.std.specs.Prelude.{ℕ, List}
 use Rattle.tl_protocol.specs.declared.event.Event.{Event}
 
 -- the events, oldest first, how many of the first are forgotten, and how many more need no memory
-pub record Journal : Type 0 where
+pub record LogView : Type 0 where
   pub events : List Event
   pub forgotten : ℕ
   pub room : ℕ
