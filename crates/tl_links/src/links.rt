@@ -1,7 +1,7 @@
 //! The links of one bank: five channels for each client.
 ghost use Rattle.std.specs.Prelude.{◌≡◌, ◌↔◌, ◌≤◌, ◌<◌, ◌+◌, ◌-◌, ◌^◌, ◌∷◌, ◌*◌, ℕ, List, [], length, IfOk, IfErr, OnOk, OnErr, IsErr, MatchOption, MatchResult, option_copied, if◌then◌else◌};
 ghost use Rattle.std.specs.List.{list_any};
-ghost use Rattle.tl_types.specs.Channel.{place_of};
+ghost use Rattle.tl_types.specs.Channel.{channel_index};
 ghost use Rattle.tl_types.specs.Lane.{empty_lane, message_at, sent, is_here, with_message, without_first, bodies_of};
 ghost use Rattle.tl_types.specs.declared.channel.Channel.{Channel};
 ghost use Rattle.tl_types.specs.declared.message.Message.{Message};
@@ -249,7 +249,7 @@ impl Links {
 
 /// A client's channel among all channels.
 fn place(client: ClientId, channel: Channel) -> usize
-    ensures { result ≡ client * 5 + place_of channel }
+    ensures { result ≡ client * 5 + channel_index channel }
 {
     client.number() as usize * Channel::ALL.len() + channel.index()
 }

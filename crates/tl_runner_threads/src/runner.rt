@@ -1,7 +1,10 @@
 //! A run of a script over banks and threads.
-ghost use Rattle.std.specs.Prelude.{◌≡◌, ◌<◌, ◌≤◌, IfErr, IfOk, length, vec_len};
+ghost use Rattle.std.specs.Prelude.{◌≡◌, ◌<◌, ◌≤◌, ◌||◌, true, Err, IfErr, IfOk, OnOk, length, vec_len};
+ghost use Rattle.std.specs.List.{list_all, list_any};
 ghost use Rattle.tl_runner_report.specs.Conclusion.{IsRunReport};
 ghost use Rattle.tl_runner_report.specs.RunError.{TellsTurns};
+ghost use Rattle.tl_runner_report.specs.declared.error.RunError.TheVariants.{Memory as NoMemory};
+ghost use Rattle.tl_runner_threads.specs.Ends.{is_finished, lacks_memory};
 
 use crate::banks::{Opened, no_shares, open_banks};
 use crate::deal::Post;
@@ -220,24 +223,22 @@ fn home_workers<'x>(alloc: Global, posts: Vec<Post<'x>>) -> Result<Vec<HomeWorke
 
 /// Whether all threads finished. Want of memory goes before a stall; a thread that was stopped says nothing of why.
 fn end_of(joined: &Joined<ClientWorker<'_, '_>, HomeWorker<'_>>, turns: u32) -> Result<(), RunError>
-    ensures { IfErr result (TellsTurns turns) }
+    ensures memory { (list_any (λ w. lacks_memory w.end) joined.now.clients.items || list_any (λ w. lacks_memory w.end) joined.now.homes.items) ≡ true
+        → result ≡ Err NoMemory }
+    ensures finished { OnOk result ((list_all (λ w. is_finished w.end) joined.now.clients.items ≡ true)
+        × (list_all (λ w. is_finished w.end) joined.now.homes.items ≡ true)) }
+    ensures stalled { IfErr result (TellsTurns turns) }
 {
-    let mut are_finished = true;
-    for worker in &joined.clients {
-        match worker.end {
-            End::Memory => return Err(RunError::Memory),
-            End::Stalled | End::Stopped => are_finished = false,
-            End::Finished => {}
-        }
+    let clients = joined.clients.as_slice();
+    let homes = joined.homes.as_slice();
+    if clients.iter().any(|worker| worker.end.lacks_memory())
+        || homes.iter().any(|worker| worker.end.lacks_memory())
+    {
+        return Err(RunError::Memory);
     }
-    for worker in &joined.homes {
-        match worker.end {
-            End::Memory => return Err(RunError::Memory),
-            End::Stalled | End::Stopped => are_finished = false,
-            End::Finished => {}
-        }
-    }
-    if are_finished {
+    if clients.iter().all(|worker| worker.end.is_finished())
+        && homes.iter().all(|worker| worker.end.is_finished())
+    {
         Ok(())
     } else {
         Err(RunError::Stalled(turns))

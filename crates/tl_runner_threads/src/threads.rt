@@ -1,5 +1,5 @@
 //! A thread for each worker.
-ghost use Rattle.std.specs.Prelude.{◌≡◌, ◌≤◌, ◌+◌, IfOk, vec_len, vec_capacity};
+ghost use Rattle.std.specs.Prelude.{◌≡◌, ◌≤◌, ◌+◌, true, IfOk, vec_len, vec_capacity};
 ghost use Rattle.std.specs.Thread.{IsSend, IsSync};
 
 use std::alloc::{AllocError, Global};
@@ -31,7 +31,8 @@ fn start<'s, E, R: Threads + Wait + Clock + Sync, S: Sync, W: Work<S> + Send + '
     threads: &mut Vec<JoinHandle<W>>,
 ) -> bool
     requires { vec_len threads.old + vec_len workers ≤ vec_capacity threads.old }
-    ensures { vec_len threads.new ≤ vec_len threads.old + vec_len workers }
+    ensures most { vec_len threads.new ≤ vec_len threads.old + vec_len workers }
+    ensures all { result ≡ true → vec_len threads.new ≡ vec_len threads.old + vec_len workers }
 {
     for worker in workers {
         match scope.spawn(move || worker.work(rt, shared)) {
@@ -49,6 +50,7 @@ fn start<'s, E, R: Threads + Wait + Clock + Sync, S: Sync, W: Work<S> + Send + '
 /// Joins each thread.
 fn join_each<R: Threads, W: Drop + Send>(rt: &R, threads: Vec<JoinHandle<W>>, ended: &mut Vec<W>)
     requires { vec_len ended.old + vec_len threads ≤ vec_capacity ended.old }
+    ensures { vec_len ended.new ≡ vec_len ended.old + vec_len threads }
 {
     for thread in threads {
         let Ok(()) = ended.push(thread.join(rt)) else {
@@ -83,8 +85,8 @@ fn open_places<C: Drop + Send, H: Drop + Send>(
     })
 }
 
-/// Runs each worker in a thread of its own, joins all threads and gives the workers back. Where a thread could not be started, no other
-/// is, and those that run are stopped and joined.
+/// Runs each worker in a thread of its own, joins all threads and gives the workers back, as many as there were. Where a thread could
+/// not be started, no other is, and those that run are stopped and joined: the error is that, or want of memory.
 pub(crate) fn run_threads<
     R: Threads + Wait + Clock + Sync,
     S: Sync,
@@ -97,12 +99,15 @@ pub(crate) fn run_threads<
     mut stop: Ringer<'_>,
     clients: Vec<C>,
     homes: Vec<H>,
-) -> Result<Joined<C, H>, AllocError> {
+) -> Result<Joined<C, H>, AllocError>
+    ensures { IfOk result (λ joined. (vec_len joined.clients ≡ vec_len clients) × (vec_len joined.homes ≡ vec_len homes)) }
+{
     thread::scope(
         thread::scope_env(),
         rt,
         move |scope| -> Result<Joined<C, H>, AllocError>
             requires { IsSync R.row × IsSync S.row × IsSend C.row × IsSend H.row }
+            ensures { IfOk result (λ joined. (vec_len joined.clients ≡ vec_len clients.entry) × (vec_len joined.homes ≡ vec_len homes.entry)) }
         {
             let Places {
                 mut client_threads,
