@@ -192,7 +192,16 @@ impl<'s> Agent<'s> {
     fn is_done(&self, mail: &Mail<'_>) -> bool
         ensures { result ≡ true → IsDone self.now mail.now }
     {
-        let is_answered = !self.has_rung && self.bytes.len() >= self.script.len();
-        is_answered && !self.requester.is_waiting() && mail.has_put_all()
+        !self.has_rung
+            && self.has_answered_all()
+            && !self.requester.is_waiting()
+            && mail.has_put_all()
+    }
+
+    /// Whether each command of the script was answered.
+    fn has_answered_all(&self) -> bool
+        ensures { result ≡ true → length self.now.answered ≡ length self.now.script }
+    {
+        self.bytes.len() >= self.script.len()
     }
 }

@@ -1,2 +1,3 @@
 pub mod Deals
+pub mod EndLaws
 pub mod Sends

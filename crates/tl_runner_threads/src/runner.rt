@@ -1,5 +1,5 @@
 //! A run of a script over banks and threads.
-ghost use Rattle.std.specs.Prelude.{◌≡◌, ◌<◌, ◌≤◌, ◌||◌, true, Err, IfErr, IfOk, OnOk, length, vec_len};
+ghost use Rattle.std.specs.Prelude.{◌≡◌, ◌<◌, ◌≤◌, ◌||◌, ◌&&◌, true, Err, IfErr, IfOk, OnOk, length, vec_len};
 ghost use Rattle.std.specs.List.{list_all, list_any};
 ghost use Rattle.tl_runner_report.specs.Conclusion.{IsRunReport};
 ghost use Rattle.tl_runner_report.specs.RunError.{TellsTurns};
@@ -221,6 +221,26 @@ fn home_workers<'x>(alloc: Global, posts: Vec<Post<'x>>) -> Result<Vec<HomeWorke
     Ok(workers)
 }
 
+/// Whether a request for memory was refused in a thread.
+fn lacks_memory(joined: &Joined<ClientWorker<'_, '_>, HomeWorker<'_>>) -> bool
+    ensures { result ≡ (list_any (λ w. lacks_memory w.end) joined.now.clients.items || list_any (λ w. lacks_memory w.end) joined.now.homes.items) }
+{
+    let clients = joined.clients.as_slice();
+    let homes = joined.homes.as_slice();
+    clients.iter().any(|worker| worker.end.lacks_memory())
+        || homes.iter().any(|worker| worker.end.lacks_memory())
+}
+
+/// Whether each thread finished.
+fn are_finished(joined: &Joined<ClientWorker<'_, '_>, HomeWorker<'_>>) -> bool
+    ensures { result ≡ (list_all (λ w. is_finished w.end) joined.now.clients.items && list_all (λ w. is_finished w.end) joined.now.homes.items) }
+{
+    let clients = joined.clients.as_slice();
+    let homes = joined.homes.as_slice();
+    clients.iter().all(|worker| worker.end.is_finished())
+        && homes.iter().all(|worker| worker.end.is_finished())
+}
+
 /// Whether all threads finished. Want of memory goes before a stall; a thread that was stopped says nothing of why.
 fn end_of(joined: &Joined<ClientWorker<'_, '_>, HomeWorker<'_>>, turns: u32) -> Result<(), RunError>
     ensures memory { (list_any (λ w. lacks_memory w.end) joined.now.clients.items || list_any (λ w. lacks_memory w.end) joined.now.homes.items) ≡ true
@@ -229,16 +249,10 @@ fn end_of(joined: &Joined<ClientWorker<'_, '_>, HomeWorker<'_>>, turns: u32) -> 
         × (list_all (λ w. is_finished w.end) joined.now.homes.items ≡ true)) }
     ensures stalled { IfErr result (TellsTurns turns) }
 {
-    let clients = joined.clients.as_slice();
-    let homes = joined.homes.as_slice();
-    if clients.iter().any(|worker| worker.end.lacks_memory())
-        || homes.iter().any(|worker| worker.end.lacks_memory())
-    {
+    if lacks_memory(joined) {
         return Err(RunError::Memory);
     }
-    if clients.iter().all(|worker| worker.end.is_finished())
-        && homes.iter().all(|worker| worker.end.is_finished())
-    {
+    if are_finished(joined) {
         Ok(())
     } else {
         Err(RunError::Stalled(turns))
