@@ -1,9 +1,12 @@
 #!/usr/bin/env python3
-"""strange.py PROGRAM: strange scripts, files and outputs. PROGRAM is a built tlcache.
+"""strange.py PROGRAM [OTHER ..]: strange scripts, files, outputs and words. PROGRAM is a built tlcache; the others are built tlchart,
+tlcheck, tlwire and tlgen.
 
 Each script gives its one fault line and nothing else, or its report; so do a directory, a file that may not be read, a full device and a
-closed pipe. Then an address-space limit that grows by steps from where the program starts: each answer is whole, or `error 41 memory`. Prints
-what was tried, and ends with status 1 where an answer was another.
+closed pipe. Each program answers words that it does not take, and a word that is no UTF-8, with `error usage` and status 2, and want of
+memory with `error 41 memory` and status 4, also while it reads its words (a C compiler, cc, builds refuse.c). Then an address-space limit
+that grows by steps from where tlcache starts: each answer is whole, or `error 41 memory`. Prints what was tried, and ends with status 1
+where an answer was another.
 """
 import os
 import resource
@@ -12,7 +15,8 @@ import sys
 import tempfile
 import time
 
-TOP = os.path.dirname(os.path.dirname(os.path.dirname(os.path.abspath(__file__))))
+HERE = os.path.dirname(os.path.abspath(__file__))
+TOP = os.path.dirname(os.path.dirname(HERE))
 PATIENCE = 120
 
 NUMBERS = {
@@ -85,13 +89,26 @@ def strange_scripts():
         yield f"the step '{text}'", script(f'steps = ["{text}"]\n'), "error 35 step 0"
 
 
+# What each program takes: words that it answers, and others that it does not take.
+WORDS = {
+    "tlcache": ([b"run", b"no such file"], [[], [b"run"], [b"run", b"a", b"b"], [b"walk", b"a"], [b"--", b"run"], [b"--help"]]),
+    "tlchart": ([b"no such file"], [[], [b"a", b"b"], [b"--block", b"a"], [b"--block", b"-1", b"a"], [b"--help"]]),
+    "tlcheck": ([b"no such file"], [[], [b"a", b"b"]]),
+    "tlwire": ([b"--run", b"no such file"], [[], [b"--walk", b"a"], [b"--run", b"a", b"b"]]),
+    "tlgen": ([b"1", b"run"], [[], [b"1"], [b"x", b"run"], [b"1", b"walk"], [b"1", b"run", b"colour=1"], [b"4294967296", b"run"]]),
+}
+# Words that are no UTF-8: a byte that none begins with, a lone continuation, a surrogate, and a character that is cut off.
+NO_TEXTS = [b"\xff", b"a\x80", b"\xed\xa0\x80", b"\xe2\x82"]
+
+
 class Tried:
     def __init__(self, program, folder):
         self.program, self.folder, self.number, self.wrong = program, folder, 0, 0
 
-    def ask(self, words, **given):
+    def ask(self, words, program=None, **given):
         given.setdefault("stdout", subprocess.PIPE)
-        ran = subprocess.run([self.program, *words], stdin=subprocess.DEVNULL, stderr=subprocess.PIPE, timeout=PATIENCE, **given)
+        command = [program or self.program, *words]
+        ran = subprocess.run(command, stdin=subprocess.DEVNULL, stderr=subprocess.PIPE, timeout=PATIENCE, **given)
         return ran.returncode, ran.stdout or b"", ran.stderr
 
     def file(self, data):
@@ -128,8 +145,28 @@ class Tried:
         os.close(reader)
         self.expect("a closed pipe", self.ask(["run", path], stdout=writer), refused)
         os.close(writer)
-        for words in ([], ["run"], ["run", path, path], ["walk", path], ["--", "run"]):
-            self.expect(f"the words {words}", self.ask(words), (2, b"", b"error usage\n"))
+
+    def words(self, program):
+        """Words that a program does not take, and that are no UTF-8, in each place."""
+        taken, others = WORDS[os.path.basename(program)]
+        usage = (2, b"", b"error usage\n")
+        for words in others:
+            self.expect(f"{program} {words}", self.ask(words, program), usage)
+        for word in NO_TEXTS:
+            for place in range(len(taken) + 1):
+                words = [*taken[:place], word, *taken[place:]]
+                self.expect(f"{program} {words}", self.ask(words, program), usage)
+
+    def words_without_memory(self, program, library):
+        """The first requests for memory, which the words make, refused in turn."""
+        taken, _ = WORDS[os.path.basename(program)]
+        right, without, faults = self.ask(taken, program), (4, b"", b"error 41 memory\n"), 0
+        for number in range(1, 33):
+            env = {"LD_PRELOAD": library, "REFUSE_AT": str(number)}
+            got = self.ask(taken, program, env=env)
+            faults += got == without
+            self.expect(f"{program} {taken} with request {number} refused", got, without if got != right else right)
+        self.expect(f"{program}: want of memory was told", faults > 0, True)
 
     def limits(self, words):
         """Grows the address space by steps of 64 kB from where the program starts until it has answered whole ten times in a row."""
@@ -164,10 +201,16 @@ class Tried:
 
 
 def main():
-    if len(sys.argv) != 2:
+    if len(sys.argv) < 2:
         sys.exit(__doc__)
+    programs = [os.path.abspath(program) for program in sys.argv[1:]]
     with tempfile.TemporaryDirectory() as folder:
-        tried = Tried(os.path.abspath(sys.argv[1]), folder)
+        library = os.path.join(folder, "refuse.so")
+        subprocess.run(["cc", "-O1", "-shared", "-fPIC", "-o", library, os.path.join(HERE, "refuse.c"), "-ldl"], check=True)
+        tried = Tried(programs[0], folder)
+        for program in programs:
+            tried.words(program)
+            tried.words_without_memory(program, library)
         tried.scripts()
         tried.files()
         tried.growth()

@@ -12,14 +12,18 @@ import sys
 import tempfile
 from concurrent.futures import ThreadPoolExecutor
 
-TOP = os.path.dirname(os.path.dirname(os.path.dirname(os.path.abspath(__file__))))
+HERE = os.path.dirname(os.path.abspath(__file__))
+TOP = os.path.dirname(os.path.dirname(HERE))
 ROWS = f"{TOP}/crates/golden/data"
 SCRIPTS = [
     ("run", f"{ROWS}/two-bytes.toml"),
+    ("run", f"{ROWS}/drop-between.toml"),
+    ("run", f"{ROWS}/a-client-for-each-bank.toml"),
     ("run", f"{ROWS}/two-clients-one-block.toml"),
     ("run", f"{ROWS}/one-memory-over-two-banks.toml"),
     ("run", f"{ROWS}/sixteen-clients.toml"),
     ("run", f"{TOP}/examples/readers-and-a-writer.toml"),
+    ("trace", f"{ROWS}/store-and-reader.toml"),
     ("trace", f"{TOP}/examples/release-crosses-probe.toml"),
     ("trace", f"{TOP}/examples/eviction-writes-back.toml"),
 ]
@@ -81,7 +85,7 @@ def main():
     bad = 0
     with tempfile.TemporaryDirectory() as folder:
         library = os.path.join(folder, "refuse.so")
-        source = os.path.join(os.path.dirname(os.path.abspath(__file__)), "refuse.c")
+        source = os.path.join(HERE, "refuse.c")
         subprocess.run(["cc", "-O1", "-shared", "-fPIC", "-o", library, source, "-ldl"], check=True)
         sweep = Sweep(program, library, folder)
         for words in SCRIPTS:

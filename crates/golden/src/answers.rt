@@ -24,15 +24,7 @@ fn answer_of<R: Threads + Wait + Clock + Sync>(
     let mut faults = Vec::new(alloc);
     let file = String::from_str(alloc, "script")?;
     let job = Ok(Job { traces, file });
-    let status = answer(
-        rt,
-        alloc,
-        &Free,
-        job,
-        Some(script),
-        &mut output,
-        &mut faults,
-    );
+    let status = answer(rt, alloc, job, Some(script), &mut output, &mut faults);
     output.extend_from_slice(&faults)?;
     if status != 0 {
         output.extend_from_slice(format!(in alloc; "status {status}\n")?.as_bytes())?;

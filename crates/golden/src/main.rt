@@ -1,5 +1,5 @@
-//! Rows that are worked out from the rules: scripts with what the program answers, races with their pictures, records
-//! of messages with their answers, and bells over threads.
+//! Rows that are worked out from the rules: scripts with what the program answers, races with their pictures, and
+//! records of messages with their answers.
 //!
 //! `data/NAME.toml` is a script; `NAME.1.out`, `NAME.2.out` and on are what `tlcache` may write for it: its output, its fault line,
 //! and its status where that is not 0. There is more than one where they depend on who comes first. `NAME.svg` and `NAME.mmd` are
@@ -7,7 +7,6 @@
 #![tactic(auto)]
 
 mod answers;
-mod bells;
 mod charts;
 mod messages;
 mod names;
@@ -17,6 +16,5 @@ use std::io;
 fn main(rt: HostRuntime) -> io::Result<()> {
     answers::print_rows(&rt, &rt)?;
     charts::print_rows(&rt)?;
-    messages::print_rows(&rt)?;
-    bells::print_total(&rt, &rt)
+    messages::print_rows(&rt)
 }

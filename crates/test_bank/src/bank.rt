@@ -4,7 +4,7 @@ use crate::steps::{Call, Step, first_that_fails};
 use std::test::Fail;
 use tl_bank::Refusal;
 use tl_map::GeometryNumbers;
-use tl_types::{Channel, Grow, Perm, Prune};
+use tl_types::{Awaited, Channel, Grow, Perm, Prune};
 
 /// Two clients with two copies each, one bank and four blocks of eight bytes.
 const NUMBERS: GeometryNumbers = GeometryNumbers {
@@ -240,6 +240,35 @@ const FORGETS: &[Step] = &[
 #[test]
 fn a_bank_goes_on_after_it_forgot(rt: HostRuntime) -> Result<(), Fail> {
     let failed = first_that_fails(rt.alloc(), NUMBERS, 0, &[], FORGETS)?;
+    assert_eq!(rt; failed, None);
+    Ok(())
+}
+
+/// What the bank shows of a copy that comes, is written and goes, and of one that is asked for.
+const COPIES: &[Step] = &[
+    Step::Copy(0, 0, Some((Perm::None, None, false))),
+    Step::WaitsFor(0, 0, Some(Awaited::Nothing)),
+    Step::Copy(2, 0, None),
+    Step::Copy(0, 4, None),
+    Step::WaitsFor(2, 0, None),
+    Step::WaitsFor(0, 4, None),
+    Step::Fetch(0, 0, Grow::NtoT),
+    Step::Copy(0, 0, Some((Perm::Tip, Some(5), false))),
+    Step::Call(Call::Store(0, 0, &[7]), Ok(None)),
+    Step::Copy(0, 0, Some((Perm::Tip, Some(7), true))),
+    Step::Ask(0, 1),
+    Step::WaitsFor(0, 1, Some(Awaited::ForGrant)),
+    Step::Call(
+        Call::Release(0, 0, Prune::TtoB, 0),
+        Ok(Some((0, 0, Channel::C, 0))),
+    ),
+    Step::Copy(0, 0, Some((Perm::Branch, Some(7), false))),
+    Step::WaitsFor(0, 0, Some(Awaited::ForReleaseAck)),
+];
+
+#[test]
+fn a_bank_shows_copies_and_what_is_waited_for(rt: HostRuntime) -> Result<(), Fail> {
+    let failed = first_that_fails(rt.alloc(), NUMBERS, 0, &[5], COPIES)?;
     assert_eq!(rt; failed, None);
     Ok(())
 }

@@ -6,11 +6,14 @@ use std::marker::Model;
 use std::test::Fail;
 use tl_bank::{Action, Bank, Refusal, Share, When};
 use tl_map::{Geometry, GeometryNumbers};
-use tl_protocol::Event;
-use tl_types::{BankNo, BlockNo, Channel, ClientId, Grow, Perm, Prune, Ticket};
+use tl_protocol::{CachedCopy, Event};
+use tl_types::{Awaited, BankNo, BlockNo, Channel, ClientId, Grow, Perm, Prune, Ticket};
 
 /// What a call answers: the ticket of the message that it sent, if it sent one.
 pub type Answer = Result<Option<Ticket>, Refusal>;
+
+/// The permission of a copy, its first byte if it has any, and whether it is dirty.
+pub type Copied = (Perm, Option<u8>, bool);
 
 /// A bank and its clients' shares. Its model says nothing, so that a test of many calls has their answers alone to carry along.
 #[derive(Drop)]
@@ -205,6 +208,36 @@ impl Session {
     /// A client's copy of a block.
     pub fn perm(&self, client: ClientId, block: BlockNo) -> Perm {
         self.bank.perm(client, block)
+    }
+
+    /// What home records of a client and a block.
+    pub fn directory(&self, client: ClientId, block: BlockNo) -> Perm {
+        self.bank.directory(client, block)
+    }
+
+    /// The number of the client that may write a block, if one may.
+    pub fn writer_of(&self, block: u32) -> Option<u32> {
+        let writer = self.bank.writer(BlockNo::new(block))?;
+        Some(writer.number())
+    }
+
+    /// A client's copy of a block: its permission, its first byte if it has any, and whether it is dirty.
+    pub fn copy(&self, client: ClientId, block: BlockNo) -> Option<Copied> {
+        match self.bank.copy(client, block) {
+            Some(CachedCopy::Absent) => Some((Perm::None, None, false)),
+            Some(CachedCopy::Readable(bytes)) => {
+                Some((Perm::Branch, bytes.as_slice().first().copied(), false))
+            }
+            Some(CachedCopy::Writable(bytes, dirty)) => {
+                Some((Perm::Tip, bytes.as_slice().first().copied(), dirty))
+            }
+            None => None,
+        }
+    }
+
+    /// What a client waits for about a block.
+    pub fn waits_for(&self, client: ClientId, block: BlockNo) -> Option<Awaited> {
+        self.bank.waits_for(client, block)
     }
 
     /// How many copies a client has.

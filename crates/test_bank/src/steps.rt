@@ -1,10 +1,10 @@
 //! Tables of steps: calls of a bank with what they answer, and what it shows. A loop walks a table at a session, and owns nothing.
-use crate::session::{Answer, Session};
+use crate::session::{Answer, Copied, Session};
 use std::alloc::Global;
 use std::test::Fail;
-use tl_bank::{Refusal, When};
+use tl_bank::{Action, Refusal, When};
 use tl_map::GeometryNumbers;
-use tl_types::{BankNo, BlockNo, Channel, ClientId, Grow, Perm, Prune, Ticket};
+use tl_types::{Awaited, BankNo, BlockNo, Channel, ClientId, Grow, Perm, Prune, Ticket};
 
 /// The numbers of a ticket: its bank, client, channel and serial.
 pub type Numbers = (u32, u32, Channel, u64);
@@ -22,6 +22,20 @@ pub enum Call {
     TakeGrant(Numbers, u32),
     AnswerProbe(Numbers, u32),
     TakeReleaseAck(Numbers),
+    /// The call that takes a message of the ticket's channel: on D, a Grant.
+    Take(Numbers),
+    ServeMemory(u32),
+    TakeMemory(u32),
+}
+
+/// What `advance` did.
+#[derive(Clone, Copy, Debug, PartialEq, Eq)]
+pub enum Did {
+    Probe(Numbers),
+    Grant(Numbers),
+    Get,
+    Put(u32),
+    Drop,
 }
 
 /// A call that is made, or what is seen.
@@ -29,6 +43,8 @@ pub enum Call {
 pub enum Step {
     /// A call, and its answer.
     Call(Call, Sent),
+    /// Home advances a block, and what it does.
+    Advance(u32, Result<Did, Refusal>),
     /// A client gets a block, and all is done until the GrantAck is taken.
     Fetch(u32, u32, Grow),
     /// A client gives a block up that it may write, until the ReleaseAck is taken.
@@ -51,6 +67,20 @@ pub enum Step {
     Image(&'static [u8]),
     /// A client's copy of a block.
     Perm(u32, u32, Perm),
+    /// What home records of a client and a block.
+    Directory(u32, u32, Perm),
+    /// The client that may write a block, if one may.
+    Writer(u32, Option<u32>),
+    /// A client's byte at an address, if it may read it.
+    Peek(u32, u32, Option<u8>),
+    /// How many copies the clients have, and how many home records.
+    Copies(u64, u64),
+    /// Whether nothing is under way.
+    IsQuiet(bool),
+    /// A client's copy of a block, with its bytes.
+    Copy(u32, u32, Option<Copied>),
+    /// What a client waits for about a block.
+    WaitsFor(u32, u32, Option<Awaited>),
     /// How many copies a client has.
     CopiesOf(u32, Option<u64>),
     /// The client, the bank and the count of each share.
@@ -77,7 +107,41 @@ fn answer_of(sent: Sent) -> Answer {
     }
 }
 
+fn numbers_of(ticket: Ticket) -> Numbers {
+    (
+        ticket.bank.number(),
+        ticket.client.number(),
+        ticket.channel,
+        ticket.serial,
+    )
+}
+
+fn did(action: Action) -> Did {
+    match action {
+        Action::Probe(ticket) => Did::Probe(numbers_of(ticket)),
+        Action::Grant(ticket) => Did::Grant(numbers_of(ticket)),
+        Action::Get => Did::Get,
+        Action::Put(block) => Did::Put(block.number()),
+        Action::Drop => Did::Drop,
+    }
+}
+
 impl Session {
+    /// What home does when it advances a block.
+    fn advanced(&mut self, block: u32) -> Result<Did, Refusal> {
+        Ok(did(self.advance(BlockNo::new(block))?))
+    }
+
+    fn serve_some(&mut self, block: u32) -> Answer {
+        self.serve_memory(BlockNo::new(block))?;
+        Ok(None)
+    }
+
+    fn take_some(&mut self, block: u32) -> Answer {
+        self.take_memory(BlockNo::new(block))?;
+        Ok(None)
+    }
+
     fn load_some(&mut self, client: u32, address: u32, len: usize) -> Answer {
         let _stamp = self.load(ClientId::new(client), address, len, NOW)?;
         Ok(None)
@@ -116,6 +180,9 @@ impl Session {
                     .map(Some)
             }
             Call::TakeReleaseAck(numbers) => self.take_ack(ticket_of(numbers)),
+            Call::Take(numbers) => self.take(ticket_of(numbers)),
+            Call::ServeMemory(block) => self.serve_some(block),
+            Call::TakeMemory(block) => self.take_some(block),
         }
     }
 
@@ -130,6 +197,7 @@ impl Session {
     fn does(&mut self, step: Step) -> bool {
         match step {
             Step::Call(call, sent) => self.call(call) == answer_of(sent),
+            Step::Advance(block, wanted) => self.advanced(block) == wanted,
             Step::Fetch(client, block, grow) => self.fetch(client, block, grow).is_ok(),
             Step::GiveUp(client, block) => self.give_up(client, block).is_ok(),
             Step::Ask(client, block) => self.can_ask(client, block),
@@ -156,6 +224,19 @@ impl Session {
             Step::Perm(client, block, perm) => {
                 self.perm(ClientId::new(client), BlockNo::new(block)) == perm
             }
+            Step::Directory(client, block, perm) => {
+                self.directory(ClientId::new(client), BlockNo::new(block)) == perm
+            }
+            Step::Writer(block, client) => self.writer_of(block) == client,
+            Step::Peek(client, address, byte) => self.peek(ClientId::new(client), address) == byte,
+            Step::Copies(held, recorded) => self.copies() == (held, recorded),
+            Step::IsQuiet(is_quiet) => self.is_quiet() == is_quiet,
+            Step::Copy(client, block, copy) => {
+                self.copy(ClientId::new(client), BlockNo::new(block)) == copy
+            }
+            Step::WaitsFor(client, block, wait) => {
+                self.waits_for(ClientId::new(client), BlockNo::new(block)) == wait
+            }
             Step::CopiesOf(client, copies) => self.copies_of(ClientId::new(client)) == copies,
             Step::Shares(shares) => self.shares().as_slice() == shares,
             _ => false,
@@ -171,6 +252,26 @@ impl Session {
         }
         None
     }
+
+    /// The table and the place in it of the first step that does not go, if there is one.
+    fn first_in_tables(&mut self, tables: &[&[Step]]) -> Option<(usize, usize)> {
+        for (table, steps) in tables.iter().enumerate() {
+            if let Some(place) = self.first_that_fails(steps) {
+                return Some((table, place));
+            }
+        }
+        None
+    }
+}
+
+/// The table and the place in it of the first step that does not go, if there is one, at a bank of a geometry over a memory of zeros.
+pub fn first_in_tables(
+    alloc: Global,
+    numbers: GeometryNumbers,
+    tables: &[&[Step]],
+) -> Result<Option<(usize, usize)>, Fail> {
+    let mut session = Session::new(alloc, numbers)?;
+    Ok(session.first_in_tables(tables))
 }
 
 /// The place of the first step that does not go, if there is one, at a bank of a geometry over a memory that holds an image.

@@ -1,9 +1,13 @@
 //! Tests of the lower layers by their public calls: the codes of TileLink and copies of messages, where blocks lie, the memory as a
-//! whole, which no bank makes, and inboxes and bells between threads.
+//! whole, which no bank makes, a bank's ways, channels and tables by themselves, and inboxes and bells between threads.
 #![tactic(auto)]
 
 #[cfg(test)]
 mod codes;
+#[cfg(test)]
+mod copies;
+#[cfg(test)]
+mod links;
 #[cfg(test)]
 mod map;
 #[cfg(test)]
@@ -14,3 +18,5 @@ mod messages;
 mod pairs;
 #[cfg(test)]
 mod tickets;
+#[cfg(test)]
+mod ways;

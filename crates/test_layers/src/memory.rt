@@ -46,9 +46,11 @@ fn counted(beats: u8) -> Burst {
     burst
 }
 
-/// The first and the last of some bytes, and how many there are.
-fn ends(bytes: &[u8]) -> Option<Ends> {
-    Some((*bytes.first()?, *bytes.last()?, bytes.len()))
+/// The first byte of the first beat, the last one of the last beat, and how many bytes there are.
+fn ends(burst: &Burst) -> Option<Ends> {
+    let last = burst.beats().checked_sub(1)?;
+    let (first, last) = (burst.beat(0), burst.beat(last));
+    Some((first[0], last[7], burst.block().as_slice().len()))
 }
 
 /// A memory. Its model says nothing, so that a test of many calls has their answers alone to carry along.
@@ -119,7 +121,7 @@ impl Blocks {
             Reply::AccessAckData {
                 size: answered,
                 burst,
-            } if answered == size => { ends(burst.block().as_slice()) }
+            } if answered == size => { ends(&burst) }
             _ => None,
         }
     }

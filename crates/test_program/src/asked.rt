@@ -4,7 +4,7 @@ use std::io::{Read, Write};
 use std::sync::Wait;
 use std::thread::Threads;
 use std::time::Clock;
-use tl_runner::{Free, Job, JobError, answer};
+use tl_runner::{Job, JobError, answer};
 
 /// A script with no commands and no steps.
 pub const SCRIPT: &str = "\
@@ -34,7 +34,7 @@ pub fn status_of<T: Threads + Wait + Clock + Sync, R: Read + Drop, W: Write, E: 
     output: &mut W,
     faults: &mut E,
 ) -> u8 {
-    answer(rt, alloc, &Free, job, file, output, faults)
+    answer(rt, alloc, job, file, output, faults)
 }
 
 /// The status of a job with this file and this output, and whether its fault line is this one.

@@ -9,7 +9,7 @@ use std::time::Clock;
 use tl_bank::{Loaded, Refusal, Share, When};
 use tl_client::{Agent, Command, Turn};
 use tl_client_mail::Mail;
-use tl_client_ports::Port;
+use tl_client_ports::{Port, Success};
 use tl_map::{Geometry, GeometryNumbers};
 use tl_tickets::{Receiver, Sender};
 use tl_types::{BankNo, BlockNo, Channel, ClientId, Grow, Perm, Prune, Ticket};
@@ -37,6 +37,10 @@ impl Port for Refuser {
     ghost use Rattle.std.specs.Prelude.{[]};
 
     ghost successes = { λ p. [] };
+
+    fn successes(&self) -> &[Success] {
+        &[]
+    }
 
     fn load(
         &mut self,

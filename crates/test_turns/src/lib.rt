@@ -2,15 +2,21 @@
 #![tactic(auto)]
 
 #[cfg(test)]
+mod bars;
+#[cfg(test)]
 mod counts;
 #[cfg(test)]
 mod idle;
+#[cfg(test)]
+mod left;
 #[cfg(test)]
 mod mails;
 #[cfg(test)]
 mod order;
 #[cfg(test)]
 mod play;
+#[cfg(test)]
+mod ports;
 #[cfg(test)]
 mod silent;
 #[cfg(test)]

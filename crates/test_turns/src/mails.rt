@@ -127,6 +127,7 @@ pub fn open_two(alloc: Global) -> Option<(Rooms, Keys)>
 /// The ends of a room's own worker.
 pub fn inside<'a>(room: &'a Room, key: Key) -> (Receiver<'a>, Ringer<'a>)
     requires { IsReceiverOf room.now.inbox key.pass × IsSeatOf room.now.bell key.seat }
+    ensures { result.0.inbox ≡ room.now.inbox }
 {
     let Key { pass, seat } = key;
     (
@@ -138,6 +139,7 @@ pub fn inside<'a>(room: &'a Room, key: Key) -> (Receiver<'a>, Ringer<'a>)
 /// The ends of the one who sends to a room.
 pub fn outside<'a>(room: &'a Room, key: Key) -> (Sender<'a>, Ringer<'a>)
     requires { IsSenderOf room.now.inbox key.pass × IsSeatOf room.now.bell key.seat }
+    ensures { result.0.inbox ≡ room.now.inbox }
 {
     let Key { pass, seat } = key;
     (
@@ -180,7 +182,9 @@ pub fn mail_of<'a>(
     own: (Receiver<'a>, Ringer<'a>),
     ways: Option<(Vec<Sending<'a>>, Parker)>,
     done: Ringer<'a>,
-) -> Option<Mail<'a>> {
+) -> Option<Mail<'a>>
+    ensures { IfSome result (λ mail. mail.inbox.inbox ≡ own.0.inbox) }
+{
     let (ways, parker) = ways?;
     Some(Mail::new(own.0, own.1, ways, done, parker))
 }
@@ -192,7 +196,9 @@ pub fn mail<'a>(
     own: (Receiver<'a>, Ringer<'a>),
     to: (Sender<'a>, Ringer<'a>),
     done: Ringer<'a>,
-) -> Option<Mail<'a>> {
+) -> Option<Mail<'a>>
+    ensures { IfSome result (λ mail. mail.inbox.inbox ≡ own.0.inbox) }
+{
     mail_of(own, only_way_and_rest(alloc, to), done)
 }
 
@@ -233,6 +239,8 @@ pub fn first_mail<'a>(
     requires to_one { IsSenderOf rooms.now.one.inbox keys.to_one.pass × IsSeatOf rooms.now.one.bell keys.to_one.seat }
     requires to_other { IsSenderOf rooms.now.other.inbox keys.to_other.pass × IsSeatOf rooms.now.other.bell keys.to_other.seat }
     requires done { IsSeatOf rooms.now.done keys.rings × IsSeatOf rooms.now.done keys.hears }
+    ensures own { IfSome result.0 (λ mail. mail.inbox.inbox ≡ rooms.now.one.inbox) }
+    ensures put { result.1.0.inbox ≡ rooms.now.one.inbox }
 {
     let hears = Ringer::new(&rooms.done, keys.hears);
     let own = inside(&rooms.one, keys.one);

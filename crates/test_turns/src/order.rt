@@ -19,8 +19,8 @@ use tl_tickets::{Ringer, Sender};
 use tl_types::{BankNo, BlockNo, Channel, ClientId, Ticket};
 
 /// A port to no bank: it counts its calls, keeps what was asked, and on channel A refuses, or has no memory, as long as
-/// it is told to. So many blocks, from 0 on, have an open register, none of which has a next step; those asked for one
-/// are kept.
+/// it is told to. So many blocks, from 0 on, have an open register; those asked for a step are kept. Such a step is a Get where it
+/// is told to, else there is none; what was asked of the memory is kept too.
 #[derive(Drop)]
 struct Recorder {
     calls: Cell<u32>,
@@ -29,6 +29,18 @@ struct Recorder {
     has_memory: bool,
     open: u32,
     advanced: Vec<BlockNo>,
+    gets: bool,
+    memory: Vec<MemoryCall>,
+    is_quiet: bool,
+}
+
+/// What is asked of the memory for a block.
+#[derive(Clone, Copy, Debug, PartialEq, Eq)]
+enum MemoryCall {
+    /// It is to serve what was sent.
+    Serve,
+    /// Home takes its answer.
+    Take,
 }
 
 impl Recorder {
@@ -79,7 +91,11 @@ impl HomePort for Recorder {
     fn advance(&mut self, block: BlockNo) -> Result<Action, Refusal> {
         self.count();
         let _ = self.advanced.push(block);
-        Err(Refusal::NotYet)
+        if self.gets {
+            Ok(Action::Get)
+        } else {
+            Err(Refusal::NotYet)
+        }
     }
 
     fn evict(&mut self, _block: BlockNo) -> Result<(), Refusal> {
@@ -89,12 +105,14 @@ impl HomePort for Recorder {
 
     fn serve_memory(&mut self, _block: BlockNo) -> Result<Reply, Refusal> {
         self.count();
-        Err(Refusal::NothingThere)
+        let _ = self.memory.push(MemoryCall::Serve);
+        Ok(Reply::AccessAck)
     }
 
     fn take_memory(&mut self, _block: BlockNo) -> Result<(), Refusal> {
         self.count();
-        Err(Refusal::NothingThere)
+        let _ = self.memory.push(MemoryCall::Take);
+        Ok(())
     }
 
     fn open_blocks(&self) -> ArrayVec<BlockNo, 8> {
@@ -108,7 +126,7 @@ impl HomePort for Recorder {
 
     fn is_quiet(&self) -> bool {
         self.count();
-        false
+        self.is_quiet
     }
 }
 
@@ -144,6 +162,12 @@ enum Step {
     Memory(bool),
     /// So many blocks have an open register.
     Open(u32),
+    /// Whether the next step of each open register is a Get.
+    Gets(bool),
+    /// Just this was asked of the memory, in order.
+    Memories(&'static [MemoryCall]),
+    /// The bank is quiet from now on.
+    Quiet,
     /// Calls are counted anew.
     CountAnew,
 }
@@ -175,6 +199,13 @@ const STEPS: &[Step] = &[
     Step::Turn(Turn::Worked),
     Step::Asked(&[0, 1]),
     Step::Advanced(&[0, 1]),
+    // After a Get the memory serves, and home takes its answer.
+    Step::Memories(&[]),
+    Step::Open(1),
+    Step::Gets(true),
+    Step::Turn(Turn::Worked),
+    Step::Memories(&[MemoryCall::Serve, MemoryCall::Take]),
+    Step::Gets(false),
     Step::Open(0),
     Step::Turn(Turn::Worked),
     Step::Asked(&[]),
@@ -198,6 +229,14 @@ const STEPS: &[Step] = &[
     Step::Turn(Turn::Idle),
     Step::Turn(Turn::Idle),
     Step::Calls(1),
+    // It finishes only where the bank is quiet, and it asks again once something was to be done.
+    Step::Ring,
+    Step::Turn(Turn::Worked),
+    Step::Turn(Turn::Idle),
+    Step::Quiet,
+    Step::Ring,
+    Step::Turn(Turn::Worked),
+    Step::Turn(Turn::Finished),
 ];
 
 /// Whether tickets have these serials, in order.
@@ -266,6 +305,8 @@ impl Scene<'_> {
             Step::Accept => self.port.refuses = false,
             Step::Memory(has_memory) => self.port.has_memory = has_memory,
             Step::Open(open) => self.port.open = open,
+            Step::Gets(gets) => self.port.gets = gets,
+            Step::Quiet => self.port.is_quiet = true,
             Step::CountAnew => self.port.calls.set(0),
             _ => {}
         }
@@ -278,6 +319,7 @@ impl Scene<'_> {
             Step::Calls(calls) => self.port.calls.get() == calls,
             Step::Asked(serials) => are_serials(self.port.asked.as_slice(), serials),
             Step::Advanced(numbers) => are_numbers(self.port.advanced.as_slice(), numbers),
+            Step::Memories(calls) => self.port.memory.as_slice() == calls,
             Step::Put(channel, serial) => self.put(rt, ticket(channel, serial)),
             _ => {
                 self.change(step);
@@ -306,6 +348,9 @@ fn refusing_port(alloc: Global) -> Recorder {
         has_memory: true,
         open: 0,
         advanced: Vec::new(alloc),
+        gets: false,
+        memory: Vec::new(alloc),
+        is_quiet: false,
     }
 }
 

@@ -46,7 +46,7 @@ fn exchange<R: Wait + Clock>(
     let (rooms, keys) = open_two(alloc)?;
     let mails = two_mails(alloc, &rooms, keys);
     let workers = Workers::new(alloc, ClientId::new(0), agent, mails);
-    play_out(rt, locked, gate, workers, 1)
+    play_out(rt, alloc, locked, gate, workers, 1)
 }
 
 /// How many copies the client holds, and what it may do with block 2.

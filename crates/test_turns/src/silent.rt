@@ -16,7 +16,7 @@ use tl_client_mail::{Mail, Sending};
 use tl_client_ports::{Free, Locked};
 use tl_map::{Geometry, GeometryNumbers};
 use tl_protocol::{Event, Shape};
-use tl_rules::Plain;
+use tl_rules::{BlockState, Plain};
 use tl_tickets::{Receiver, Ringer, Sender};
 use tl_types::{BankNo, BlockNo, ClientId, Grow, Perm};
 
@@ -40,7 +40,7 @@ const SHAPE: Shape = Shape {
 };
 
 /// Client 0 gets block 0 to write it, by calls alone.
-fn fetch(bank: &mut Bank, share: &mut Share) -> Result<(), Refusal> {
+pub fn fetch(bank: &mut Bank, share: &mut Share) -> Result<(), Refusal> {
     let block = BlockNo::new(0);
     let asked = bank.acquire(ClientId::new(0), block, Grow::NtoT)?;
     bank.accept(asked)?;
@@ -70,27 +70,54 @@ fn apply(plain: &mut Plain, events: &[Event]) -> bool {
     true
 }
 
-/// Whether the plain map and the bank show the same of both clients and blocks.
-fn are_same(plain: &Plain, bank: &Bank) -> bool {
-    for (client, block) in [(0, 0), (0, 1), (1, 0), (1, 1)] {
-        let client = ClientId::new(client);
-        let block = BlockNo::new(block);
-        if plain.perm(client, block) != bank.perm(client, block) {
-            return false;
-        }
-    }
-    true
+/// Whether the plain map and the bank show the same of a client at a block: what it holds, and what is recorded of it.
+fn is_same_client(plain: &BlockState, bank: &Bank, client: ClientId, block: BlockNo) -> bool {
+    let Some(state) = plain.client(client) else {
+        return false;
+    };
+    plain.perm(client) == bank.perm(client, block)
+        && state.recorded == bank.directory(client, block)
 }
 
-/// Whether the bank's log, applied to the plain map, leaves what the bank shows of both clients and blocks. `None` where
-/// a request for memory was refused.
+/// Whether they show the same of a block: of both clients, and of home's copy, with its dirty flag.
+fn is_same_block(plain: &Plain, bank: &Bank, block: BlockNo) -> bool {
+    let Some(state) = plain.block(block.number()) else {
+        return false;
+    };
+    state.home().map(|line| line.dirty) == bank.home(block)
+        && is_same_client(state, bank, ClientId::new(0), block)
+        && is_same_client(state, bank, ClientId::new(1), block)
+}
+
+/// How many copies the plain map has above None, and how many are recorded so.
+fn counts(plain: &Plain) -> (u64, u64) {
+    let mut held = 0u64;
+    let mut recorded = 0u64;
+    for number in 0..SHAPE.blocks {
+        if let Some(block) = plain.block(number) {
+            held = held.saturating_add(block.held() as u64);
+            recorded = recorded.saturating_add(block.recorded() as u64);
+        }
+    }
+    (held, recorded)
+}
+
+/// Whether the plain map and the bank show the same: permissions, directory, home and counts.
+fn are_same(plain: &Plain, bank: &Bank) -> bool {
+    is_same_block(plain, bank, BlockNo::new(0))
+        && is_same_block(plain, bank, BlockNo::new(1))
+        && counts(plain) == (bank.held(), bank.outstanding())
+}
+
+/// Whether the bank's log, applied to the plain map, leaves what the bank shows. `None` where a request for memory was
+/// refused.
 fn replays(alloc: Global, bank: &Bank) -> Option<bool> {
     let mut plain = Plain::new(alloc, SHAPE, &[]).ok()?;
     Some(apply(&mut plain, bank.log()) && are_same(&plain, bank))
 }
 
 /// The bank at reset, and the shares of client 0 and client 1.
-fn fresh(alloc: Global, geometry: Geometry) -> Option<(Bank, Share, Share)> {
+pub fn fresh(alloc: Global, geometry: Geometry) -> Option<(Bank, Share, Share)> {
     let (bank, mut given) = Bank::new(alloc, geometry, BankNo::new(0), &[]).ok()?;
     match (given.pop(), given.pop()) {
         (Some(second), Some(first)) => Some((bank, first, second)),
@@ -183,7 +210,7 @@ fn wait_for<R: Wait + Clock>(
     let (rooms, keys) = open_two(alloc)?;
     let mails = mails(alloc, silent, to_silent, &rooms, keys);
     let workers = Workers::new(alloc, ClientId::new(1), agent, mails);
-    play_out(rt, locked, &Free, workers, 2)
+    play_out(rt, alloc, locked, &Free, workers, 2)
 }
 
 /// The turns of client 1's agent and of the home, while client 0 is silent.

@@ -4,9 +4,8 @@ use std::marker::Model;
 use std::sync::Wait;
 use std::time::Clock;
 use tl_bank::{Bank, Share};
-use tl_client::{Agent, Home, Turn};
+use tl_client::{Agent, Gate, Home, HomePort, Locked, Port, Turn};
 use tl_client_mail::Mail;
-use tl_client_ports::{Gate, HomePort, Locked, Port};
 use tl_map::Geometry;
 use tl_types::{AccessBytes, BankNo, ClientId};
 
@@ -125,12 +124,13 @@ impl<'a> Workers<'a> {
     fn take_turns_at<G: Gate, R: Wait + Clock>(
         &mut self,
         rt: &R,
+        alloc: Global,
         locked: &Locked,
         gate: &G,
         clients: u32,
     ) -> Option<(Turn, Turn)> {
         let mut home_port = locked.home_port(rt, gate, BankNo::new(0))?;
-        let mut port = locked.client_port(rt, gate, self.client);
+        let mut port = locked.client_port(rt, alloc, gate, self.client);
         Some(self.take_turns(rt, &mut port, &mut home_port, gate, clients))
     }
 
@@ -169,13 +169,14 @@ fn together(turns: Option<(Turn, Turn)>, answers: (usize, Option<u8>)) -> Option
 /// What is seen once these workers took their turns. `None` where there are none, or no bank 0.
 pub fn play_out<G: Gate, R: Wait + Clock>(
     rt: &R,
+    alloc: Global,
     locked: &Locked,
     gate: &G,
     workers: Option<Workers<'_>>,
     clients: u32,
 ) -> Option<Played> {
     let mut workers = workers?;
-    let turns = workers.take_turns_at(rt, locked, gate, clients);
+    let turns = workers.take_turns_at(rt, alloc, locked, gate, clients);
     together(turns, workers.into_answers())
 }
 

@@ -1,22 +1,34 @@
--- What a bank shows of home's copy and of the memory's bytes of a block, and of the messages that wait (this project's own).
+-- What a bank shows of the clients' copies of a block, of home's copy and of the memory's bytes, and of the messages that wait (this
+-- project's own).
 use Rattle.std.specs.Prelude.{ℕ, ◌+◌, List, Option, None, Some, slice_get, if◌then◌else◌}
 use Rattle.std.specs.Option.{option_map}
 use Rattle.tl_types.specs.declared.channel.Channel.{Channel}
 use Rattle.tl_types.specs.declared.message.Message.{Message}
 use Rattle.tl_types.specs.declared.ticket.Ticket.{Ticket}
+use Rattle.tl_types.specs.declared.wait.Awaited.{Awaited}
+use Rattle.tl_protocol.specs.declared.copy.CachedCopy.{CachedCopy}
 use Rattle.tl_protocol.specs.declared.home.Line.{Line}
 use Rattle.tl_bank_spec.specs.Cases.{no_client}
 use Rattle.tl_bank_spec.specs.Channels.{lane_at}
-use Rattle.tl_bank_spec.specs.View.{View, block_at}
-use Rattle.tl_bank_spec.specs.Views.{not_own}
+use Rattle.tl_bank_spec.specs.View.{View, end_at, client_at}
+use Rattle.tl_bank_spec.specs.Views.{no_part, not_own}
+
+-- a client's copy of a block: its permission, its bytes, and whether they are dirty; None of a client or a block that the bank does
+-- not have
+abbrev pub copy_at : View → ℕ → ℕ → Option CachedCopy
+copy_at v client block = if no_part v client block then None else Some (client_at v client block).held
+
+-- the answer that a client waits for about a block, of such a client and block
+abbrev pub wait_at : View → ℕ → ℕ → Option Awaited
+wait_at v client block = if no_part v client block then None else Some (client_at v client block).wait
 
 -- home's copy of a block, where home has one; None also of a block that is not there or of another bank
 abbrev pub line_at : View → ℕ → Option Line
-line_at v block = if not_own v block then None else (block_at v block).home
+line_at v block = if not_own v block then None else (end_at v block).home
 
 -- the memory's bytes of a block; None of a block that is not there or of another bank
 abbrev pub memory_at : View → ℕ → Option (List ℕ)
-memory_at v block = if not_own v block then None else Some (block_at v block).memory
+memory_at v block = if not_own v block then None else Some (end_at v block).memory
 
 -- the ticket of the message at a place among those that wait on a channel, from 0
 abbrev pub waiting_ticket : View → ℕ → Channel → ℕ → Ticket

@@ -11,7 +11,7 @@ ghost use Rattle.tl_copies.specs.Held.{has_copy};
 
 use tl_copies::{Copies, Held};
 use tl_protocol::CachedCopy;
-use tl_types::{ACCESS_BYTES, AccessBytes, BlockBytes, BlockNo, ClientId, GrantCap, Perm, Wait};
+use tl_types::{ACCESS_BYTES, AccessBytes, Awaited, BlockBytes, BlockNo, ClientId, GrantCap, Perm};
 
 /// The copy that an entry keeps.
 pub(crate) fn copy_in(held: Option<&Held>) -> CachedCopy
@@ -61,12 +61,12 @@ pub(crate) fn reduced_in(held: Option<&Held>, perm: Perm) -> CachedCopy
 }
 
 /// The answer that the client waits for.
-pub(crate) fn wait_in(held: Option<&Held>) -> Wait
+pub(crate) fn wait_in(held: Option<&Held>) -> Awaited
     ensures { result ≡ wait_in (option_copied held.entry) }
 {
     match held {
         Some(held) => held.wait,
-        None => Wait::Nothing,
+        None => Awaited::Nothing,
     }
 }
 
@@ -84,7 +84,7 @@ pub(crate) fn perm_in(held: Option<&Held>) -> Perm
 pub(crate) fn waits_in(held: Option<&Held>) -> bool
     ensures { result ≡ is_waiting (wait_in (option_copied held.entry)) }
 {
-    wait_in(held) != Wait::Nothing
+    wait_in(held) != Awaited::Nothing
 }
 
 /// `len` of the entry's bytes, from `offset` on.
@@ -100,7 +100,7 @@ pub(crate) fn read_in(held: Option<&Held>, offset: u32, len: u32) -> AccessBytes
 }
 
 /// A copy as a table keeps it.
-fn held_as(copy: CachedCopy, wait: Wait) -> Held
+fn held_as(copy: CachedCopy, wait: Awaited) -> Held
     ensures { result ≡ held_as copy wait }
 {
     let perm = copy.perm();
@@ -140,11 +140,11 @@ pub(crate) fn access_of(bytes: &[u8]) -> AccessBytes
 }
 
 /// Whether a table has an entry for such a copy.
-fn has_entry_for(copy: &CachedCopy, wait: Wait) -> bool
+fn has_entry_for(copy: &CachedCopy, wait: Awaited) -> bool
     ensures { result ≡ has_entry_for copy.now wait }
 {
     match copy {
-        CachedCopy::Absent => wait != Wait::Nothing,
+        CachedCopy::Absent => wait != Awaited::Nothing,
         _ => true,
     }
 }
@@ -155,7 +155,7 @@ pub(crate) fn put(
     client: ClientId,
     block: BlockNo,
     copy: CachedCopy,
-    wait: Wait,
+    wait: Awaited,
 )
     requires { HasPlace copies.old client block copy wait }
     ensures same { SameSize copies.old copies.new }
@@ -189,8 +189,8 @@ pub(crate) fn end_wait(copies: &mut Copies, client: ClientId, block: BlockNo)
     ensures after { (x y : ℕ)
         → held_at copies.new x y ≡ (if is_cell client block x y then ended (held_at copies.old client block) else held_at copies.old x y) }
 {
-    if has_copy(copies.of(client, block)) {
-        copies.wait_for(client, block, Wait::Nothing);
+    if has_copy(copies.held(client, block)) {
+        copies.wait_for(client, block, Awaited::Nothing);
     } else {
         copies.clear(client, block);
     }

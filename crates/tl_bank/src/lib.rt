@@ -8,4 +8,5 @@ mod share;
 
 pub use bank::{Bank, BankError};
 pub use share::Share;
-pub use tl_bank_spec::{Action, Loaded, Refusal, Reply, When};
+pub use tl_bank_spec::{Action, Loaded, Refusal, When};
+pub use tl_memory::{Burst, Reply};

@@ -16,9 +16,9 @@ pub struct Share {
 }
 
 impl Model for Share {
-    ghost use Rattle.tl_bank_spec.specs.Share.{Holding};
+    ghost use Rattle.tl_bank_spec.specs.Share.{ShareView};
 
-    ghost Value = { Holding };
+    ghost Value = { ShareView };
 
     ghost view = { λ s. record { client = s.client; bank = s.bank; count = s.count } };
 }

@@ -11,10 +11,10 @@ use Rattle.tl_map.specs.Numbers.{Numbers}
 use Rattle.tl_map.specs.Places.{bank_of, set_of, tag_of, place_of}
 use Rattle.tl_map.specs.declared.place.Place.{Place}
 use Rattle.tl_map.proofs.PlaceLaws.{place_of-alone}
-use Rattle.tl_ways.specs.Lines.{Line as Entry, line_perm}
+use Rattle.tl_ways.specs.Entries.{Entry, IsOfClients, entry_perm}
 use Rattle.tl_ways.specs.Orders.{chosen, touched}
-use Rattle.tl_ways.specs.Rows.{tag_in_line}
-use Rattle.tl_ways.specs.Tables.{WayTable, IsSameSize, line_at, order_at, set_count, tag_at, chosen_at}
+use Rattle.tl_ways.specs.Rows.{tag_in_entry}
+use Rattle.tl_ways.specs.Tables.{WayTable, IsSameSize, entry_at, order_at, set_count, tag_at, chosen_at}
 use Rattle.tl_ways.specs.Stores.{Store, bytes_at}
 use Rattle.tl_bank_home.specs.Directories.{Directory, has_tag, way_by_tag, copy_at, perm_in_way, way_of, line_of, recorded_of, free_in, order_of, order_after, IsDirectory, IsHeld, IsPlaced}
 
@@ -110,7 +110,7 @@ line_of-held d block set way entry held = rw (held.lies, ← held.in_set, held.l
 
 -- what home records of it
 pub recorded_of-held : (d : Directory) (client block set way : ℕ) (entry : Entry) → IsHeld d block set way entry
-    → recorded_of d client block ≡ line_perm entry client
+    → recorded_of d client block ≡ entry_perm entry client
 unfolding recorded_of
 recorded_of-held d client block set way entry held = rw (held.lies, ← held.in_set, held.line) refl
 
@@ -147,13 +147,13 @@ pub record Changes (d after : Directory) (block set way : ℕ) (entry : Option E
   pub ways : after.table.ways ≡ d.table.ways
   pub own : bank_of d.geometry block ≡ d.bank
   pub in_set : set ≡ set_of d.geometry block
-  pub lines : (x y : ℕ) → line_at after.table x y ≡ (if x == set && y == way then entry else line_at d.table x y)
+  pub lines : (x y : ℕ) → entry_at after.table x y ≡ (if x == set && y == way then entry else entry_at d.table x y)
   pub bytes : (x y : ℕ) → y < d.table.ways → (x == set && y == way) ≡ false → bytes_at after.store x y ≡ bytes_at d.store x y
-  pub before : OnlyTag (line_at d.table set way) (tag_of d.geometry block)
+  pub before : OnlyTag (entry_at d.table set way) (tag_of d.geometry block)
   pub now : OnlyTag entry (tag_of d.geometry block)
 
 -- another tag is not an entry's
-not_tagged : (line : Option Entry) (tag other : ℕ) → OnlyTag line tag → other ≢ tag → has_tag (tag_in_line line) other ≡ false
+not_tagged : (line : Option Entry) (tag other : ℕ) → OnlyTag line tag → other ≢ tag → has_tag (tag_in_entry line) other ≡ false
 not_tagged None tag other only apart = refl
 not_tagged (Some entry) tag other only apart = ne_eqb entry.tag other (λ same. apart (sym same ∙ only))
 
@@ -162,10 +162,10 @@ module _ {d after : Directory} {block set way : ℕ} {entry : Option Entry} (c :
   abbrev here : ℕ → ℕ → Bool
   here x y = x == set && y == way
 
-  line-same : (x y : ℕ) → here x y ≡ false → line_at after.table x y ≡ line_at d.table x y
+  line-same : (x y : ℕ) → here x y ≡ false → entry_at after.table x y ≡ entry_at d.table x y
   line-same x y other = rw (c.lines x y, other) refl
 
-  line-here : (x y : ℕ) → here x y ≡ true → line_at after.table x y ≡ entry
+  line-here : (x y : ℕ) → here x y ≡ true → entry_at after.table x y ≡ entry
   line-here x y same = rw (c.lines x y, same) refl
 
   -- another block of the bank that has this set has another tag
@@ -180,10 +180,10 @@ module _ {d after : Directory} {block set way : ℕ} {entry : Option Entry} (c :
       let sets : set_of d.geometry b ≡ set = eqb-true (set_of d.geometry b) set parts.0 in
       let at : y ≡ way = eqb-true y way parts.1 in
       let tags : tag_of d.geometry b ≢ tag_of d.geometry block = other_tag b apart own sets in
-      let old : line_at d.table (set_of d.geometry b) y ≡ line_at d.table set way = rw (sets, at) refl in
-      let first : has_tag (tag_in_line entry) (tag_of d.geometry b) ≡ false = not_tagged entry (tag_of d.geometry block) (tag_of d.geometry b) c.now tags in
-      let second : has_tag (tag_in_line (line_at d.table set way)) (tag_of d.geometry b) ≡ false =
-      not_tagged (line_at d.table set way) (tag_of d.geometry block) (tag_of d.geometry b) c.before tags in
+      let old : entry_at d.table (set_of d.geometry b) y ≡ entry_at d.table set way = rw (sets, at) refl in
+      let first : has_tag (tag_in_entry entry) (tag_of d.geometry b) ≡ false = not_tagged entry (tag_of d.geometry block) (tag_of d.geometry b) c.now tags in
+      let second : has_tag (tag_in_entry (entry_at d.table set way)) (tag_of d.geometry b) ≡ false =
+      not_tagged (entry_at d.table set way) (tag_of d.geometry block) (tag_of d.geometry b) c.before tags in
       rw (line-here (set_of d.geometry b) y is, old) (first ∙ sym second)
 
   -- another block lies where it lay
@@ -225,7 +225,7 @@ module _ {d after : Directory} {block set way : ℕ} {entry : Option Entry} (c :
       let tagged : has_tag (tag_at d.table set way) (tag_of d.geometry b) ≡ true =
       has_tag-same (tag_at d.table set way) (tag_of d.geometry b) (rw (← sets, ← w) at.tag) in
       let not : has_tag (tag_at d.table set way) (tag_of d.geometry b) ≡ false =
-      not_tagged (line_at d.table set way) (tag_of d.geometry block) (tag_of d.geometry b) c.before tags in
+      not_tagged (entry_at d.table set way) (tag_of d.geometry block) (tag_of d.geometry b) c.before tags in
       absurd (cc)
 
   -- home's copy of another block is as before
@@ -276,7 +276,7 @@ pub record Replaces (d after : Directory) (block set way : ℕ) (old new : Entry
   pub bank : after.bank ≡ d.bank
   pub sets : set_count after.table ≡ set_count d.table
   pub ways : after.table.ways ≡ d.table.ways
-  pub lines : (x y : ℕ) → line_at after.table x y ≡ (if x == set && y == way then Some new else line_at d.table x y)
+  pub lines : (x y : ℕ) → entry_at after.table x y ≡ (if x == set && y == way then Some new else entry_at d.table x y)
   pub bytes : (x y : ℕ) → y < d.table.ways → (x == set && y == way) ≡ false → bytes_at after.store x y ≡ bytes_at d.store x y
 
 -- a place is itself
@@ -305,7 +305,7 @@ module _ {d after : Directory} {block set way : ℕ} {old new : Entry} (r : Repl
     now = r.tag ∙ r.held.tag;
   }
 
-  line_now : line_at after.table set way ≡ Some new
+  line_now : entry_at after.table set way ≡ Some new
   line_now = rw (r.lines set way, here_true set way) refl
 
   -- the tag stands in no other way
@@ -314,8 +314,8 @@ module _ {d after : Directory} {block set way : ℕ} {old new : Entry} (r : Repl
       elim (cases_eq other way) [
         | inl same ↦ same
         | inr apart ↦
-            let line : line_at after.table set other ≡ line_at d.table set other = rw (r.lines set other, at_way set other set way apart) refl in
-            r.held.alone other (ap tag_in_line (sym line) ∙ tagged ∙ ap Some r.tag)
+            let line : entry_at after.table set other ≡ entry_at d.table set other = rw (r.lines set other, at_way set other set way apart) refl in
+            r.held.alone other (ap tag_in_entry (sym line) ∙ tagged ∙ ap Some r.tag)
       ]
 
   -- home holds the block as before
@@ -366,20 +366,20 @@ module _ {d after : Directory} {block set way : ℕ} {old new : Entry} (r : Repl
   unfolding free_in
   free-kept x y = ap is_none (r.lines x y) ∙ by_place (x == set && y == way) refl
     where
-      by_place : (there : Bool) → (x == set && y == way) ≡ there → is_none (if x == set && y == way then Some new else line_at d.table x y) ≡ is_none (line_at d.table x y)
+      by_place : (there : Bool) → (x == set && y == way) ≡ there → is_none (if x == set && y == way then Some new else entry_at d.table x y) ≡ is_none (entry_at d.table x y)
       by_place false is = rw is refl
       by_place true is =
           let parts = and_parts (x == set) (y == way) is in
           rw (is, eqb-true x set parts.0, eqb-true y way parts.1, r.held.line) refl
 
   -- one client's record is the new one
-  pub recorded-set : (client : ℕ) (perm : Perm) → ((x : ℕ) → line_perm new x ≡ (if x == client then perm else line_perm old x))
+  pub recorded-set : (client : ℕ) (perm : Perm) → ((x : ℕ) → entry_perm new x ≡ (if x == client then perm else entry_perm old x))
       → (x b : ℕ) → recorded_of after x b ≡ (if x == client && b == block then perm else recorded_of d x b)
   recorded-set client perm perms x b =
       elim (cases_eq b block) [
         | inl same ↦
             rw (same, recorded_of-held after x block set way new held_after, recorded_of-held d x block set way old r.held, perms x, eq-eqb block block refl)
-            (and_true (x == client) perm (line_perm old x))
+            (and_true (x == client) perm (entry_perm old x))
         | inr apart ↦
             rw (recorded_of-other changes x b apart, ne_eqb b block apart) (and_false (x == client) perm (recorded_of d x b))
       ]
@@ -393,7 +393,7 @@ module _ {d after : Directory} {block set way : ℕ} {old new : Entry} (r : Repl
       and_false false p q = refl
 
   -- each record stays where the entry's do
-  pub recorded-kept : ((x : ℕ) → line_perm new x ≡ line_perm old x) → (x b : ℕ) → recorded_of after x b ≡ recorded_of d x b
+  pub recorded-kept : ((x : ℕ) → entry_perm new x ≡ entry_perm old x) → (x b : ℕ) → recorded_of after x b ≡ recorded_of d x b
   recorded-kept perms x b =
       elim (cases_eq b block) [
         | inl same ↦
@@ -410,7 +410,7 @@ dir g bank table store = record { geometry = g; bank = bank; table = table; stor
 -- an entry is replaced in the code's tables; m is what contracts see of them
 pub replaces : (m : Directory) (g : Numbers) (bank : ℕ) (t after : WayTable) (s store : Store) (block set way : ℕ) (old new : Entry)
     → dir g bank t s ≡ m → IsHeld m block set way old → new.tag ≡ old.tag → IsSameSize t after
-    → ((x y : ℕ) → line_at after x y ≡ (if x == set && y == way then Some new else line_at t x y))
+    → ((x y : ℕ) → entry_at after x y ≡ (if x == set && y == way then Some new else entry_at t x y))
     → ((x y : ℕ) → y < t.ways → (x == set && y == way) ≡ false → bytes_at store x y ≡ bytes_at s x y)
     → Replaces m (dir g bank after store) block set way old new
 replaces m g bank t after s store block set way old new view held tag size lines bytes =
@@ -445,15 +445,15 @@ written_here m g bank t s store block set way entry bytes view sound held writte
 
 -- an entry is replaced by itself where the lines stay
 pub replaces-itself : (m : Directory) (g : Numbers) (bank : ℕ) (t after : WayTable) (s : Store) (block set way : ℕ) (old : Entry)
-    → dir g bank t s ≡ m → IsHeld m block set way old → IsSameSize t after → ((x y : ℕ) → line_at after x y ≡ line_at t x y)
+    → dir g bank t s ≡ m → IsHeld m block set way old → IsSameSize t after → ((x y : ℕ) → entry_at after x y ≡ entry_at t x y)
     → Replaces m (dir g bank after s) block set way old old
 replaces-itself m g bank t after s block set way old view held size lines =
-    let line : line_at t set way ≡ Some old = subst (λ (d : Directory). line_at d.table set way ≡ Some old) (sym view) held.line in
+    let line : entry_at t set way ≡ Some old = subst (λ (d : Directory). entry_at d.table set way ≡ Some old) (sym view) held.line in
     replaces m g bank t after s s block set way old old view held refl size
     (λ x y. lines x y ∙ sym (by_place x y line (x == set && y == way) refl)) (λ x y inside other. refl)
   where
-    by_place : (x y : ℕ) → line_at t set way ≡ Some old → (there : Bool) → (x == set && y == way) ≡ there
-        → (if x == set && y == way then Some old else line_at t x y) ≡ line_at t x y
+    by_place : (x y : ℕ) → entry_at t set way ≡ Some old → (there : Bool) → (x == set && y == way) ≡ there
+        → (if x == set && y == way then Some old else entry_at t x y) ≡ entry_at t x y
     by_place x y line false is = rw is refl
     by_place x y line true is =
         let parts = and_parts (x == set) (y == way) is in
@@ -486,9 +486,9 @@ orders-touched m g bank t after s store block set way entry view held moved x =
 pub held-found : (m : Directory) (g : Numbers) (bank : ℕ) (t : WayTable) (s : Store) (block set tag way : ℕ) (entry : Entry)
     → dir g bank t s ≡ m → bank_of g block ≡ bank → set ≡ set_of g block → tag ≡ tag_of g block → set < set_count t
     → tag_at t set way ≡ Some tag → way < t.ways → ((other : ℕ) → tag_at t set other ≡ Some tag → other ≡ way)
-    → line_at t set way ≡ Some entry → IsHeld m block set way entry
+    → entry_at t set way ≡ Some entry → IsHeld m block set way entry
 held-found m g bank t s block set tag way entry view own sets tags inside tagged way_in alone line =
-    let same : entry.tag ≡ tag = let one : Some entry.tag ≡ Some tag = sym (ap tag_in_line line) ∙ tagged in cc in
+    let same : entry.tag ≡ tag = let one : Some entry.tag ≡ Some tag = sym (ap tag_in_entry line) ∙ tagged in cc in
     subst (λ (d : Directory). IsHeld d block set way entry) view
     (record {
       own = own;
@@ -519,13 +519,13 @@ pub choice : (m : Directory) (g : Numbers) (bank : ℕ) (t : WayTable) (s : Stor
     → chosen_at t set busy ≡ chosen (λ way. free_in m set way) m.geometry.ways (order_of m set) busy
 unfolding free_in order_of
 choice m g bank t s set busy view ways =
-    subst (λ (d : Directory). chosen_at t set busy ≡ chosen (λ way. is_none (line_at d.table set way)) d.geometry.ways (order_at d.table set) busy) view
-    (ap (λ n. chosen (λ way. is_none (line_at t set way)) n (order_at t set) busy) ways)
+    subst (λ (d : Directory). chosen_at t set busy ≡ chosen (λ way. is_none (entry_at d.table set way)) d.geometry.ways (order_at d.table set) busy) view
+    (ap (λ n. chosen (λ way. is_none (entry_at t set way)) n (order_at t set) busy) ways)
 
 -- ## What is kept
 
 -- a way that an entry has is one of the ways
-entry_inside : (d : Directory) (set way : ℕ) (entry : Entry) → IsDirectory d → line_at d.table set way ≡ Some entry → way < d.table.ways
+entry_inside : (d : Directory) (set way : ℕ) (entry : Entry) → IsDirectory d → entry_at d.table set way ≡ Some entry → way < d.table.ways
 entry_inside d set way entry sound is =
     elim (cases_order way d.table.ways) [
       | inl same ↦ absurd (let none = sound.outside set way (omega arith) in cc)
@@ -534,7 +534,7 @@ entry_inside d set way entry sound is =
     ]
 
 -- a way that has a tag has an entry with that tag
-line_of_tag : (line : Option Entry) (tag : ℕ) → tag_in_line line ≡ Some tag → (entry : Entry) × (line ≡ Some entry) × (entry.tag ≡ tag)
+line_of_tag : (line : Option Entry) (tag : ℕ) → tag_in_entry line ≡ Some tag → (entry : Entry) × (line ≡ Some entry) × (entry.tag ≡ tag)
 line_of_tag None tag is = absurd (cc)
 line_of_tag (Some entry) tag is = (entry, refl, cc)
 
@@ -543,7 +543,7 @@ pub tag_lies : (d : Directory) (block way : ℕ) → IsDirectory d → bank_of d
     → tag_at d.table (set_of d.geometry block) way ≡ Some (tag_of d.geometry block) → way_of d block ≡ Some way
 tag_lies d block way sound own tagged =
     let set = set_of d.geometry block in
-    let found = line_of_tag (line_at d.table set way) (tag_of d.geometry block) tagged in
+    let found = line_of_tag (entry_at d.table set way) (tag_of d.geometry block) tagged in
     way_of-found d block way (record { own = own; inside = entry_inside d set way found.0 sound found.1; tag = tagged })
     (λ other same. sound.distinct set other way (tag_of d.geometry block) same tagged)
 
@@ -554,10 +554,11 @@ untagged d block way sound own none tagged = let lies = tag_lies d block way sou
 
 -- after an entry is replaced the directory is sound
 pub IsDirectory-replaced : (g : Numbers) (bank : ℕ) (t after : WayTable) (s store : Store) (set way : ℕ) (old new : Entry)
-    → IsDirectory (dir g bank t s) → line_at t set way ≡ Some old → new.tag ≡ old.tag → IsSameSize t after
-    → ((x y : ℕ) → line_at after x y ≡ (if x == set && y == way then Some new else line_at t x y))
-    → store.sets ≡ s.sets → store.ways ≡ s.ways → IsDirectory (dir g bank after store)
-IsDirectory-replaced g bank t after s store set way old new sound line tag size lines sets ways =
+    → IsDirectory (dir g bank t s) → entry_at t set way ≡ Some old → new.tag ≡ old.tag → IsSameSize t after
+    → ((x y : ℕ) → entry_at after x y ≡ (if x == set && y == way then Some new else entry_at t x y))
+    → store.sets ≡ s.sets → store.ways ≡ s.ways → (IsOfClients g.clients old → IsOfClients g.clients new)
+    → IsDirectory (dir g bank after store)
+IsDirectory-replaced g bank t after s store set way old new sound line tag size lines sets ways recorded =
     record {
       sets = size.sets ∙ sound.sets;
       ways = size.ways ∙ sound.ways;
@@ -566,27 +567,28 @@ IsDirectory-replaced g bank t after s store set way old new sound line tag size 
       outside = λ x y past. lines x y ∙ outside x y (rw (← size.ways) past) (x == set && y == way) refl;
       distinct = λ x v w k first second. sound.distinct x v w k (sym (tags x v) ∙ first) (sym (tags x w) ∙ second);
       placed = λ x y entry is. placed x y entry (x == set && y == way) refl (sym (lines x y) ∙ is);
+      clients = λ x y entry is. clients x y entry (x == set && y == way) refl (sym (lines x y) ∙ is);
     }
   where
-    at : (x y : ℕ) → (x == set && y == way) ≡ true → line_at t x y ≡ Some old
+    at : (x y : ℕ) → (x == set && y == way) ≡ true → entry_at t x y ≡ Some old
     at x y is =
         let parts = and_parts (x == set) (y == way) is in
         rw (eqb-true x set parts.0, eqb-true y way parts.1) line
 
-    outside : (x y : ℕ) → t.ways ≤ y → (there : Bool) → (x == set && y == way) ≡ there → (if x == set && y == way then Some new else line_at t x y) ≡ None
+    outside : (x y : ℕ) → t.ways ≤ y → (there : Bool) → (x == set && y == way) ≡ there → (if x == set && y == way then Some new else entry_at t x y) ≡ None
     outside x y past false is = rw is (sound.outside x y past)
     outside x y past true is = absurd (let none = sound.outside x y past in let some = at x y is in cc)
 
     tags_by : (x y : ℕ) (there : Bool) → (x == set && y == way) ≡ there
-        → tag_in_line (if x == set && y == way then Some new else line_at t x y) ≡ tag_at t x y
+        → tag_in_entry (if x == set && y == way then Some new else entry_at t x y) ≡ tag_at t x y
     tags_by x y false is = rw is refl
     tags_by x y true is = rw (is, at x y is) (ap Some tag)
 
     tags : (x y : ℕ) → tag_at after x y ≡ tag_at t x y
-    tags x y = ap tag_in_line (lines x y) ∙ tags_by x y (x == set && y == way) refl
+    tags x y = ap tag_in_entry (lines x y) ∙ tags_by x y (x == set && y == way) refl
 
     placed : (x y : ℕ) (entry : Entry) (there : Bool) → (x == set && y == way) ≡ there
-        → (if x == set && y == way then Some new else line_at t x y) ≡ Some entry → IsPlaced g bank x entry.tag
+        → (if x == set && y == way then Some new else entry_at t x y) ≡ Some entry → IsPlaced g bank x entry.tag
     placed x y entry false is line = sound.placed x y entry (rw is at line)
     placed x y entry true is line =
         let new_is : Some new ≡ Some entry = rw is at line in
@@ -594,11 +596,19 @@ IsDirectory-replaced g bank t after s store set way old new sound line tag size 
         let tags : old.tag ≡ entry.tag = sym tag ∙ ap (λ (e : Entry). e.tag) same in
         subst (λ k. IsPlaced g bank x k) tags (sound.placed x y old (at x y is))
 
+    clients : (x y : ℕ) (entry : Entry) (there : Bool) → (x == set && y == way) ≡ there
+        → (if x == set && y == way then Some new else entry_at t x y) ≡ Some entry → IsOfClients g.clients entry
+    clients x y entry false is line = sound.clients x y entry (rw is at line)
+    clients x y entry true is line =
+        let new_is : Some new ≡ Some entry = rw is at line in
+        let same : new ≡ entry = cc in
+        subst (λ e. IsOfClients g.clients e) same (recorded (sound.clients x y old (at x y is)))
+
 -- ## Blocks by their ways
 
 -- the block whose place this is lies there
 pub block_lies : (m : Directory) (g : Numbers) (bank : ℕ) (t : WayTable) (s : Store) (set way block : ℕ) (entry : Entry)
-    → dir g bank t s ≡ m → IsDirectory (dir g bank t s) → line_at t set way ≡ Some entry
+    → dir g bank t s ≡ m → IsDirectory (dir g bank t s) → entry_at t set way ≡ Some entry
     → place_of g block ≡ record { bank = bank; set = set; tag = entry.tag } → (set_of m.geometry block ≡ set) × (way_of m block ≡ Some way)
 block_lies m g bank t s set way block entry view sound line place =
     let own : bank_of g block ≡ bank = ap (λ (p : Place). p.bank) place in
@@ -614,9 +624,9 @@ on_some (Some x) f p = f x p
 
 -- a way is free where it has no entry
 pub free-is : (m : Directory) (g : Numbers) (bank : ℕ) (t : WayTable) (s : Store) (set way : ℕ) → dir g bank t s ≡ m
-    → free_in m set way ≡ is_none (line_at t set way)
+    → free_in m set way ≡ is_none (entry_at t set way)
 unfolding free_in
-free-is m g bank t s set way view = ap (λ (d : Directory). is_none (line_at d.table set way)) (sym view)
+free-is m g bank t s set way view = ap (λ (d : Directory). is_none (entry_at d.table set way)) (sym view)
 
 -- a way with an entry has a block
 pub block_found : (g : Numbers) (bank set tag : ℕ) (found : Option ℕ) → IsPlaced g bank set tag
@@ -632,13 +642,13 @@ none_free (Some entry) is = absurd (cc)
 
 -- a free way has no entry
 pub free_line : (m : Directory) (g : Numbers) (bank : ℕ) (t : WayTable) (s : Store) (set way : ℕ) → dir g bank t s ≡ m
-    → free_in m set way ≡ true → line_at t set way ≡ None
-free_line m g bank t s set way view free = none_free (line_at t set way) (sym (free-is m g bank t s set way view) ∙ free)
+    → free_in m set way ≡ true → entry_at t set way ≡ None
+free_line m g bank t s set way view free = none_free (entry_at t set way) (sym (free-is m g bank t s set way view) ∙ free)
 
 -- ## A directory that is made
 
 -- where no way has an entry, no block lies in any
-pub ways-fresh : (g : Numbers) (bank : ℕ) (t : WayTable) (s : Store) → ((set way : ℕ) → line_at t set way ≡ None) → (b : ℕ)
+pub ways-fresh : (g : Numbers) (bank : ℕ) (t : WayTable) (s : Store) → ((set way : ℕ) → entry_at t set way ≡ None) → (b : ℕ)
     → way_of (dir g bank t s) b ≡ None
 ways-fresh g bank t s free b =
-    way_of-none (dir g bank t s) b (λ way tagged. let none : None ≡ Some (tag_of g b) = sym (ap tag_in_line (free (set_of g b) way)) ∙ tagged in cc)
+    way_of-none (dir g bank t s) b (λ way tagged. let none : None ≡ Some (tag_of g b) = sym (ap tag_in_entry (free (set_of g b) way)) ∙ tagged in cc)

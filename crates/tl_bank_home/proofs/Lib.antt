@@ -1,3 +1,4 @@
 pub mod DirectoryLaws
 pub mod MoveLaws
 pub mod CrossingLaws
+pub mod ServeLaws

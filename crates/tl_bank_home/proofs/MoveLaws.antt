@@ -5,9 +5,9 @@ use Rattle.std.proofs.lemmas.Bool.{cases_eq, and_parts}
 use Rattle.tl_types.specs.declared.permission.Perm.TheVariants.{None as NoAccess}
 use Rattle.tl_map.specs.Numbers.{Numbers}
 use Rattle.tl_map.specs.Places.{bank_of, set_of, tag_of, place_of}
-use Rattle.tl_ways.specs.Lines.{Line as Entry, line_perm}
-use Rattle.tl_ways.specs.Rows.{tag_in_line}
-use Rattle.tl_ways.specs.Tables.{WayTable, IsSameSize, line_at, set_count, tag_at}
+use Rattle.tl_ways.specs.Entries.{Entry, IsOfClients, entry_perm}
+use Rattle.tl_ways.specs.Rows.{tag_in_entry}
+use Rattle.tl_ways.specs.Tables.{WayTable, IsSameSize, entry_at, set_count, tag_at}
 use Rattle.tl_ways.specs.Stores.{Store, bytes_at}
 use Rattle.tl_bank_home.specs.Directories.{Directory, way_of, line_of, recorded_of, free_in, is_way, IsDirectory, IsHeld, IsPlaced}
 use Rattle.tl_bank_home.proofs.DirectoryLaws.{Changes, way_of-other, line_of-other, recorded_of-other, way_of-found, way_of-none, line_of-held, line_of-none, recorded_of-held, recorded_of-none, by_block, here_true, at_way, dir, untagged, free_line}
@@ -25,13 +25,13 @@ pub record Clears (d after : Directory) (block set way : ℕ) (entry : Entry) : 
   pub geometry : after.geometry ≡ d.geometry
   pub bank : after.bank ≡ d.bank
   pub ways : after.table.ways ≡ d.table.ways
-  pub lines : (x y : ℕ) → line_at after.table x y ≡ (if x == set && y == way then None else line_at d.table x y)
+  pub lines : (x y : ℕ) → entry_at after.table x y ≡ (if x == set && y == way then None else entry_at d.table x y)
   pub bytes : (x y : ℕ) → bytes_at after.store x y ≡ bytes_at d.store x y
 
 -- a way is freed in the code's tables
 pub clears : (m : Directory) (g : Numbers) (bank : ℕ) (t after : WayTable) (s : Store) (block set way : ℕ) (entry : Entry)
     → dir g bank t s ≡ m → IsHeld m block set way entry → IsSameSize t after
-    → ((x y : ℕ) → line_at after x y ≡ (if x == set && y == way then None else line_at t x y))
+    → ((x y : ℕ) → entry_at after x y ≡ (if x == set && y == way then None else entry_at t x y))
     → Clears m (dir g bank after s) block set way entry
 clears m g bank t after s block set way entry view held size lines =
     subst (λ (d : Directory). IsHeld d block set way entry → Clears d (dir g bank after s) block set way entry) view
@@ -61,12 +61,12 @@ module _ {d after : Directory} {block set way : ℕ} {entry : Entry} (r : Clears
       untagged_now y tagged =
           elim (cases_eq y way) [
             | inl same ↦
-                let line : line_at after.table set y ≡ None = rw same (r.lines set way ∙ ap (λ there. if there then None else line_at d.table set way) (here_true set way)) in
-                let none : None ≡ Some entry.tag = sym (ap tag_in_line line) ∙ tagged in
+                let line : entry_at after.table set y ≡ None = rw same (r.lines set way ∙ ap (λ there. if there then None else entry_at d.table set way) (here_true set way)) in
+                let none : None ≡ Some entry.tag = sym (ap tag_in_entry line) ∙ tagged in
                 cc
             | inr apart ↦
-                let line : line_at after.table set y ≡ line_at d.table set y = r.lines set y ∙ ap (λ there. if there then None else line_at d.table set y) (at_way set y set way apart) in
-                apart (r.held.alone y (sym (ap tag_in_line line) ∙ tagged))
+                let line : entry_at after.table set y ≡ entry_at d.table set y = r.lines set y ∙ ap (λ there. if there then None else entry_at d.table set y) (at_way set y set way apart) in
+                apart (r.held.alone y (sym (ap tag_in_entry line) ∙ tagged))
           ]
 
   pub ways-cleared : (b : ℕ) → way_of after b ≡ (if b == block then None else way_of d b)
@@ -84,7 +84,7 @@ module _ {d after : Directory} {block set way : ℕ} {entry : Entry} (r : Clears
       → free_in after x y ≡ (if x == set_of d.geometry block && is_way (way_of d block) y then true else free_in d x y)
   unfolding free_in
   free-cleared x y =
-      rw (r.held.lies, ← r.held.in_set) (ap is_none (r.lines x y) ∙ free_by (x == set && y == way) None (line_at d.table x y))
+      rw (r.held.lies, ← r.held.in_set) (ap is_none (r.lines x y) ∙ free_by (x == set && y == way) None (entry_at d.table x y))
 
 -- ## A block comes
 
@@ -95,16 +95,16 @@ pub record Fills (d after : Directory) (block set way : ℕ) (entry : Entry) (by
   pub in_set : set ≡ set_of d.geometry block
   pub away : way_of d block ≡ None
   pub inside : way < d.table.ways
-  pub free : line_at d.table set way ≡ None
+  pub free : entry_at d.table set way ≡ None
   pub tag : entry.tag ≡ tag_of d.geometry block
-  pub nobody : (client : ℕ) → line_perm entry client ≡ NoAccess
+  pub nobody : (client : ℕ) → entry_perm entry client ≡ NoAccess
   pub clean : entry.dirty ≡ false
   pub geometry : after.geometry ≡ d.geometry
   pub bank : after.bank ≡ d.bank
   pub sets : set_count after.table ≡ set_count d.table
   pub set_inside : set < set_count d.table
   pub ways : after.table.ways ≡ d.table.ways
-  pub lines : (x y : ℕ) → line_at after.table x y ≡ (if x == set && y == way then Some entry else line_at d.table x y)
+  pub lines : (x y : ℕ) → entry_at after.table x y ≡ (if x == set && y == way then Some entry else entry_at d.table x y)
   pub others : (x y : ℕ) → y < d.table.ways → (x == set && y == way) ≡ false → bytes_at after.store x y ≡ bytes_at d.store x y
   pub bytes_here : bytes_at after.store set way ≡ bytes
 
@@ -122,16 +122,16 @@ module _ {d after : Directory} {block set way : ℕ} {entry : Entry} {bytes : Li
     now = r.tag;
   }
 
-  line_here : line_at after.table set way ≡ Some entry
-  line_here = r.lines set way ∙ ap (λ there. if there then Some entry else line_at d.table set way) (here_true set way)
+  line_here : entry_at after.table set way ≡ Some entry
+  line_here = r.lines set way ∙ ap (λ there. if there then Some entry else entry_at d.table set way) (here_true set way)
 
   alone_here : (other : ℕ) → tag_at after.table set other ≡ Some entry.tag → other ≡ way
   alone_here other tagged =
       elim (cases_eq other way) [
         | inl same ↦ same
         | inr apart ↦
-            let line : line_at after.table set other ≡ line_at d.table set other = r.lines set other ∙ ap (λ there. if there then Some entry else line_at d.table set other) (at_way set other set way apart) in
-            let old : tag_at d.table set other ≡ Some entry.tag = sym (ap tag_in_line line) ∙ tagged in
+            let line : entry_at after.table set other ≡ entry_at d.table set other = r.lines set other ∙ ap (λ there. if there then Some entry else entry_at d.table set other) (at_way set other set way apart) in
+            let old : tag_at d.table set other ≡ Some entry.tag = sym (ap tag_in_entry line) ∙ tagged in
             absurd (untagged d block other r.sound r.own r.away (rw (← r.in_set, ← r.tag) old))
       ]
 
@@ -172,14 +172,14 @@ module _ {d after : Directory} {block set way : ℕ} {entry : Entry} {bytes : Li
   pub free-filled : (x y : ℕ) → free_in after x y ≡ (if x == set_of d.geometry block && y == way then false else free_in d x y)
   unfolding free_in
   free-filled x y =
-      rw (← r.in_set) (ap is_none (r.lines x y) ∙ free_by (x == set && y == way) (Some entry) (line_at d.table x y))
+      rw (← r.in_set) (ap is_none (r.lines x y) ∙ free_by (x == set && y == way) (Some entry) (entry_at d.table x y))
 
 -- a free way takes a block in the code's tables
 pub fills : (m : Directory) (g : Numbers) (bank : ℕ) (t after : WayTable) (s store : Store) (block set way : ℕ) (entry : Entry) (bytes : List ℕ)
     → dir g bank t s ≡ m → IsDirectory (dir g bank t s) → bank_of m.geometry block ≡ m.bank → set ≡ set_of g block
     → entry.tag ≡ tag_of g block → way_of m block ≡ None → way < m.geometry.ways → free_in m (set_of m.geometry block) way ≡ true
-    → ((client : ℕ) → line_perm entry client ≡ NoAccess) → entry.dirty ≡ false → IsSameSize t after → set < g.sets
-    → ((x y : ℕ) → line_at after x y ≡ (if x == set && y == way then Some entry else line_at t x y))
+    → ((client : ℕ) → entry_perm entry client ≡ NoAccess) → entry.dirty ≡ false → IsSameSize t after → set < g.sets
+    → ((x y : ℕ) → entry_at after x y ≡ (if x == set && y == way then Some entry else entry_at t x y))
     → ((x y : ℕ) → y < s.ways → bytes_at store x y ≡ (if x == set && y == way then bytes else bytes_at s x y))
     → Fills m (dir g bank after store) block set way entry bytes
 fills m g bank t after s store block set way entry bytes view sound own sets tag away inside free nobody clean size set_in lines written =
@@ -187,7 +187,7 @@ fills m g bank t after s store block set way entry bytes view sound own sets tag
     let own' : bank_of g block ≡ bank = subst (λ (x : Directory). bank_of x.geometry block ≡ x.bank) (sym view) own in
     let inside' : way < t.ways = subst (λ n. way < n) (sym sound.ways) (subst (λ (x : Directory). way < x.geometry.ways) (sym view) inside) in
     let geometry : g ≡ m.geometry = ap (λ (x : Directory). x.geometry) view in
-    let free' : line_at t set way ≡ None =
+    let free' : entry_at t set way ≡ None =
     free_line m g bank t s set way view (subst (λ k. free_in m k way ≡ true) (ap (λ (n : Numbers). set_of n block) (sym geometry) ∙ sym sets) free) in
     let same_ways : s.ways ≡ t.ways = sound.store_ways ∙ sym sound.ways in
     subst (λ (x : Directory). way_of x block ≡ None → Fills x (dir g bank after store) block set way entry bytes) view
@@ -226,9 +226,9 @@ tag_is_new m g bank t s block set tag other view sound own sets tags away =
 pub IsDirectory-filled : (g : Numbers) (bank : ℕ) (t after : WayTable) (s store : Store) (block set way : ℕ) (entry : Entry)
     → IsDirectory (dir g bank t s) → block < g.memory_blocks → place_of g block ≡ record { bank = bank; set = set; tag = entry.tag }
     → way < t.ways → ((other : ℕ) → tag_at t set other ≢ Some entry.tag) → IsSameSize t after
-    → ((x y : ℕ) → line_at after x y ≡ (if x == set && y == way then Some entry else line_at t x y))
-    → store.sets ≡ s.sets → store.ways ≡ s.ways → IsDirectory (dir g bank after store)
-IsDirectory-filled g bank t after s store block set way entry sound inside place way_in alone size lines sets ways =
+    → ((x y : ℕ) → entry_at after x y ≡ (if x == set && y == way then Some entry else entry_at t x y))
+    → store.sets ≡ s.sets → store.ways ≡ s.ways → IsOfClients g.clients entry → IsDirectory (dir g bank after store)
+IsDirectory-filled g bank t after s store block set way entry sound inside place way_in alone size lines sets ways recorded =
     record {
       sets = size.sets ∙ sound.sets;
       ways = size.ways ∙ sound.ways;
@@ -236,25 +236,26 @@ IsDirectory-filled g bank t after s store block set way entry sound inside place
       store_ways = ways ∙ sound.store_ways;
       outside = λ x y past. lines x y ∙ outside x y (subst (λ n. n ≤ y) size.ways past) (x == set && y == way) refl;
       distinct = λ x v w k first second.
-          distinct x v w k (x == set && v == way) (x == set && w == way) refl refl (sym (ap tag_in_line (lines x v)) ∙ first)
-          (sym (ap tag_in_line (lines x w)) ∙ second);
+          distinct x v w k (x == set && v == way) (x == set && w == way) refl refl (sym (ap tag_in_entry (lines x v)) ∙ first)
+          (sym (ap tag_in_entry (lines x w)) ∙ second);
       placed = λ x y line is. placed x y line (x == set && y == way) refl (sym (lines x y) ∙ is);
+      clients = λ x y line is. clients x y line (x == set && y == way) refl (sym (lines x y) ∙ is);
     }
   where
     outside : (x y : ℕ) → t.ways ≤ y → (there : Bool) → (x == set && y == way) ≡ there
-        → (if x == set && y == way then Some entry else line_at t x y) ≡ None
+        → (if x == set && y == way then Some entry else entry_at t x y) ≡ None
     outside x y past false is = rw is (sound.outside x y past)
     outside x y past true is =
         let at : y ≡ way = eqb-true y way (and_parts (x == set) (y == way) is).1 in
         absurd (omega arith)
 
     after_tag : ℕ → ℕ → Option ℕ
-    after_tag x y = tag_in_line (if x == set && y == way then Some entry else line_at t x y)
+    after_tag x y = tag_in_entry (if x == set && y == way then Some entry else entry_at t x y)
 
-    old_tag : (x y k : ℕ) → (x == set && y == way) ≡ false → tag_in_line (if x == set && y == way then Some entry else line_at t x y) ≡ Some k → tag_at t x y ≡ Some k
+    old_tag : (x y k : ℕ) → (x == set && y == way) ≡ false → tag_in_entry (if x == set && y == way then Some entry else entry_at t x y) ≡ Some k → tag_at t x y ≡ Some k
     old_tag x y k is tagged = rw is at tagged
 
-    new_tag : (x y k : ℕ) → (x == set && y == way) ≡ true → tag_in_line (if x == set && y == way then Some entry else line_at t x y) ≡ Some k → (entry.tag ≡ k)
+    new_tag : (x y k : ℕ) → (x == set && y == way) ≡ true → tag_in_entry (if x == set && y == way then Some entry else entry_at t x y) ≡ Some k → (entry.tag ≡ k)
     new_tag x y k is tagged = let one : Some entry.tag ≡ Some k = rw is at tagged in cc
 
     clash : (x v w k : ℕ) → (x == set && v == way) ≡ true → entry.tag ≡ k → tag_at t x w ≡ Some k → ⊥
@@ -263,8 +264,8 @@ IsDirectory-filled g bank t after s store block set way entry sound inside place
         alone w (rw (← sets', tag) old)
 
     distinct : (x v w k : ℕ) (here there : Bool) → (x == set && v == way) ≡ here → (x == set && w == way) ≡ there
-        → tag_in_line (if x == set && v == way then Some entry else line_at t x v) ≡ Some k
-        → tag_in_line (if x == set && w == way then Some entry else line_at t x w) ≡ Some k → v ≡ w
+        → tag_in_entry (if x == set && v == way then Some entry else entry_at t x v) ≡ Some k
+        → tag_in_entry (if x == set && w == way then Some entry else entry_at t x w) ≡ Some k → v ≡ w
     distinct x v w k false false a b first second = sound.distinct x v w k (old_tag x v k a first) (old_tag x w k b second)
     distinct x v w k true true a b first second =
         eqb-true v way (and_parts (x == set) (v == way) a).1 ∙ sym (eqb-true w way (and_parts (x == set) (w == way) b).1)
@@ -272,7 +273,7 @@ IsDirectory-filled g bank t after s store block set way entry sound inside place
     distinct x v w k false true a b first second = absurd (clash x w v k b (new_tag x w k b second) (old_tag x v k a first))
 
     placed : (x y : ℕ) (line : Entry) (there : Bool) → (x == set && y == way) ≡ there
-        → (if x == set && y == way then Some entry else line_at t x y) ≡ Some line → IsPlaced g bank x line.tag
+        → (if x == set && y == way then Some entry else entry_at t x y) ≡ Some line → IsPlaced g bank x line.tag
     placed x y line false is found = sound.placed x y line (rw is at found)
     placed x y line true is found =
         let new_is : Some entry ≡ Some line = rw is at found in
@@ -280,6 +281,48 @@ IsDirectory-filled g bank t after s store block set way entry sound inside place
         let sets' : x ≡ set = eqb-true x set (and_parts (x == set) (y == way) is).0 in
         let here : place_of g block ≡ record { bank = bank; set = x; tag = line.tag } = rw (sets', ← same) place in
         record { block = block; inside = inside; place = here }
+
+    clients : (x y : ℕ) (line : Entry) (there : Bool) → (x == set && y == way) ≡ there
+        → (if x == set && y == way then Some entry else entry_at t x y) ≡ Some line → IsOfClients g.clients line
+    clients x y line false is found = sound.clients x y line (rw is at found)
+    clients x y line true is found =
+        let new_is : Some entry ≡ Some line = rw is at found in
+        let same : entry ≡ line = cc in
+        subst (λ e. IsOfClients g.clients e) same recorded
+
+-- after a block leaves the directory is sound
+pub IsDirectory-cleared : (g : Numbers) (bank : ℕ) (t after : WayTable) (s : Store) (set way : ℕ) → IsDirectory (dir g bank t s)
+    → IsSameSize t after → ((x y : ℕ) → entry_at after x y ≡ (if x == set && y == way then None else entry_at t x y))
+    → IsDirectory (dir g bank after s)
+IsDirectory-cleared g bank t after s set way sound size lines =
+    record {
+      sets = size.sets ∙ sound.sets;
+      ways = size.ways ∙ sound.ways;
+      store_sets = sound.store_sets;
+      store_ways = sound.store_ways;
+      outside = λ x y past. lines x y ∙ outside x y (subst (λ n. n ≤ y) size.ways past) (x == set && y == way) refl;
+      distinct = λ x v w k first second. sound.distinct x v w k (tagged x v k first) (tagged x w k second);
+      placed = λ x y entry is. sound.placed x y entry (kept x y entry (x == set && y == way) refl (sym (lines x y) ∙ is));
+      clients = λ x y entry is. sound.clients x y entry (kept x y entry (x == set && y == way) refl (sym (lines x y) ∙ is));
+    }
+  where
+    outside : (x y : ℕ) → t.ways ≤ y → (there : Bool) → (x == set && y == way) ≡ there
+        → (if x == set && y == way then None else entry_at t x y) ≡ None
+    outside x y past false is = rw is (sound.outside x y past)
+    outside x y past true is = rw is refl
+
+    kept : (x y : ℕ) (entry : Entry) (there : Bool) → (x == set && y == way) ≡ there
+        → (if x == set && y == way then None else entry_at t x y) ≡ Some entry → entry_at t x y ≡ Some entry
+    kept x y entry false is found = rw is at found
+    kept x y entry true is found = let none : None ≡ Some entry = rw is at found in absurd (cc)
+
+    tagged_by : (x y k : ℕ) (there : Bool) → (x == set && y == way) ≡ there
+        → tag_in_entry (if x == set && y == way then None else entry_at t x y) ≡ Some k → tag_at t x y ≡ Some k
+    tagged_by x y k false is found = rw is at found
+    tagged_by x y k true is found = let none : None ≡ Some k = rw is at found in absurd (cc)
+
+    tagged : (x y k : ℕ) → tag_at after x y ≡ Some k → tag_at t x y ≡ Some k
+    tagged x y k found = tagged_by x y k (x == set && y == way) refl (sym (ap tag_in_entry (lines x y)) ∙ found)
 
 -- the place of a block of the bank
 pub own_place : (m : Directory) (g : Numbers) (bank : ℕ) (t : WayTable) (s : Store) (block set tag : ℕ) → dir g bank t s ≡ m

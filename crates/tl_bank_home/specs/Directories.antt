@@ -7,9 +7,9 @@ use Rattle.tl_types.specs.declared.permission.Perm.TheVariants.{None as NoAccess
 use Rattle.tl_map.specs.Numbers.{Numbers}
 use Rattle.tl_map.specs.Places.{bank_of, set_of, tag_of, place_of}
 use Rattle.tl_protocol.specs.declared.home.Line.{Line}
-use Rattle.tl_ways.specs.Lines.{Line as Entry, line_perm}
+use Rattle.tl_ways.specs.Entries.{Entry, IsOfClients, entry_perm}
 use Rattle.tl_ways.specs.Orders.{touched}
-use Rattle.tl_ways.specs.Tables.{WayTable, line_at, order_at, set_count, tag_at}
+use Rattle.tl_ways.specs.Tables.{WayTable, entry_at, order_at, set_count, tag_at}
 use Rattle.tl_ways.specs.Stores.{Store, bytes_at}
 
 -- the directory of one bank, and the bytes of each way
@@ -38,16 +38,16 @@ dirty_in (Some entry) = entry.dirty
 -- the permission that an entry records for a client
 abbrev pub perm_in : Option Entry → ℕ → Perm
 perm_in None client = NoAccess
-perm_in (Some entry) client = line_perm entry client
+perm_in (Some entry) client = entry_perm entry client
 
 -- the copy in a way of a set
 abbrev pub copy_at : Directory → ℕ → ℕ → Line
-copy_at d set way = record { bytes = bytes_at d.store set way; dirty = dirty_in (line_at d.table set way) }
+copy_at d set way = record { bytes = bytes_at d.store set way; dirty = dirty_in (entry_at d.table set way) }
 
 -- the permission recorded in a way of a set, where there is one
 abbrev pub perm_in_way : Directory → ℕ → Option ℕ → ℕ → Perm
 perm_in_way d set None client = NoAccess
-perm_in_way d set (Some way) client = perm_in (line_at d.table set way) client
+perm_in_way d set (Some way) client = perm_in (entry_at d.table set way) client
 
 -- ## A block
 
@@ -66,7 +66,7 @@ recorded_of d client block = perm_in_way d (set_of d.geometry block) (way_of d b
 
 -- no block lies in a way of a set
 unfoldable pub free_in : Directory → ℕ → ℕ → Bool
-free_in d set way = is_none (line_at d.table set way)
+free_in d set way = is_none (entry_at d.table set way)
 
 -- the order of a set's ways: the one whose block was granted longest ago is first
 unfoldable pub order_of : Directory → ℕ → List ℕ
@@ -91,15 +91,16 @@ pub record IsPlaced (g : Numbers) (bank set tag : ℕ) : Type 0 where
   pub place : place_of g block ≡ record { bank = bank; set = set; tag = tag }
 
 -- there is an entry and a place for bytes for each way of each set, and each entry is of a block of the memory that no
--- other way of the set has
+-- other way of the set has, and records the geometry's clients alone: no bit at or past their number is set
 pub record IsDirectory (d : Directory) : Type 0 where
   pub sets : set_count d.table ≡ d.geometry.sets
   pub ways : d.table.ways ≡ d.geometry.ways
   pub store_sets : d.store.sets ≡ d.geometry.sets
   pub store_ways : d.store.ways ≡ d.geometry.ways
-  pub outside : (set way : ℕ) → d.table.ways ≤ way → line_at d.table set way ≡ None
+  pub outside : (set way : ℕ) → d.table.ways ≤ way → entry_at d.table set way ≡ None
   pub distinct : (set v w tag : ℕ) → tag_at d.table set v ≡ Some tag → tag_at d.table set w ≡ Some tag → v ≡ w
-  pub placed : (set way : ℕ) (entry : Entry) → line_at d.table set way ≡ Some entry → IsPlaced d.geometry d.bank set entry.tag
+  pub placed : (set way : ℕ) (entry : Entry) → entry_at d.table set way ≡ Some entry → IsPlaced d.geometry d.bank set entry.tag
+  pub clients : (set way : ℕ) (entry : Entry) → entry_at d.table set way ≡ Some entry → IsOfClients d.geometry.clients entry
 
 -- where a block that home holds lies, and its entry
 pub record IsHeld (d : Directory) (block set way : ℕ) (entry : Entry) : Type 0 where
@@ -108,7 +109,7 @@ pub record IsHeld (d : Directory) (block set way : ℕ) (entry : Entry) : Type 0
   pub set_inside : set < set_count d.table
   pub lies : way_of d block ≡ Some way
   pub inside : way < d.table.ways
-  pub line : line_at d.table set way ≡ Some entry
+  pub line : entry_at d.table set way ≡ Some entry
   pub tag : entry.tag ≡ tag_of d.geometry block
   pub alone : (other : ℕ) → tag_at d.table set other ≡ Some entry.tag → other ≡ way
 

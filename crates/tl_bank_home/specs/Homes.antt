@@ -7,6 +7,10 @@ use Rattle.tl_protocol.specs.declared.home.Line.{Line}
 use Rattle.tl_protocol.specs.declared.home.Outward.{Outward}
 use Rattle.tl_protocol.specs.declared.home.Outward.TheVariants.{Quiet, Get, Data, Put, PutAck}
 use Rattle.tl_memory.specs.Blocks.{Contents, block_in}
+use Rattle.tl_memory.specs.declared.request.Request.{Request}
+use Rattle.tl_memory.specs.declared.request.Request.TheVariants as request
+use Rattle.tl_memory.specs.declared.request.Reply.{Reply}
+use Rattle.tl_memory.specs.declared.request.Reply.TheVariants.{AccessAckData, AccessAck}
 use Rattle.tl_bank_home.specs.declared.crossings.Crossing.{Crossing}
 use Rattle.tl_bank_home.specs.Directories.{Directory, way_of, line_of, recorded_of, free_in, order_of}
 use Rattle.tl_bank_home.specs.Crossings.{outward_of}
@@ -96,6 +100,29 @@ pub record SameHome (old new : HomeState) : Type 0 where
 -- the memory
 abbrev pub SameMemory : HomeState → HomeState → Type 0
 SameMemory old new = (block : ℕ) → memory_in new block ≡ memory_in old block
+
+-- ## The memory's requests and replies
+
+-- home's request of a block, with the base-2 logarithm of the block's bytes and its address; what is no Put is read as a Get
+abbrev pub request_of : ℕ → ℕ → Outward → Request
+request_of size address Quiet = request.Get size address
+request_of size address Get = request.Get size address
+request_of size address (Data bytes) = request.Get size address
+request_of size address (Put bytes) = request.Put size address bytes
+request_of size address PutAck = request.Get size address
+
+-- the memory's reply to it, with the same size: to a Get the block's bytes, to a Put that they are written
+abbrev pub reply_to : ℕ → List ℕ → Outward → Reply
+reply_to size memory Quiet = AccessAckData size memory
+reply_to size memory Get = AccessAckData size memory
+reply_to size memory (Data bytes) = AccessAckData size memory
+reply_to size memory (Put bytes) = AccessAck size
+reply_to size memory PutAck = AccessAckData size memory
+
+-- what a reply leaves on the way to home
+abbrev pub arriving : Reply → Outward
+arriving (AccessAckData size bytes) = Data bytes
+arriving (AccessAck size) = PutAck
 
 -- ## What a step leaves
 

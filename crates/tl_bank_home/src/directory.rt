@@ -5,14 +5,14 @@ ghost use Rattle.std.specs.Option.{option_map};
 ghost use Rattle.tl_types.specs.declared.permission.Perm.TheVariants.{None as NoAccess, Branch, Tip};
 ghost use Rattle.tl_map.specs.Places.{bank_of, set_of};
 ghost use Rattle.tl_protocol.specs.declared.home.Line.{Line};
-ghost use Rattle.tl_ways.specs.Lines.{line_perm};
+ghost use Rattle.tl_ways.specs.Entries.{IsOfClients, entry_perm};
 ghost use Rattle.tl_ways.specs.Orders.{chosen, is_busy, rising};
 ghost use Rattle.tl_bank_home.specs.Directories.{way_of, line_of, recorded_of, free_in, order_of, is_way, order_after, perm_in, IsHeld, SameBank};
 
 use std::alloc::{AllocError, Global};
 use std::marker::Model;
 use tl_map::{Geometry, Place, Set};
-use tl_types::{BankNo, BlockBytes, BlockNo, CLIENTS, ClientId, Perm};
+use tl_types::{BankNo, BlockBytes, BlockNo, ClientId, Perm};
 use tl_ways::{BankedStore, Entry, Way, Ways};
 
 /// The entries of one bank's sets, and beside each way the bytes of the block that lies there.
@@ -95,7 +95,10 @@ impl Directory {
         ensures dirty { MatchOption result (line_of self.now block ≡ None)
             (λ entry. option_map (λ (line : Line). line.dirty) (line_of self.now block) ≡ Some entry.dirty) }
         ensures recorded { (client : ℕ) → perm_in result client ≡ recorded_of self.now client block }
+        ensures clients { IfSome result (λ entry. IsOfClients self.now.geometry.clients entry) }
     {
+        // For the prover: what the directory keeps of its entries.
+        let _ = &self.ways;
         let held = self.find(block)?;
         Some(held.entry)
     }
@@ -105,7 +108,7 @@ impl Directory {
         requires { block < self.now.geometry.memory_blocks }
         ensures is { MatchOption result (line_of self.now block ≡ None)
             (λ line. line_of self.now block ≡ Some (record { bytes = line.1.now; dirty = line.0.dirty })) }
-        ensures recorded { IfSome result (λ line. (client : ℕ) → recorded_of self.now client block ≡ line_perm line.0 client) }
+        ensures recorded { IfSome result (λ line. (client : ℕ) → recorded_of self.now client block ≡ entry_perm line.0 client) }
     {
         let held = self.find(block)?;
         Some((held.entry, self.store.read(held.set, held.way)))
@@ -152,7 +155,7 @@ impl Directory {
     pub fn record(&mut self, client: ClientId, block: BlockNo, perm: Perm)
         requires block { block < self.old.geometry.memory_blocks }
         requires held { IsSome (line_of self.old block) }
-        requires known { client < CLIENTS }
+        requires known { client < self.old.geometry.clients }
         requires tip { perm ≡ Tip → (other : ℕ) → other ≢ client → recorded_of self.old other block ≡ NoAccess }
         requires branch { perm ≡ Branch → (other : ℕ) → other ≢ client → recorded_of self.old other block ≢ Tip }
         ensures same { SameBank self.old self.new }
@@ -162,6 +165,8 @@ impl Directory {
         ensures free { (set way : ℕ) → free_in self.new set way ≡ free_in self.old set way }
         ensures orders { (set : ℕ) → order_of self.new set ≡ order_of self.old set }
     {
+        // For the prover: a lawful geometry has at most as many clients as an entry can record.
+        let _ = self.geometry.clients();
         let mut held = self.find(block).unwrap();
         held.entry.set(client, perm);
         self.ways.place(held.set, held.way, held.entry);
@@ -189,7 +194,7 @@ impl Directory {
     pub fn grant(&mut self, client: ClientId, block: BlockNo, perm: Perm)
         requires block { block < self.old.geometry.memory_blocks }
         requires held { IsSome (line_of self.old block) }
-        requires known { client < 16 }
+        requires known { client < self.old.geometry.clients }
         requires tip { perm ≡ Tip → (other : ℕ) → other ≢ client → recorded_of self.old other block ≡ NoAccess }
         requires branch { perm ≡ Branch → (other : ℕ) → other ≢ client → recorded_of self.old other block ≢ Tip }
         ensures same { SameBank self.old self.new }
@@ -201,6 +206,8 @@ impl Directory {
             → order_of self.new set
             ≡ (if set == set_of self.old.geometry block then order_after (way_of self.old block) (order_of self.old set) else order_of self.old set) }
     {
+        // For the prover: a lawful geometry has at most as many clients as an entry can record.
+        let _ = self.geometry.clients();
         let mut held = self.find(block).unwrap();
         held.entry.set(client, perm);
         self.ways.place(held.set, held.way, held.entry);

@@ -1,27 +1,28 @@
 //! What home holds of the blocks of one bank.
-ghost use Rattle.std.specs.Prelude.{◌≡◌, ◌≢◌, ◌↔◌, ℕ, ◌+◌, ◌*◌, ◌<◌, ◌≤◌, ◌==◌, ◌&&◌, length, IfNone, IfOk, IfSome, IsSome, IsTrue, MatchOption, None, Some, false, true, is_none, option_copied, if◌then◌else◌};
+ghost use Rattle.std.specs.Prelude.{◌≡◌, ◌≢◌, ◌↔◌, ℕ, ◌+◌, ◌*◌, ◌^◌, ◌<◌, ◌≤◌, ◌==◌, ◌&&◌, length, IfNone, IfOk, IfSome, IsSome, IsTrue, MatchOption, None, Some, false, true, is_none, option_copied, if◌then◌else◌};
 ghost use Rattle.std.specs.Option.{option_map};
 ghost use Rattle.tl_types.specs.Bytes.{image_bytes};
 ghost use Rattle.tl_types.specs.declared.permission.Perm.TheVariants.{None as NoAccess, Branch, Tip};
 ghost use Rattle.tl_map.specs.Places.{bank_of, set_of};
+ghost use Rattle.tl_memory.specs.Blocks.{IsServable};
 ghost use Rattle.tl_protocol.specs.Home.{IsRequest, IsData};
 ghost use Rattle.tl_protocol.specs.Protocol.{home_after, home_bytes};
 ghost use Rattle.tl_protocol.specs.Sizes.{IsWhole, outward_bytes};
 ghost use Rattle.tl_protocol.specs.declared.home.Line.{Line};
 ghost use Rattle.tl_protocol.specs.declared.home.Outward.TheVariants.{Quiet, Get, Put, PutAck};
-ghost use Rattle.tl_ways.specs.Lines.{line_perm};
+ghost use Rattle.tl_ways.specs.Entries.{IsOfClients, entry_perm};
 ghost use Rattle.tl_ways.specs.Orders.{chosen, is_busy, rising};
 ghost use Rattle.tl_bank_home.specs.Directories.{is_way, order_after, perm_in};
-ghost use Rattle.tl_bank_home.specs.Homes.{geometry_in, bank_in, line_in, recorded_in, outward_in, crossing_count, memory_in, way_in, free_at, order_at, SameBank, SameWays, SameOutward, SameHome, SameMemory, EachHasHolder, served_outward, served_memory, fetched};
+ghost use Rattle.tl_bank_home.specs.Homes.{geometry_in, bank_in, line_in, recorded_in, outward_in, crossing_count, memory_in, way_in, free_at, order_at, SameBank, SameWays, SameOutward, SameHome, SameMemory, EachHasHolder, request_of, reply_to, arriving, served_outward, served_memory, fetched};
 
 use crate::crossings::Crossings;
 use crate::directory::Directory;
 use std::alloc::{AllocError, Global};
 use std::marker::Model;
 use tl_map::{Geometry, Set};
-use tl_memory::Memory;
+use tl_memory::{Burst, Memory, Reply, Request};
 use tl_protocol::Outward;
-use tl_types::{BankNo, BlockBytes, BlockNo, CLIENTS, ClientId, Perm};
+use tl_types::{BankNo, BlockBytes, BlockNo, ClientId, Perm};
 use tl_ways::{Entry, Way};
 
 /// Of how many blocks something can pass between home and the memory at one time.
@@ -116,12 +117,13 @@ impl Home {
         self.directory.bytes(block)
     }
 
-    /// The entry of a block in home's directory, if home holds it.
+    /// The entry of a block in home's directory, if home holds it. It records the geometry's clients alone.
     pub fn entry(&self, block: BlockNo) -> Option<Entry>
         requires { block < (geometry_in self.now).memory_blocks }
         ensures dirty { MatchOption result (line_in self.now block ≡ None)
             (λ entry. option_map (λ (line : Line). line.dirty) (line_in self.now block) ≡ Some entry.dirty) }
         ensures recorded { (client : ℕ) → perm_in result client ≡ recorded_in self.now client block }
+        ensures clients { IfSome result (λ entry. IsOfClients (geometry_in self.now).clients entry) }
     {
         self.directory.entry(block)
     }
@@ -131,7 +133,7 @@ impl Home {
         requires { block < (geometry_in self.now).memory_blocks }
         ensures is { MatchOption result (line_in self.now block ≡ None)
             (λ line. line_in self.now block ≡ Some (record { bytes = line.1.now; dirty = line.0.dirty })) }
-        ensures recorded { IfSome result (λ line. (client : ℕ) → recorded_in self.now client block ≡ line_perm line.0 client) }
+        ensures recorded { IfSome result (λ line. (client : ℕ) → recorded_in self.now client block ≡ entry_perm line.0 client) }
     {
         self.directory.line(block)
     }
@@ -218,29 +220,12 @@ impl Home {
         self.directory.block_at(set, way)
     }
 
-    /// The first block from this number on that home holds.
-    pub fn next_held(&self, from: u32) -> Option<BlockNo>
-        ensures held { IfSome result (λ block. IsSome (line_in self.now block)) }
-        ensures from { IfSome result (λ block. from ≤ block) }
-        ensures inside { IfSome result (λ block. block < (geometry_in self.now).memory_blocks) }
-        ensures first { IfSome result (λ block. (b : ℕ) → from ≤ b → b < block → line_in self.now b ≡ None) }
-        ensures none { IfNone result ((b : ℕ) → from ≤ b → b < (geometry_in self.now).memory_blocks → line_in self.now b ≡ None) }
-    {
-        for number in from..self.geometry().memory_blocks() {
-            let block = BlockNo::new(number);
-            if self.is_dirty(block).is_some() {
-                return Some(block);
-            }
-        }
-        None
-    }
-
     /// Home takes what a client gives up of a block that home holds: what is recorded then, and the bytes where they were
     /// dirty. Beside Tip no other client may have any permission.
     pub fn receive(&mut self, client: ClientId, block: BlockNo, to: Perm, bytes: Option<BlockBytes>)
         requires block { block < (geometry_in self.old).memory_blocks }
         requires held { IsSome (line_in self.old block) }
-        requires known { client < CLIENTS }
+        requires known { client < (geometry_in self.old).clients }
         requires tip { to ≡ Tip → (other : ℕ) → other ≢ client → recorded_in self.old other block ≡ NoAccess }
         requires branch { to ≡ Branch → (other : ℕ) → other ≢ client → recorded_in self.old other block ≢ Tip }
         ensures bank { SameBank self.old self.new }
@@ -261,7 +246,7 @@ impl Home {
     pub fn grant(&mut self, client: ClientId, block: BlockNo, perm: Perm)
         requires block { block < (geometry_in self.old).memory_blocks }
         requires held { IsSome (line_in self.old block) }
-        requires known { client < CLIENTS }
+        requires known { client < (geometry_in self.old).clients }
         requires tip { perm ≡ Tip → (other : ℕ) → other ≢ client → recorded_in self.old other block ≡ NoAccess }
         requires branch { perm ≡ Branch → (other : ℕ) → other ≢ client → recorded_in self.old other block ≢ Tip }
         ensures bank { SameBank self.old self.new }
@@ -335,12 +320,15 @@ impl Home {
     }
 
     /// The memory answers the request of a block: a Get with the block's bytes, a Put, which brings a whole block, once it is
-    /// written.
-    pub fn serve(&mut self, block: BlockNo)
+    /// written. Its reply is on the way to home then.
+    pub fn serve(&mut self, block: BlockNo) -> Reply
         requires block { block < (geometry_in self.old).memory_blocks }
         requires own { bank_of (geometry_in self.old) block ≡ bank_in self.old }
         requires request { IsRequest (outward_in self.old block) }
         requires whole { IsWhole (geometry_in self.old).block_bytes (outward_bytes (outward_in self.old block)) }
+        ensures reply { (size : ℕ)
+            × (2 ^ size ≡ (geometry_in self.old).block_bytes)
+            × (result ≡ reply_to size (memory_in self.old block) (outward_in self.old block)) }
         ensures bank { SameBank self.old self.new }
         ensures home { SameHome self.old self.new }
         ensures outward { (b : ℕ)
@@ -351,16 +339,33 @@ impl Home {
             → memory_in self.new b
             ≡ (if b == block then served_memory (memory_in self.old block) (outward_in self.old block) else memory_in self.old b) }
     {
+        let request = self.request(block);
+        let reply = self.memory.serve(request);
+        self.crossings.change(block, arriving(&reply));
+        reply
+    }
+
+    /// Home's request of a block to the memory.
+    fn request(&self, block: BlockNo) -> Request
+        requires block { block < (geometry_in self.now).memory_blocks }
+        requires own { bank_of (geometry_in self.now) block ≡ bank_in self.now }
+        requires request { IsRequest (outward_in self.now block) }
+        requires whole { IsWhole (geometry_in self.now).block_bytes (outward_bytes (outward_in self.now block)) }
+        ensures servable { IsServable self.now.memory result }
+        ensures is { (size : ℕ)
+            × (2 ^ size ≡ (geometry_in self.now).block_bytes)
+            × (result ≡ request_of size (block * (geometry_in self.now).block_bytes) (outward_in self.now block)) }
+    {
+        let geometry = self.geometry();
+        let size = geometry.block_size();
+        let address = block.number() * geometry.block_bytes();
         match self.crossings.of(block) {
-            Some(Outward::Get) => {
-                let bytes = self.memory.read(block);
-                self.crossings.change(block, Outward::Data(bytes));
-            }
-            Some(Outward::Put(bytes)) => {
-                self.memory.write(block, bytes);
-                self.crossings.change(block, Outward::PutAck);
-            }
-            _ => {}
+            Some(Outward::Put(bytes)) => Request::Put {
+                size,
+                address,
+                burst: whole_burst(geometry, bytes),
+            },
+            _ => Request::Get { size, address },
         }
     }
 
@@ -399,4 +404,25 @@ impl Home {
     {
         let _ = self.crossings.take(block);
     }
+}
+
+/// What a reply of the memory leaves on the way to home.
+fn arriving(reply: &Reply) -> Outward
+    ensures { result ≡ arriving reply.now }
+{
+    match reply {
+        Reply::AccessAckData { size: _, burst } => Outward::Data(burst.block()),
+        Reply::AccessAck { size: _ } => Outward::PutAck,
+    }
+}
+
+/// The beats of a block's bytes.
+fn whole_burst(geometry: Geometry, bytes: &BlockBytes) -> Burst
+    requires { length bytes.now ≡ geometry.block_bytes }
+    ensures bytes { result ≡ bytes.now }
+    ensures len { length result ≡ geometry.block_bytes }
+{
+    // For the prover: the numbers are lawful, and so beats fill a block.
+    let _ = geometry.block_bytes();
+    Burst::of_block(bytes.copied())
 }

@@ -25,7 +25,7 @@ use Rattle.tl_bank_spec.specs.Cases.{any_body, block_named, first_block}
 use Rattle.tl_bank_spec.specs.HomeCalls.{accept_cases}
 use Rattle.tl_bank_spec.specs.HomeCases.{lacks}
 use Rattle.tl_bank_spec.specs.Refusal.{first_of}
-use Rattle.tl_bank_spec.specs.View.{View, block_at, client_at, shape_of}
+use Rattle.tl_bank_spec.specs.View.{View, end_at, client_at, shape_of}
 use Rattle.tl_bank_spec.specs.Own.{IsOwn, way_at}
 use Rattle.tl_bank_spec.specs.Channels.{lane_at}
 use Rattle.tl_bank_spec.specs.Ways.{IsWayFor, registers_full, slots_at, victim_of_way, way_in_set, ways_held}
@@ -149,10 +149,10 @@ accepted-leaves s c a = record {
 }
 
 -- so does the event, of its own block and of each other
-next-leaves : (v : View) (c block b : ℕ) → AcceptLeaves (block_at v b) (block_next v (AcceptAcquire c block) b)
+next-leaves : (v : View) (c block b : ℕ) → AcceptLeaves (end_at v b) (block_next v (AcceptAcquire c block) b)
 next-leaves v c block b =
     elim (cases_Bool (b == block)) [
-      | inl e ↦ rw e (accepted-leaves (block_at v b) c ((block_at v b).client c).a)
+      | inl e ↦ rw e (accepted-leaves (end_at v b) c ((end_at v b).client c).a)
       | inr e ↦ rw e (record { home = refl; outward = refl; memory = refl; recorded = λ x. refl; entries = λ x. refl })
     ]
 
@@ -228,18 +228,18 @@ accept-ways v h t block grow way victim room m may =
     let r : Register = accepting v t block grow way victim in
     let later : View = opened_view v log room r in
     let shape = shape_of v.geometry in
-    let after : block_at later ≡ block_next v e = blocks-next v e room (v.registers ++ r ∷ []) v.ways in
+    let after : end_at later ≡ block_next v e = blocks-next v e room (v.registers ++ r ∷ []) v.ways in
     let steady = bank-steady v h m in
-    let pending : (b : ℕ) → grant_pending shape (block_at v b) ≡ false → grant_pending shape (block_at later b) ≡ false =
-    λ b none. ap (λ (s : ℕ → Block). grant_pending shape (s b)) after ∙ no-grant-comes shape (block_at v) e b steady tt none in
+    let pending : (b : ℕ) → grant_pending shape (end_at v b) ≡ false → grant_pending shape (end_at later b) ≡ false =
+    λ b none. ap (λ (s : ℕ → Block). grant_pending shape (s b)) after ∙ no-grant-comes shape (end_at v) e b steady tt none in
     ways-open v h.home log room r m.ways
     (new-holds v block way (acquire_task (record { client = t.client; grow = grow }) victim) victim may
     (acquire-works-on block (way_in_set set way) (record { client = t.client; grow = grow }) victim))
     may.not_held
-    (λ b. ap (λ (s : ℕ → Block). is_none (s b).home) after ∙ home-holds-on shape (block_at v) e b steady tt)
+    (λ b. ap (λ (s : ℕ → Block). is_none (s b).home) after ∙ home-holds-on shape (end_at v) e b steady tt)
     (λ s l. order-next (slots_at v s) (is_filling v s) (is_filling later s) v.log (order_at h.home s) e tt
     (λ w b here filled. any-follows (is_filling_by v s w) (is_filling_by later s w) v.registers r
-    (λ x f. fills-on ((x.way.set == s) && (x.way.way == w)) (grant_pending shape (block_at v x.own)) (grant_pending shape (block_at later x.own))
+    (λ x f. fills-on ((x.way.set == s) && (x.way.way == w)) (grant_pending shape (end_at v x.own)) (grant_pending shape (end_at later x.own))
     (pending x.own) f)
     filled)
     (m.ways.orders s l))
@@ -265,7 +265,7 @@ accept-core v h t way room links m none asked way_is same takes =
     let event : NextEvent v e = accept-event v h t m ok asked in
     let may : MayHold v block way victim = may-hold v h.home block way (way_at v block) m.ways own ok.free refl way_is in
     let r : Register = accepting v t block grow way victim in
-    let agree = accepting-keeps-agreement shape (block_at v) v.registers t.client block grow asked.rest (way_in_set set way) victim
+    let agree = accepting-keeps-agreement shape (end_at v) v.registers t.client block grow asked.rest (way_in_set set way) victim
     (bank-steady v h m) m.registers.agree (few_clients v.geometry m.geometry) event.may asked.list ok.free
     (free-victim v h.home block way victim m.ways may) in
     means-next v h (record h { links = links }) e room (v.registers ++ r ∷ []) v.ways m event

@@ -5,7 +5,7 @@ use Rattle.tl_types.specs.declared.channel.Channel.{Channel}
 use Rattle.tl_types.specs.declared.channel.Channel.TheVariants.{A}
 use Rattle.tl_types.specs.declared.message.Body.TheVariants.{AcquireBlock}
 use Rattle.tl_types.specs.declared.permission.Grow.{Grow}
-use Rattle.tl_types.specs.declared.wait.Wait.TheVariants.{ForGrant}
+use Rattle.tl_types.specs.declared.wait.Awaited.TheVariants.{ForGrant}
 use Rattle.tl_protocol.specs.Client.{sent_acquire}
 use Rattle.tl_protocol.specs.declared.client.Client.{Client}
 use Rattle.tl_protocol.specs.declared.copy.CachedCopy.{CachedCopy}

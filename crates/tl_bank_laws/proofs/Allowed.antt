@@ -7,9 +7,9 @@ use Rattle.tl_types.specs.declared.permission.Perm.{Perm}
 use Rattle.tl_types.specs.declared.permission.Perm.TheVariants.{None as p_None, Branch, Tip}
 use Rattle.tl_types.specs.declared.permission.Grow.{Grow}
 use Rattle.tl_types.specs.declared.permission.Prune.{Prune}
-use Rattle.tl_types.specs.declared.wait.Wait.{Wait}
-use Rattle.tl_types.specs.declared.wait.Wait.TheVariants.{Nothing, ForGrant, ForReleaseAck}
-use Rattle.tl_bank_spec.specs.Share.{Holding}
+use Rattle.tl_types.specs.declared.wait.Awaited.{Awaited}
+use Rattle.tl_types.specs.declared.wait.Awaited.TheVariants.{Nothing, ForGrant, ForReleaseAck}
+use Rattle.tl_bank_spec.specs.Share.{ShareView}
 use Rattle.tl_map.specs.Places.{bank_of}
 use Rattle.tl_bank_spec.specs.Calls.{block_named_by, load_cases, store_cases, acquire_cases, release_cases}
 use Rattle.tl_bank_spec.specs.Cases.{no_client, no_block, bad_access, bad_share, other_share, copies_full, elsewhere}
@@ -125,7 +125,7 @@ same-perm Tip Branch h = cc
 same-perm Tip Tip h = refl
 
 -- a client that waits for neither a Grant nor a ReleaseAck waits for nothing
-pub not-waiting : (wait : Wait) → is_waiting wait ≡ false → wait ≡ Nothing
+pub not-waiting : (wait : Awaited) → is_waiting wait ≡ false → wait ≡ Nothing
 not-waiting Nothing h = refl
 not-waiting ForGrant h = cc
 not-waiting ForReleaseAck h = cc
@@ -154,7 +154,7 @@ acquire-allowed v c b grow none =
     }
 
 -- a share of this client and this bank, with the number of its copies
-pub share-is : (v : View) (c : ℕ) (share : Holding) → bad_share v c share ≡ false → other_share v share ≡ false → share.count ≡ copies_at v c
+pub share-is : (v : View) (c : ℕ) (share : ShareView) → bad_share v c share ≡ false → other_share v share ≡ false → share.count ≡ copies_at v c
 share-is v c share bad other =
     let both = or_parts (not (share.client == c)) ((share.bank == v.number) && not (share.count == copies_at v c)) bad in
     let at : (share.bank == v.number) ≡ true = not-false (share.bank == v.number) other in
@@ -162,7 +162,7 @@ share-is v c share bad other =
     eqb-true share.count (copies_at v c) (not-false (share.count == copies_at v c) count)
 
 -- a Release of a block of this bank, by a client that waits for nothing and has what it prunes from, and whose share counts its copies
-pub record ReleaseAllowed (v : View) (c b : ℕ) (prune : Prune) (share : Holding) : Type 0 where
+pub record ReleaseAllowed (v : View) (c b : ℕ) (prune : Prune) (share : ShareView) : Type 0 where
   pub client : c < v.geometry.clients
   pub block : b < v.geometry.memory_blocks
   pub here : bank_of v.geometry b ≡ v.number
@@ -178,7 +178,7 @@ or-three false true c h = absurd (grind (arith, nat_tests))
 or-three false false true h = absurd (grind (arith, nat_tests))
 
 -- a Release that no case refuses is such a Release
-pub release-allowed : (v : View) (c b : ℕ) (prune : Prune) (share : Holding) → first_of (release_cases v c b prune share) ≡ None
+pub release-allowed : (v : View) (c b : ℕ) (prune : Prune) (share : ShareView) → first_of (release_cases v c b prune share) ≡ None
     → ReleaseAllowed v c b prune share
 release-allowed v c b prune share none =
     let f : AllFalse (release_cases v c b prune share) = all-false (release_cases v c b prune share) none in

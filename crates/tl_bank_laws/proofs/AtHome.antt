@@ -17,7 +17,7 @@ use Rattle.tl_protocol.specs.declared.client.Client.{Client}
 use Rattle.tl_protocol.specs.declared.home.Line.{Line}
 use Rattle.tl_bank_home.specs.Homes.{HomeState, line_in, recorded_in}
 use Rattle.tl_bank_home.proofs.DirectoryLaws.{way_of-no_line, recorded_of-none}
-use Rattle.tl_bank_spec.specs.View.{View, shape_of, block_at, client_at}
+use Rattle.tl_bank_spec.specs.View.{View, shape_of, end_at, client_at}
 use Rattle.tl_bank_spec.specs.Own.{IsOwn, way_at}
 use Rattle.tl_bank_spec.specs.Views.{not_own, dirty_at, is_at_home, passing_below, blocks_at_home, blocks_below, pairs_below, pairs_at}
 use Rattle.tl_bank_spec.specs.Ways.{slot_at}
@@ -175,18 +175,18 @@ before-all v h b m = by_own (not_own v b) refl
 
     by_own : (t : Bool) → not_own v b ≡ t
         → (if t then false else comes_before (set_of v.geometry b * v.geometry.ways) (v.geometry.sets * v.geometry.ways) (way_at v b))
-        ≡ is_some (if t then None else option_map (λ (line : Line). line.dirty) (block_at v b).home)
+        ≡ is_some (if t then None else option_map (λ (line : Line). line.dirty) (end_at v b).home)
     by_own true o = refl
     by_own false o =
         by_way (own-is v b o) (way_at v b) refl
-        ∙ sym (line-way (block_at v b).home (way_at v b) (m.ways.holds b (own-is v b o)))
+        ∙ sym (line-way (end_at v b).home (way_at v b) (m.ways.holds b (own-is v b o)))
 
 -- a block that is not of the memory is not at home
 past-none : (v : View) (b : ℕ) → v.geometry.memory_blocks ≤ b → is_at_home v b ≡ false
 past-none v b l = by_own (not_own v b) refl
   where
     by_own : (t : Bool) → not_own v b ≡ t
-        → is_some (if t then None else option_map (λ (line : Line). line.dirty) (block_at v b).home) ≡ false
+        → is_some (if t then None else option_map (λ (line : Line). line.dirty) (end_at v b).home) ≡ false
     by_own true o = refl
     by_own false o = let own = own-is v b o in absurd (omega (arith, own.0))
 
@@ -234,20 +234,20 @@ none-recorded (suc n) client none =
 
 -- for how many clients home records a block
 abbrev pub recorders : View → ℕ → ℕ
-recorders v b = count_clients is_recorded v.geometry.clients (block_at v b).client
+recorders v b = count_clients is_recorded v.geometry.clients (end_at v b).client
 
 -- where home lacks the block, for none
-lacks-none : (v : View) (h : Layers) (b : ℕ) → Means v h → IsOwn v.geometry v.number b → (block_at v b).home ≡ None → recorders v b ≡ 0
+lacks-none : (v : View) (h : Layers) (b : ℕ) → Means v h → IsOwn v.geometry v.number b → (end_at v b).home ≡ None → recorders v b ≡ 0
 lacks-none v h b m own lacks =
     let home = m.home b own in
-    none-recorded v.geometry.clients (block_at v b).client
+    none-recorded v.geometry.clients (end_at v b).client
     (λ c. sym (home.recorded c) ∙ unrecorded h.home c b (home.line ∙ lacks))
 
 -- one more block counts on both sides, or on none
 sum-step : (v : View) (n : ℕ) (xs bs : List ℕ) (t u : Bool) → (t ≡ true → u ≡ false) → (t ≡ false → u ≡ false → recorders v n ≡ 0)
-    → sum_by (recorders v) xs ≡ count_pairs is_recorded (shape_of v.geometry) (block_at v) bs
+    → sum_by (recorders v) xs ≡ count_pairs is_recorded (shape_of v.geometry) (end_at v) bs
     → sum_by (recorders v) (if u then xs ++ n ∷ [] else xs)
-    ≡ count_pairs is_recorded (shape_of v.geometry) (block_at v) (if t then bs else n ∷ bs)
+    ≡ count_pairs is_recorded (shape_of v.geometry) (end_at v) (if t then bs else n ∷ bs)
 sum-step v n xs bs true true other none so_far = let bad = other refl in cc
 sum-step v n xs bs true false other none so_far = so_far
 sum-step v n xs bs false true other none so_far =
@@ -268,5 +268,5 @@ recorded-at_home v h zero m = refl
 recorded-at_home v h (suc n) m =
     sum-step v n (passing_below (is_at_home v) n) (blocks_below v n) (not_own v n) (is_at_home v n)
     (λ other. rw other refl)
-    (λ own away. lacks-none v h n m (own-is v n own) (no-line (block_at v n).home (rw own at away)))
+    (λ own away. lacks-none v h n m (own-is v n own) (no-line (end_at v n).home (rw own at away)))
     (recorded-at_home v h n m)

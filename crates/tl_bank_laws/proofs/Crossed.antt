@@ -18,7 +18,7 @@ use Rattle.tl_registers.specs.declared.register.Register.{Register}
 use Rattle.tl_registers.specs.declared.register.Task.{Task}
 use Rattle.tl_registers.specs.declared.register.Task.TheVariants.{Acquire, Replace, Evict}
 use Rattle.tl_registers.proofs.Tables.{IsOneOf, each-filter, each-follows, one-among}
-use Rattle.tl_bank_spec.specs.View.{View, block_at, shape_of}
+use Rattle.tl_bank_spec.specs.View.{View, end_at, shape_of}
 use Rattle.tl_bank_spec.specs.Own.{IsOwn}
 use Rattle.tl_bank_laws.specs.Layers.{Layers}
 use Rattle.tl_bank_laws.specs.Means.{Means}
@@ -182,7 +182,7 @@ own-or-not v b =
 
 -- of a block that something passes of, a register works on it
 crossing-busy : (v : View) (h : Layers) (b : ℕ) → Means v h → outward_in h.home b ≢ Quiet
-    → (is_busy b v.registers ≡ true) × ((block_at v b).outward ≢ Quiet)
+    → (is_busy b v.registers ≡ true) × ((end_at v b).outward ≢ Quiet)
 crossing-busy v h b m some =
     elim (own-or-not v b) [
       | inr apart ↦ absurd (some (m.quiet b apart))
@@ -196,9 +196,9 @@ crossing-busy v h b m some =
 
 -- where nothing passes of the blocks of one register, something passes of fewer than eight
 pub crossings-few : (v : View) (h : Layers) (own : ℕ) (r : Register) (count : ℕ) → Means v h → register_of own v.registers ≡ Some r
-    → r.own ≡ own → Fits (shape_of v.geometry) (block_at v) r
-    → (victim_of r ≡ None → (block_at v r.own).outward ≡ Quiet)
-    → ((x : ℕ) → victim_of r ≡ Some x → (block_at v x).outward ≡ Quiet)
+    → r.own ≡ own → Fits (shape_of v.geometry) (end_at v) r
+    → (victim_of r ≡ None → (end_at v r.own).outward ≡ Quiet)
+    → ((x : ℕ) → victim_of r ≡ Some x → (end_at v x).outward ≡ Quiet)
     → ((n : ℕ) (holder : ℕ → ℕ) → EachHasHolder h.home n holder → count ≤ n) → count < 8
 crossings-few v h own r count m found here fits own_quiet victim_quiet most =
     let shape = shape_of v.geometry in
@@ -206,24 +206,24 @@ crossings-few v h own r count m found here fits own_quiet victim_quiet most =
     let fewer : length others < length v.registers = closed-fewer own v.registers r found in
     let limit : v.geometry.registers ≤ 8 = m.geometry.registers.most in
     let few : length v.registers ≤ v.geometry.registers = m.registers.few in
-    let each : Each (OneOf (block_at v)) v.registers =
-    each-follows (Fits shape (block_at v)) (OneOf (block_at v)) v.registers
-    (λ q f a b. one-crosses shape (block_at v) q q.task f.task a b) m.registers.agree.fits in
-    let each_other : Each (OneOf (block_at v)) others =
-    each-filter (OneOf (block_at v)) (λ q. not (q.own == own)) v.registers
-    (each-follows (OneOf (block_at v)) (λ q. not (q.own == own) ≡ true → OneOf (block_at v) q) v.registers (λ q f on. f) each) in
+    let each : Each (OneOf (end_at v)) v.registers =
+    each-follows (Fits shape (end_at v)) (OneOf (end_at v)) v.registers
+    (λ q f a b. one-crosses shape (end_at v) q q.task f.task a b) m.registers.agree.fits in
+    let each_other : Each (OneOf (end_at v)) others =
+    each-filter (OneOf (end_at v)) (λ q. not (q.own == own)) v.registers
+    (each-follows (OneOf (end_at v)) (λ q. not (q.own == own) ≡ true → OneOf (end_at v) q) v.registers (λ q f on. f) each) in
     let among = one-among own v.registers r m.registers.agree.apart found in
     let busy : (b : ℕ) → outward_in h.home b ≢ Quiet → is_busy b others ≡ true =
     λ b some.
     let k = crossing-busy v h b m some in
     elim (cases_Bool (works_on r b)) [
-      | inl on ↦ absurd (k.1 (none-crosses shape (block_at v) r r.task fits.task own_quiet victim_quiet b on))
+      | inl on ↦ absurd (k.1 (none-crosses shape (end_at v) r r.task fits.task own_quiet victim_quiet b on))
       | inr off ↦ closed-busy own v.registers r b here among off k.0
     ] in
     let holds : EachHasHolder h.home (length others) (place others) = record {
       inside = λ b some. place-inside others b (busy b some);
       own = λ a b some_a some_b same.
-          place-same (block_at v) others a b each_other (busy a some_a) (busy b some_b) (crossing-busy v h a m some_a).1
+          place-same (end_at v) others a b each_other (busy a some_a) (busy b some_b) (crossing-busy v h a m some_a).1
           (crossing-busy v h b m some_b).1 same;
     } in
     let all : count ≤ length others = most (length others) (place others) holds in

@@ -32,7 +32,7 @@ use Rattle.tl_bank_spec.specs.HomeCalls.{advance_cases}
 use Rattle.tl_bank_spec.specs.Cases.{link_full}
 use Rattle.tl_bank_spec.specs.HomeCases.{due_at, due_full}
 use Rattle.tl_bank_spec.specs.Refusal.{first_of}
-use Rattle.tl_bank_spec.specs.View.{View, block_at, shape_of}
+use Rattle.tl_bank_spec.specs.View.{View, end_at, shape_of}
 use Rattle.tl_bank_spec.specs.Own.{IsOwn, way_at}
 use Rattle.tl_bank_spec.specs.Channels.{next_ticket}
 use Rattle.tl_bank_spec.specs.declared.action.Action.{Action}
@@ -103,26 +103,26 @@ pub record Acts (v : View) (own : ℕ) (due : Due) : Type 0 where
   pub register : Register
   pub found : register_of own v.registers ≡ Some register
   pub here : register.own ≡ own
-  pub next : next_due (shape_of v.geometry) (block_at v) register ≡ Some due
-  pub fits : Fits (shape_of v.geometry) (block_at v) register
+  pub next : next_due (shape_of v.geometry) (end_at v) register ≡ Some due
+  pub fits : Fits (shape_of v.geometry) (end_at v) register
   pub holds : HoldsWay v register
   pub of : IsOf register due
-  pub may : MayNext (shape_of v.geometry) (block_at v) (event_of own due)
+  pub may : MayNext (shape_of v.geometry) (end_at v) (event_of own due)
   pub bank : bank_of v.geometry (block_of (shape_of v.geometry) (event_of own due)) ≡ v.number
   pub works : works_on register (block_of (shape_of v.geometry) (event_of own due)) ≡ true
 
 -- the register that was found of a block, where there is one, may do what is due of it
 acts-found : (v : View) (h : Layers) (own : ℕ) (due : Due) (o : Option Register) → Means v h → IsOwn v.geometry v.number own
-    → register_of own v.registers ≡ o → due_of (shape_of v.geometry) (block_at v) o ≡ Some due → Acts v own due
+    → register_of own v.registers ≡ o → due_of (shape_of v.geometry) (end_at v) o ≡ Some due → Acts v own due
 acts-found v h own due None m is_own found is = cc
 acts-found v h own due (Some r) m is_own found is =
     let shape = shape_of v.geometry in
     let here : r.own ≡ own = found-own own v.registers r found in
-    let fits : Fits shape (block_at v) r = found-each (Fits shape (block_at v)) own v.registers r m.registers.agree.fits found in
+    let fits : Fits shape (end_at v) r = found-each (Fits shape (end_at v)) own v.registers r m.registers.agree.fits found in
     let holds : HoldsWay v r = found-each (HoldsWay v) own v.registers r m.ways.held found in
-    let of : IsOf r due = every-action-is-of-its-register shape (block_at v) r due is in
-    let may : MayNext shape (block_at v) (event_of r.own due) =
-    every-action-is-permitted shape (block_at v) r due (bank-steady v h m).service fits is in
+    let of : IsOf r due = every-action-is-of-its-register shape (end_at v) r due is in
+    let may : MayNext shape (end_at v) (event_of r.own due) =
+    every-action-is-permitted shape (end_at v) r due (bank-steady v h m).service fits is in
     let works : works_on r (block_of shape (event_of own due)) ≡ true =
     subst (λ (n : ℕ). works_on r (block_of shape (event_of n due)) ≡ true) here (event-works shape r due of) in
     record {
@@ -134,7 +134,7 @@ acts-found v h own due (Some r) m is_own found is =
       fits = fits;
       holds = holds;
       of = of;
-      may = subst (λ (n : ℕ). MayNext shape (block_at v) (event_of n due)) here may;
+      may = subst (λ (n : ℕ). MayNext shape (end_at v) (event_of n due)) here may;
       bank = (holds.own (block_of shape (event_of own due)) works).0.1;
       works = works;
     }

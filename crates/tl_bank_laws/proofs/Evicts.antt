@@ -11,7 +11,7 @@ use Rattle.tl_registers.specs.declared.register.Task.TheVariants.{Evict}
 use Rattle.tl_registers.proofs.Opening.{evicting-keeps-agreement}
 use Rattle.tl_bank_spec.specs.HomeCalls.{evict_cases}
 use Rattle.tl_bank_spec.specs.Refusal.{first_of}
-use Rattle.tl_bank_spec.specs.View.{View, block_at, shape_of}
+use Rattle.tl_bank_spec.specs.View.{View, end_at, shape_of}
 use Rattle.tl_bank_spec.specs.Own.{IsOwn, way_at}
 use Rattle.tl_bank_spec.specs.Ways.{registers_full, way_in_set, slots_at}
 use Rattle.tl_bank_home.specs.Homes.{order_at}
@@ -38,7 +38,7 @@ one-more v r free =
 pub record EvictAllowed (v : View) (block : ℕ) : Type 0 where
   pub own : IsOwn v.geometry v.number block
   pub free : is_busy block v.registers ≡ false
-  pub held : is_none (block_at v block).home ≡ false
+  pub held : is_none (end_at v block).home ≡ false
   pub room : registers_full v ≡ false
 
 -- that is so where no case refuses to send the block away
@@ -77,8 +77,8 @@ pub evict-keeps : (v : View) (h : Layers) (block way : ℕ) → Means v h → fi
 evict-keeps v h block way m none lies =
     let ok = evict-allowed v block none in
     let r : Register = evicting v block way in
-    let agree : Agree (shape_of v.geometry) (block_at v) (v.registers ++ r ∷ []) =
-    evicting-keeps-agreement (shape_of v.geometry) (block_at v) v.registers block r.way (bank-steady v h m) m.registers.agree
+    let agree : Agree (shape_of v.geometry) (end_at v) (v.registers ++ r ∷ []) =
+    evicting-keeps-agreement (shape_of v.geometry) (end_at v) v.registers block r.way (bank-steady v h m) m.registers.agree
     (few_clients v.geometry m.geometry) ok.own.0 ok.free in
     record {
       lawful = m.lawful;
@@ -89,7 +89,7 @@ evict-keeps v h block way m none lies =
       copies = m.copies;
       home = m.home;
       quiet = m.quiet;
-      accepted = λ b. accepted-by-agree (shape_of v.geometry) (block_at v) (v.registers ++ r ∷ []) agree b;
+      accepted = λ b. accepted-by-agree (shape_of v.geometry) (end_at v) (v.registers ++ r ∷ []) agree b;
       registers = record { agree = agree; few = one-more v r ok.room };
       ways = evict-ways v h block way m ok lies;
       clock = m.clock;

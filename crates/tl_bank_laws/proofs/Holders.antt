@@ -6,8 +6,8 @@ use Rattle.tl_types.specs.declared.permission.Perm.{Perm}
 use Rattle.tl_types.specs.declared.permission.Perm.TheVariants.{None as p_None, Branch, Tip}
 use Rattle.std.specs.Prelude.{◌↔◌}
 use Rattle.tl_types.specs.Count.{count_below}
-use Rattle.tl_types.specs.declared.wait.Wait.{Wait}
-use Rattle.tl_types.specs.declared.wait.Wait.TheVariants.{Nothing, ForGrant, ForReleaseAck}
+use Rattle.tl_types.specs.declared.wait.Awaited.{Awaited}
+use Rattle.tl_types.specs.declared.wait.Awaited.TheVariants.{Nothing, ForGrant, ForReleaseAck}
 use Rattle.tl_protocol.specs.Ledger.{has_copy, one_if, count_clients, count_pairs}
 use Rattle.tl_protocol.specs.declared.client.Client.{Client}
 use Rattle.tl_protocol.specs.declared.copy.CachedCopy.{CachedCopy}
@@ -18,7 +18,7 @@ use Rattle.tl_protocol.specs.declared.event.Event.{Event}
 use Rattle.tl_protocol.specs.declared.shape.Shape.{Shape}
 use Rattle.tl_copies.specs.Copies.{held_at}
 use Rattle.tl_copies.specs.Held.{has_copy as table_has_copy, waits, is_awaited}
-use Rattle.tl_bank_spec.specs.View.{View, shape_of, block_at, client_at, perm_at}
+use Rattle.tl_bank_spec.specs.View.{View, shape_of, end_at, client_at, perm_at}
 use Rattle.tl_bank_spec.specs.Own.{IsOwn}
 use Rattle.tl_bank_spec.specs.Tables.{copies_at}
 use Rattle.tl_bank_spec.specs.Views.{not_own, HasCopy, AwaitsNothing, blocks_below, pairs_below, pairs_at, copies_below}
@@ -49,7 +49,7 @@ others v block other es own k d lt same =
 
 -- of a block that is not this bank's the log leaves what is there at reset
 pub others-reset : (v : View) (h : Layers) (block : ℕ) → Means v h → not_own v block ≡ true
-    → block_at v block ≡ at_reset (shape_of v.geometry) v.image block
+    → end_at v block ≡ at_reset (shape_of v.geometry) v.image block
 others-reset v h block m other =
     unmoved (shape_of v.geometry) (at_reset (shape_of v.geometry) v.image) v.log block (others v block other v.log m.own)
 
@@ -98,7 +98,7 @@ no-copies v h c b m none has =
 -- ## Answers
 
 -- an entry is awaited as the log says
-awaited-entry : (copy : CachedCopy) (wait : Wait) → is_awaited (entry_with copy wait) ≡ waits wait
+awaited-entry : (copy : CachedCopy) (wait : Awaited) → is_awaited (entry_with copy wait) ≡ waits wait
 awaited-entry Absent Nothing = refl
 awaited-entry Absent ForGrant = refl
 awaited-entry Absent ForReleaseAck = refl
@@ -106,7 +106,7 @@ awaited-entry (Readable bytes) wait = refl
 awaited-entry (Writable bytes dirty) wait = refl
 
 -- what is not waited for is nothing
-waits-nothing : (wait : Wait) → waits wait ≡ false → wait ≡ Nothing
+waits-nothing : (wait : Awaited) → waits wait ≡ false → wait ≡ Nothing
 waits-nothing Nothing h = refl
 waits-nothing ForGrant h = cc
 waits-nothing ForReleaseAck h = cc
@@ -156,7 +156,7 @@ copies_none v zero = refl
 copies_none v (suc n) = let rest = copies_none v n in omega arith
 
 -- one more block brings its own
-copies_more : (v : View) (n m : ℕ) → copies_to v n (suc m) ≡ copies_to v n m + count_clients has_copy n (block_at v m).client
+copies_more : (v : View) (n m : ℕ) → copies_to v n (suc m) ≡ copies_to v n m + count_clients has_copy n (end_at v m).client
 copies_more v zero m = refl
 copies_more v (suc n) m =
     let rest = copies_more v n m in
@@ -179,12 +179,12 @@ pairs_to : (v : View) (h : Layers) (m : ℕ) → Means v h → pairs_below has_c
 pairs_to v h zero means = sym (copies_none v v.geometry.clients)
 pairs_to v h (suc m) means =
     let n : ℕ = v.geometry.clients in
-    let row : ℕ = count_clients has_copy n (block_at v m).client in
+    let row : ℕ = count_clients has_copy n (end_at v m).client in
     let more = copies_more v n m in
     let so_far = pairs_to v h m means in
     cond_both (not_own v m) (blocks_below v m) (m ∷ blocks_below v m)
-    (λ (bs : List ℕ). count_pairs has_copy (shape_of v.geometry) (block_at v) bs ≡ copies_to v n (suc m))
-    (λ other. let none : row ≡ 0 = none_has n (block_at v m).client (λ c. others-none v h c m means other) in omega arith)
+    (λ (bs : List ℕ). count_pairs has_copy (shape_of v.geometry) (end_at v) bs ≡ copies_to v n (suc m))
+    (λ other. let none : row ≡ 0 = none_has n (end_at v m).client (λ c. others-none v h c m means other) in omega arith)
     (λ _. omega arith)
 
 -- What is held of a bank's blocks is the sum of its clients' copies.

@@ -13,7 +13,7 @@ use Rattle.tl_protocol.specs.Protocol.{Block, block_of, after, served, took_data
 use Rattle.tl_protocol.specs.Runs.{MayNext}
 use Rattle.tl_protocol_lanes.specs.Lanes.{lane_after}
 use Rattle.tl_protocol_lanes.specs.Lawful.{TakesFirst}
-use Rattle.tl_bank_spec.specs.View.{View, shape_of, block_at, client_at}
+use Rattle.tl_bank_spec.specs.View.{View, shape_of, end_at, client_at}
 use Rattle.tl_bank_spec.specs.Own.{IsOwn}
 use Rattle.tl_bank_spec.specs.Clock.{IsLater, stamped}
 use Rattle.tl_bank_home.specs.Homes.{HomeState, SameBank, line_in, recorded_in, outward_in, memory_in}
@@ -105,7 +105,7 @@ homes-clients shape s e h = absurd h
 pub homes-client : (v : View) (e : Event) (b x : ℕ) → IsHomes e → (block_next v e b).client x ≡ client_at v x b
 homes-client v e b x h =
     each-next v e (λ y s. s.client x ≡ client_at v x y)
-    (ap (λ (client : ℕ → Client). client x) (homes-clients (shape_of v.geometry) (block_at v (here v e)) e h)) (λ y ne. refl) b
+    (ap (λ (client : ℕ → Client). client x) (homes-clients (shape_of v.geometry) (end_at v (here v e)) e h)) (λ y ne. refl) b
 
 -- ## Home
 
@@ -134,7 +134,7 @@ pub record HomeFollows (v : View) (e : Event) (old new : HomeState) : Type 0 whe
 -- ## One more such event
 
 -- it is the next event, where it is permitted
-pub homes-event : (v : View) (e : Event) → IsHomes e → MayNext (shape_of v.geometry) (block_at v) e
+pub homes-event : (v : View) (e : Event) → IsHomes e → MayNext (shape_of v.geometry) (end_at v) e
     → bank_of v.geometry (block_of (shape_of v.geometry) e) ≡ v.number → NextEvent v e
 homes-event v e is may at = record {
   may = may;
@@ -148,9 +148,9 @@ pub homes-layers : (v : View) (h : Layers) (home : HomeState) (e : Event) → Me
     → IsOwn v.geometry v.number (block_of (shape_of v.geometry) e) → HomeFollows v e h.home home
     → NextLayers v e h (record h { home = home })
 homes-layers v h home e m is own follows = record {
-  lanes = λ x l inside. sym (homes-lane (shape_of v.geometry) (block_at v (block_of (shape_of v.geometry) e)) e x l _ is);
+  lanes = λ x l inside. sym (homes-lane (shape_of v.geometry) (end_at v (block_of (shape_of v.geometry) e)) e x l _ is);
   copies = λ x y k l. m.copies x y k l ∙ ap entry_of (sym (homes-client v e y x is));
-  home = homes-next v h e home m follows.at (λ b ne is_home. same-home h.home home b (block_at v b) (follows.others b ne) is_home);
+  home = homes-next v h e home m follows.at (λ b ne is_home. same-home h.home home b (end_at v b) (follows.others b ne) is_home);
   quiet = quiet-next v e h.home home own (λ b ne. (follows.others b ne).outward);
   links_size = record { bank = refl; clients = refl };
   copies_size = record { bank = refl; limit = refl; blocks = refl; clients = refl };

@@ -17,7 +17,7 @@ use Rattle.tl_links.specs.Table.{lane_in, SameSize as SameLinks}
 use Rattle.tl_copies.specs.Copies.{held_at, is_cell, SameSize as SameCopies}
 use Rattle.tl_copies.specs.declared.held.Held.{Held}
 use Rattle.tl_registers.specs.Agree.{LeavesRegisters}
-use Rattle.tl_bank_spec.specs.View.{View, shape_of, block_at, client_at}
+use Rattle.tl_bank_spec.specs.View.{View, shape_of, end_at, client_at}
 use Rattle.tl_bank_spec.specs.Clock.{IsLater, stamped, clock_of}
 use Rattle.tl_bank_laws.specs.Entry.{entry_of}
 use Rattle.tl_bank_home.specs.Homes.{HomeState, bank_in, geometry_in, way_in, free_at, order_at, outward_in}
@@ -32,14 +32,14 @@ use Rattle.tl_bank_laws.proofs.Ways.{bank-steady, fit-stays, same-work, ways-sta
 
 -- what the event is: permitted, later than all before it, and of a client that has k afterwards
 pub record ClientStep (v : View) (e : Event) (c : ℕ) (k : Client) : Type 0 where
-  pub may : MayNext (shape_of v.geometry) (block_at v) e
+  pub may : MayNext (shape_of v.geometry) (end_at v) e
   pub first : TakesFirst (shape_of v.geometry) v.image v.log e
   pub leaves : leaves_home e ≡ true
   pub leaves_registers : LeavesRegisters e
   pub here : bank_of v.geometry (block_of (shape_of v.geometry) e) ≡ v.number
   pub later : IsLater (clock_of v.log) e
   pub client :
-      (x : ℕ) → (after (shape_of v.geometry) (block_at v (block_of (shape_of v.geometry) e)) e).client x
+      (x : ℕ) → (after (shape_of v.geometry) (end_at v (block_of (shape_of v.geometry) e)) e).client x
       ≡ cond (x == c) k (client_at v x (block_of (shape_of v.geometry) e))
   pub recorded : k.recorded ≡ (client_at v c (block_of (shape_of v.geometry) e)).recorded
 
@@ -47,7 +47,7 @@ pub record ClientStep (v : View) (e : Event) (c : ℕ) (k : Client) : Type 0 whe
 pub record LayersFollow (v : View) (e : Event) (c : ℕ) (k : Client) (old new : Layers) : Type 0 where
   pub lanes :
       (x : ℕ) (l : Channel) → lane_in new.links x l
-      ≡ lane_after (shape_of v.geometry) (block_at v (block_of (shape_of v.geometry) e)) e x l (lane_in old.links x l)
+      ≡ lane_after (shape_of v.geometry) (end_at v (block_of (shape_of v.geometry) e)) e x l (lane_in old.links x l)
   pub copies :
       (x y : ℕ) → held_at new.copies x y
       ≡ cond (is_cell c (block_of (shape_of v.geometry) e) x y) (entry_of k) (held_at old.copies x y)
@@ -102,9 +102,9 @@ follow-next v old new e c k m step follow =
     let image : List ℕ = v.image in
     let log : List Event = v.log in
     let block : ℕ = block_of shape e in
-    let then : block_at (next_view v e v.room v.registers v.ways) ≡ block_next v e = blocks-next v e v.room v.registers v.ways in
+    let then : end_at (next_view v e v.room v.registers v.ways) ≡ block_next v e = blocks-next v e v.room v.registers v.ways in
     let same : (y : ℕ) → SameHome (end_of shape image log y) (end_of shape image (log ++ e ∷ []) y) =
-    home-append shape image log e (every_such_event_leaves_home shape (block_at v block) e step.leaves) in
+    home-append shape image log e (every_such_event_leaves_home shape (end_at v block) e step.leaves) in
     record {
       lanes = λ x l h. follow.lanes x l;
       copies = λ x y h l.

@@ -25,7 +25,7 @@ use Rattle.tl_registers.proofs.Closing.{dropping-keeps-agreement, putting-keeps-
 use Rattle.tl_registers.proofs.Order.{other-events-keep-order}
 use Rattle.tl_registers.proofs.Tables.{each-follows, found-busy}
 use Rattle.tl_bank_spec.specs.Effects.{ways_without}
-use Rattle.tl_bank_spec.specs.View.{View, block_at, shape_of}
+use Rattle.tl_bank_spec.specs.View.{View, end_at, shape_of}
 use Rattle.tl_bank_spec.specs.Own.{IsOwn, way_at, ways_below}
 use Rattle.tl_bank_spec.specs.Ways.{lies_in, slot_at, slots_at}
 use Rattle.tl_bank_laws.specs.Layers.{Layers}
@@ -153,7 +153,7 @@ free-then v e room ways block set way old false here went fit own was =
 
 -- A block of the bank leaves home by an event that grants nothing: the ways fit then.
 pub leaving-fits : (v : View) (e : Event) (room : ℕ) (ways : List (Option ℕ)) (old new : HomeState)
-    → IsSteady (shape_of v.geometry) (block_at v) → GrantsNothing e → IsOwn v.geometry v.number (here v e) → (left v e).home ≡ None
+    → IsSteady (shape_of v.geometry) (end_at v) → GrantsNothing e → IsOwn v.geometry v.number (here v e) → (left v e).home ≡ None
     → GaveUp old new (here v e) → geometry_in old ≡ v.geometry
     → ((b : ℕ) → b < v.geometry.memory_blocks → slice_index_or ways b None ≡ way_in new b)
     → WaysFit v old → WaysFit (next_view v e room v.registers ways) new
@@ -254,7 +254,7 @@ pub put-keeps : (v : View) (h : Layers) (own block room : ℕ) (ways : List (Opt
 put-keeps v h own block room ways home m acts gave outward shown =
     let shape = shape_of v.geometry in
     let e = SendPut block in
-    let s : Block = block_at v block in
+    let s : Block = end_at v block in
     let steady = bank-steady v h m in
     let is_own : IsOwn v.geometry v.number block = (acts.may.0, acts.bank) in
     let is : IsHomeOf h.home block s = m.home block is_own in
@@ -285,7 +285,7 @@ put-keeps v h own block room ways home m acts gave outward shown =
       clock = refl;
     })
     (registers-next v e room v.registers ways
-    (putting-keeps-agreement shape (block_at v) v.registers block m.registers.agree acts.may busy) m.registers.few)
+    (putting-keeps-agreement shape (end_at v) v.registers block m.registers.agree acts.may busy) m.registers.few)
     (leaving-fits v e room ways h.home home steady tt is_own refl gave m.home_geometry shown m.ways)
 
 -- something passes of fewer than eight blocks before it
@@ -297,7 +297,7 @@ put-few v h own block count m acts most =
     (λ x victim.
     let same : Some block ≡ Some x = sym acts.of ∙ victim in
     let is : block ≡ x = cc in
-    subst (λ (y : ℕ). (block_at v y).outward ≡ Quiet) is acts.may.1.1.quiet)
+    subst (λ (y : ℕ). (end_at v y).outward ≡ Quiet) is acts.may.1.1.quiet)
     most
 
 -- and nothing of the block
@@ -306,7 +306,7 @@ put-quiet v h own block m acts = (m.home block (acts.may.0, acts.bank)).outward 
 
 -- home holds the block, which is one of the memory
 pub leave-held : (v : View) (h : Layers) (block : ℕ) (dirty : Bool) → Means v h → IsOwn v.geometry v.number block
-    → MayGiveUp (shape_of v.geometry) (block_at v block) dirty → IsSome (line_in h.home block)
+    → MayGiveUp (shape_of v.geometry) (end_at v block) dirty → IsSome (line_in h.home block)
 leave-held v h block dirty m own may =
     let held : line_in h.home block ≡ Some may.0.0 = (m.home block own).line ∙ may.0.1 in rw held refl
 
@@ -344,7 +344,7 @@ pub drop-keeps : (v : View) (h : Layers) (own block room : ℕ) (ways : List (Op
 drop-keeps v h own block room ways home m acts gave outward shown =
     let shape = shape_of v.geometry in
     let e = e_Drop block in
-    let s : Block = block_at v block in
+    let s : Block = end_at v block in
     let steady = bank-steady v h m in
     let is_own : IsOwn v.geometry v.number block = (acts.may.0, acts.bank) in
     let is : IsHomeOf h.home block s = m.home block is_own in
@@ -374,6 +374,6 @@ drop-keeps v h own block room ways home m acts gave outward shown =
       clock = refl;
     })
     (registers-next v e room (ended block v.registers) ways
-    (dropping-keeps-agreement shape (block_at v) v.registers block m.registers.agree acts.may) (omega (arith, fewer, few)))
+    (dropping-keeps-agreement shape (end_at v) v.registers block m.registers.agree acts.may) (omega (arith, fewer, few)))
     (ended-fits (next_view v e room v.registers ways) home block nowhere
     (leaving-fits v e room ways h.home home steady tt is_own refl gave m.home_geometry shown m.ways))

@@ -17,7 +17,7 @@ use Rattle.tl_copies.specs.Copies.{Tables, held_at, is_cell}
 use Rattle.tl_copies.specs.declared.held.Held.{Held}
 use Rattle.tl_bank_spec.specs.Calls.{load_cases}
 use Rattle.tl_bank_spec.specs.Refusal.{first_of}
-use Rattle.tl_bank_spec.specs.View.{View, shape_of, block_at, client_at}
+use Rattle.tl_bank_spec.specs.View.{View, shape_of, end_at, client_at}
 use Rattle.tl_bank_spec.specs.Clock.{clock_of, latest}
 use Rattle.tl_bank_laws.specs.Entry.{entry_of}
 use Rattle.tl_bank_laws.specs.Layers.{Layers}
@@ -96,7 +96,7 @@ load-keeps v h c address len clock bytes stamp index room m reads =
     let block : ℕ = address / v.geometry.block_bytes in
     let at : ℕ = address % v.geometry.block_bytes in
     let access : Access = record { client = c; address = address; bytes = bytes; stamp = stamp; index = index } in
-    let s : Block = block_at v block in
+    let s : Block = end_at v block in
     let k : Client = s.client c in
     let ok = load-allowed v c address len clock reads.allowed in
     let fits = load-fits v h c address len clock m reads.allowed in

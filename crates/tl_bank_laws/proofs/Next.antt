@@ -10,14 +10,14 @@ use Rattle.tl_map.specs.Places.{bank_of}
 use Rattle.tl_protocol.specs.declared.event.Event.{Event}
 use Rattle.tl_protocol.specs.Protocol.{Block, block_of}
 use Rattle.tl_protocol.specs.Runs.{MayNext, after_next}
-use Rattle.tl_protocol_lanes.specs.Lanes.{Post, Place, post_of, take_of, taken_from, sent_to, lane_after, lane_of}
+use Rattle.tl_protocol_lanes.specs.Lanes.{Post, LinkChannel, post_of, take_of, taken_from, sent_to, lane_after, lane_of}
 use Rattle.tl_protocol_lanes.specs.Lawful.{TakesFirst}
 use Rattle.tl_protocol_lanes.proofs.Logs.{end_of-append, lanes_grow_by_one, lawful_grows_by_one}
 use Rattle.tl_links.specs.Table.{lane_in, SameSize as SameLinks}
 use Rattle.tl_copies.specs.Copies.{held_at, SameSize as SameCopies}
 use Rattle.tl_registers.specs.declared.register.Register.{Register}
 use Rattle.tl_registers.specs.Agree.{Agree}
-use Rattle.tl_bank_spec.specs.View.{View, shape_of, block_at}
+use Rattle.tl_bank_spec.specs.View.{View, shape_of, end_at}
 use Rattle.tl_bank_spec.specs.Own.{IsOwn}
 use Rattle.tl_bank_spec.specs.Clock.{IsLater, StampsRiseFrom, stamped, clock_from, clock_of}
 use Rattle.tl_bank_home.specs.Homes.{SameBank, outward_in}
@@ -34,11 +34,11 @@ next_view v e room registers ways = record v { log = v.log ++ e ∷ []; room = r
 
 -- what is held of each block then
 abbrev pub block_next : View → Event → ℕ → Block
-block_next v e = after_next (shape_of v.geometry) (block_at v) e
+block_next v e = after_next (shape_of v.geometry) (end_at v) e
 
 -- the event is permitted, takes the first message of its channel, is on a block of the bank, and later than all before it
 pub record NextEvent (v : View) (e : Event) : Type 0 where
-  pub may : MayNext (shape_of v.geometry) (block_at v) e
+  pub may : MayNext (shape_of v.geometry) (end_at v) e
   pub first : TakesFirst (shape_of v.geometry) v.image v.log e
   pub here : bank_of v.geometry (block_of (shape_of v.geometry) e) ≡ v.number
   pub later : IsLater (clock_of v.log) e
@@ -47,7 +47,7 @@ pub record NextEvent (v : View) (e : Event) : Type 0 where
 pub record NextLayers (v : View) (e : Event) (old new : Layers) : Type 0 where
   pub lanes :
       (x : ℕ) (l : Channel) → x < v.geometry.clients → lane_in new.links x l
-      ≡ lane_after (shape_of v.geometry) (block_at v (block_of (shape_of v.geometry) e)) e x l (lane_in old.links x l)
+      ≡ lane_after (shape_of v.geometry) (end_at v (block_of (shape_of v.geometry) e)) e x l (lane_in old.links x l)
   pub copies :
       (x y : ℕ) → x < v.geometry.clients → y < v.geometry.memory_blocks → held_at new.copies x y
       ≡ entry_of ((block_next v e y).client x)
@@ -78,7 +78,7 @@ RegistersNext =
 abbrev pub BlocksNext : Type 0
 BlocksNext =
     (v : View) (e : Event) (room : ℕ) (registers : List Register) (ways : List (Option ℕ))
-    → block_at (next_view v e room registers ways) ≡ block_next v e
+    → end_at (next_view v e room registers ways) ≡ block_next v e
 
 -- each block of the new view is held as the event leaves it
 pub blocks-next : BlocksNext
@@ -121,7 +121,7 @@ inside-here P lane true h = inside-first P lane.taken lane.messages h
 inside-here P lane false h = h
 
 -- so are those of each lane once an event took what it takes
-inside-taken : (P : ℕ → Type 0) (place : Option Place) (x : ℕ) (l : Channel) (lane : Lane)
+inside-taken : (P : ℕ → Type 0) (place : Option LinkChannel) (x : ℕ) (l : Channel) (lane : Lane)
     → All (Of P) lane.messages → All (Of P) (taken_from place x l lane).messages
 inside-taken P None x l lane h = h
 inside-taken P (Some place) x l lane h = inside-here P lane (is_here place.client place.channel x l) h
@@ -150,9 +150,9 @@ means-next v old new e room registers ways m next layers fit in_ways =
     let image : List ℕ = v.image in
     let log : List Event = v.log in
     let block : ℕ = block_of shape e in
-    let s : Block = block_at v block in
+    let s : Block = end_at v block in
     let own : IsOwn g v.number block = (next.may.0, next.here) in
-    let then : block_at (next_view v e room registers ways) ≡ block_next v e = blocks-next v e room registers ways in
+    let then : end_at (next_view v e room registers ways) ≡ block_next v e = blocks-next v e room registers ways in
     record {
       lawful = lawful_grows_by_one shape image log e m.lawful next.may next.first;
       own =
@@ -169,7 +169,7 @@ means-next v old new e room registers ways m next layers fit in_ways =
       copies = λ x y h l. layers.copies x y h l ∙ ap (λ (t : ℕ → Block). entry_of ((t y).client x)) (sym then);
       home = λ y o. subst (λ (t : ℕ → Block). IsHomeOf new.home y (t y)) (sym then) (layers.home y o);
       quiet = λ y no. layers.quiet y no ∙ m.quiet y no;
-      accepted = λ y. accepted-by-agree shape (block_at (next_view v e room registers ways)) registers fit.agree y;
+      accepted = λ y. accepted-by-agree shape (end_at (next_view v e room registers ways)) registers fit.agree y;
       registers = fit;
       ways = in_ways;
       clock = layers.clock ∙ ap (λ n. stamped n e) m.clock ∙ sym (clock_from-append 0 log e);

@@ -19,7 +19,7 @@ use Rattle.tl_registers.specs.declared.way_of_set.WayOfSet.{WayOfSet}
 use Rattle.tl_registers.proofs.Tables.{each-end, each-follows}
 use Rattle.tl_ways.specs.Orders.{chosen}
 use Rattle.tl_bank_spec.specs.HomeCases.{lacks}
-use Rattle.tl_bank_spec.specs.View.{View, block_at, shape_of}
+use Rattle.tl_bank_spec.specs.View.{View, end_at, shape_of}
 use Rattle.tl_bank_spec.specs.Own.{IsOwn, way_at}
 use Rattle.tl_bank_spec.specs.Ways.{IsWayFor, holds_way, slot_at, slots_at, victim_of_way, way_in_set, ways_held}
 use Rattle.tl_bank_home.specs.Homes.{HomeState, bank_in, free_at, geometry_in, order_at, way_in}
@@ -127,7 +127,7 @@ home-none (Some line) h = cc
 
 -- the victim, where there is one, is a block that no register works on
 pub free-victim : (v : View) (home : HomeState) (block way : ℕ) (victim : Option ℕ) → WaysFit v home → MayHold v block way victim
-    → IsFreeVictim (shape_of v.geometry) (block_at v) v.registers block victim
+    → IsFreeVictim (shape_of v.geometry) (end_at v) v.registers block victim
 free-victim v home block way None fit may = tt
 free-victim v home block way (Some victim) fit may =
     let there = may.there victim refl in
@@ -135,7 +135,7 @@ free-victim v home block way (Some victim) fit may =
       there.0,
       λ e. let both : Some way ≡ None = sym there.1.2 ∙ (ap (way_at v) e ∙ none) in cc,
       works-held v (set_of v.geometry block) way victim v.registers fit.held there.1 may.not_held,
-      home-none (block_at v block).home (fit.holds block may.own ∙ ap is_none none),
+      home-none (end_at v block).home (fit.holds block may.own ∙ ap is_none none),
     )
 
 -- ## The register that opens
@@ -251,7 +251,7 @@ opened_view v log room r = record v { log = log; room = room; registers = v.regi
 -- the ways fit the new view, where home holds the same blocks and the orders are those of the new log
 pub ways-open : (v : View) (home : HomeState) (log : List Event) (room : ℕ) (r : Register) → WaysFit v home → HoldsWay v r
     → is_held r.way v.registers ≡ false
-    → ((b : ℕ) → is_none (block_at (opened_view v log room r) b).home ≡ is_none (block_at v b).home)
+    → ((b : ℕ) → is_none (end_at (opened_view v log room r) b).home ≡ is_none (end_at v b).home)
     → ((set : ℕ) → set < v.geometry.sets → IsInOrder (slots_at v set) (is_filling (opened_view v log room r) set) log (order_at home set))
     → WaysFit (opened_view v log room r) home
 ways-open v home log room r fit new free holds orders = record {

@@ -16,7 +16,7 @@ use Rattle.tl_protocol.specs.Pending.{IsServiceAt, IsOrderly}
 use Rattle.tl_protocol.specs.Protocol.{Block, block_of, after, with_client, accepted_from, grants, served}
 use Rattle.tl_protocol.specs.Runs.{after_next}
 use Rattle.tl_registers.specs.Agree.{IsSteady}
-use Rattle.tl_registers.specs.Pending.{is_granted, grant_pending}
+use Rattle.tl_registers.specs.Pending.{has_grant_pending, grant_pending}
 use Rattle.tl_registers.proofs.Blocks.{Keeps, event-keeps}
 use Rattle.tl_registers.proofs.Pending.{any_below-false, any_below-none}
 use Rattle.tl_bank_laws.proofs.Orders.{GrantsNothing}
@@ -25,21 +25,21 @@ use Rattle.tl_bank_laws.proofs.Orders.{GrantsNothing}
 
 -- a client at which no Grant was pending has none pending later
 abbrev pub GrantsStayNone : Block → Block → Type 0
-GrantsStayNone s later = (x : ℕ) → is_granted (s.client x) ≡ false → is_granted (later.client x) ≡ false
+GrantsStayNone s later = (x : ℕ) → has_grant_pending (s.client x) ≡ false → has_grant_pending (later.client x) ≡ false
 
 -- a block of which none was pending then has none pending later
 pub none-pending : (shape : Shape) (s later : Block) → GrantsStayNone s later → grant_pending shape s ≡ false
     → grant_pending shape later ≡ false
 none-pending shape s later stay h =
-    any_below-none (λ x. is_granted (later.client x)) shape.clients
-    (λ x l. stay x (any_below-false (λ y. is_granted (s.client y)) shape.clients x h l))
+    any_below-none (λ x. has_grant_pending (later.client x)) shape.clients
+    (λ x l. stay x (any_below-false (λ y. has_grant_pending (s.client y)) shape.clients x h l))
 
 -- one client's step
-put-none : (s : Block) (c : ℕ) (k : Client) → (is_granted (s.client c) ≡ false → is_granted k ≡ false) → GrantsStayNone s (with_client s c k)
+put-none : (s : Block) (c : ℕ) (k : Client) → (has_grant_pending (s.client c) ≡ false → has_grant_pending k ≡ false) → GrantsStayNone s (with_client s c k)
 put-none s c k one x h =
     elim (cases_Bool (x == c)) [
       | inl e ↦
-          let here : is_granted (s.client c) ≡ false = subst (λ (y : ℕ). is_granted (s.client y) ≡ false) (eqb-true x c e) h in
+          let here : has_grant_pending (s.client c) ≡ false = subst (λ (y : ℕ). has_grant_pending (s.client y) ≡ false) (eqb-true x c e) h in
           rw e (one here)
       | inr e ↦ rw e h
     ]

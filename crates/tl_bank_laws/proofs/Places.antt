@@ -2,7 +2,7 @@
 use Rattle.std.proofs.Common.{◌≡◌, ◌≢◌, ℕ, ◌<◌, ◌&&◌, not, Bool, true, false, Option, Some, None, is_some, refl, sym, ◌∙◌, ap, arith, nat_le}
 use Rattle.std.proofs.lemmas.Bool.Decides.{nat_tests}
 use Rattle.tl_types.specs.declared.permission.Perm.TheVariants.{None as p_None}
-use Rattle.tl_types.specs.declared.wait.Wait.{Wait}
+use Rattle.tl_types.specs.declared.wait.Awaited.{Awaited}
 use Rattle.tl_protocol.specs.Copy.{perm_of}
 use Rattle.tl_protocol.specs.declared.copy.CachedCopy.{CachedCopy}
 use Rattle.tl_protocol.specs.declared.copy.CachedCopy.TheVariants.{Absent, Readable, Writable}
@@ -17,7 +17,7 @@ use Rattle.tl_bank_laws.specs.Means.{Means}
 use Rattle.tl_bank_laws.proofs.Entries.{entries-is, has_entry-is, is_some-entry}
 
 -- a copy above None has an entry
-pub entry-there : (copy : CachedCopy) (wait : Wait) → perm_of copy ≢ p_None → has_entry_for copy wait ≡ true
+pub entry-there : (copy : CachedCopy) (wait : Awaited) → perm_of copy ≢ p_None → has_entry_for copy wait ≡ true
 entry-there Absent wait some = absurd (some refl)
 entry-there (Readable bytes) wait some = refl
 entry-there (Writable bytes dirty) wait some = refl
@@ -28,7 +28,7 @@ some-is None h = cc
 some-is (Some x) h = λ e. cc
 
 -- where there is an entry, or none is needed, there is a place for another copy
-pub place-there : (v : View) (h : Layers) (c b : ℕ) (copy : CachedCopy) (wait : Wait) → Means v h
+pub place-there : (v : View) (h : Layers) (c b : ℕ) (copy : CachedCopy) (wait : Awaited) → Means v h
     → c < v.geometry.clients → b < v.geometry.memory_blocks → (has_entry_for copy wait ≡ true → has_entry (client_at v c b) ≡ true) → HasPlace h.copies c b copy wait
 place-there v h c b copy wait m lt l has = record {
   client = rw m.copies_clients lt;
@@ -49,7 +49,7 @@ none-is None h = refl
 none-is (Some x) h = cc
 
 -- where the client's table is not full, there is a place for any copy
-pub place-free : (v : View) (h : Layers) (c b : ℕ) (copy : CachedCopy) (wait : Wait) → Means v h
+pub place-free : (v : View) (h : Layers) (c b : ℕ) (copy : CachedCopy) (wait : Awaited) → Means v h
     → c < v.geometry.clients → b < v.geometry.memory_blocks → copies_full v c b ≡ false → HasPlace h.copies c b copy wait
 place-free v h c b copy wait m lt l free = record {
   client = rw m.copies_clients lt;

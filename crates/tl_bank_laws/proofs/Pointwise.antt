@@ -5,7 +5,7 @@ use Rattle.tl_protocol.specs.declared.event.Event.{Event}
 use Rattle.tl_protocol.specs.Protocol.{Block, after, block_of}
 use Rattle.tl_copies.specs.Copies.{held_at}
 use Rattle.tl_bank_home.specs.Homes.{HomeState, outward_in}
-use Rattle.tl_bank_spec.specs.View.{View, block_at, client_at, shape_of}
+use Rattle.tl_bank_spec.specs.View.{View, end_at, client_at, shape_of}
 use Rattle.tl_bank_spec.specs.Own.{IsOwn}
 use Rattle.tl_bank_laws.specs.Entry.{entry_of}
 use Rattle.tl_bank_laws.specs.Layers.{Layers}
@@ -18,15 +18,15 @@ here v e = block_of (shape_of v.geometry) e
 
 -- and what the event leaves of it
 abbrev pub left : View → Event → Block
-left v e = after (shape_of v.geometry) (block_at v (here v e)) e
+left v e = after (shape_of v.geometry) (end_at v (here v e)) e
 
 -- what holds of its block then, and of each other as it was, holds of each block
 pub each-next : (v : View) (e : Event) (P : ℕ → Block → Type 0) → P (here v e) (left v e)
-    → ((b : ℕ) → b ≢ here v e → P b (block_at v b)) → (b : ℕ) → P b (block_next v e b)
+    → ((b : ℕ) → b ≢ here v e → P b (end_at v b)) → (b : ℕ) → P b (block_next v e b)
 each-next v e P at other b =
     elim (cases_Bool (b == here v e)) [
       | inl t ↦
-          let P2 : ℕ → Type 0 = λ x. P x (after (shape_of v.geometry) (block_at v x) e) in
+          let P2 : ℕ → Type 0 = λ x. P x (after (shape_of v.geometry) (end_at v x) e) in
           rw t (subst P2 (sym (eqb-true b (here v e) t)) at)
       | inr t ↦ rw t (other b (eqb-false b (here v e) t))
     ]
@@ -41,7 +41,7 @@ entries-next v h e m same x y lx ly =
 
 -- home's part of each block then, where the event's own block is one of the bank
 pub homes-next : (v : View) (h : Layers) (e : Event) (new : HomeState) → Means v h → IsHomeOf new (here v e) (left v e)
-    → ((b : ℕ) → b ≢ here v e → IsHomeOf h.home b (block_at v b) → IsHomeOf new b (block_at v b))
+    → ((b : ℕ) → b ≢ here v e → IsHomeOf h.home b (end_at v b) → IsHomeOf new b (end_at v b))
     → (b : ℕ) → IsOwn v.geometry v.number b → IsHomeOf new b (block_next v e b)
 homes-next v h e new m at other b own =
     each-next v e (λ y s. IsOwn v.geometry v.number y → IsHomeOf new y s) (λ own. at) (λ y ne own. other y ne (m.home y own)) b own

@@ -16,8 +16,8 @@ use Rattle.tl_types.specs.declared.permission.ProbeCap.{ProbeCap}
 use Rattle.tl_types.specs.declared.permission.Perm.{Perm}
 use Rattle.tl_types.specs.declared.permission.Perm.TheVariants.{None as p_None, Branch, Tip}
 use Rattle.tl_types.specs.declared.ticket.Ticket.{Ticket}
-use Rattle.tl_types.specs.declared.wait.Wait.{Wait}
-use Rattle.tl_types.specs.declared.wait.Wait.TheVariants.{Nothing, ForGrant, ForReleaseAck}
+use Rattle.tl_types.specs.declared.wait.Awaited.{Awaited}
+use Rattle.tl_types.specs.declared.wait.Awaited.TheVariants.{Nothing, ForGrant, ForReleaseAck}
 use Rattle.tl_protocol.specs.Client.{answered}
 use Rattle.tl_protocol.specs.Copy.{dirty_bytes, perm_of, reduced}
 use Rattle.tl_protocol.specs.Protocol.{is_none}
@@ -32,7 +32,7 @@ use Rattle.tl_copies.specs.Copies.{Tables, held_at, is_cell, SameSize as SameCop
 use Rattle.tl_bank_spec.specs.Calls.{answer_probe_cases}
 use Rattle.tl_bank_spec.specs.Cases.{any_body, awaits_release_ack, bad_share, block_named, first_block, link_full, no_client, other_share}
 use Rattle.tl_bank_spec.specs.Refusal.{first_of}
-use Rattle.tl_bank_spec.specs.Share.{Holding, recount}
+use Rattle.tl_bank_spec.specs.Share.{ShareView, recount}
 use Rattle.tl_bank_spec.specs.View.{View, client_at, perm_at, shape_of}
 use Rattle.tl_bank_spec.specs.Own.{IsOwn}
 use Rattle.tl_bank_spec.specs.Tables.{has_entry_for, copies_at}
@@ -53,20 +53,20 @@ use Rattle.tl_bank_laws.proofs.Shares.{share-count, share-enough}
 -- ## The Probe that is there
 
 -- a client that is not found to await a ReleaseAck does not wait for one
-not-pending : (wait : Wait) → awaits_release_ack wait ≡ false → wait ≢ ForReleaseAck
+not-pending : (wait : Awaited) → awaits_release_ack wait ≡ false → wait ≢ ForReleaseAck
 not-pending Nothing h = λ e. cc
 not-pending ForGrant h = λ e. cc
 not-pending ForReleaseAck h = cc
 
 -- the ticket names the first message on B, the share has the client's count, no Release of the block is unanswered, and C has a place
-pub record ProbeAllowed (v : View) (t : Ticket) (share : Holding) : Type 0 where
+pub record ProbeAllowed (v : View) (t : Ticket) (share : ShareView) : Type 0 where
   pub head : HeadAllowed v t B any_body
   pub count : share.count ≡ copies_at v t.client
   pub wait : (client_at v t.client (block_named v t B)).wait ≢ ForReleaseAck
   pub place : length (lane_at v t.client C).messages < 64
 
 -- so it is where no refusal's case holds
-probe-allowed : (v : View) (t : Ticket) (share : Holding) → first_of (answer_probe_cases v t share) ≡ None → ProbeAllowed v t share
+probe-allowed : (v : View) (t : Ticket) (share : ShareView) → first_of (answer_probe_cases v t share) ≡ None → ProbeAllowed v t share
 probe-allowed v t share none =
     let f : AllFalse (answer_probe_cases v t share) = all-false (answer_probe_cases v t share) none in
     let range = or_parts (no_client v t.client) (bad_share v t.client share) f.0 in
@@ -104,18 +104,18 @@ probe-is v h c x m first = let is = first-probe v h c x m first in (is.0, is.2)
 -- ## The step
 
 -- what answering a Probe shows of the bank before it
-pub record Answers (v : View) (t : Ticket) (share : Holding) (block : ℕ) (copy : CachedCopy) (wait : Wait) (before : Perm)
+pub record Answers (v : View) (t : Ticket) (share : ShareView) (block : ℕ) (copy : CachedCopy) (wait : Awaited) (before : Perm)
     (answer : ProbeAnswer) : Type 0 where
   pub allowed : first_of (answer_probe_cases v t share) ≡ None
   pub finds : FindsProbe v t.client block copy wait before answer
 
 -- a Probe that is found is of the block that the first message speaks of
-pub probe-named : {v : View} {c block : ℕ} {copy : CachedCopy} {wait : Wait} {before : Perm} {answer : ProbeAnswer}
+pub probe-named : {v : View} {c block : ℕ} {copy : CachedCopy} {wait : Awaited} {before : Perm} {answer : ProbeAnswer}
     → FindsProbe v c block copy wait before answer → block ≡ first_block (lane_at v c B).messages
 probe-named finds = sym (ap first_block finds.first.1)
 
 -- and is found as well once there is room for the event
-pub answers-with-room : (v old : View) (t : Ticket) (share : Holding) (room block : ℕ) (copy : CachedCopy) (wait : Wait)
+pub answers-with-room : (v old : View) (t : Ticket) (share : ShareView) (room block : ℕ) (copy : CachedCopy) (wait : Awaited)
     (before : Perm) (answer : ProbeAnswer) → v ≡ record old { room = room } → first_of (answer_probe_cases old t share) ≡ None
     → FindsProbe old t.client block copy wait before answer → Answers v t share block copy wait before answer
 answers-with-room v old t share room block copy wait before answer made none finds =
@@ -137,7 +137,7 @@ pub record Probed (v : View) (t : Ticket) (block : ℕ) (cap : ProbeCap) : Type 
   pub rest : List ProbeCap
   pub list : (client_at v t.client block).b ≡ cap ∷ rest
 
-probed-is : (v : View) (h : Layers) (t : Ticket) (share : Holding) (block : ℕ) (copy : CachedCopy) (wait : Wait) (before : Perm)
+probed-is : (v : View) (h : Layers) (t : Ticket) (share : ShareView) (block : ℕ) (copy : CachedCopy) (wait : Awaited) (before : Perm)
     (answer : ProbeAnswer) → Means v h → (answers : Answers v t share block copy wait before answer)
     → Probed v t block answers.finds.cap
 probed-is v h t share block copy wait before answer m answers =
@@ -154,7 +154,7 @@ done v t block cap p = answered (client_at v t.client block) (cap ∷ p.rest)
 
 -- answering the Probe is a step of the client, which has that part of the block afterwards
 probe-step : (v : View) (h : Layers) (t : Ticket) (block : ℕ) (cap : ProbeCap) → Means v h
-    → (share : Holding) → ProbeAllowed v t share → (p : Probed v t block cap) → block ≡ block_named v t B
+    → (share : ShareView) → ProbeAllowed v t share → (p : Probed v t block cap) → block ≡ block_named v t B
     → ClientStep v (AnswerProbe t.client block) t.client (done v t block cap p)
 probe-step v h t block cap m share ok p is =
     let own : IsOwn v.geometry v.number block = subst (λ b. IsOwn v.geometry v.number b) (sym is) (head-own v h t B any_body m ok.head) in
@@ -172,12 +172,12 @@ probe-step v h t block cap m share ok p is =
     }
 
 -- the links have the ticket's message first, where no refusal's case holds
-pub probe-head : (v : View) (h : Layers) (t : Ticket) (share : Holding) → Means v h → first_of (answer_probe_cases v t share) ≡ None
+pub probe-head : (v : View) (h : Layers) (t : Ticket) (share : ShareView) → Means v h → first_of (answer_probe_cases v t share) ≡ None
     → IsHead h.links t
 probe-head v h t share m none = is-head v h t B any_body m (probe-allowed v t share none).head
 
 -- channel C has a place for the answer
-pub probe-room : (v : View) (h : Layers) (t : Ticket) (share : Holding) (between : LinkTable) → Means v h
+pub probe-room : (v : View) (h : Layers) (t : Ticket) (share : ShareView) (between : LinkTable) → Means v h
     → first_of (answer_probe_cases v t share) ≡ None → length v.log < 2 ^ 64 - 1 → SameLinks h.links between
     → ((x : ℕ) (l : Channel) → lane_in between x l
     ≡ (if is_here t.client t.channel x l then without_first (lane_in h.links x l) else lane_in h.links x l))
@@ -200,7 +200,7 @@ probe-room v h t share between m none small same took =
     }
 
 -- a copy that has an entry once it is reduced had one before
-fewer-entries : (copy : CachedCopy) (to : Perm) (wait : Wait) → has_entry_for (reduced copy to) wait ≡ true → has_entry_for copy wait ≡ true
+fewer-entries : (copy : CachedCopy) (to : Perm) (wait : Awaited) → has_entry_for (reduced copy to) wait ≡ true → has_entry_for copy wait ≡ true
 fewer-entries Absent p_None wait h = h
 fewer-entries Absent Branch wait h = h
 fewer-entries Absent Tip wait h = h
@@ -208,7 +208,7 @@ fewer-entries (Readable bytes) to wait h = refl
 fewer-entries (Writable bytes dirty) to wait h = refl
 
 -- so the client's table has a place for what the Probe leaves
-pub probe-place : (v : View) (h : Layers) (t : Ticket) (share : Holding) (block : ℕ) (copy : CachedCopy) (wait : Wait)
+pub probe-place : (v : View) (h : Layers) (t : Ticket) (share : ShareView) (block : ℕ) (copy : CachedCopy) (wait : Awaited)
     (before : Perm) (answer : ProbeAnswer) → Means v h
     → Answers v t share block copy wait before answer → HasPlace h.copies t.client block copy wait
 probe-place v h t share block copy wait before answer m answers =
@@ -218,11 +218,11 @@ probe-place v h t share block copy wait before answer m answers =
     let k : Client = client_at v t.client block in
     place-there v h t.client block copy wait m ok.head.client own.0
     (λ need. fewer-entries k.held (probe_perm answers.finds.cap) k.wait
-    (subst (λ (w : Wait). has_entry_for (reduced k.held (probe_perm answers.finds.cap)) w ≡ true) answers.finds.wait_is
+    (subst (λ (w : Awaited). has_entry_for (reduced k.held (probe_perm answers.finds.cap)) w ≡ true) answers.finds.wait_is
     (subst (λ (p : CachedCopy). has_entry_for p wait ≡ true) answers.finds.copy_is need)))
 
 -- what the event sends is the answer
-post-is : (v : View) (t : Ticket) (block : ℕ) (copy : CachedCopy) (wait : Wait) (before : Perm) (answer : ProbeAnswer)
+post-is : (v : View) (t : Ticket) (block : ℕ) (copy : CachedCopy) (wait : Awaited) (before : Perm) (answer : ProbeAnswer)
     → (finds : FindsProbe v t.client block copy wait before answer) → Probed v t block finds.cap
     → Some (record { client = t.client; channel = C; body = b_Upward (ProbeAck answer) })
     ≡ answer_post t.client (client_at v t.client block) (client_at v t.client block).b
@@ -231,7 +231,7 @@ post-is v t block copy wait before answer finds p =
     ∙ sym (ap (λ (bs : List ProbeCap). answer_post t.client (client_at v t.client block) bs) p.list)
 
 -- the bank is kept once the Probe is gone from B, its answer is on C, and the reduced copy is in the client's table
-pub probe-keeps : (v : View) (h : Layers) (t : Ticket) (share : Holding) (block : ℕ) (copy : CachedCopy) (wait : Wait)
+pub probe-keeps : (v : View) (h : Layers) (t : Ticket) (share : ShareView) (block : ℕ) (copy : CachedCopy) (wait : Awaited)
     (before : Perm) (answer : ProbeAnswer) (room : ℕ) (between links : LinkTable) (tables : Tables)
     → Means v h → Answers v t share block copy wait before answer → SameLinks h.links between
     → ((x : ℕ) (l : Channel) → lane_in between x l
@@ -272,7 +272,7 @@ probe-keeps v h t share block copy wait before answer room between links tables 
 -- ## The share
 
 -- the share can lose the client's copy of the block, where there is one, and can gain one
-pub probe-enough : (v : View) (h : Layers) (t : Ticket) (share : Holding) (block : ℕ) (copy : CachedCopy) (wait : Wait)
+pub probe-enough : (v : View) (h : Layers) (t : Ticket) (share : ShareView) (block : ℕ) (copy : CachedCopy) (wait : Awaited)
     (before : Perm) (answer : ProbeAnswer) → Means v h
     → Answers v t share block copy wait before answer → (is_none before ≡ false → 0 < share.count) × (share.count < 2 ^ 31)
 probe-enough v h t share block copy wait before answer m answers =
@@ -283,7 +283,7 @@ probe-enough v h t share block copy wait before answer m answers =
     (λ some. enough.0 (sym (ap is_none answers.finds.before_is) ∙ some), enough.1)
 
 -- the copy is what the client holds afterwards
-pub probe-later : (v : View) (h : Layers) (t : Ticket) (share : Holding) (block : ℕ) (copy : CachedCopy) (wait : Wait)
+pub probe-later : (v : View) (h : Layers) (t : Ticket) (share : ShareView) (block : ℕ) (copy : CachedCopy) (wait : Awaited)
     (before : Perm) (answer : ProbeAnswer) (room : ℕ) → Means v h
     → Answers v t share block copy wait before answer
     → perm_of copy ≡ perm_at (record v { log = v.log ++ AnswerProbe t.client block ∷ []; room = room }) t.client block
@@ -296,7 +296,7 @@ probe-later v h t share block copy wait before answer room m answers =
     (probe-step v h t block cap m share ok p (probe-named answers.finds)))
 
 -- and the share counts the client's copies afterwards
-pub probe-count : (v : View) (h : Layers) (t : Ticket) (share : Holding) (block : ℕ) (copy : CachedCopy) (wait : Wait)
+pub probe-count : (v : View) (h : Layers) (t : Ticket) (share : ShareView) (block : ℕ) (copy : CachedCopy) (wait : Awaited)
     (before : Perm) (answer : ProbeAnswer) (room : ℕ) → Means v h
     → Answers v t share block copy wait before answer
     → recount before (perm_of copy) share.count

@@ -8,7 +8,7 @@ use Rattle.tl_protocol.specs.Ledger.{has_copy, is_recorded, is_under_way, IsSile
 use Rattle.tl_protocol.proofs.Ledger.{every_ledger_adds_up}
 use Rattle.tl_registers.specs.declared.register.Register.{Register}
 use Rattle.tl_registers.specs.Registers.{is_busy}
-use Rattle.tl_bank_spec.specs.View.{View, shape_of, block_at, client_at}
+use Rattle.tl_bank_spec.specs.View.{View, shape_of, end_at, client_at}
 use Rattle.tl_bank_spec.specs.Views.{not_own, HasNoMessage, AwaitsNothing, IsQuiet, blocks_below, pairs_at}
 use Rattle.tl_bank_laws.specs.Layers.{Layers}
 use Rattle.tl_bank_laws.specs.Means.{Means}
@@ -31,7 +31,7 @@ map-empty f [] h = refl
 map-empty f (x ∷ rest) h = cc
 
 -- in a quiet bank nothing is on its way between home and the clients
-quiet-silent : (v : View) (h : Layers) → Means v h → IsQuiet v → (n : ℕ) → IsSilent (shape_of v.geometry) (block_at v) (blocks_below v n)
+quiet-silent : (v : View) (h : Layers) → Means v h → IsQuiet v → (n : ℕ) → IsSilent (shape_of v.geometry) (end_at v) (blocks_below v n)
 quiet-silent v h m quiet zero = tt
 quiet-silent v h m quiet (suc n) =
     let rest = quiet-silent v h m quiet n in
@@ -40,8 +40,8 @@ quiet-silent v h m quiet (suc n) =
       map-empty b_Upward (client_at v x n).c (m.lawful.ordered x n C ∙ ap (bodies_of n) (quiet.messages x lt C)),
       map-empty b_Downward (client_at v x n).d (m.lawful.ordered x n D ∙ ap (bodies_of n) (quiet.messages x lt D)),
     ) in
-    let split : (t : Bool) → IsSilent (shape_of v.geometry) (block_at v) (cond t (blocks_below v n) (n ∷ blocks_below v n)) =
-    λ t. elim t as (λ t. IsSilent (shape_of v.geometry) (block_at v) (cond t (blocks_below v n) (n ∷ blocks_below v n))) [
+    let split : (t : Bool) → IsSilent (shape_of v.geometry) (end_at v) (cond t (blocks_below v n) (n ∷ blocks_below v n)) =
+    λ t. elim t as (λ t. IsSilent (shape_of v.geometry) (end_at v) (cond t (blocks_below v n) (n ∷ blocks_below v n))) [
       | true ↦ rest
       | false ↦ (here, rest)
     ] in

@@ -8,8 +8,8 @@ use Rattle.tl_types.specs.declared.message.Body.TheVariants.{AcquireBlock, Probe
 use Rattle.tl_types.specs.declared.message.Downward.{Downward}
 use Rattle.tl_types.specs.declared.message.Downward.TheVariants.{Grant, ReleaseAck}
 use Rattle.tl_types.specs.declared.ticket.Ticket.{Ticket}
-use Rattle.tl_types.specs.declared.wait.Wait.{Wait}
-use Rattle.tl_types.specs.declared.wait.Wait.TheVariants.{Nothing}
+use Rattle.tl_types.specs.declared.wait.Awaited.{Awaited}
+use Rattle.tl_types.specs.declared.wait.Awaited.TheVariants.{Nothing}
 use Rattle.tl_protocol.specs.Client.{MayTakeReleaseAck, took_release_ack}
 use Rattle.tl_protocol.specs.declared.client.Client.{Client}
 use Rattle.tl_protocol.specs.declared.copy.CachedCopy.{CachedCopy}
@@ -63,7 +63,7 @@ ack-may v h t m ok =
     ∙ ap (λ (b : Body). b ∷ bodies_of ok.first.0.block ok.first.1) (ack-body ok.first.0.body ok.first.3))
 
 -- a copy that has an entry while its client waits for nothing has one whatever it waits for
-fewer-entries : (copy : CachedCopy) (wait : Wait) → has_entry_for copy Nothing ≡ true → has_entry_for copy wait ≡ true
+fewer-entries : (copy : CachedCopy) (wait : Awaited) → has_entry_for copy Nothing ≡ true → has_entry_for copy wait ≡ true
 fewer-entries Absent wait h = cc
 fewer-entries (Readable bytes) wait h = refl
 fewer-entries (Writable bytes dirty) wait h = refl

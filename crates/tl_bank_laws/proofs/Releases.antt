@@ -12,7 +12,7 @@ use Rattle.tl_types.specs.declared.permission.Perm.{Perm}
 use Rattle.tl_types.specs.declared.permission.Perm.TheVariants.{None as p_None}
 use Rattle.tl_types.specs.declared.permission.Prune.{Prune}
 use Rattle.tl_types.specs.declared.permission.Prune.TheVariants.{TtoB, TtoN, BtoN}
-use Rattle.tl_types.specs.declared.wait.Wait.TheVariants.{ForReleaseAck}
+use Rattle.tl_types.specs.declared.wait.Awaited.TheVariants.{ForReleaseAck}
 use Rattle.tl_map.specs.Limits.{IsLawful}
 use Rattle.tl_protocol.specs.Client.{released}
 use Rattle.tl_protocol.specs.Copy.{perm_of, dirty_bytes, reduced}
@@ -24,7 +24,7 @@ use Rattle.tl_links.specs.Table.{LinkTable, lane_in, SameSize as SameLinks}
 use Rattle.tl_copies.specs.Copies.{Tables, held_at, is_cell, SameSize as SameCopies}
 use Rattle.tl_bank_spec.specs.Calls.{release_cases}
 use Rattle.tl_bank_spec.specs.Refusal.{first_of}
-use Rattle.tl_bank_spec.specs.Share.{Holding, recount}
+use Rattle.tl_bank_spec.specs.Share.{ShareView, recount}
 use Rattle.tl_bank_spec.specs.View.{View, client_at, perm_at}
 use Rattle.tl_bank_spec.specs.Tables.{copies_at}
 use Rattle.tl_bank_laws.specs.Entry.{HasPlace, entry_with}
@@ -43,7 +43,7 @@ some-from TtoN = λ e. cc
 some-from BtoN = λ e. cc
 
 -- where no refusal's case holds, the Release is a step of its client, which has given up and waits afterwards
-release-step : (v : View) (c b : ℕ) (prune : Prune) (share : Holding) → first_of (release_cases v c b prune share) ≡ None
+release-step : (v : View) (c b : ℕ) (prune : Prune) (share : ShareView) → first_of (release_cases v c b prune share) ≡ None
     → ClientStep v (SendRelease c b prune) c (released (client_at v c b) prune)
 release-step v c b prune share none =
     let ok : ReleaseAllowed v c b prune share = release-allowed v c b prune share none in
@@ -59,7 +59,7 @@ release-step v c b prune share none =
     }
 
 -- the client's table has a place for what is left of the copy, as it has an entry for the block
-pub release-place : (v : View) (h : Layers) (c b : ℕ) (prune : Prune) (share : Holding) (copy : CachedCopy) → Means v h
+pub release-place : (v : View) (h : Layers) (c b : ℕ) (prune : Prune) (share : ShareView) (copy : CachedCopy) → Means v h
     → first_of (release_cases v c b prune share) ≡ None → HasPlace h.copies c b copy ForReleaseAck
 release-place v h c b prune share copy m none =
     let ok : ReleaseAllowed v c b prune share = release-allowed v c b prune share none in
@@ -67,13 +67,13 @@ release-place v h c b prune share copy m none =
     (λ need. entry-there (client_at v c b).held (client_at v c b).wait (λ e. some-from prune (sym ok.from ∙ e)))
 
 -- what a Release shows of the bank before it
-pub record GivesUp (v : View) (c b : ℕ) (prune : Prune) (share : Holding) (copy : CachedCopy) (given : Surrender) : Type 0 where
+pub record GivesUp (v : View) (c b : ℕ) (prune : Prune) (share : ShareView) (copy : CachedCopy) (given : Surrender) : Type 0 where
   pub allowed : first_of (release_cases v c b prune share) ≡ None
   pub copy_is : copy ≡ reduced (client_at v c b).held (prune_to prune)
   pub given_is : given ≡ surrender prune (dirty_bytes (client_at v c b).held)
 
 -- the bank is kept once the Release is on C, and the reduced copy is in the client's table, waiting for the ReleaseAck
-pub release-keeps : (v : View) (h : Layers) (c b : ℕ) (prune : Prune) (share : Holding) (copy : CachedCopy) (given : Surrender)
+pub release-keeps : (v : View) (h : Layers) (c b : ℕ) (prune : Prune) (share : ShareView) (copy : CachedCopy) (given : Surrender)
     (room : ℕ) (links : LinkTable) (tables : Tables)
     → Means v h → GivesUp v c b prune share copy given → SameLinks h.links links
     → ((x : ℕ) (l : Channel) → lane_in links x l
@@ -102,7 +102,7 @@ release-keeps v h c b prune share copy given room links tables m gives same_link
 -- ## The share
 
 -- a share that a Release takes counts the copy
-pub release-counted : (v : View) (c b : ℕ) (prune : Prune) (share : Holding) → IsLawful v.geometry
+pub release-counted : (v : View) (c b : ℕ) (prune : Prune) (share : ShareView) → IsLawful v.geometry
     → first_of (release_cases v c b prune share) ≡ None
     → (is_none (perm_at v c b) ≡ false → 0 < share.count) × (share.count < 2 ^ 31)
 release-counted v c b prune share lawful none =
@@ -110,7 +110,7 @@ release-counted v c b prune share lawful none =
     (λ some. rw ok.count (counts-one v c b ok.block some), rw ok.count (copies-few v c lawful))
 
 -- the copy is what the client holds afterwards
-pub release-later : (v : View) (c b : ℕ) (prune : Prune) (share : Holding) (copy : CachedCopy) (given : Surrender) (room : ℕ)
+pub release-later : (v : View) (c b : ℕ) (prune : Prune) (share : ShareView) (copy : CachedCopy) (given : Surrender) (room : ℕ)
     → GivesUp v c b prune share copy given
     → perm_of copy ≡ perm_at (record v { log = v.log ++ SendRelease c b prune ∷ []; room = room }) c b
 release-later v c b prune share copy given room gives =
@@ -118,7 +118,7 @@ release-later v c b prune share copy given room gives =
     ∙ sym (step-perm v (SendRelease c b prune) c (released (client_at v c b) prune) room (release-step v c b prune share gives.allowed))
 
 -- and the share counts the client's copies afterwards
-pub release-count : (v : View) (c b : ℕ) (prune : Prune) (share : Holding) (copy : CachedCopy) (given : Surrender) (room : ℕ) (before : Perm)
+pub release-count : (v : View) (c b : ℕ) (prune : Prune) (share : ShareView) (copy : CachedCopy) (given : Surrender) (room : ℕ) (before : Perm)
     → GivesUp v c b prune share copy given → before ≡ perm_at v c b
     → recount before (perm_of copy) share.count ≡ copies_at (record v { log = v.log ++ SendRelease c b prune ∷ []; room = room }) c
 release-count v c b prune share copy given room before gives is =

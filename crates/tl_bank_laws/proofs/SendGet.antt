@@ -13,7 +13,7 @@ use Rattle.tl_registers.specs.Registers.{register_of}
 use Rattle.tl_registers.specs.declared.register.Task.{Task}
 use Rattle.tl_registers.specs.declared.due.Due.TheVariants.{Get}
 use Rattle.tl_registers.proofs.Probing.{fetching-keeps-agreement}
-use Rattle.tl_bank_spec.specs.View.{View, block_at, shape_of}
+use Rattle.tl_bank_spec.specs.View.{View, end_at, shape_of}
 use Rattle.tl_bank_laws.specs.Layers.{Layers}
 use Rattle.tl_bank_laws.specs.Means.{IsHomeOf, Means}
 use Rattle.tl_bank_laws.proofs.Crossed.{crossings-few}
@@ -35,15 +35,15 @@ pub get-keeps : (v : View) (h : Layers) (own room : ℕ) (ways : List (Option �
 get-keeps v h own room ways home m acts bank same outward memory shown =
     let shape = shape_of v.geometry in
     let e = SendGet own in
-    let s : Block = block_at v own in
+    let s : Block = end_at v own in
     let steady = bank-steady v h m in
     let is : IsHomeOf h.home own s = m.home own acts.is_own in
     let found : register_of acts.register.own v.registers ≡ Some acts.register =
     subst (λ (n : ℕ). register_of n v.registers ≡ Some acts.register) (sym acts.here) acts.found in
     let agree : Agree shape (block_next v e) v.registers =
     subst (λ (n : ℕ). Agree shape (block_next v (SendGet n)) v.registers) acts.here
-    (fetching-keeps-agreement shape (block_at v) v.registers acts.register acts.of.0 m.registers.agree found acts.of.1
-    (subst (λ (n : ℕ). MayNext shape (block_at v) (SendGet n)) (sym acts.here) acts.may)) in
+    (fetching-keeps-agreement shape (end_at v) v.registers acts.register acts.of.0 m.registers.agree found acts.of.1
+    (subst (λ (n : ℕ). MayNext shape (end_at v) (SendGet n)) (sym acts.here) acts.may)) in
     let there : outward_in home own ≡ o_Get = outward own ∙ (let t = eq-eqb own own refl in rw t refl) in
     means-next v h (record h { home = home }) e room v.registers ways m
     (record { may = acts.may; first = tt; here = acts.bank; later = tt })
@@ -78,7 +78,7 @@ pub get-few : (v : View) (h : Layers) (own count : ℕ) → Means v h → Acts v
     → ((n : ℕ) (holder : ℕ → ℕ) → EachHasHolder h.home n holder → count ≤ n) → count < 8
 get-few v h own count m acts most =
     crossings-few v h own acts.register count m acts.found acts.here acts.fits
-    (λ none. ap (λ (n : ℕ). (block_at v n).outward) acts.here ∙ acts.may.1.2)
+    (λ none. ap (λ (n : ℕ). (end_at v n).outward) acts.here ∙ acts.may.1.2)
     (λ x victim.
     let none : victim_of acts.register ≡ None = ap (λ (t : Task). victim_in acts.register.own t) acts.of.1 in
     let bad : None ≡ Some x = sym none ∙ victim in cc)

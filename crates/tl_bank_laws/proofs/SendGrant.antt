@@ -37,7 +37,7 @@ use Rattle.tl_registers.specs.declared.register.Register.{Register}
 use Rattle.tl_registers.proofs.Closing.{granting-keeps-agreement}
 use Rattle.tl_registers.proofs.Order.{grant-keeps-order, other-events-keep-order}
 use Rattle.tl_registers.proofs.Tables.{each-follows}
-use Rattle.tl_bank_spec.specs.View.{View, block_at, client_at, shape_of}
+use Rattle.tl_bank_spec.specs.View.{View, end_at, client_at, shape_of}
 use Rattle.tl_bank_spec.specs.Own.{IsOwn, way_at}
 use Rattle.tl_bank_spec.specs.Ways.{slot_at, slots_at}
 use Rattle.tl_bank_laws.specs.Entry.{entry_of}
@@ -54,9 +54,9 @@ use Rattle.tl_bank_laws.proofs.Ways.{SameLies, bank-steady, each-holds-stay, sam
 
 -- what a Grant shows of the bank before it
 pub record Gives (v : View) (own c : ℕ) (acquire : Accepted) (cap : GrantCap) (bytes : Option (List ℕ)) : Type 0 where
-  pub accepted : (block_at v own).accepted ≡ Some acquire
-  pub cap_is : cap ≡ granted (shape_of v.geometry) (block_at v own) acquire
-  pub bytes_is : bytes ≡ grant_bytes (client_at v c own).recorded (home_bytes (block_at v own).home)
+  pub accepted : (end_at v own).accepted ≡ Some acquire
+  pub cap_is : cap ≡ granted (shape_of v.geometry) (end_at v own) acquire
+  pub bytes_is : bytes ≡ grant_bytes (client_at v c own).recorded (home_bytes (end_at v own).home)
 
 -- what became of home
 pub record Granted (old new : HomeState) (own c : ℕ) (cap : GrantCap) : Type 0 where
@@ -79,10 +79,10 @@ one-acquire x y h = cc
 
 -- the Grant leaves the others what it has room for
 room-for : (v : View) (own c : ℕ) (acquire : Accepted) (cap : GrantCap) (bytes : Option (List ℕ)) → Acts v own (Grant c)
-    → Gives v own c acquire cap bytes → RoomFor (shape_of v.geometry) (block_at v own) c cap
+    → Gives v own c acquire cap bytes → RoomFor (shape_of v.geometry) (end_at v own) c cap
 room-for v own c acquire cap bytes acts gives =
     let shape = shape_of v.geometry in
-    let s : Block = block_at v own in
+    let s : Block = end_at v own in
     let asked : Accepted = record { client = c; grow = acts.may.1.1.0.0 } in
     let same : asked ≡ acquire = one-acquire asked acquire (sym acts.may.1.1.0.1 ∙ gives.accepted) in
     let cap_is : granted shape s asked ≡ cap = ap (granted shape s) same ∙ sym gives.cap_is in
@@ -114,14 +114,14 @@ pub grant-tip : (v : View) (h : Layers) (own c : ℕ) (acquire : Accepted) (cap 
     → Acts v own (Grant c) → Gives v own c acquire cap bytes → grant_perm cap ≡ Tip → (x : ℕ) → x ≢ c → recorded_in h.home x own ≡ p_None
 grant-tip v h own c acquire cap bytes m acts gives is x ne =
     (m.home own acts.is_own).recorded x
-    ∙ tip-room (shape_of v.geometry) (block_at v own) c cap ((bank-steady v h m).service own)
+    ∙ tip-room (shape_of v.geometry) (end_at v own) c cap ((bank-steady v h m).service own)
     (room-for v own c acquire cap bytes acts gives) is x ne
 
 -- and beside Branch nobody for Tip
 pub grant-branch : (v : View) (h : Layers) (own c : ℕ) (acquire : Accepted) (cap : GrantCap) (bytes : Option (List ℕ)) → Means v h
     → Acts v own (Grant c) → Gives v own c acquire cap bytes → grant_perm cap ≡ Branch → (x : ℕ) → recorded_in h.home x own ≢ Tip
 grant-branch v h own c acquire cap bytes m acts gives is x = λ tip.
-    branch-room (shape_of v.geometry) (block_at v own) c cap ((bank-steady v h m).service own)
+    branch-room (shape_of v.geometry) (end_at v own) c cap ((bank-steady v h m).service own)
     (room-for v own c acquire cap bytes acts gives) is x (sym ((m.home own acts.is_own).recorded x) ∙ tip)
 
 -- home holds the block
@@ -134,9 +134,9 @@ grant-held v h own c m acts =
 -- the event leaves the block as it was, but for the client to which this Grant is sent
 left-is : (v : View) (own c : ℕ) (acquire : Accepted) (cap : GrantCap) (bytes : Option (List ℕ)) → Gives v own c acquire cap bytes
     → left v (SendGrant c own)
-    ≡ with_client (block_at v own) c (sent_grant (client_at v c own) cap (home_bytes (block_at v own).home))
+    ≡ with_client (end_at v own) c (sent_grant (client_at v c own) cap (home_bytes (end_at v own).home))
 left-is v own c acquire cap bytes gives =
-    let s : Block = block_at v own in
+    let s : Block = end_at v own in
     ap (λ (o : Option Accepted). grants (shape_of v.geometry) s c o) gives.accepted
     ∙ ap (λ (k : GrantCap). with_client s c (sent_grant (s.client c) k (home_bytes s.home))) (sym gives.cap_is)
 
@@ -146,17 +146,17 @@ post-with c cap bytes = Some (record { client = c; channel = D; body = b_Downwar
 
 -- what the event sends is that Grant
 post-is : (v : View) (own c : ℕ) (acquire : Accepted) (cap : GrantCap) (bytes : Option (List ℕ)) → Gives v own c acquire cap bytes
-    → grant_post (shape_of v.geometry) (block_at v own) c (block_at v own).accepted ≡ post-with c cap bytes
+    → grant_post (shape_of v.geometry) (end_at v own) c (end_at v own).accepted ≡ post-with c cap bytes
 post-is v own c acquire cap bytes gives =
-    let s : Block = block_at v own in
+    let s : Block = end_at v own in
     ap (λ (o : Option Accepted). grant_post (shape_of v.geometry) s c o) gives.accepted
     ∙ ap (λ (k : GrantCap). post-with c k (grant_bytes (s.client c).recorded (home_bytes s.home))) (sym gives.cap_is)
     ∙ ap (λ (x : Option (List ℕ)). post-with c cap x) (sym gives.bytes_is)
 
 -- what is recorded of the block then
 recorded-then : (v : View) (h : Layers) (own c : ℕ) (cap : GrantCap) (bytes : List ℕ) (home : HomeState)
-    → Granted h.home home own c cap → IsHomeOf h.home own (block_at v own) → (x : ℕ)
-    → recorded_in home x own ≡ ((with_client (block_at v own) c (sent_grant (client_at v c own) cap bytes)).client x).recorded
+    → Granted h.home home own c cap → IsHomeOf h.home own (end_at v own) → (x : ℕ)
+    → recorded_in home x own ≡ ((with_client (end_at v own) c (sent_grant (client_at v c own) cap bytes)).client x).recorded
 recorded-then v h own c cap bytes home gave is x =
     let here : (own == own) ≡ true = eq-eqb own own refl in
     elim (cases_Bool (x == c)) [
@@ -168,11 +168,11 @@ recorded-then v h own c cap bytes home gave is x =
 
 -- of each other block a Grant is pending just where one was
 pending-other : (v : View) (c own room : ℕ) (ways : List (Option ℕ)) (b : ℕ) → b ≢ own
-    → grant_pending (shape_of v.geometry) (block_at (next_view v (SendGrant c own) room v.registers ways) b)
-    ≡ grant_pending (shape_of v.geometry) (block_at v b)
+    → grant_pending (shape_of v.geometry) (end_at (next_view v (SendGrant c own) room v.registers ways) b)
+    ≡ grant_pending (shape_of v.geometry) (end_at v b)
 pending-other v c own room ways b ne =
     let t : (b == own) ≡ false = ne_eqb b own ne in
-    let same : block_next v (SendGrant c own) b ≡ block_at v b = rw t refl in
+    let same : block_next v (SendGrant c own) b ≡ end_at v b = rw t refl in
     ap (λ (s : ℕ → Block). grant_pending (shape_of v.geometry) (s b)) (blocks-next v (SendGrant c own) room v.registers ways)
     ∙ ap (λ (s : Block). grant_pending (shape_of v.geometry) s) same
 
@@ -189,9 +189,9 @@ fills-on v c own room ways set way (r ∷ rest) other h =
           let k = and_parts ((r.way.set == set) && (r.way.way == way)) _ e in
           let at = and_parts (r.way.set == set) (r.way.way == way) k.0 in
           let ne : r.own ≢ own = λ same. other.0 same (eqb-true r.way.set set at.0) (eqb-true r.way.way way at.1) in
-          let none : grant_pending (shape_of v.geometry) (block_at v r.own) ≡ false =
-          not-true (grant_pending (shape_of v.geometry) (block_at v r.own)) k.1 in
-          let still : grant_pending (shape_of t.geometry) (block_at t r.own) ≡ false =
+          let none : grant_pending (shape_of v.geometry) (end_at v r.own) ≡ false =
+          not-true (grant_pending (shape_of v.geometry) (end_at v r.own)) k.1 in
+          let still : grant_pending (shape_of t.geometry) (end_at t r.own) ≡ false =
           pending-other v c own room ways r.own ne ∙ none in
           let now : is_filling_by t set way r ≡ true = rw (k.0, still) refl in
           rw now refl
@@ -312,7 +312,7 @@ grant-fits v h own c room w ways cap home m gave is_own at shown =
           fit.once a b x own_a own_b set_ab (sym (same a own_a.0) ∙ lies_a) (sym (same b own_b.0) ∙ lies_b);
       holds = λ b own_b.
           ap (λ (s : ℕ → Block). is_none (s b).home) (blocks-next v e room v.registers ways)
-          ∙ home-holds-on (shape_of v.geometry) (block_at v) e b (bank-steady v h m) tt
+          ∙ home-holds-on (shape_of v.geometry) (end_at v) e b (bank-steady v h m) tt
           ∙ fit.holds b own_b ∙ ap (λ (o : Option ℕ). is_none o) (sym (same b own_b.0));
       free = λ set way l k.
           gave.free set way ∙ fit.free set way l k
@@ -340,7 +340,7 @@ pub grant-keeps : (v : View) (h : Layers) (own c : ℕ) (acquire : Accepted) (ca
 grant-keeps v h own c acquire cap bytes room ways links home m acts gives same_links sends gave shown =
     let shape = shape_of v.geometry in
     let e = SendGrant c own in
-    let s : Block = block_at v own in
+    let s : Block = end_at v own in
     let k : Client = sent_grant (s.client c) cap (home_bytes s.home) in
     let is : IsHomeOf h.home own s = m.home own acts.is_own in
     let leaves : left v e ≡ with_client s c k = left-is v own c acquire cap bytes gives in
@@ -379,7 +379,7 @@ grant-keeps v h own c acquire cap bytes room ways links home m acts gives same_l
       clock = refl;
     })
     (registers-next v e room v.registers ways
-    (granting-keeps-agreement shape (block_at v) v.registers c own m.registers.agree acts.may) m.registers.few)
+    (granting-keeps-agreement shape (end_at v) v.registers c own m.registers.agree acts.may) m.registers.few)
     (grant-fits v h own c room at.0 ways cap home m gave acts.is_own at.1 shown)
 
 -- home does not lack a block of which it has a copy
@@ -387,5 +387,5 @@ some-line : (o : Option Line) (line : Line) → o ≡ Some line → o ≢ None
 some-line o line h = λ none. let bad : None ≡ Some line = sym none ∙ h in cc
 
 -- home has a copy of the block that is to be granted
-pub home-has : (v : View) (own c : ℕ) → Acts v own (Grant c) → (block_at v own).home ≢ None
-home-has v own c acts = some-line (block_at v own).home acts.may.1.1.1.0 acts.may.1.1.1.1
+pub home-has : (v : View) (own c : ℕ) → Acts v own (Grant c) → (end_at v own).home ≢ None
+home-has v own c acts = some-line (end_at v own).home acts.may.1.1.1.0 acts.may.1.1.1.1

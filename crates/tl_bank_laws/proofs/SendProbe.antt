@@ -18,7 +18,7 @@ use Rattle.tl_registers.specs.Registers.{noted, register_of, with_probe_of}
 use Rattle.tl_registers.specs.declared.due.Due.TheVariants.{Probe}
 use Rattle.tl_registers.proofs.Probing.{probing-keeps-agreement}
 use Rattle.tl_bank_spec.specs.Cases.{link_full}
-use Rattle.tl_bank_spec.specs.View.{View, block_at, shape_of}
+use Rattle.tl_bank_spec.specs.View.{View, end_at, shape_of}
 use Rattle.tl_bank_spec.specs.Channels.{lane_at}
 use Rattle.tl_bank_laws.specs.Entry.{entry_of}
 use Rattle.tl_bank_laws.specs.Layers.{Layers}
@@ -64,7 +64,7 @@ pub probe-keeps : (v : View) (h : Layers) (own c block : ℕ) (cap : ProbeCap) (
 probe-keeps v h own c block cap room links m acts same sends =
     let shape = shape_of v.geometry in
     let e = SendProbe c block cap in
-    let s : Block = block_at v block in
+    let s : Block = end_at v block in
     let k : Client = sent_probe (s.client c) cap in
     let steady = bank-steady v h m in
     let is : IsHomeOf h.home block s = m.home block (acts.may.0, acts.bank) in
@@ -72,7 +72,7 @@ probe-keeps v h own c block cap room links m acts same sends =
     subst (λ (n : ℕ). register_of n v.registers ≡ Some acts.register) (sym acts.here) acts.found in
     let agree : Agree shape (block_next v e) (noted own c v.registers) =
     subst (λ (n : ℕ). Agree shape (block_next v e) (noted n c v.registers)) acts.here
-    (probing-keeps-agreement shape (block_at v) v.registers acts.register c block cap steady m.registers.agree found acts.of acts.may) in
+    (probing-keeps-agreement shape (end_at v) v.registers acts.register c block cap steady m.registers.agree found acts.of acts.may) in
     let long : length (noted own c v.registers) ≡ length v.registers = length-map v.registers (with_probe_of own c) in
     let few : length (noted own c v.registers) ≤ v.geometry.registers = rw long m.registers.few in
     means-next v h (record h { links = links }) e room (noted own c v.registers) v.ways m

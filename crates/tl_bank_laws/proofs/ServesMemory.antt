@@ -1,5 +1,5 @@
 -- The memory answers home's request.
-use Rattle.std.proofs.Common.{◌≡◌, ◌≢◌, ℕ, ◌==◌, true, List, Option, None, if◌then◌else◌, refl, sym, ◌∙◌, ap, subst, inl, inr}
+use Rattle.std.proofs.Common.{◌≡◌, ◌≢◌, ℕ, ◌^◌, ◌==◌, true, List, Option, None, if◌then◌else◌, refl, sym, ◌∙◌, ap, subst, inl, inr}
 use Rattle.std.proofs.lemmas.Bool.{not-false}
 use Rattle.tl_protocol.specs.Home.{IsRequest}
 use Rattle.tl_protocol.specs.Protocol.{Block, served}
@@ -8,16 +8,16 @@ use Rattle.tl_protocol.specs.declared.event.Event.TheVariants.{Serve}
 use Rattle.tl_protocol.specs.declared.home.Outward.{Outward}
 use Rattle.tl_protocol.specs.declared.home.Outward.TheVariants.{Quiet, Get, Data, Put, PutAck}
 use Rattle.tl_protocol.proofs.Coherent.{every_run_keeps_sizes}
-use Rattle.tl_bank_home.specs.Homes.{HomeState, SameBank, SameHome, memory_in, outward_in, served_memory, served_outward, way_in}
-use Rattle.tl_bank_spec.specs.Effects.{MemoryReplies}
+use Rattle.tl_bank_home.specs.Homes.{HomeState, SameBank, SameHome, memory_in, outward_in, reply_to, served_memory, served_outward, way_in}
+use Rattle.tl_memory.specs.declared.request.Reply.{Reply}
+use Rattle.tl_bank_spec.specs.Effects.{AnswersRequest, MemoryReplies}
 use Rattle.tl_bank_spec.specs.HomeCalls.{serve_memory_cases}
 use Rattle.tl_bank_spec.specs.HomeCases.{is_request}
 use Rattle.tl_bank_spec.specs.Refusal.{first_of}
-use Rattle.tl_bank_spec.specs.View.{View, block_at, shape_of}
+use Rattle.tl_bank_spec.specs.View.{View, end_at, shape_of}
 use Rattle.tl_bank_spec.specs.Own.{IsOwn, ways_below}
 use Rattle.tl_bank_laws.specs.Layers.{Layers}
 use Rattle.tl_bank_laws.specs.Means.{IsHomeOf, Means}
-use Rattle.tl_bank_laws.specs.Memory.{memory_reply}
 use Rattle.tl_bank_laws.proofs.Allowed.{AllFalse, all-false, block-is, here-is}
 use Rattle.tl_bank_laws.proofs.HomeSteps.{SameAt, homes-event, homes-layers}
 use Rattle.tl_bank_laws.proofs.Moves.{at-block, at-other}
@@ -38,7 +38,7 @@ request-is PutAck h = cc
 -- a block of the bank, of which the memory has a request
 pub record ServeAllowed (v : View) (block : ℕ) : Type 0 where
   pub own : IsOwn v.geometry v.number block
-  pub request : IsRequest (block_at v block).outward
+  pub request : IsRequest (end_at v block).outward
 
 -- so it is where no refusal's case holds
 pub serve-allowed : (v : View) (block : ℕ) → first_of (serve_memory_cases v block) ≡ None → ServeAllowed v block
@@ -46,12 +46,12 @@ serve-allowed v block none =
     let f : AllFalse (serve_memory_cases v block) = all-false (serve_memory_cases v block) none in
     record {
       own = (block-is v block f.0, here-is v block f.1.0);
-      request = request-is (block_at v block).outward (not-false (is_request (block_at v block).outward) f.1.1.0);
+      request = request-is (end_at v block).outward (not-false (is_request (end_at v block).outward) f.1.1.0);
     }
 
 -- what passes of a block of the bank
 pub outward-is : (v : View) (h : Layers) (block : ℕ) → Means v h → IsOwn v.geometry v.number block
-    → outward_in h.home block ≡ (block_at v block).outward
+    → outward_in h.home block ≡ (end_at v block).outward
 outward-is v h block m own = (m.home block own).outward
 
 -- what passes is a whole block
@@ -145,7 +145,7 @@ serve-keeps v h home block room m none did =
     (homes-event v e tt (ok.own.0, ok.request) ok.own.1)
     (homes-layers v h home e m tt ok.own (record {
       bank = did.bank;
-      at = serve-home h.home home block (block_at v block) did (m.home block ok.own);
+      at = serve-home h.home home block (end_at v block) did (m.home block ok.own);
       others = serve-others h.home home block did;
     }))
     (fit-stays v e room ways steady tt m.registers)
@@ -154,23 +154,27 @@ serve-keeps v h home block room m none did =
 
 -- ## The reply
 
--- what passes once a request was answered says the memory's reply
-reply-of : (s : Block) → IsRequest s.outward → MemoryReplies s (memory_reply (served_outward s.memory s.outward))
-reply-of s h =
+-- the memory's reply to what passes is the one that the rules say
+reply-of : (s : Block) (size : ℕ) → IsRequest s.outward → AnswersRequest s size (reply_to size s.memory s.outward)
+reply-of s size h =
     elim h [
-      | inl get ↦ inl (get, ap (λ out. memory_reply (served_outward s.memory out)) get)
-      | inr put ↦ inr (put.0, put.1, ap (λ out. memory_reply (served_outward s.memory out)) put.1)
+      | inl get ↦ inl (get, ap (λ out. reply_to size s.memory out) get)
+      | inr put ↦ inr (put.0, put.1, ap (λ out. reply_to size s.memory out) put.1)
     ]
 
 -- What the memory answered is what it answers to the request.
-pub serve-reply : (v : View) (h : Layers) (home : HomeState) (block : ℕ) → Means v h → first_of (serve_memory_cases v block) ≡ None
-    → Served h.home home block → MemoryReplies (block_at v block) (memory_reply (outward_in home block))
-serve-reply v h home block m none did =
+pub serve-reply : (v : View) (h : Layers) (block size : ℕ) (reply : Reply) → Means v h → first_of (serve_memory_cases v block) ≡ None
+    → 2 ^ size ≡ v.geometry.block_bytes → reply ≡ reply_to size (memory_in h.home block) (outward_in h.home block)
+    → MemoryReplies v block reply
+serve-reply v h block size reply m none is_size is =
     let ok = serve-allowed v block none in
     let part = m.home block ok.own in
-    let s : Block = block_at v block in
-    let passes : outward_in home block ≡ served_outward s.memory s.outward =
-    did.outward block ∙ at-block block (served_outward (memory_in h.home block) (outward_in h.home block)) (outward_in h.home block)
-    ∙ ap (λ out. served_outward (memory_in h.home block) out) part.outward
-    ∙ ap (λ bytes. served_outward bytes s.outward) part.memory in
-    subst (λ (out : Outward). MemoryReplies s (memory_reply out)) (sym passes) (reply-of s ok.request)
+    let s : Block = end_at v block in
+    let same : reply ≡ reply_to size s.memory s.outward =
+    is ∙ ap (λ out. reply_to size (memory_in h.home block) out) part.outward
+    ∙ ap (λ bytes. reply_to size bytes s.outward) part.memory in
+    record {
+      size = size;
+      is_size = is_size;
+      answers = subst (λ (r : Reply). AnswersRequest s size r) (sym same) (reply-of s size ok.request);
+    }

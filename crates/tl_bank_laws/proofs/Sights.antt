@@ -30,16 +30,16 @@ use Rattle.tl_links.specs.Table.{lane_in, some_has}
 use Rattle.tl_links.specs.Wanted.{is_wanted}
 use Rattle.tl_links.specs.declared.wanted.Wanted.{Wanted}
 use Rattle.tl_links.specs.declared.wanted.Wanted.TheVariants.{Any, ProbeAck, Grant}
-use Rattle.tl_ways.specs.Lines.{Line as Entry}
+use Rattle.tl_ways.specs.Entries.{Entry}
 use Rattle.tl_bank_home.specs.Directories.{line_of, perm_in, recorded_of, way_of}
 use Rattle.tl_bank_home.specs.Homes.{HomeState, bank_in, geometry_in, line_in, outward_in, recorded_in}
 use Rattle.tl_registers.specs.Fit.{Fits}
-use Rattle.tl_registers.specs.Pending.{any_below, grant_pending, has_first, is_granted, is_probed, is_quiet, probe_pending}
+use Rattle.tl_registers.specs.Pending.{any_below, grant_pending, has_first, has_grant_pending, is_probed, is_quiet, probe_pending}
 use Rattle.tl_registers.specs.Records.{Records}
 use Rattle.tl_registers.specs.Register.{IsKnown}
 use Rattle.tl_registers.specs.Registers.{register_of}
 use Rattle.tl_registers.specs.declared.register.Register.{Register}
-use Rattle.tl_bank_spec.specs.View.{View, block_at, client_at, shape_of}
+use Rattle.tl_bank_spec.specs.View.{View, end_at, client_at, shape_of}
 use Rattle.tl_bank_spec.specs.Own.{IsOwn}
 use Rattle.tl_bank_laws.specs.Layers.{Layers}
 use Rattle.tl_bank_laws.specs.Means.{Means}
@@ -60,7 +60,7 @@ end-other shape P s (e ∷ es) b apart all =
 
 -- another bank's block is as at reset
 pub other-reset : (v : View) (h : Layers) (b : ℕ) → Means v h → (IsOwn v.geometry v.number b → ⊥)
-    → block_at v b ≡ at_reset (shape_of v.geometry) v.image b
+    → end_at v b ≡ at_reset (shape_of v.geometry) v.image b
 other-reset v h b m apart =
     end-other (shape_of v.geometry) (IsOwn v.geometry v.number) (at_reset (shape_of v.geometry) v.image) v.log b apart m.own
 
@@ -83,7 +83,7 @@ elsewhere v h b m l apart =
 -- ## Home
 
 -- home's copy of each block of the memory
-pub line-read : (v : View) (h : Layers) (b : ℕ) → Means v h → b < v.geometry.memory_blocks → line_in h.home b ≡ (block_at v b).home
+pub line-read : (v : View) (h : Layers) (b : ℕ) → Means v h → b < v.geometry.memory_blocks → line_in h.home b ≡ (end_at v b).home
 line-read v h b m l =
     elim (own-or-not v b) [
       | inl own ↦ (m.home b own).line
@@ -105,7 +105,7 @@ recorded-read v h c b m l =
 -- an entry of the directory that says what home has and records of a block says what the state has
 pub entry-read : (v : View) (h : Layers) (b : ℕ) → Means v h → b < v.geometry.memory_blocks → (found : Option Entry)
     → MatchOption found (line_in h.home b ≡ None) (λ entry. option_map (λ (l : Line). l.dirty) (line_in h.home b) ≡ Some entry.dirty)
-    → ((client : ℕ) → perm_in found client ≡ recorded_in h.home client b) → Records found (block_at v b)
+    → ((client : ℕ) → perm_in found client ≡ recorded_in h.home client b) → Records found (end_at v b)
 entry-read v h b m l None lines recorded =
     (sym (line-read v h b m l) ∙ lines, λ c. sym (recorded-read v h c b m l) ∙ sym (recorded c))
 entry-read v h b m l (Some entry) lines recorded = (
@@ -114,7 +114,7 @@ entry-read v h b m l (Some entry) lines recorded = (
 )
 
 -- what passes of each block
-pub outward-read : (v : View) (h : Layers) (b : ℕ) → Means v h → outward_in h.home b ≡ (block_at v b).outward
+pub outward-read : (v : View) (h : Layers) (b : ℕ) → Means v h → outward_in h.home b ≡ (end_at v b).outward
 outward-read v h b m =
     elim (own-or-not v b) [
       | inl own ↦ (m.home b own).outward
@@ -173,7 +173,7 @@ probed-read v h c b m l =
 
 -- a Grant of a block, or its GrantAck
 granted-read : (v : View) (h : Layers) (c b : ℕ) → Means v h → c < v.geometry.clients
-    → (has h c D b Grant || has h c E b Any) ≡ is_granted (client_at v c b)
+    → (has h c D b Grant || has h c E b Any) ≡ has_grant_pending (client_at v c b)
 granted-read v h c b m l =
     let k : Client = client_at v c b in
     let sent : has h c D b Grant ≡ list_any is_grant k.d = has-list v h c D b Grant m l ∙ any-grant k.d in
@@ -213,7 +213,7 @@ either-below f g test (suc n) each =
 -- a Probe of a block at some client, or an answer
 pub probe_pending-read : (v : View) (h : Layers) (b : ℕ) → Means v h
     → (some_has h.links B b Any h.links.clients || some_has h.links C b ProbeAck h.links.clients)
-    ≡ probe_pending (shape_of v.geometry) (block_at v b)
+    ≡ probe_pending (shape_of v.geometry) (end_at v b)
 probe_pending-read v h b m =
     let n : ℕ = v.geometry.clients in
     ap (λ (x : ℕ). some_has h.links B b Any x || some_has h.links C b ProbeAck x) m.links_clients
@@ -224,12 +224,12 @@ probe_pending-read v h b m =
 -- a Grant of a block at some client, or its GrantAck
 pub grant_pending-read : (v : View) (h : Layers) (b : ℕ) → Means v h
     → (some_has h.links D b Grant h.links.clients || some_has h.links E b Any h.links.clients)
-    ≡ grant_pending (shape_of v.geometry) (block_at v b)
+    ≡ grant_pending (shape_of v.geometry) (end_at v b)
 grant_pending-read v h b m =
     let n : ℕ = v.geometry.clients in
     ap (λ (x : ℕ). some_has h.links D b Grant x || some_has h.links E b Any x) m.links_clients
     ∙ some-either h D E b Grant Any n
-    ∙ either-below (λ c. has h c D b Grant) (λ c. has h c E b Any) (λ c. is_granted (client_at v c b)) n
+    ∙ either-below (λ c. has h c D b Grant) (λ c. has h c E b Any) (λ c. has_grant_pending (client_at v c b)) n
     (λ c l. granted-read v h c b m l)
 
 -- the answer where the first of two tests passes, and where it fails
@@ -270,7 +270,7 @@ known-found : (v : View) (h : Layers) (block : ℕ) (o : Option Register) → Me
     → IfSome o (IsKnown v.geometry.memory_blocks)
 known-found v h block None m found = tt
 known-found v h block (Some r) m found =
-    (found-each (Fits (shape_of v.geometry) (block_at v)) block v.registers r m.registers.agree.fits found).known
+    (found-each (Fits (shape_of v.geometry) (end_at v)) block v.registers r m.registers.agree.fits found).known
 
 -- the register of a block knows its blocks
 pub known-of : (v : View) (h : Layers) (block : ℕ) → Means v h → IfSome (register_of block v.registers) (IsKnown v.geometry.memory_blocks)

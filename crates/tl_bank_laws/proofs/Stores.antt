@@ -1,7 +1,7 @@
 -- A store: the copy that it leaves, and what becomes of the bank.
 use Rattle.std.proofs.Common.{◌≡◌, ◌≢◌, ℕ, ◌+◌, ◌/◌, ◌%◌, if◌then◌else◌, List, [], ◌∷◌, ◌++◌, length, None, refl, ◌∙◌, ap, subst}
 use Rattle.tl_types.specs.declared.permission.Perm.TheVariants.{None as p_None, Tip}
-use Rattle.tl_types.specs.declared.wait.Wait.{Wait}
+use Rattle.tl_types.specs.declared.wait.Awaited.{Awaited}
 use Rattle.tl_protocol.specs.Copy.{perm_of, stored_in}
 use Rattle.tl_protocol.specs.Client.{stored}
 use Rattle.tl_protocol.specs.declared.client.Client.{Client}
@@ -29,7 +29,7 @@ tip-some (Readable bytes) h = cc
 tip-some (Writable bytes dirty) h = λ e. cc
 
 -- what a store shows of the bank before it
-pub record Writes (v : View) (c address : ℕ) (bytes : List ℕ) (clock block : ℕ) (copy : CachedCopy) (wait : Wait) (stamp : ℕ) : Type 0 where
+pub record Writes (v : View) (c address : ℕ) (bytes : List ℕ) (clock block : ℕ) (copy : CachedCopy) (wait : Awaited) (stamp : ℕ) : Type 0 where
   pub allowed : first_of (store_cases v c address (length bytes) clock) ≡ None
   pub copy_is :
       copy ≡ stored_in (address % v.geometry.block_bytes) bytes (client_at v c (address / v.geometry.block_bytes)).held
@@ -38,7 +38,7 @@ pub record Writes (v : View) (c address : ℕ) (bytes : List ℕ) (clock block :
   pub stamp_is : stamp ≡ latest v clock + 1
 
 -- the bank is kept once the store is in the log, its copy in the client's table, and its stamp is the clock
-pub store-keeps : (v : View) (h : Layers) (c address : ℕ) (bytes : List ℕ) (clock block : ℕ) (copy : CachedCopy) (wait : Wait)
+pub store-keeps : (v : View) (h : Layers) (c address : ℕ) (bytes : List ℕ) (clock block : ℕ) (copy : CachedCopy) (wait : Awaited)
     (stamp index room : ℕ) (tables : Tables)
     → Means v h → Writes v c address bytes clock block copy wait stamp → SameSize h.copies tables
     → ((x y : ℕ) → held_at tables x y

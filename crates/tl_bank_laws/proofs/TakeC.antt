@@ -38,7 +38,7 @@ use Rattle.tl_registers.proofs.Blocks.{first-from}
 use Rattle.tl_bank_spec.specs.Cases.{any_body, begins, block_named, first_block, is_a_release}
 use Rattle.tl_bank_spec.specs.HomeCalls.{take_c_cases}
 use Rattle.tl_bank_spec.specs.Refusal.{first_of}
-use Rattle.tl_bank_spec.specs.View.{View, shape_of, block_at, client_at}
+use Rattle.tl_bank_spec.specs.View.{View, shape_of, end_at, client_at}
 use Rattle.tl_bank_spec.specs.Own.{IsOwn}
 use Rattle.tl_bank_spec.specs.Channels.{lane_at}
 use Rattle.tl_bank_laws.specs.Entry.{entry_of}
@@ -100,7 +100,7 @@ orderly-at : (v : View) (h : Layers) (c b : ℕ) → Means v h → IsOrderly (cl
 orderly-at v h c b m = every_run_keeps_messages (shape_of v.geometry) v.image v.log m.lawful.run b c
 
 -- home, the Acquire that it serves of a block, and what is pending are as every run keeps them
-service-of : (v : View) (h : Layers) (b : ℕ) → Means v h → IsServiceAt (shape_of v.geometry) (block_at v b)
+service-of : (v : View) (h : Layers) (b : ℕ) → Means v h → IsServiceAt (shape_of v.geometry) (end_at v b)
 service-of v h b m = every_run_keeps_service (shape_of v.geometry) v.image v.log m.lawful.run b
 
 -- the message starts from what home records
@@ -118,7 +118,7 @@ release-from BtoN e = cc
 -- a message on C is of a block that home holds: a Release comes of a copy, and a block that is probed is there
 there-by : (v : View) (h : Layers) (t : Ticket) (x : Message) (message : Upward) (more : List Upward) → Means v h
     → (client_at v t.client x.block).c ≡ message ∷ more → (client_at v t.client x.block).recorded ≡ upward_from message
-    → (block_at v x.block).home ≡ None → ⊥
+    → (end_at v x.block).home ≡ None → ⊥
 there-by v h t x (ProbeAck answer) more m list from gone =
     let k : Client = client_at v t.client x.block in
     let unprobed : is_probed k ≡ false = gone-is-unprobed (shape_of v.geometry) v.image v.log m.lawful.run x.block gone t.client in
@@ -138,7 +138,7 @@ line-is (Some line) there = (line, refl)
 -- so home holds the block
 pub take_c-held : (v : View) (h : Layers) (t : Ticket) (x : Message) → Means v h → Comes v t x → IsSome (line_in h.home x.block)
 take_c-held v h t x m comes =
-    let there = line-is (block_at v x.block).home
+    let there = line-is (end_at v x.block).home
     (there-by v h t x comes.message comes.more m comes.list (starts v h t x m comes)) in
     rw ((m.home x.block comes.own).line, there.1) refl
 
@@ -154,7 +154,7 @@ left-below-tip GrantAck e = cc
 pub take_c-branch : (v : View) (h : Layers) (t : Ticket) (x : Message) → Means v h → Comes v t x → left_by x.body ≡ Branch
     → (other : ℕ) → other ≢ t.client → recorded_in h.home other x.block ≢ Tip
 take_c-branch v h t x m comes branch other apart tip =
-    let recorded : ((block_at v x.block).client other).recorded ≡ Tip = sym ((m.home x.block comes.own).recorded other) ∙ tip in
+    let recorded : ((end_at v x.block).client other).recorded ≡ Tip = sym ((m.home x.block comes.own).recorded other) ∙ tip in
     let none : (client_at v t.client x.block).recorded ≡ p_None = (service-of v h x.block m).alone other t.client apart recorded in
     let to : upward_to comes.message ≡ Branch = sym (ap left_by comes.body) ∙ branch in
     let down : rank (upward_to comes.message) ≤ rank (upward_from comes.message) = to_le comes.message in
@@ -185,9 +185,9 @@ recorded-of false to k later e = refl
 -- home has of the block what the message leaves
 home-here : (v : View) (h : Layers) (t : Ticket) (x : Message) (home : HomeState) → Means v h → Comes v t x
     → Received h.home home t.client x.block (left_by x.body) (brought_by x.body)
-    → IsHomeOf home x.block (took_c (block_at v x.block) t.client)
+    → IsHomeOf home x.block (took_c (end_at v x.block) t.client)
 home-here v h t x home m comes received =
-    let was : IsHomeOf h.home x.block (block_at v x.block) = m.home x.block comes.own in
+    let was : IsHomeOf h.home x.block (end_at v x.block) = m.home x.block comes.own in
     let k : Client = client_at v t.client x.block in
     let here : (x.block == x.block) ≡ true = eq-eqb x.block x.block refl in
     let bytes : brought_by x.body ≡ first_bytes k.c = ap brought_by comes.body ∙ sym (ap first_bytes comes.list) in
@@ -198,7 +198,7 @@ home-here v h t x home m comes received =
           received.lines x.block
           ∙ ap (λ u. cond u (home_after (line_in h.home x.block) (brought_by x.body)) (line_in h.home x.block)) here
           ∙ ap (λ (line : Option Line). home_after line (brought_by x.body)) was.line
-          ∙ ap (λ (b : Option (List ℕ)). home_after (block_at v x.block).home b) bytes;
+          ∙ ap (λ (b : Option (List ℕ)). home_after (end_at v x.block).home b) bytes;
       recorded = λ c.
           received.recorded c x.block
           ∙ ap (λ u. cond ((c == t.client) && u) (left_by x.body) (recorded_in h.home c x.block)) here
@@ -229,9 +229,9 @@ home-next : (v : View) (h : Layers) (t : Ticket) (x : Message) (home : HomeState
     → Received h.home home t.client x.block (left_by x.body) (brought_by x.body) → (y : ℕ) → IsOwn v.geometry v.number y
     → IsHomeOf home y (block_next v (TakeC t.client x.block) y)
 home-next v h t x home m comes received y own =
-    cond_at (λ (s : Block). IsHomeOf home y s) (y == x.block) (took_c (block_at v y) t.client) (block_at v y)
-    (λ q. subst (λ b. IsHomeOf home b (took_c (block_at v b) t.client)) (sym (eqb-true y x.block q)) (home-here v h t x home m comes received))
-    (λ q. home-elsewhere h.home home t.client x.block y (left_by x.body) (brought_by x.body) (block_at v y) q received (m.home y own))
+    cond_at (λ (s : Block). IsHomeOf home y s) (y == x.block) (took_c (end_at v y) t.client) (end_at v y)
+    (λ q. subst (λ b. IsHomeOf home b (took_c (end_at v b) t.client)) (sym (eqb-true y x.block q)) (home-here v h t x home m comes received))
+    (λ q. home-elsewhere h.home home t.client x.block y (left_by x.body) (brought_by x.body) (end_at v y) q received (m.home y own))
 
 -- ## The links
 
@@ -277,7 +277,7 @@ answer-is c b x l (Release given) more lane = refl
 -- each channel has what the event leaves on it
 lanes-next : (v : View) (h : Layers) (t : Ticket) (x : Message) (between links : LinkTable) → first_of (take_c_cases v t) ≡ None
     → Comes v t x → Passed h.links between links t x.block (is_a_release x.body) → (y : ℕ) (l : Channel)
-    → lane_in links y l ≡ lane_after (shape_of v.geometry) (block_at v x.block) (TakeC t.client x.block) y l (lane_in h.links y l)
+    → lane_in links y l ≡ lane_after (shape_of v.geometry) (end_at v x.block) (TakeC t.client x.block) y l (lane_in h.links y l)
 lanes-next v h t x between links none comes passed y l =
     let ok = take_c-allowed v t none in
     let k : Client = client_at v t.client x.block in
@@ -305,8 +305,8 @@ entry-then k (Release given ∷ rest) = refl
 -- so each client has the entry of each block that it had
 copies-next : (v : View) (c b x y : ℕ) → entry_of (client_at v x y) ≡ entry_of ((block_next v (TakeC c b) y).client x)
 copies-next v c b x y =
-    cond_at (λ (s : Block). entry_of (client_at v x y) ≡ entry_of (s.client x)) (y == b) (took_c (block_at v y) c) (block_at v y)
-    (λ q. at_put (λ k. entry_of (client_at v x y) ≡ entry_of k) (block_at v y).client c _ x
+    cond_at (λ (s : Block). entry_of (client_at v x y) ≡ entry_of (s.client x)) (y == b) (took_c (end_at v y) c) (end_at v y)
+    (λ q. at_put (λ k. entry_of (client_at v x y) ≡ entry_of k) (end_at v y).client c _ x
     (λ e. ap (λ z. entry_of (client_at v z y)) e ∙ sym (entry-then (client_at v c y) (client_at v c y).c)) (λ n. refl))
     (λ q. refl)
 

@@ -23,7 +23,7 @@ use Rattle.tl_registers.proofs.Tables.{IsOther, each-both, one-among}
 use Rattle.tl_bank_home.specs.Homes.{HomeState, SameBank, SameMemory, bank_in, fetched, free_at, geometry_in, line_in, order_at, outward_in, recorded_in, way_in}
 use Rattle.tl_bank_spec.specs.HomeCalls.{take_memory_cases}
 use Rattle.tl_bank_spec.specs.Refusal.{first_of}
-use Rattle.tl_bank_spec.specs.View.{View, block_at, shape_of}
+use Rattle.tl_bank_spec.specs.View.{View, end_at, shape_of}
 use Rattle.tl_bank_spec.specs.Own.{IsOwn, way_at, ways_below}
 use Rattle.tl_bank_spec.specs.Ways.{slot_at, slots_at}
 use Rattle.tl_bank_laws.specs.Layers.{Layers}
@@ -195,7 +195,7 @@ data-each v h room ways block way m d c =
 -- ## The order of the ways
 
 -- the way into which the block came is filled by its register
-data-fills : (v : View) (room : ℕ) (ways : List (Option ℕ)) (block way : ℕ) → IsSteady (shape_of v.geometry) (block_at v)
+data-fills : (v : View) (room : ℕ) (ways : List (Option ℕ)) (block way : ℕ) → IsSteady (shape_of v.geometry) (end_at v)
     → DataComes v block way
     → is_filling (next_view v (TakeData block) room v.registers ways) (set_of v.geometry block) way ≡ true
 data-fills v room ways block way steady d =
@@ -204,14 +204,14 @@ data-fills v room ways block way steady d =
     let r : Register = d.register in
     let set_r : (r.way.set == s) ≡ true = eq-eqb r.way.set s (sym d.set_is) in
     let way_r : (r.way.way == way) ≡ true = eq-eqb r.way.way way d.way_is in
-    let pending : grant_pending (shape_of w.geometry) (block_at w r.own) ≡ false =
-    ap (λ b. grant_pending (shape_of w.geometry) (block_at w b)) d.own_is
+    let pending : grant_pending (shape_of w.geometry) (end_at w r.own) ≡ false =
+    ap (λ b. grant_pending (shape_of w.geometry) (end_at w b)) d.own_is
     ∙ no-grant-next v (TakeData block) room v.registers ways steady tt block d.ungranted in
     let fills : is_filling_by w s way r ≡ true = rw (set_r, way_r, pending) refl in
     any-found (is_filling_by w s way) block v.registers r d.found fills
 
 -- a way that was filled is filled on
-fills-on : (v : View) (room : ℕ) (ways : List (Option ℕ)) (block : ℕ) (s y : ℕ) → IsSteady (shape_of v.geometry) (block_at v)
+fills-on : (v : View) (room : ℕ) (ways : List (Option ℕ)) (block : ℕ) (s y : ℕ) → IsSteady (shape_of v.geometry) (end_at v)
     → is_filling v s y ≡ true → is_filling (next_view v (TakeData block) room v.registers ways) s y ≡ true
 fills-on v room ways block s y steady h =
     filling-follows v (next_view v (TakeData block) room v.registers ways) s y v.registers v.registers
@@ -219,7 +219,7 @@ fills-on v room ways block s y steady h =
 
 -- in the set of the block
 order-here : (v : View) (room : ℕ) (ways : List (Option ℕ)) (block way : ℕ) (order : List ℕ)
-    → IsSteady (shape_of v.geometry) (block_at v) → DataComes v block way → Comes v ways block way
+    → IsSteady (shape_of v.geometry) (end_at v) → DataComes v block way → Comes v ways block way
     → IsInOrder (slots_at v (set_of v.geometry block)) (is_filling v (set_of v.geometry block)) v.log order
     → IsInOrder (slots_at (with_ways v ways) (set_of v.geometry block))
     (is_filling (next_view v (TakeData block) room v.registers ways) (set_of v.geometry block)) (v.log ++ TakeData block ∷ []) order
@@ -241,7 +241,7 @@ order-here v room ways block way order steady d c h =
 
 -- in another set
 order-there : (v : View) (room : ℕ) (ways : List (Option ℕ)) (block way s : ℕ) (order : List ℕ)
-    → IsSteady (shape_of v.geometry) (block_at v) → Comes v ways block way → s ≢ set_of v.geometry block
+    → IsSteady (shape_of v.geometry) (end_at v) → Comes v ways block way → s ≢ set_of v.geometry block
     → IsInOrder (slots_at v s) (is_filling v s) v.log order
     → IsInOrder (slots_at (with_ways v ways) s) (is_filling (next_view v (TakeData block) room v.registers ways) s)
     (v.log ++ TakeData block ∷ []) order
@@ -296,12 +296,12 @@ data-holds v home ways block way b fit d c own =
     elim (cases_eq b block) [
       | inl q ↦
           let there : is_none (block_next v e block).home ≡ false =
-          ap (λ (s : Block). is_none s.home) (here shape (block_at v) e block refl)
-          ∙ fetched-there (block_at v block) (block_at v block).outward d.came in
+          ap (λ (s : Block). is_none s.home) (here shape (end_at v) e block refl)
+          ∙ fetched-there (end_at v block) (end_at v block).outward d.came in
           let lies : is_none (way_at w block) ≡ false = ap is_none (moved-here v ways block (Some way) c.moves c.inside) in
           ap (λ y. is_none (block_next v e y).home) q ∙ (there ∙ sym lies) ∙ ap (λ y. is_none (way_at w y)) (sym q)
       | inr ne ↦
-          ap (λ (s : Block). is_none s.home) (elsewhere shape (block_at v) e b ne)
+          ap (λ (s : Block). is_none s.home) (elsewhere shape (end_at v) e b ne)
           ∙ fit.holds b own ∙ ap is_none (sym (moved-other v ways block b (Some way) c.moves own.0 ne))
     ]
 
@@ -383,7 +383,7 @@ data-fits v h home block way room m d did =
 
 -- The bank after home took the bytes.
 pub data-keeps : (v : View) (h : Layers) (home : HomeState) (block way room : ℕ) → Means v h
-    → first_of (take_memory_cases v block) ≡ None → IsData (block_at v block).outward
+    → first_of (take_memory_cases v block) ≡ None → IsData (end_at v block).outward
     → RegisterHolds v block way → TookData h.home home block way
     → Means (next_view v (TakeData block) room v.registers (home_ways v home)) (record h { home = home })
 data-keeps v h home block way room m none came held did =
@@ -394,7 +394,7 @@ data-keeps v h home block way room m none came held did =
     (homes-event v e tt (d.own.0, came) d.own.1)
     (homes-layers v h home e m tt d.own (record {
       bank = did.bank;
-      at = data-home h.home home block way (block_at v block) came did (m.home block d.own);
+      at = data-home h.home home block way (end_at v block) came did (m.home block d.own);
       others = data-others h.home home block way did;
     }))
     (fit-stays v e room ways (bank-steady v h m) tt m.registers)
@@ -411,7 +411,7 @@ pub record MayPlace (home : HomeState) (number place : ℕ) : Type 0 where
 
 -- so it is where bytes came, the block's register holds the way, and no refusal's case holds
 pub data-place : (v : View) (h : Layers) (block way : ℕ) → Means v h → first_of (take_memory_cases v block) ≡ None
-    → IsData (block_at v block).outward → RegisterHolds v block way → MayPlace h.home block way
+    → IsData (end_at v block).outward → RegisterHolds v block way → MayPlace h.home block way
 data-place v h block way m none came held =
     let d = data-comes v h block way m none came held in
     let part = m.home block d.own in

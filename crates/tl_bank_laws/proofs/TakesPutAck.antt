@@ -26,7 +26,7 @@ use Rattle.tl_bank_home.specs.Homes.{HomeState, SameBank, SameHome, SameMemory, 
 use Rattle.tl_bank_spec.specs.HomeCalls.{take_memory_cases}
 use Rattle.tl_bank_spec.specs.HomeCases.{is_reply}
 use Rattle.tl_bank_spec.specs.Refusal.{first_of}
-use Rattle.tl_bank_spec.specs.View.{View, block_at, shape_of}
+use Rattle.tl_bank_spec.specs.View.{View, end_at, shape_of}
 use Rattle.tl_bank_spec.specs.Own.{IsOwn, way_at, ways_below}
 use Rattle.tl_bank_spec.specs.Ways.{lies_in, slot_at, slots_at}
 use Rattle.tl_bank_laws.specs.Layers.{Layers}
@@ -61,13 +61,13 @@ lacks-home shape s None kept is busy = is
 lacks-home shape s (Some line) kept is busy = absurd (busy (kept.quiet line is))
 
 -- home lacks a block of which something passes
-pub passing-lacks : (v : View) (h : Layers) (block : ℕ) → Means v h → ((block_at v block).outward ≡ Quiet → ⊥) → (block_at v block).home ≡ None
+pub passing-lacks : (v : View) (h : Layers) (block : ℕ) → Means v h → ((end_at v block).outward ≡ Quiet → ⊥) → (end_at v block).home ≡ None
 passing-lacks v h block m busy =
-    lacks-home (shape_of v.geometry) (block_at v block) (block_at v block).home ((bank-steady v h m).service block) refl busy
+    lacks-home (shape_of v.geometry) (end_at v block) (end_at v block).home ((bank-steady v h m).service block) refl busy
 
 -- so it lies nowhere
 pub passing-nowhere : (v : View) (h : Layers) (block : ℕ) → Means v h → IsOwn v.geometry v.number block
-    → ((block_at v block).outward ≡ Quiet → ⊥) → way_at v block ≡ None
+    → ((end_at v block).outward ≡ Quiet → ⊥) → way_at v block ≡ None
 passing-nowhere v h block m own busy =
     let lacks = passing-lacks v h block m busy in
     none-is (way_at v block) (sym (m.ways.holds block own) ∙ ap is_none lacks)
@@ -278,7 +278,7 @@ put_ack-busy out is quiet = let bad : PutAck ≡ Quiet = sym is ∙ quiet in cc
 
 -- The bank after home took the acknowledgement.
 pub put_ack-keeps : (v : View) (h : Layers) (home : HomeState) (block room : ℕ) → Means v h
-    → first_of (take_memory_cases v block) ≡ None → (block_at v block).outward ≡ PutAck → TookPutAck h.home home block
+    → first_of (take_memory_cases v block) ≡ None → (end_at v block).outward ≡ PutAck → TookPutAck h.home home block
     → Means (next_view v (TakePutAck block) room (ended block v.registers) (ways_below (way_in home) v.geometry.memory_blocks))
     (record h { home = home })
 put_ack-keeps v h home block room m none is did =
@@ -286,7 +286,7 @@ put_ack-keeps v h home block room m none is did =
     let e = TakePutAck block in
     let registers : List Register = ended block v.registers in
     let ways : List (Option ℕ) = ways_below (way_in home) v.geometry.memory_blocks in
-    let nowhere = passing-nowhere v h block m own (put_ack-busy (block_at v block).outward is) in
+    let nowhere = passing-nowhere v h block m own (put_ack-busy (end_at v block).outward is) in
     let steady = bank-steady v h m in
     let few = ended-few block v.registers in
     let were = m.registers.few in
@@ -294,11 +294,11 @@ put_ack-keeps v h home block room m none is did =
     (homes-event v e tt (own.0, is) own.1)
     (homes-layers v h home e m tt own (record {
       bank = did.bank;
-      at = put_ack-home h.home home block (block_at v block) did (m.home block own);
+      at = put_ack-home h.home home block (end_at v block) did (m.home block own);
       others = put_ack-others h.home home block did;
     }))
     (registers-next v e room registers ways
-    (ending-keeps-agreement (shape_of v.geometry) (block_at v) v.registers block steady m.registers.agree (own.0, is))
+    (ending-keeps-agreement (shape_of v.geometry) (end_at v) v.registers block steady m.registers.agree (own.0, is))
     (omega (arith, few, were)))
     (ways-stay (ended_view v block) e room registers ways h.home home steady tt tt (same-work registers) did.home.ways
     (below-at (way_in home) v.geometry.memory_blocks) (ended-fits v h.home block nowhere m.ways))

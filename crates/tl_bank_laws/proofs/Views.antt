@@ -18,7 +18,7 @@ use Rattle.tl_protocol.specs.declared.event.Event.TheVariants.{Load}
 use Rattle.tl_protocol.proofs.Coherent.{every_run_keeps_copies, every_run_reads_last}
 use Rattle.tl_bank_home.specs.Homes.{recorded_in, outward_in}
 use Rattle.tl_bank_spec.specs.Cases.{no_client, no_block, elsewhere}
-use Rattle.tl_bank_spec.specs.View.{View, shape_of, block_at, client_at, perm_at}
+use Rattle.tl_bank_spec.specs.View.{View, shape_of, end_at, client_at, perm_at}
 use Rattle.tl_bank_spec.specs.Own.{IsOwn}
 use Rattle.tl_bank_spec.specs.Views.{not_own, no_part, byte_at, peeked, MayRead, MayWrite, passing, outward_at}
 use Rattle.tl_bank_laws.specs.Layers.{Layers}
@@ -73,7 +73,7 @@ passing-is PutAck some = refl
 pub outward-is : (v : View) (h : Layers) (b : ℕ) (x : Outward) → Means v h → not_own v b ≡ false → outward_in h.home b ≡ x
     → x ≢ Quiet → Some x ≡ outward_at v b
 outward-is v h b x m own is some =
-    let there : x ≡ (block_at v b).outward = sym is ∙ (m.home b (own-is v b own)).outward in
+    let there : x ≡ (end_at v b).outward = sym is ∙ (m.home b (own-is v b own)).outward in
     rw own (sym (passing-is x some) ∙ ap passing there)
 
 -- ## A byte of a copy

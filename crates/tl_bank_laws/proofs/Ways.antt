@@ -18,7 +18,7 @@ use Rattle.tl_registers.specs.declared.register.Task.{Task}
 use Rattle.tl_registers.specs.declared.way_of_set.WayOfSet.{WayOfSet}
 use Rattle.tl_registers.proofs.Agreement.{events-leave-registers, every-run-is-steady}
 use Rattle.tl_bank_home.specs.Homes.{HomeState, SameWays, order_at, way_in}
-use Rattle.tl_bank_spec.specs.View.{View, shape_of, block_at}
+use Rattle.tl_bank_spec.specs.View.{View, shape_of, end_at}
 use Rattle.tl_bank_spec.specs.Own.{way_at}
 use Rattle.tl_bank_spec.specs.Ways.{is_in_way, lies_in, slot_at, slots_at}
 use Rattle.tl_bank_laws.specs.Layers.{Layers}
@@ -31,15 +31,15 @@ use Rattle.tl_bank_laws.proofs.Slots.{slot-same, slots-same}
 -- ## The registers
 
 -- each block of a bank is as every run keeps it
-pub bank-steady : (v : View) (layers : Layers) → Means v layers → IsSteady (shape_of v.geometry) (block_at v)
+pub bank-steady : (v : View) (layers : Layers) → Means v layers → IsSteady (shape_of v.geometry) (end_at v)
 bank-steady v layers m = every-run-is-steady (shape_of v.geometry) v.image v.log m.lawful.run
 
 -- An event that leaves the registers as they are leaves them fit.
-pub fit-stays : (v : View) (e : Event) (room : ℕ) (ways : List (Option ℕ)) → IsSteady (shape_of v.geometry) (block_at v)
+pub fit-stays : (v : View) (e : Event) (room : ℕ) (ways : List (Option ℕ)) → IsSteady (shape_of v.geometry) (end_at v)
     → LeavesRegisters e → RegistersFit v → RegistersFit (next_view v e room v.registers ways)
 fit-stays v e room ways steady leaves fit =
     registers-next v e room v.registers ways
-    (events-leave-registers (shape_of v.geometry) (block_at v) v.registers e leaves steady fit.agree) fit.few
+    (events-leave-registers (shape_of v.geometry) (end_at v) v.registers e leaves steady fit.agree) fit.few
 
 -- ## Registers of the same work
 
@@ -157,7 +157,7 @@ each-holds-stay v log room registers ways (r ∷ rest) (q ∷ more) same work h 
 -- of no block is a Grant pending later of which none was before
 abbrev pub NoGrantComes : View → View → Type 0
 NoGrantComes v t =
-    (b : ℕ) → grant_pending (shape_of v.geometry) (block_at v b) ≡ false → grant_pending (shape_of t.geometry) (block_at t b) ≡ false
+    (b : ℕ) → grant_pending (shape_of v.geometry) (end_at v b) ≡ false → grant_pending (shape_of t.geometry) (end_at t b) ≡ false
 
 -- a way that a register fills is filled by one of the same block and way, where no Grant comes
 filling-by-follows : (v t : View) (set way : ℕ) (r q : Register) → NoGrantComes v t → q.own ≡ r.own → q.way ≡ r.way
@@ -166,9 +166,9 @@ filling-by-follows v t set way r q none own in_way h =
     let k = and_parts ((r.way.set == set) && (r.way.way == way)) _ h in
     let here : ((q.way.set == set) && (q.way.way == way)) ≡ true =
     ap (λ (w : WayOfSet). (w.set == set) && (w.way == way)) in_way ∙ k.0 in
-    let free : grant_pending (shape_of t.geometry) (block_at t q.own) ≡ false =
-    ap (λ (n : ℕ). grant_pending (shape_of t.geometry) (block_at t n)) own
-    ∙ none r.own (not-true (grant_pending (shape_of v.geometry) (block_at v r.own)) k.1) in
+    let free : grant_pending (shape_of t.geometry) (end_at t q.own) ≡ false =
+    ap (λ (n : ℕ). grant_pending (shape_of t.geometry) (end_at t n)) own
+    ∙ none r.own (not-true (grant_pending (shape_of v.geometry) (end_at v r.own)) k.1) in
     rw (here, free) refl
 
 -- a way that a register fills is filled on, where no Grant comes
@@ -187,16 +187,16 @@ filling-follows v t set way (r ∷ rest) (q ∷ more) none work h =
 
 -- after an event that grants nothing
 pub no-grant-next : (v : View) (e : Event) (room : ℕ) (registers : List Register) (ways : List (Option ℕ))
-    → IsSteady (shape_of v.geometry) (block_at v) → GrantsNothing e → NoGrantComes v (next_view v e room registers ways)
+    → IsSteady (shape_of v.geometry) (end_at v) → GrantsNothing e → NoGrantComes v (next_view v e room registers ways)
 no-grant-next v e room registers ways steady none b h =
     subst (λ (t : ℕ → Block). grant_pending (shape_of v.geometry) (t b) ≡ false) (sym (blocks-next v e room registers ways))
-    (no-grant-comes (shape_of v.geometry) (block_at v) e b steady none h)
+    (no-grant-comes (shape_of v.geometry) (end_at v) e b steady none h)
 
 -- ## The ways fit on
 
 -- An event that grants nothing and moves no block, and leaves the registers' work and home's ways, leaves the ways fit.
 pub ways-stay : (v : View) (e : Event) (room : ℕ) (registers : List Register) (ways : List (Option ℕ)) (old new : HomeState)
-    → IsSteady (shape_of v.geometry) (block_at v) → GrantsNothing e → HoldsOn e → SameWork v.registers registers
+    → IsSteady (shape_of v.geometry) (end_at v) → GrantsNothing e → HoldsOn e → SameWork v.registers registers
     → SameWays old new → ((b : ℕ) → b < v.geometry.memory_blocks → slice_index_or ways b None ≡ way_in new b)
     → WaysFit v old → WaysFit (next_view v e room registers ways) new
 ways-stay v e room registers ways old new steady none on work stay shown fit =
@@ -209,7 +209,7 @@ ways-stay v e room registers ways old new steady none on work stay shown fit =
           fit.once a b w own_a own_b set_ab (sym (same a own_a.0) ∙ lies_a) (sym (same b own_b.0) ∙ lies_b);
       holds = λ b own.
           ap (λ (s : ℕ → Block). is_none (s b).home) (blocks-next v e room registers ways)
-          ∙ home-holds-on (shape_of v.geometry) (block_at v) e b steady on
+          ∙ home-holds-on (shape_of v.geometry) (end_at v) e b steady on
           ∙ fit.holds b own ∙ ap (λ (o : Option ℕ). is_none o) (sym (same b own.0));
       free = λ set way l k.
           stay.free set way ∙ fit.free set way l k

@@ -2,8 +2,8 @@
 use Rattle.std.specs.Prelude.{◌≡◌, ℕ, ◌<◌, Bool, true, false, List, [], Option, Some, None, if◌then◌else◌}
 use Rattle.tl_types.specs.declared.permission.Perm.{Perm}
 use Rattle.tl_types.specs.declared.permission.Perm.TheVariants.{None as p_None, Branch, Tip}
-use Rattle.tl_types.specs.declared.wait.Wait.{Wait}
-use Rattle.tl_types.specs.declared.wait.Wait.TheVariants.{Nothing}
+use Rattle.tl_types.specs.declared.wait.Awaited.{Awaited}
+use Rattle.tl_types.specs.declared.wait.Awaited.TheVariants.{Nothing}
 use Rattle.tl_protocol.specs.Copy.{perm_of, bytes_of}
 use Rattle.tl_protocol.specs.declared.client.Client.{Client}
 use Rattle.tl_protocol.specs.declared.copy.CachedCopy.{CachedCopy}
@@ -20,11 +20,11 @@ is_dirty (Readable bytes) = false
 is_dirty (Writable bytes dirty) = dirty
 
 -- a copy with the answer that its client waits for, as a table keeps them
-abbrev pub held_as : CachedCopy → Wait → Held
+abbrev pub held_as : CachedCopy → Awaited → Held
 held_as copy wait = record { perm = perm_of copy; dirty = is_dirty copy; bytes = bytes_of copy; wait = wait }
 
 -- the entry: there is one while there is a copy or the client waits
-abbrev pub entry_with : CachedCopy → Wait → Option Held
+abbrev pub entry_with : CachedCopy → Awaited → Option Held
 entry_with copy wait = if has_entry_for copy wait then Some (held_as copy wait) else None
 
 -- the entry of a client's part of a block
@@ -32,7 +32,7 @@ abbrev pub entry_of : Client → Option Held
 entry_of k = entry_with k.held k.wait
 
 -- a client's table has a place for a copy of a block: it has an entry of it, or room for one more, or needs none
-pub record HasPlace (tables : Tables) (c block : ℕ) (copy : CachedCopy) (wait : Wait) : Type 0 where
+pub record HasPlace (tables : Tables) (c block : ℕ) (copy : CachedCopy) (wait : Awaited) : Type 0 where
   pub client : c < clients_of tables
   pub inside : block < tables.blocks
   pub room : has_entry_for copy wait ≡ true → held_at tables c block ≡ None → entries tables c < tables.limit
@@ -51,7 +51,7 @@ copy_in None = Absent
 copy_in (Some held) = copy_with held.perm held.bytes held.dirty
 
 -- the answer that the client waits for by its entry; nothing where there is no entry
-abbrev pub wait_in : Option Held → Wait
+abbrev pub wait_in : Option Held → Awaited
 wait_in None = Nothing
 wait_in (Some held) = held.wait
 

@@ -17,7 +17,7 @@ use Rattle.tl_registers.specs.Registers.{is_held, register_of}
 use Rattle.tl_registers.specs.VictimWay.{IsInOrder}
 use Rattle.tl_bank_spec.specs.Kept.{accepted_by}
 use Rattle.tl_bank_spec.specs.Ways.{lies_in, slot_at, slots_at}
-use Rattle.tl_bank_spec.specs.View.{View, shape_of, block_at, client_at}
+use Rattle.tl_bank_spec.specs.View.{View, shape_of, end_at, client_at}
 use Rattle.tl_bank_spec.specs.Own.{IsOwn, way_at}
 use Rattle.tl_bank_spec.specs.Clock.{StampsRise, clock_of}
 use Rattle.tl_bank_spec.specs.Channels.{lane_at}
@@ -38,7 +38,7 @@ pub record IsHomeOf (home : HomeState) (block : ℕ) (s : Block) : Type 0 where
 
 -- the open registers agree with what the log leaves, and are no more than the bank has
 pub record RegistersFit (v : View) : Type 0 where
-  pub agree : Agree (shape_of v.geometry) (block_at v) v.registers
+  pub agree : Agree (shape_of v.geometry) (end_at v) v.registers
   pub few : length v.registers ≤ v.geometry.registers
 
 -- A register holds a way of its own block's set: the blocks that it works on lie there or nowhere, and no other block does.
@@ -56,7 +56,7 @@ WaysApart (r ∷ rest) = (is_held r.way rest ≡ false) × WaysApart rest
 -- a register holds the way, and its block has no Grant yet
 abbrev pub is_filling_by : View → ℕ → ℕ → Register → Bool
 is_filling_by v set way r =
-    ((r.way.set == set) && (r.way.way == way)) && not (grant_pending (shape_of v.geometry) (block_at v r.own))
+    ((r.way.set == set) && (r.way.way == way)) && not (grant_pending (shape_of v.geometry) (end_at v r.own))
 
 -- what comes into the way was not granted since
 abbrev pub is_filling : View → ℕ → ℕ → Bool
@@ -72,7 +72,7 @@ pub record WaysFit (v : View) (home : HomeState) : Type 0 where
       (a b w : ℕ) → IsOwn v.geometry v.number a → IsOwn v.geometry v.number b → set_of v.geometry a ≡ set_of v.geometry b
       → way_at v a ≡ Some w → way_at v b ≡ Some w → a ≡ b
   -- home holds the blocks that lie somewhere
-  pub holds : (b : ℕ) → IsOwn v.geometry v.number b → is_none (block_at v b).home ≡ is_none (way_at v b)
+  pub holds : (b : ℕ) → IsOwn v.geometry v.number b → is_none (end_at v b).home ≡ is_none (way_at v b)
   -- a way is free where no block lies in it
   pub free :
       (set way : ℕ) → set < v.geometry.sets → way < v.geometry.ways → free_at home set way ≡ is_none (slot_at v set way)
@@ -97,10 +97,10 @@ pub record Means (v : View) (layers : Layers) : Type 0 where
   pub lanes : (c : ℕ) (k : Channel) → c < v.geometry.clients → lane_in layers.links c k ≡ lane_at v c k
   pub copies :
       (c b : ℕ) → c < v.geometry.clients → b < v.geometry.memory_blocks → held_at layers.copies c b ≡ entry_of (client_at v c b)
-  pub home : (b : ℕ) → IsOwn v.geometry v.number b → IsHomeOf layers.home b (block_at v b)
+  pub home : (b : ℕ) → IsOwn v.geometry v.number b → IsHomeOf layers.home b (end_at v b)
   -- of no other block does anything pass
   pub quiet : (b : ℕ) → (IsOwn v.geometry v.number b → ⊥) → outward_in layers.home b ≡ Quiet
-  pub accepted : (b : ℕ) → (block_at v b).accepted ≡ accepted_by (register_of b v.registers)
+  pub accepted : (b : ℕ) → (end_at v b).accepted ≡ accepted_by (register_of b v.registers)
   pub registers : RegistersFit v
   pub ways : WaysFit v layers.home
   pub clock : layers.clock ≡ clock_of v.log

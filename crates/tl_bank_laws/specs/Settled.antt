@@ -11,7 +11,7 @@ use Rattle.tl_types.specs.declared.message.ProbeAnswer.{ProbeAnswer}
 use Rattle.tl_types.specs.declared.permission.GrantCap.{GrantCap}
 use Rattle.tl_types.specs.declared.permission.Perm.{Perm}
 use Rattle.tl_types.specs.declared.permission.ProbeCap.{ProbeCap}
-use Rattle.tl_types.specs.declared.wait.Wait.{Wait}
+use Rattle.tl_types.specs.declared.wait.Awaited.{Awaited}
 use Rattle.tl_protocol.specs.Client.{bytes_or}
 use Rattle.tl_protocol.specs.Copy.{bytes_of, clean_copy, dirty_bytes, reduced}
 use Rattle.tl_protocol.specs.declared.copy.CachedCopy.{CachedCopy}
@@ -23,7 +23,7 @@ abbrev pub IsFirstOn : View → ℕ → Channel → Message → Type 0
 IsFirstOn v client channel message = (rest : List Message) × ((lane_at v client channel).messages ≡ message ∷ rest)
 
 -- a Probe of a block is first on its way to a client: what its copy is then reduced to, what it waits for, what it had, and the answer
-pub record FindsProbe (v : View) (client block : ℕ) (copy : CachedCopy) (wait : Wait) (before : Perm) (answer : ProbeAnswer) : Type 0 where
+pub record FindsProbe (v : View) (client block : ℕ) (copy : CachedCopy) (wait : Awaited) (before : Perm) (answer : ProbeAnswer) : Type 0 where
   pub cap : ProbeCap
   pub first : IsFirstOn v client B (record { block = block; body = ProbeBlock cap })
   pub copy_is : copy ≡ reduced (client_at v client block).held (probe_perm cap)

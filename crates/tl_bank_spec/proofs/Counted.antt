@@ -24,7 +24,7 @@ use Rattle.tl_protocol_lanes.specs.Lists.{IsOther, client_of}
 use Rattle.tl_protocol_lanes.proofs.Events.{every_event_is_of_one_client}
 use Rattle.tl_bank_spec.specs.Counted.{EveryEventLeavesOtherCounts, client_counted}
 use Rattle.tl_bank_spec.proofs.Logged.{block-next}
-use Rattle.tl_bank_spec.specs.View.{View, block_at, client_at, shape_of}
+use Rattle.tl_bank_spec.specs.View.{View, end_at, client_at, shape_of}
 use Rattle.tl_bank_spec.specs.Steps.{Extends}
 use Rattle.tl_bank_spec.specs.Tables.{copies_at}
 
@@ -130,8 +130,8 @@ others-keep old new e x extends other =
     let own : ℕ = block_of shape e in
     same-count old new x extends.geometry
     (λ b. ap (λ (s : Block). has_copy (s.client x)) (block-next old new e b extends)
-    ∙ block-same shape (block_at old b) (block_at old own) e x (b == own) (λ t. ap (block_at old) (eqb-true b own t))
-    (ap has_copy (every_event_is_of_one_client shape (block_at old own) e x other)))
+    ∙ block-same shape (end_at old b) (end_at old own) e x (b == own) (λ t. ap (end_at old) (eqb-true b own t))
+    (ap has_copy (every_event_is_of_one_client shape (end_at old own) e x other)))
 
 -- a permitted event leaves the number of every client but the one that it counts
 pub every_event_leaves_other_counts : EveryEventLeavesOtherCounts
@@ -140,5 +140,5 @@ every_event_leaves_other_counts old new e x may extends other =
     let own : ℕ = block_of shape e in
     same-count old new x extends.geometry
     (λ b. ap (λ (s : Block). has_copy (s.client x)) (block-next old new e b extends)
-    ∙ block-same shape (block_at old b) (block_at old own) e x (b == own) (λ t. ap (block_at old) (eqb-true b own t))
-    (event-same shape (block_at old own) e x may.1 other))
+    ∙ block-same shape (end_at old b) (end_at old own) e x (b == own) (λ t. ap (end_at old) (eqb-true b own t))
+    (event-same shape (end_at old own) e x may.1 other))

@@ -18,10 +18,10 @@ use Rattle.tl_protocol.specs.declared.event.Event.{Event}
 use Rattle.tl_protocol.specs.declared.event.Event.TheVariants.{SendAcquire, SendRelease, AnswerProbe, TakeGrant, SendProbe, TakeC, SendGrant}
 use Rattle.tl_protocol.specs.declared.home.Accepted.{Accepted}
 use Rattle.tl_protocol.specs.declared.shape.Shape.{Shape}
-use Rattle.tl_protocol_lanes.specs.Lanes.{Place, Post, ack_post, answer_post, grant_post, post_of, sent_to, take_of, taken_from}
+use Rattle.tl_protocol_lanes.specs.Lanes.{LinkChannel, Post, ack_post, answer_post, grant_post, post_of, sent_to, take_of, taken_from}
 use Rattle.tl_protocol_lanes.specs.Lawful.{IsNext, TakeInOrder, TakesFirst}
 use Rattle.tl_bank_spec.specs.Delivered.{EveryMessageSentWaits, EveryMessageTakenIsFirst}
-use Rattle.tl_bank_spec.specs.View.{View, block_at, shape_of}
+use Rattle.tl_bank_spec.specs.View.{View, end_at, shape_of}
 use Rattle.tl_bank_spec.specs.Steps.{Extends}
 use Rattle.tl_bank_spec.specs.Channels.{lane_at, next_ticket}
 use Rattle.tl_bank_spec.specs.Views.{in_flight_at}
@@ -44,13 +44,13 @@ message_at-sent lane m =
 -- ## Where an event takes and sends
 
 -- a channel from which nothing is taken on which something is sent
-abbrev Apart : Option Place → Post → Type 0
+abbrev Apart : Option LinkChannel → Post → Type 0
 Apart None post = Unit {0}
 Apart (Some place) post =
     (same_channel post.channel place.channel ≡ false) × (same_channel place.channel post.channel ≡ false)
 
 -- so it is with what an event takes and sends, where it sends anything
-abbrev ApartIf : Option Place → Option Post → Type 0
+abbrev ApartIf : Option LinkChannel → Option Post → Type 0
 ApartIf place None = Unit {0}
 ApartIf place (Some post) = Apart place post
 
@@ -117,7 +117,7 @@ of-one shape s e may = tt
 -- ## What is sent
 
 -- nothing is taken from the channel on which a message is sent
-untaken : (place : Option Place) (post : Post) (lane : Lane) → Apart place post
+untaken : (place : Option LinkChannel) (post : Post) (lane : Lane) → Apart place post
     → taken_from place post.client post.channel lane ≡ lane
 untaken None post lane away = refl
 untaken (Some place) post lane away = rw (away.0, and-false (post.client == place.client)) refl
@@ -140,7 +140,7 @@ pub every_message_sent_waits : EveryMessageSentWaits
 every_message_sent_waits old new e post may x is =
     let shape : Shape = shape_of old.geometry in
     let block : ℕ = block_of shape e in
-    let s : Block = block_at old block in
+    let s : Block = end_at old block in
     let c : ℕ = post.client in
     let l : Channel = post.channel in
     let lane : Lane = lane_at old c l in
@@ -177,7 +177,7 @@ last-takes shape image log (y ∷ es) e takes =
     (last-takes shape image (log ++ y ∷ []) es e takes.1)
 
 -- an event that takes from a channel sends nothing there
-unsent : (place : Place) (post : Option Post) (block : ℕ) (lane : Lane) → ApartIf (Some place) post
+unsent : (place : LinkChannel) (post : Option Post) (block : ℕ) (lane : Lane) → ApartIf (Some place) post
     → sent_to post block place.client place.channel lane ≡ lane
 unsent place None block lane away = refl
 unsent place (Some post) block lane away = rw (away.1, and-false (place.client == post.client)) refl
@@ -187,17 +187,17 @@ pub every_message_taken_is_first : EveryMessageTakenIsFirst
 every_message_taken_is_first old new e place lawful x is =
     let shape : Shape = shape_of old.geometry in
     let block : ℕ = block_of shape e in
-    let s : Block = block_at old block in
+    let s : Block = end_at old block in
     let takes : TakeInOrder shape old.image [] (old.log ++ e ∷ []) =
     back (λ g i log. TakeInOrder (shape_of g) i [] log) old new e x lawful.takes in
     let next : IsNext shape old.image old.log block (take_of e) = last-takes shape old.image [] old.log e takes in
     let first = first-is block (lane_at old place.client place.channel).messages
-    (subst (λ (p : Option Place). IsNext shape old.image old.log block p) is next) in
+    (subst (λ (p : Option LinkChannel). IsNext shape old.image old.log block p) is next) in
     let away : ApartIf (Some place) (post_of shape s e) =
-    subst (λ (p : Option Place). ApartIf p (post_of shape s e)) is (apart shape s e) in
+    subst (λ (p : Option LinkChannel). ApartIf p (post_of shape s e)) is (apart shape s e) in
     let lane : Lane = lane_at old place.client place.channel in
     let shorter : taken_from (take_of e) place.client place.channel lane ≡ without_first lane =
-    ap (λ (p : Option Place). taken_from p place.client place.channel lane) is
+    ap (λ (p : Option LinkChannel). taken_from p place.client place.channel lane) is
     ∙ rw (is_here-self place.client place.channel) refl in
     record {
       message = first.0;

@@ -9,8 +9,8 @@ use Rattle.tl_types.specs.declared.message.Body.TheVariants.{AcquireBlock, Probe
 use Rattle.tl_types.specs.declared.message.Message.{Message}
 use Rattle.tl_types.specs.declared.permission.Perm.{Perm}
 use Rattle.tl_types.specs.declared.permission.Perm.TheVariants.{None as p_None, Branch, Tip}
-use Rattle.tl_types.specs.declared.wait.Wait.{Wait}
-use Rattle.tl_types.specs.declared.wait.Wait.TheVariants.{Nothing, ForGrant, ForReleaseAck}
+use Rattle.tl_types.specs.declared.wait.Awaited.{Awaited}
+use Rattle.tl_types.specs.declared.wait.Awaited.TheVariants.{Nothing, ForGrant, ForReleaseAck}
 use Rattle.tl_protocol.specs.Home.{IsRequest, IsData}
 use Rattle.tl_protocol.specs.Queue.{HasFirst}
 use Rattle.tl_protocol.specs.declared.home.Outward.{Outward}
@@ -60,7 +60,7 @@ writes : (p : Perm) → p ≡ Tip → nat_lt (rank p) 2 ≡ false
 writes p is = rw is refl
 
 -- who waits for nothing does not wait
-idle : (wait : Wait) → wait ≡ Nothing → is_waiting wait ≡ false
+idle : (wait : Awaited) → wait ≡ Nothing → is_waiting wait ≡ false
 idle wait is = ap is_waiting is
 
 -- a permission is of its own rank
@@ -68,7 +68,7 @@ same-rank : (p q : Perm) → p ≡ q → not (rank p == rank q) ≡ false
 same-rank p q is = ap not (eq-eqb (rank p) (rank q) (ap rank is))
 
 -- who waits for no ReleaseAck awaits none
-no-ack : (wait : Wait) → wait ≢ ForReleaseAck → awaits_release_ack wait ≡ false
+no-ack : (wait : Awaited) → wait ≢ ForReleaseAck → awaits_release_ack wait ≡ false
 no-ack Nothing other = refl
 no-ack ForGrant other = refl
 no-ack ForReleaseAck other = absurd (other refl)

@@ -5,3 +5,4 @@ pub mod Forbidden
 pub mod Logged
 pub mod Named
 pub mod Sent
+pub mod Permissions

@@ -28,7 +28,7 @@ use Rattle.tl_protocol_lanes.proofs.Logs.{first_heads_its_list}
 use Rattle.tl_bank_spec.specs.Cases.{begins, block_named, first_block, is_a_release, waiting_at}
 use Rattle.tl_bank_spec.specs.Delivered.{Sends}
 use Rattle.tl_bank_spec.specs.Effects.{answer_to}
-use Rattle.tl_bank_spec.specs.View.{View, block_at, shape_of}
+use Rattle.tl_bank_spec.specs.View.{View, end_at, shape_of}
 use Rattle.tl_bank_spec.specs.Steps.{Extends}
 use Rattle.tl_bank_spec.specs.Channels.{lane_at, next_ticket}
 use Rattle.tl_bank_spec.proofs.Delivered.{every_message_sent_waits}
@@ -62,7 +62,7 @@ pub sends-answer : (v w : View) (c b : ℕ) → Extends v w (AnswerProbe c b)
 sends-answer v w c b x run =
     let e : Event = AnswerProbe c b in
     let may = may-next v w e x run in
-    let post = answer-posts c ((block_at v b).client c) ((block_at v b).client c).b may.1.1.0 in
+    let post = answer-posts c ((end_at v b).client c) ((end_at v b).client c).b may.1.1.0 in
     every_message_sent_waits v w e (record { client = c; channel = C; body = post.0 }) may x post.1
 
 -- a GrantAck
@@ -91,7 +91,7 @@ pub sends-grant : (v w : View) (c b : ℕ) → Extends v w (SendGrant c b)
 sends-grant v w c b x run =
     let e : Event = SendGrant c b in
     let may = may-next v w e x run in
-    let post = grant-posts (shape_of v.geometry) (block_at v b) c (block_at v b).accepted _ may.1.1.0.1 in
+    let post = grant-posts (shape_of v.geometry) (end_at v b) c (end_at v b).accepted _ may.1.1.0.1 in
     every_message_sent_waits v w e (record { client = c; channel = D; body = post.0 }) may x post.1
 
 -- ## The ReleaseAck
@@ -108,11 +108,11 @@ release-posts c list body (Release given) rest is at release =
 -- where the first message of C is a Release, taking it sends a ReleaseAck
 acks : (v : View) (c : ℕ) (messages : List Message) → Lawful (shape_of v.geometry) v.image v.log
     → messages ≡ (lane_at v c C).messages → begins is_a_release messages ≡ true
-    → ack_post c ((block_at v (first_block messages)).client c).c
+    → ack_post c ((end_at v (first_block messages)).client c).c
     ≡ Some (record { client = c; channel = D; body = b_Downward ReleaseAck })
 acks v c [] lawful is release = cc
 acks v c (message ∷ rest) lawful is release =
-    let k : Client = (block_at v message.block).client c in
+    let k : Client = (end_at v message.block).client c in
     let heads = first_heads_its_list (shape_of v.geometry) v.image v.log c C message rest lawful (sym is) in
     let first = (every_first_is_first k).on_c message.body (bodies_of message.block rest) heads in
     release-posts c k.c message.body first.0 first.1 first.2 first.3 release

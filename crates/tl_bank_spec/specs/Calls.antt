@@ -10,7 +10,7 @@ use Rattle.tl_types.specs.declared.permission.Grow.{Grow}
 use Rattle.tl_types.specs.declared.permission.Prune.{Prune}
 use Rattle.tl_types.specs.declared.ticket.Ticket.{Ticket}
 use Rattle.tl_map.specs.Places.{block_of_address}
-use Rattle.tl_bank_spec.specs.Share.{Holding}
+use Rattle.tl_bank_spec.specs.Share.{ShareView}
 use Rattle.tl_bank_spec.specs.View.{View}
 use Rattle.tl_bank_spec.specs.Cases.{no_client, no_block, bad_access, elsewhere, bad_share, other_share, may_not_read, may_not_write, waits, other_perm, copies_full, release_pending, clock_full, link_full, is_empty, any_body, is_a_release_ack, waiting_at, block_named, other_channel, not_head}
 use Rattle.tl_bank_spec.specs.declared.refusal.Refusal.TheVariants.{NoPermission, Waiting, WrongFrom, NothingThere, NotHead, ReleasePending, OutOfRange, WrongBank, CopiesFull, LinkFull, ClockFull}
@@ -46,7 +46,7 @@ acquire_cases v client block grow =
     ∷ (link_full v client A, LinkFull) ∷ []
 
 -- the cases in which a client's Release is refused, in the order in which they are tested
-abbrev pub release_cases : View → ℕ → ℕ → Prune → Holding → List Case
+abbrev pub release_cases : View → ℕ → ℕ → Prune → ShareView → List Case
 release_cases v client block prune share =
     (no_client v client || no_block v block || bad_share v client share, OutOfRange)
     ∷ (elsewhere v block || other_share v share, WrongBank)
@@ -67,21 +67,21 @@ ticket_cases v ticket channel kind =
     (no_client v ticket.client, OutOfRange) ∷ (not (ticket.bank == v.number), WrongBank) ∷ message_cases v ticket channel kind
 
 -- The same where the call takes a share as well.
-abbrev pub shared_ticket_cases : View → Ticket → Holding → Channel → (Body → Bool) → List Case
+abbrev pub shared_ticket_cases : View → Ticket → ShareView → Channel → (Body → Bool) → List Case
 shared_ticket_cases v ticket share channel kind =
     (no_client v ticket.client || bad_share v ticket.client share, OutOfRange)
     ∷ (not (ticket.bank == v.number) || other_share v share, WrongBank)
     ∷ message_cases v ticket channel kind
 
 -- the cases in which the answer to a Probe is refused, in the order in which they are tested
-abbrev pub answer_probe_cases : View → Ticket → Holding → List Case
+abbrev pub answer_probe_cases : View → Ticket → ShareView → List Case
 answer_probe_cases v ticket share =
     shared_ticket_cases v ticket share B any_body
     ++ (release_pending v ticket.client (block_named v ticket B), ReleasePending)
     ∷ (link_full v ticket.client C, LinkFull) ∷ []
 
 -- the cases in which the taking of a Grant is refused, in the order in which they are tested
-abbrev pub take_grant_cases : View → Ticket → Holding → List Case
+abbrev pub take_grant_cases : View → Ticket → ShareView → List Case
 take_grant_cases v ticket share = shared_ticket_cases v ticket share D is_a_grant ++ (link_full v ticket.client E, LinkFull) ∷ []
 
 -- the cases in which the taking of a ReleaseAck is refused, in the order in which they are tested

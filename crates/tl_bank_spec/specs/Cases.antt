@@ -10,11 +10,11 @@ use Rattle.tl_types.specs.declared.message.Upward.{Upward}
 use Rattle.tl_types.specs.declared.message.Upward.TheVariants.{ProbeAck, Release}
 use Rattle.tl_types.specs.declared.permission.Perm.{Perm}
 use Rattle.tl_types.specs.declared.ticket.Ticket.{Ticket}
-use Rattle.tl_types.specs.declared.wait.Wait.{Wait}
-use Rattle.tl_types.specs.declared.wait.Wait.TheVariants.{Nothing, ForGrant, ForReleaseAck}
+use Rattle.tl_types.specs.declared.wait.Awaited.{Awaited}
+use Rattle.tl_types.specs.declared.wait.Awaited.TheVariants.{Nothing, ForGrant, ForReleaseAck}
 use Rattle.tl_types.specs.Message.{is_grant}
 use Rattle.tl_map.specs.Places.{bank_of, has_block, has_bytes}
-use Rattle.tl_bank_spec.specs.Share.{Holding}
+use Rattle.tl_bank_spec.specs.Share.{ShareView}
 use Rattle.tl_bank_spec.specs.View.{View, client_at, perm_at}
 use Rattle.tl_bank_spec.specs.Channels.{lane_at}
 use Rattle.tl_bank_spec.specs.Tables.{has_entry, entries_at, copies_at, is_waiting}
@@ -39,12 +39,12 @@ abbrev pub elsewhere : View → ℕ → Bool
 elsewhere v block = not (bank_of v.geometry block == v.number)
 
 -- a share of another client, or of this bank with another count than the client's copies in it
-abbrev pub bad_share : View → ℕ → Holding → Bool
+abbrev pub bad_share : View → ℕ → ShareView → Bool
 bad_share v client share =
     not (share.client == client) || ((share.bank == v.number) && not (share.count == copies_at v client))
 
 -- a share of another bank
-abbrev pub other_share : View → Holding → Bool
+abbrev pub other_share : View → ShareView → Bool
 other_share v share = not (share.bank == v.number)
 
 -- ## What the client has and waits for
@@ -71,7 +71,7 @@ copies_full v client block =
     not (has_entry (client_at v client block)) && nat_le v.geometry.copies (entries_at v client)
 
 -- what is waited for is a ReleaseAck
-abbrev pub awaits_release_ack : Wait → Bool
+abbrev pub awaits_release_ack : Awaited → Bool
 awaits_release_ack Nothing = false
 awaits_release_ack ForGrant = false
 awaits_release_ack ForReleaseAck = true

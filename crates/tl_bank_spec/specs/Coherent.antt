@@ -6,7 +6,7 @@ use Rattle.tl_protocol.specs.Coherent.{AreLast, LoadsLast}
 use Rattle.tl_protocol.specs.Copy.{bytes_of}
 use Rattle.tl_protocol.specs.Runs.{IsRun}
 use Rattle.tl_protocol.specs.declared.home.Line.{Line}
-use Rattle.tl_bank_spec.specs.View.{View, block_at, client_at, perm_at, shape_of}
+use Rattle.tl_bank_spec.specs.View.{View, end_at, client_at, perm_at, shape_of}
 
 -- What happened is a run from reset to what the bank holds, and what it holds is coherent.
 pub record IsCoherent (v : View) : Type 0 where
@@ -16,7 +16,7 @@ pub record IsCoherent (v : View) : Type 0 where
   pub alone : (block x y : ℕ) → x ≢ y → perm_at v x block ≡ Tip → perm_at v y block ≡ p_None
   -- every copy stands in the directory, and at home
   pub recorded : (block x : ℕ) → rank (perm_at v x block) ≤ rank (client_at v x block).recorded
-  pub at_home : (block x : ℕ) → perm_at v x block ≢ p_None → (line : Line) × ((block_at v block).home ≡ Some line)
+  pub at_home : (block x : ℕ) → perm_at v x block ≢ p_None → (line : Line) × ((end_at v block).home ≡ Some line)
   -- every readable copy is a whole block, and has the bytes last stored
   pub whole :
       (block x : ℕ) → perm_at v x block ≢ p_None → length (bytes_of (client_at v x block).held) ≡ v.geometry.block_bytes

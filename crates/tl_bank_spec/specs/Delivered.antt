@@ -7,13 +7,13 @@ use Rattle.tl_types.specs.declared.message.Message.{Message}
 use Rattle.tl_types.specs.declared.ticket.Ticket.{Ticket}
 use Rattle.tl_protocol.specs.Protocol.{block_of}
 use Rattle.tl_protocol.specs.declared.event.Event.{Event}
-use Rattle.tl_protocol_lanes.specs.Lanes.{Place, Post, post_of, take_of}
+use Rattle.tl_protocol_lanes.specs.Lanes.{LinkChannel, Post, post_of, take_of}
 use Rattle.tl_protocol_lanes.specs.Lawful.{Lawful}
 use Rattle.tl_bank_spec.specs.Calls.{ticket_cases, shared_ticket_cases}
 use Rattle.tl_bank_spec.specs.Forbidden.{MayAt}
 use Rattle.tl_bank_spec.specs.Refusal.{Case, first_of}
-use Rattle.tl_bank_spec.specs.Share.{Holding}
-use Rattle.tl_bank_spec.specs.View.{View, block_at, shape_of}
+use Rattle.tl_bank_spec.specs.Share.{ShareView}
+use Rattle.tl_bank_spec.specs.View.{View, end_at, shape_of}
 use Rattle.tl_bank_spec.specs.Steps.{Extends}
 use Rattle.tl_bank_spec.specs.Channels.{lane_at, next_ticket}
 use Rattle.tl_bank_spec.specs.Views.{in_flight_at}
@@ -21,12 +21,12 @@ use Rattle.tl_bank_spec.specs.Views.{in_flight_at}
 -- The message that an event sends, of its own block, waits then under this ticket.
 pub record Sends (old new : View) (event : Event) (ticket : Ticket) : Type 0 where
   pub post : Post
-  pub sent : post_of (shape_of old.geometry) (block_at old (block_of (shape_of old.geometry) event)) event ≡ Some post
+  pub sent : post_of (shape_of old.geometry) (end_at old (block_of (shape_of old.geometry) event)) event ≡ Some post
   pub named : ticket ≡ next_ticket old post.client post.channel
   pub waits : in_flight_at new ticket ≡ Some (record { block = block_of (shape_of old.geometry) event; body = post.body })
 
 -- An event takes the first message of a channel, which is of its own block, and the channel loses just that.
-pub record Takes (old new : View) (event : Event) (place : Place) : Type 0 where
+pub record Takes (old new : View) (event : Event) (place : LinkChannel) : Type 0 where
   pub message : Message
   pub rest : List Message
   pub first : (lane_at old place.client place.channel).messages ≡ message ∷ rest
@@ -46,13 +46,13 @@ pub record NamesFirst (v : View) (ticket : Ticket) (channel : Channel) (kind : B
 abbrev pub EveryMessageSentWaits : Type 0
 EveryMessageSentWaits =
     (old new : View) (e : Event) (post : Post) → MayAt old e → Extends old new e
-    → post_of (shape_of old.geometry) (block_at old (block_of (shape_of old.geometry) e)) e ≡ Some post
+    → post_of (shape_of old.geometry) (end_at old (block_of (shape_of old.geometry) e)) e ≡ Some post
     → Sends old new e (next_ticket old post.client post.channel)
 
 -- What the last event of a lawful log took was the first message of its channel.
 abbrev pub EveryMessageTakenIsFirst : Type 0
 EveryMessageTakenIsFirst =
-    (old new : View) (e : Event) (place : Place) → Lawful (shape_of new.geometry) new.image new.log → Extends old new e
+    (old new : View) (e : Event) (place : LinkChannel) → Lawful (shape_of new.geometry) new.image new.log → Extends old new e
     → take_of e ≡ Some place → Takes old new e place
 
 -- So is the message that a call takes whose ticket is not refused: it is the one that its ticket names. The cases of each call with
@@ -61,5 +61,5 @@ abbrev pub EveryTicketNamesTheFirst : Type 0
 EveryTicketNamesTheFirst =
     (v : View) (ticket : Ticket) (channel : Channel) (kind : Body → Bool) (more : List Case)
     → (first_of (ticket_cases v ticket channel kind ++ more) ≡ None → NamesFirst v ticket channel kind)
-    × ((share : Holding) → first_of (shared_ticket_cases v ticket share channel kind ++ more) ≡ None
+    × ((share : ShareView) → first_of (shared_ticket_cases v ticket share channel kind ++ more) ≡ None
     → NamesFirst v ticket channel kind)

@@ -1,5 +1,5 @@
 -- What the calls of home and of the memory leave, and what they answer (this project's own).
-use Rattle.std.specs.Prelude.{◌≡◌, ◌⊎◌, ℕ, ◌+◌, ◌==◌, ◌≤◌, List, [], ◌∷◌, ◌++◌, Option, Some, None, if◌then◌else◌}
+use Rattle.std.specs.Prelude.{◌≡◌, ◌⊎◌, ℕ, ◌+◌, ◌^◌, ◌==◌, ◌≤◌, List, [], ◌∷◌, ◌++◌, Option, Some, None, if◌then◌else◌}
 use Rattle.tl_types.specs.declared.channel.Channel.TheVariants.{A, B, C, D}
 use Rattle.tl_types.specs.declared.message.Body.TheVariants.{AcquireBlock}
 use Rattle.tl_types.specs.declared.message.Message.{Message}
@@ -11,6 +11,8 @@ use Rattle.tl_protocol.specs.Protocol.{Block}
 use Rattle.tl_protocol.specs.declared.event.Event.{Event}
 use Rattle.tl_protocol.specs.declared.event.Event.TheVariants.{AcceptAcquire, TakeData, TakePutAck}
 use Rattle.tl_protocol.specs.declared.home.Outward.TheVariants.{Get, Put, PutAck}
+use Rattle.tl_memory.specs.declared.request.Reply.{Reply}
+use Rattle.tl_memory.specs.declared.request.Reply.TheVariants.{AccessAckData, AccessAck}
 use Rattle.tl_registers.specs.Fit.{event_of}
 use Rattle.tl_registers.specs.Register.{acquire_task, opened}
 use Rattle.tl_registers.specs.Registers.{ended, noted, register_of}
@@ -20,18 +22,16 @@ use Rattle.tl_registers.specs.declared.register.Register.{Register}
 use Rattle.tl_registers.specs.declared.register.Task.TheVariants.{Evict}
 use Rattle.tl_bank_spec.specs.Cases.{begins, is_a_release, waiting_at}
 use Rattle.tl_bank_spec.specs.HomeCases.{due_at}
-use Rattle.tl_bank_spec.specs.View.{View, block_at}
+use Rattle.tl_bank_spec.specs.View.{View, end_at}
 use Rattle.tl_bank_spec.specs.Channels.{next_ticket}
 use Rattle.tl_bank_spec.specs.Own.{way_at}
 use Rattle.tl_bank_spec.specs.Ways.{IsWayFor, victim_of_way, way_in_set}
 use Rattle.tl_bank_spec.specs.declared.action.Action.{Action}
 use Rattle.tl_bank_spec.specs.declared.action.Action.TheVariants.{Probe as did_Probe, Grant as did_Grant, Get as did_Get, Put as did_Put, Drop as did_Drop}
-use Rattle.tl_bank_spec.specs.declared.reply.Reply.{Reply}
-use Rattle.tl_bank_spec.specs.declared.reply.Reply.TheVariants.{AccessAckData, AccessAck}
 
 -- One event at the log's end, and at most one from the room; these registers are open and the blocks lie in these ways;
 -- nothing else changed.
-pub record Serves (old new : View) (event : Event) (open_then : List Register) (lies_then : ℕ → Option ℕ) : Type 0 where
+pub record AppendsWith (old new : View) (event : Event) (open_then : List Register) (lies_then : ℕ → Option ℕ) : Type 0 where
   pub is :
       new ≡ record old { log = old.log ++ event ∷ []; room = new.room; registers = open_then; ways = new.ways }
   pub room : old.room ≤ new.room + 1
@@ -47,7 +47,7 @@ pub record Accepts (old new : View) (ticket : Ticket) (block set : ℕ) : Type 0
   pub way : ℕ
   pub is_way : IsWayFor old set (way_at old block) way
   pub serves :
-      Serves old new (AcceptAcquire ticket.client block)
+      AppendsWith old new (AcceptAcquire ticket.client block)
       (old.registers ++ opened block (way_in_set set way)
       (acquire_task (record { client = ticket.client; grow = grow })
       (victim_of_way old set (way_at old block) way)) ∷ []) (way_at old)
@@ -94,7 +94,7 @@ pub record Advances (old new : View) (own : ℕ) (action : Action) : Type 0 wher
   pub due : Due
   pub is_due : due_at old own ≡ Some due
   pub serves :
-      Serves old new (event_of own due) (registers_after own due old.registers) (ways_after due (way_at old))
+      AppendsWith old new (event_of own due) (registers_after own due old.registers) (ways_after due (way_at old))
   pub answer : action ≡ action_of old due
 
 -- ## take_c
@@ -105,24 +105,30 @@ answer_to v ticket = if begins is_a_release (waiting_at v ticket C) then Some (n
 
 -- ## The memory
 
--- what the memory answers: to a Get the block's bytes, to a Put that they are written
-abbrev pub MemoryReplies : Block → Reply → Type 0
-MemoryReplies block reply =
-    ((block.outward ≡ Get) × (reply ≡ AccessAckData block.memory))
-    ⊎ ((bytes : List ℕ) × (block.outward ≡ Put bytes) × (reply ≡ AccessAck))
+-- what the memory answers to what passes of a block: to a Get the block's bytes, to a Put that they are written
+abbrev pub AnswersRequest : Block → ℕ → Reply → Type 0
+AnswersRequest block size reply =
+    ((block.outward ≡ Get) × (reply ≡ AccessAckData size block.memory))
+    ⊎ ((bytes : List ℕ) × (block.outward ≡ Put bytes) × (reply ≡ AccessAck size))
+
+-- The memory's reply to the request of a block. Its size is the base-2 logarithm of the block's bytes.
+pub record MemoryReplies (v : View) (block : ℕ) (reply : Reply) : Type 0 where
+  pub size : ℕ
+  pub is_size : 2 ^ size ≡ v.geometry.block_bytes
+  pub answers : AnswersRequest (end_at v block) size reply
 
 -- Home takes the bytes that it asked for: the block lies in the way that its register holds.
 pub record TakesData (old new : View) (block : ℕ) : Type 0 where
-  pub came : IsData (block_at old block).outward
+  pub came : IsData (end_at old block).outward
   pub register : Register
   pub is_register : register_of block old.registers ≡ Some register
   pub serves :
-      Serves old new (TakeData block) old.registers (λ b. if b == block then Some register.way.way else way_at old b)
+      AppendsWith old new (TakeData block) old.registers (λ b. if b == block then Some register.way.way else way_at old b)
 
 -- Home takes the acknowledgement of a Put: the block is no register's victim any more.
 pub record TakesPutAck (old new : View) (block : ℕ) : Type 0 where
-  pub came : (block_at old block).outward ≡ PutAck
-  pub serves : Serves old new (TakePutAck block) (ended block old.registers) (way_at old)
+  pub came : (end_at old block).outward ≡ PutAck
+  pub serves : AppendsWith old new (TakePutAck block) (ended block old.registers) (way_at old)
 
 -- home takes what the memory answered: bytes, or the acknowledgement of a Put
 abbrev pub TakesMemory : View → View → ℕ → Type 0

@@ -13,14 +13,14 @@ use Rattle.tl_bank_spec.specs.Calls.{load_cases, store_cases, acquire_cases, rel
 use Rattle.tl_bank_spec.specs.Cases.{block_named}
 use Rattle.tl_bank_spec.specs.HomeCalls.{accept_cases, take_c_cases, take_grant_ack_cases, serve_memory_cases, take_memory_cases}
 use Rattle.tl_bank_spec.specs.Refusal.{Case, first_of}
-use Rattle.tl_bank_spec.specs.Share.{Holding}
-use Rattle.tl_bank_spec.specs.View.{View, block_at, shape_of}
+use Rattle.tl_bank_spec.specs.Share.{ShareView}
+use Rattle.tl_bank_spec.specs.View.{View, end_at, shape_of}
 use Rattle.tl_bank_spec.specs.declared.refusal.Refusal.{Refusal}
 use Rattle.tl_bank_spec.specs.declared.refusal.Refusal.TheVariants.{NoPermission, Waiting, WrongFrom, NothingThere, ReleasePending}
 
 -- the protocol permits an event at the end of a bank's log
 abbrev pub MayAt : View → Event → Type 0
-MayAt v e = MayNext (shape_of v.geometry) (block_at v) e
+MayAt v e = MayNext (shape_of v.geometry) (end_at v) e
 
 -- a call with these cases that is refused so could not have made this event
 abbrev pub Forbids : View → List Case → Refusal → Event → Type 0
@@ -38,23 +38,23 @@ pub record ForbidsClients (v : View) : Type 0 where
   pub acquire_from :
       (client block : ℕ) (grow : Grow) → Forbids v (acquire_cases v client block grow) WrongFrom (SendAcquire client block grow)
   pub release_waits :
-      (client block : ℕ) (prune : Prune) (share : Holding)
+      (client block : ℕ) (prune : Prune) (share : ShareView)
       → Forbids v (release_cases v client block prune share) Waiting (SendRelease client block prune)
   pub release_from :
-      (client block : ℕ) (prune : Prune) (share : Holding)
+      (client block : ℕ) (prune : Prune) (share : ShareView)
       → Forbids v (release_cases v client block prune share) WrongFrom (SendRelease client block prune)
   -- with nothing on the channel, of whichever block
   pub answer_probe :
-      (ticket : Ticket) (share : Holding) (block : ℕ)
+      (ticket : Ticket) (share : ShareView) (block : ℕ)
       → Forbids v (answer_probe_cases v ticket share) NothingThere (AnswerProbe ticket.client block)
   pub take_grant :
-      (ticket : Ticket) (share : Holding) (block : ℕ)
+      (ticket : Ticket) (share : ShareView) (block : ℕ)
       → Forbids v (take_grant_cases v ticket share) NothingThere (TakeGrant ticket.client block)
   pub take_release_ack :
       (ticket : Ticket) (block : ℕ) → Forbids v (take_release_ack_cases v ticket) NothingThere (TakeReleaseAck ticket.client block)
   -- while a Release waits for its answer, of the block of the first Probe
   pub answer_pending :
-      (ticket : Ticket) (share : Holding)
+      (ticket : Ticket) (share : ShareView)
       → Forbids v (answer_probe_cases v ticket share) ReleasePending (AnswerProbe ticket.client (block_named v ticket B))
 
 -- What a call of home or of the memory was refused by the protocol was not permitted.

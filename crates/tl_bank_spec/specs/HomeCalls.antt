@@ -6,7 +6,7 @@ use Rattle.tl_types.specs.declared.ticket.Ticket.{Ticket}
 use Rattle.tl_bank_spec.specs.Calls.{ticket_cases}
 use Rattle.tl_bank_spec.specs.Cases.{no_block, elsewhere, any_body, block_named}
 use Rattle.tl_bank_spec.specs.HomeCases.{busy, lacks, no_register, due_at, due_full, answer_full, is_request, is_reply}
-use Rattle.tl_bank_spec.specs.View.{View, block_at}
+use Rattle.tl_bank_spec.specs.View.{View, end_at}
 use Rattle.tl_bank_spec.specs.Ways.{registers_full}
 use Rattle.tl_bank_spec.specs.declared.refusal.Refusal.TheVariants.{NothingThere, NoRegister, BlockBusy, NotYet, OutOfRange, WrongBank, LinkFull}
 
@@ -46,11 +46,11 @@ abbrev pub serve_memory_cases : View → ℕ → List Case
 serve_memory_cases v block =
     (no_block v block, OutOfRange)
     ∷ (elsewhere v block, WrongBank)
-    ∷ (not (is_request (block_at v block).outward), NothingThere) ∷ []
+    ∷ (not (is_request (end_at v block).outward), NothingThere) ∷ []
 
 -- the cases in which the taking of the memory's answer is refused, in the order in which they are tested
 abbrev pub take_memory_cases : View → ℕ → List Case
 take_memory_cases v block =
     (no_block v block, OutOfRange)
     ∷ (elsewhere v block, WrongBank)
-    ∷ (not (is_reply (block_at v block).outward), NothingThere) ∷ []
+    ∷ (not (is_reply (end_at v block).outward), NothingThere) ∷ []

@@ -9,7 +9,7 @@ use Rattle.tl_registers.specs.declared.due.Due.{Due}
 use Rattle.tl_registers.specs.declared.due.Due.TheVariants.{Probe as due_Probe, Grant as due_Grant}
 use Rattle.tl_registers.specs.Registers.{due_of, is_busy, register_of}
 use Rattle.tl_bank_spec.specs.Cases.{begins, is_a_release, link_full, waiting_at}
-use Rattle.tl_bank_spec.specs.View.{View, block_at, shape_of}
+use Rattle.tl_bank_spec.specs.View.{View, end_at, shape_of}
 use Rattle.tl_bank_spec.specs.Ways.{registers_full, ways_held}
 
 -- the block is the own block or the victim of an open register
@@ -18,7 +18,7 @@ busy v block = is_busy block v.registers
 
 -- home does not hold the block
 abbrev pub lacks : View → ℕ → Bool
-lacks v block = is_none (block_at v block).home
+lacks v block = is_none (end_at v block).home
 
 -- all registers are in use; or home lacks the block, and every way of its set is held
 abbrev pub no_register : View → ℕ → Bool
@@ -26,7 +26,7 @@ no_register v block = registers_full v || (lacks v block && ways_held v (set_of 
 
 -- what the register of a block does next: nothing where it waits, and where the block is no register's own
 abbrev pub due_at : View → ℕ → Option Due
-due_at v block = due_of (shape_of v.geometry) (block_at v) (register_of block v.registers)
+due_at v block = due_of (shape_of v.geometry) (end_at v) (register_of block v.registers)
 
 -- 64 messages are on the channel that an action sends on
 abbrev pub due_full : View → Option Due → Bool

@@ -6,7 +6,7 @@ use Rattle.tl_registers.specs.Registers.{register_of}
 use Rattle.tl_registers.specs.declared.register.Register.{Register}
 use Rattle.tl_registers.specs.declared.register.Task.{Task}
 use Rattle.tl_registers.specs.declared.register.Task.TheVariants.{Acquire, Replace, Evict}
-use Rattle.tl_bank_spec.specs.View.{View, block_at}
+use Rattle.tl_bank_spec.specs.View.{View, end_at}
 use Rattle.tl_bank_spec.specs.Own.{IsOwn, way_at}
 
 -- ## The Acquire that home serves
@@ -24,13 +24,13 @@ accepted_by (Some r) = acquire_in r.task
 
 -- home serves of each block the Acquire of the register that is open for it, and else none
 abbrev pub ServesByRegisters : View → Type 0
-ServesByRegisters v = (block : ℕ) → (block_at v block).accepted ≡ accepted_by (register_of block v.registers)
+ServesByRegisters v = (block : ℕ) → (end_at v block).accepted ≡ accepted_by (register_of block v.registers)
 
 -- ## Where home's blocks lie
 
 -- A block of the bank lies in one of the ways of its set just where home holds it, and no other block of the set lies there.
 pub record LiesAlone (v : View) : Type 0 where
-  pub holds : (block : ℕ) → IsOwn v.geometry v.number block → is_none (block_at v block).home ≡ is_none (way_at v block)
+  pub holds : (block : ℕ) → IsOwn v.geometry v.number block → is_none (end_at v block).home ≡ is_none (way_at v block)
   pub inside : (block way : ℕ) → IsOwn v.geometry v.number block → way_at v block ≡ Some way → way < v.geometry.ways
   pub alone :
       (a b way : ℕ) → IsOwn v.geometry v.number a → IsOwn v.geometry v.number b → set_of v.geometry a ≡ set_of v.geometry b

@@ -8,6 +8,7 @@ pub mod Forbidden
 pub mod HomeCalls
 pub mod HomeCases
 pub mod Kept
+pub mod Permissions
 pub mod Refusal
 pub mod Share
 pub mod View

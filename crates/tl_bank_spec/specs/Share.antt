@@ -4,13 +4,13 @@ use Rattle.tl_types.specs.declared.permission.Perm.{Perm}
 use Rattle.tl_protocol.specs.Protocol.{is_none}
 
 -- a share: a client, a bank, and how many copies the client has in it
-pub record Holding : Type 0 where
+pub record ShareView : Type 0 where
   pub client : ℕ
   pub bank : ℕ
   pub count : ℕ
 
 -- the shares of the first n clients in a bank where nobody has a copy
-abbrev pub first_shares : ℕ → ℕ → List Holding
+abbrev pub first_shares : ℕ → ℕ → List ShareView
 first_shares bank zero = []
 first_shares bank (suc n) = first_shares bank n ++ record { client = n; bank = bank; count = 0 } ∷ []
 
@@ -21,5 +21,5 @@ recount before later count =
     else (if is_none later then count - 1 else count)
 
 -- the share after that
-abbrev pub recounted : Perm → Perm → Holding → Holding
+abbrev pub recounted : Perm → Perm → ShareView → ShareView
 recounted before later share = record share { count = recount before later share.count }

@@ -1,8 +1,8 @@
 -- A client's table of copies as the log leaves it (this project's own).
 use Rattle.std.specs.Prelude.{ℕ, Bool, true, false}
 use Rattle.tl_types.specs.Count.{count_below}
-use Rattle.tl_types.specs.declared.wait.Wait.{Wait}
-use Rattle.tl_types.specs.declared.wait.Wait.TheVariants.{Nothing, ForGrant, ForReleaseAck}
+use Rattle.tl_types.specs.declared.wait.Awaited.{Awaited}
+use Rattle.tl_types.specs.declared.wait.Awaited.TheVariants.{Nothing, ForGrant, ForReleaseAck}
 use Rattle.tl_protocol.specs.Ledger.{has_copy}
 use Rattle.tl_protocol.specs.declared.client.Client.{Client}
 use Rattle.tl_protocol.specs.declared.copy.CachedCopy.{CachedCopy}
@@ -10,13 +10,13 @@ use Rattle.tl_protocol.specs.declared.copy.CachedCopy.TheVariants.{Absent, Reada
 use Rattle.tl_bank_spec.specs.View.{View, client_at}
 
 -- whether an answer is waited for
-abbrev pub is_waiting : Wait → Bool
+abbrev pub is_waiting : Awaited → Bool
 is_waiting Nothing = false
 is_waiting ForGrant = true
 is_waiting ForReleaseAck = true
 
 -- a client's table has an entry for a block while it has a copy of it or waits for an answer about it
-abbrev pub has_entry_for : CachedCopy → Wait → Bool
+abbrev pub has_entry_for : CachedCopy → Awaited → Bool
 has_entry_for Absent wait = is_waiting wait
 has_entry_for (Readable bytes) wait = true
 has_entry_for (Writable bytes dirty) wait = true

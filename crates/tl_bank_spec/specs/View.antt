@@ -33,12 +33,12 @@ shape_of g = record { clients = g.clients; block_bytes = g.block_bytes; blocks =
 -- ## What the log leaves
 
 -- of a block
-abbrev pub block_at : View → ℕ → Block
-block_at v block = end_of (shape_of v.geometry) v.image v.log block
+abbrev pub end_at : View → ℕ → Block
+end_at v block = end_of (shape_of v.geometry) v.image v.log block
 
 -- of a client's part of a block
 abbrev pub client_at : View → ℕ → ℕ → Client
-client_at v client block = (block_at v block).client client
+client_at v client block = (end_at v block).client client
 
 -- what a client may do with a block
 abbrev pub perm_at : View → ℕ → ℕ → Perm

@@ -7,7 +7,7 @@ use Rattle.tl_types.specs.declared.message.Message.{Message}
 use Rattle.tl_types.specs.declared.permission.Perm.{Perm}
 use Rattle.tl_types.specs.declared.permission.Perm.TheVariants.{None as p_None, Tip}
 use Rattle.tl_types.specs.declared.ticket.Ticket.{Ticket}
-use Rattle.tl_types.specs.declared.wait.Wait.TheVariants.{Nothing}
+use Rattle.tl_types.specs.declared.wait.Awaited.TheVariants.{Nothing}
 use Rattle.tl_map.specs.Places.{block_of_address, offset_of}
 use Rattle.tl_protocol.specs.Copy.{bytes_of}
 use Rattle.tl_protocol.specs.Ledger.{count_pairs}
@@ -18,7 +18,7 @@ use Rattle.tl_protocol.specs.declared.home.Outward.TheVariants.{Quiet, Get, Data
 use Rattle.tl_protocol_lanes.specs.Delivery.{all_sent, all_taken}
 use Rattle.tl_registers.specs.declared.register.Register.{Register}
 use Rattle.tl_bank_spec.specs.Cases.{no_client, no_block, elsewhere}
-use Rattle.tl_bank_spec.specs.View.{View, block_at, client_at, perm_at, shape_of}
+use Rattle.tl_bank_spec.specs.View.{View, end_at, client_at, perm_at, shape_of}
 use Rattle.tl_bank_spec.specs.Own.{IsOwn}
 use Rattle.tl_bank_spec.specs.Tables.{copies_at}
 use Rattle.tl_bank_spec.specs.Channels.{lane_at}
@@ -85,7 +85,7 @@ IsDelivered v client channel =
 
 -- the dirty flag of home's copy, where home has one
 abbrev pub dirty_at : View → ℕ → Option Bool
-dirty_at v block = if not_own v block then None else option_map (λ (line : Line). line.dirty) (block_at v block).home
+dirty_at v block = if not_own v block then None else option_map (λ (line : Line). line.dirty) (end_at v block).home
 
 -- whether home has a copy of a block of the bank
 abbrev pub is_at_home : View → ℕ → Bool
@@ -110,7 +110,7 @@ passing PutAck = Some PutAck
 
 -- what passes of a block between home and the memory, where anything does
 abbrev pub outward_at : View → ℕ → Option Outward
-outward_at v block = if not_own v block then None else passing (block_at v block).outward
+outward_at v block = if not_own v block then None else passing (end_at v block).outward
 
 -- the own blocks of the open registers, by the age of the registers
 abbrev pub own_blocks : View → List ℕ
@@ -131,7 +131,7 @@ pub record IsQuiet (v : View) : Type 0 where
   pub registers : v.registers ≡ []
   pub messages : (client : ℕ) → client < v.geometry.clients → HasNoMessage v client
   pub waits : (client : ℕ) → client < v.geometry.clients → AwaitsNothing v client
-  pub outward : (block : ℕ) → IsOwn v.geometry v.number block → (block_at v block).outward ≡ Quiet
+  pub outward : (block : ℕ) → IsOwn v.geometry v.number block → (end_at v block).outward ≡ Quiet
 
 -- ## Counts
 
@@ -142,7 +142,7 @@ blocks_below v (suc n) = if not_own v n then blocks_below v n else n ∷ blocks_
 
 -- how many pairs of a client and a block of the bank below a number pass a test
 abbrev pub pairs_below : (Client → Bool) → View → ℕ → ℕ
-pairs_below test v n = count_pairs test (shape_of v.geometry) (block_at v) (blocks_below v n)
+pairs_below test v n = count_pairs test (shape_of v.geometry) (end_at v) (blocks_below v n)
 
 -- how many pairs of a client and a block of the bank pass a test
 abbrev pub pairs_at : (Client → Bool) → View → ℕ

@@ -2,6 +2,7 @@
 ghost use Rattle.tl_bank_spec.specs.Counted.{EveryEventLeavesOtherCounts};
 ghost use Rattle.tl_bank_spec.specs.Delivered.{EveryMessageSentWaits, EveryMessageTakenIsFirst, EveryTicketNamesTheFirst};
 ghost use Rattle.tl_bank_spec.specs.Forbidden.{EveryRefusalIsTheProtocols};
+ghost use Rattle.tl_bank_spec.specs.Permissions.{EveryAnswerIsItsReport, EveryGrantEndsItsGrow};
 
 /// A call that is refused for NoPermission, Waiting, WrongFrom, NothingThere or ReleasePending was not permitted by the
 /// protocol at the end of the bank's log.
@@ -20,4 +21,11 @@ pub fn every_ticket()
     ensures sends { EveryMessageSentWaits }
     ensures takes { EveryMessageTakenIsFirst }
     ensures names { EveryTicketNamesTheFirst }
+{}
+
+/// The answer to a Probe reports what the copy's permission and the cap say; a Grant gives the permission that its Acquire's grow
+/// value ends with, or Tip where no other client has one.
+pub fn every_permission()
+    ensures answers { EveryAnswerIsItsReport }
+    ensures grants { EveryGrantEndsItsGrow }
 {}

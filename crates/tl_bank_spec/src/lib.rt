@@ -4,11 +4,9 @@
 mod action;
 mod laws;
 mod refusal;
-mod reply;
 mod when;
 
 pub use action::Action;
-pub use laws::{every_count, every_refusal, every_ticket};
+pub use laws::{every_count, every_permission, every_refusal, every_ticket};
 pub use refusal::Refusal;
-pub use reply::Reply;
 pub use when::{Loaded, When};

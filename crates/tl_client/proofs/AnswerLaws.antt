@@ -6,7 +6,7 @@ use Rattle.std.proofs.lemmas.List.Elements.{All-push}
 use Rattle.tl_script_words.specs.declared.command.Command.{Command}
 use Rattle.tl_script_words.specs.declared.command.Command.TheVariants.{Load, Store, Drop}
 use Rattle.tl_client_ports.specs.declared.port.Success.{Success}
-use Rattle.tl_client.specs.Answers.{HasItsBytes, IsAnswer, Told, answered_of, clock_after, commands_of, success_at, successes_of}
+use Rattle.tl_client.specs.Answers.{HasItsBytes, IsAnswer, AgentView, answered_of, clock_after, commands_of, success_at, successes_of}
 
 -- as many answers as got bytes
 pub length-answered : (bytes : List (List ℕ)) (script : List Command) → length bytes ≤ length script
@@ -46,7 +46,7 @@ beginning-push bytes new script b c e h i each last =
     )
 
 -- the success of one answer is what a port gains by its command
-pub gains-one : (t : Told) (client clock index stamp : ℕ) (c : Command) (b : List ℕ) (was is : List Success)
+pub gains-one : (t : AgentView) (client clock index stamp : ℕ) (c : Command) (b : List ℕ) (was is : List Success)
     → t.client ≡ client → t.clock ≡ clock → length t.answered ≡ index
     → is ≡ was ++ success_at client (record { clock = clock; index = index }) c b stamp
     → stamp ≡ clock_after clock (success_at client (record { clock = clock; index = index }) c b stamp)

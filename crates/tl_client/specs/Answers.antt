@@ -1,10 +1,11 @@
 -- What an agent's answers say of loads and stores (this project's own).
-use Rattle.std.specs.Prelude.{◌≡◌, ◌≤◌, ℕ, ◌++◌, List, [], ◌∷◌, length, take, map}
-use Rattle.std.specs.List.{All}
+use Rattle.std.specs.Prelude.{◌≡◌, ◌≤◌, ℕ, true, ◌++◌, List, [], ◌∷◌, length, take, map}
+use Rattle.std.specs.List.{All, list_all}
 use Rattle.tl_bank_spec.specs.declared.when.When.{When}
 use Rattle.tl_script_words.specs.declared.command.Command.{Command}
 use Rattle.tl_script_words.specs.declared.command.Command.TheVariants.{Load, Store, Drop}
 use Rattle.tl_text.specs.declared.report.Answered.{Answered}
+use Rattle.tl_client_mail.specs.Ways.{Post, has_none_back}
 use Rattle.tl_client_ports.specs.declared.port.Success.{Success}
 use Rattle.tl_client_ports.specs.declared.port.Success.TheVariants.{Loaded, Stored}
 
@@ -45,29 +46,33 @@ clock_after clock [] = clock
 clock_after clock (s ∷ rest) = clock_after (stamp_of s) rest
 
 -- what contracts see of an agent: its clock is the last stamp that it got
-pub record Told : Type 0 where
+pub record AgentView : Type 0 where
   pub client : ℕ
   pub script : List Command
   pub answered : List Answered
   pub clock : ℕ
 
 -- what an agent hands with its present command: its clock, and the command's index
-abbrev pub when_of : Told → When
+abbrev pub when_of : AgentView → When
 when_of t = record { clock = t.clock; index = length t.answered }
 
 -- the successes by which an agent carried commands out, with this stamp
-abbrev pub successes_of : Told → List Answered → ℕ → List Success
+abbrev pub successes_of : AgentView → List Answered → ℕ → List Success
 successes_of t [] stamp = []
 successes_of t (a ∷ rest) stamp = success_at t.client (when_of t) a.command a.bytes stamp ++ successes_of t rest stamp
 
 -- What was answered stays, and at most one answer joins it. The port's list gains just the success of that answer, asked with the
 -- agent's own clock and index, and its stamp is the clock afterwards
-abbrev pub Gains : Told → List Success → Told → List Success → Type 0
+abbrev pub Gains : AgentView → List Success → AgentView → List Success → Type 0
 Gains old was new is =
     (new.client ≡ old.client) × (new.script ≡ old.script)
     × ((added : List Answered) × (length added ≤ 1) × (new.answered ≡ old.answered ++ added)
     × (is ≡ was ++ successes_of old added new.clock) × (new.clock ≡ clock_after old.clock (successes_of old added new.clock)))
 
 -- the answered commands are a beginning of the script's, each with its bytes
-abbrev pub IsBeginning : Told → Type 0
+abbrev pub IsBeginning : AgentView → Type 0
 IsBeginning t = (commands_of t.answered ≡ take (length t.answered) t.script) × All IsAnswer t.answered
+
+-- all is answered, and no ticket that an inbox handed back waits to be put
+abbrev pub IsDone : AgentView → Post → Type 0
+IsDone t mail = (length t.answered ≡ length t.script) × (list_all has_none_back mail.ways ≡ true)

@@ -1,7 +1,7 @@
 -- What a home's turn asks of its bank (this project's own; each channel of a link keeps its order).
 use Rattle.std.specs.Prelude.{◌≡◌, ◌⊎◌, ℕ, true, false, List, [], ◌∷◌, ◌++◌}
 use Rattle.std.specs.List.{filter}
-use Rattle.tl_types.specs.Channel.{place_of}
+use Rattle.tl_types.specs.Channel.{channel_index}
 use Rattle.tl_types.specs.declared.channel.Channel.TheVariants.{A, C, E}
 use Rattle.tl_types.specs.declared.ticket.Ticket.{Ticket}
 use Rattle.tl_tickets.specs.Ends.{InboxEnd}
@@ -24,8 +24,8 @@ Goes kept (ticket ∷ rest) all end =
 -- the order in which a home serves tickets that it took: those on E, then C, then A
 abbrev pub in_order : List Ticket → List Ticket
 in_order tickets =
-    filter (λ (t : Ticket). is_on (place_of E) t) tickets
-    ++ (filter (λ (t : Ticket). is_on (place_of C) t) tickets ++ filter (λ (t : Ticket). is_on (place_of A) t) tickets)
+    filter (λ (t : Ticket). is_on (channel_index E) t) tickets
+    ++ (filter (λ (t : Ticket). is_on (channel_index C) t) tickets ++ filter (λ (t : Ticket). is_on (channel_index A) t) tickets)
 
 -- what contracts see of a home: its bank, and the tickets that wait
 pub record Waits : Type 0 where

@@ -1,6 +1,6 @@
 //! A client's agent.
-ghost use Rattle.std.specs.Prelude.{◌≡◌, ◌≤◌, [], length, IfOk};
-ghost use Rattle.tl_client.specs.Answers.{Gains, IsBeginning, answered_of};
+ghost use Rattle.std.specs.Prelude.{◌≡◌, ◌≢◌, ◌≤◌, [], length, true, IfOk};
+ghost use Rattle.tl_client.specs.Answers.{Gains, IsBeginning, IsDone, answered_of};
 ghost use Rattle.tl_client.specs.declared.turn.Turn.{Turn};
 
 use crate::carry_out::carry_out;
@@ -33,9 +33,9 @@ pub struct Agent<'s> {
 
 impl<'s> Model for Agent<'s> {
     ghost use Rattle.std.specs.Prelude.{◌≤◌, ◌<◌, ◌^◌, length, vec_capacity};
-    ghost use Rattle.tl_client.specs.Answers.{Told, IsBeginning, answered_of};
+    ghost use Rattle.tl_client.specs.Answers.{AgentView, IsBeginning, answered_of};
 
-    ghost Value = { Told };
+    ghost Value = { AgentView };
 
     ghost view = { λ a. record { client = a.client; script = a.script.now; answered = answered_of a.bytes.items a.script.now; clock = a.clock } };
 
@@ -177,9 +177,10 @@ impl<'s> Agent<'s> {
         }
     }
 
-    /// Rings the done bell once, when the agent is done.
+    /// Rings the done bell once, when the agent is done: never while a command is to be answered or a ticket to be put.
     fn finish(&mut self, mail: &mut Mail<'_>)
-        ensures { self.new ≡ self.old }
+        ensures same { self.new ≡ self.old }
+        ensures rings { mail.new.done.seat.rung ≢ mail.old.done.seat.rung → IsDone self.old mail.old }
     {
         if self.is_done(mail) {
             mail.ring_done();
@@ -188,8 +189,10 @@ impl<'s> Agent<'s> {
     }
 
     /// Whether the done bell is to be rung: all is answered, nothing is left to send and no answer of home is awaited.
-    fn is_done(&self, mail: &Mail<'_>) -> bool {
+    fn is_done(&self, mail: &Mail<'_>) -> bool
+        ensures { result ≡ true → IsDone self.now mail.now }
+    {
         let is_answered = !self.has_rung && self.bytes.len() >= self.script.len();
-        is_answered && !mail.has_back() && !self.requester.is_waiting()
+        is_answered && !self.requester.is_waiting() && mail.has_put_all()
     }
 }

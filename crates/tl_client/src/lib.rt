@@ -10,5 +10,6 @@ mod turn;
 
 pub use agent::Agent;
 pub use home::Home;
+pub use tl_client_ports::{Free, Gate, HomePort, Locked, Port, Who};
 pub use tl_script_words::Command;
 pub use turn::Turn;

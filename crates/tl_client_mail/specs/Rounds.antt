@@ -1,7 +1,7 @@
 -- The order in which tickets that wait are asked (this project's own; each channel of a link keeps its order).
 use Rattle.std.specs.Prelude.{◌≡◌, ◌==◌, ℕ, Bool, true, ◌&&◌, List, [], ◌∷◌, ◌++◌}
 use Rattle.std.specs.List.{list_any}
-use Rattle.tl_types.specs.Channel.{place_of}
+use Rattle.tl_types.specs.Channel.{channel_index}
 use Rattle.tl_types.specs.declared.ticket.Ticket.{Ticket}
 
 -- tickets that wait: those that this round has kept, those that it has not come to, and room for so many of both
@@ -12,7 +12,7 @@ pub record Round : Type 0 where
 
 -- two tickets are of one channel of one link
 abbrev pub is_same_lane : Ticket → Ticket → Bool
-is_same_lane one other = (one.bank == other.bank) && ((one.client == other.client) && (place_of one.channel == place_of other.channel))
+is_same_lane one other = (one.bank == other.bank) && ((one.client == other.client) && (channel_index one.channel == channel_index other.channel))
 
 -- the round has kept an earlier ticket of the same channel of the same link
 abbrev pub is_barred : List Ticket → Ticket → Bool
@@ -25,7 +25,7 @@ AreBarred kept (ticket ∷ later) = (is_barred kept ticket ≡ true) × AreBarre
 
 -- a ticket of this channel
 abbrev pub is_on : ℕ → Ticket → Bool
-is_on channel ticket = place_of ticket.channel == channel
+is_on channel ticket = channel_index ticket.channel == channel
 
 -- all tickets that wait, in order
 abbrev pub all_of : Round → List Ticket

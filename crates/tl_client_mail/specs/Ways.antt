@@ -1,5 +1,5 @@
 -- The ways on which one worker sends tickets to others, and what it sent on them (this project's own).
-use Rattle.std.specs.Prelude.{◌≡◌, ℕ, ◌+◌, ◌<◌, ◌≤◌, List, ◌++◌, length, map}
+use Rattle.std.specs.Prelude.{◌≡◌, ℕ, Bool, ◌+◌, ◌<◌, ◌≤◌, ◌==◌, List, ◌++◌, length, map}
 use Rattle.tl_tickets.specs.Ends.{InboxEnd, BellEnd}
 use Rattle.tl_tickets.specs.Bell.{most_rings}
 use Rattle.tl_types.specs.declared.ticket.Ticket.{Ticket}
@@ -18,6 +18,10 @@ sent_on way = way.inbox.pass.put ++ way.back
 -- one more ticket may be handed back
 abbrev pub HasRoom : Way → Type 0
 HasRoom way = length way.back < way.room
+
+-- no ticket that the inbox handed back waits
+abbrev pub has_none_back : Way → Bool
+has_none_back way = length way.back == 0
 
 -- it rang once for each ticket that it put, as long as its seat had not rung the most that a seat rings
 abbrev pub RingsAsItPuts : Way → Way → Type 0

@@ -1,8 +1,8 @@
 //! The inboxes and bells that one worker uses.
 ghost use Rattle.std.specs.Prelude.{◌≡◌, ◌++◌, ◌∷◌, ◌+◌, ◌≤◌, [], length, slice_index_or, slice_set, vec_len, vec_capacity, OnOk};
-ghost use Rattle.std.specs.List.{All};
+ghost use Rattle.std.specs.List.{All, list_all};
 ghost use Rattle.tl_client_mail.specs.Inbox.{Took};
-ghost use Rattle.tl_client_mail.specs.Ways.{HasRoom, sent_by};
+ghost use Rattle.tl_client_mail.specs.Ways.{HasRoom, has_none_back, sent_by};
 
 use crate::links::Links;
 use crate::sending::Sending;
@@ -69,6 +69,13 @@ impl<'a> Mail<'a> {
     /// Whether a ticket that an inbox handed back waits.
     pub fn has_back(&self) -> bool {
         self.has_back
+    }
+
+    /// Whether no ticket that an inbox handed back waits, on any way.
+    pub fn has_put_all(&self) -> bool
+        ensures { result ≡ list_all has_none_back self.now.ways }
+    {
+        self.sending.iter().all(|way| way.has_none_back())
     }
 
     /// Puts the tickets that inboxes handed back, as long as there is room. None is lost.

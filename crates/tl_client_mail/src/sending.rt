@@ -1,6 +1,6 @@
 //! The way to one receiver.
 ghost use Rattle.std.specs.Prelude.{◌≡◌, ◌++◌, ◌∷◌, ◌<◌, [], length, IfOk, MatchOption, OnOk};
-ghost use Rattle.tl_client_mail.specs.Ways.{HasRoom, RingsAsItPuts, sent_on};
+ghost use Rattle.tl_client_mail.specs.Ways.{HasRoom, RingsAsItPuts, has_none_back, sent_on};
 
 use crossbeam_utils::sync::Unparker;
 use std::alloc::{AllocError, Global};
@@ -52,6 +52,13 @@ impl<'a> Sending<'a> {
     /// Whether a ticket that was handed back waits.
     pub(crate) fn has_back(&self) -> bool {
         !self.back.is_empty()
+    }
+
+    /// Whether no ticket that was handed back waits.
+    pub(crate) fn has_none_back(&self) -> bool
+        ensures { result ≡ has_none_back self.now }
+    {
+        self.back.is_empty()
     }
 
     /// Makes room for one more ticket that may be handed back.

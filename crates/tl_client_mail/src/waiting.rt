@@ -1,6 +1,6 @@
 //! Tickets that wait to be served.
 ghost use Rattle.std.specs.Prelude.{◌≡◌, ◌++◌, ◌∷◌, ◌+◌, ◌≤◌, ◌==◌, [], false, drop, filter, length, take, IfOk, MatchOption, OnOk, List};
-ghost use Rattle.tl_types.specs.Channel.{place_of};
+ghost use Rattle.tl_types.specs.Channel.{channel_index};
 ghost use Rattle.tl_types.specs.declared.ticket.Ticket.{Ticket};
 ghost use Rattle.tl_client_mail.specs.Rounds.{AreBarred, all_of, is_barred, is_on, is_same_lane};
 
@@ -79,7 +79,7 @@ impl Waiting {
     /// The tickets of a channel join them, in order, behind all that wait.
     pub fn push_all(&mut self, tickets: &[Ticket], channel: Channel)
         requires { length self.old.kept + length self.old.rest + length tickets.now ≤ self.old.room }
-        ensures rest { self.new.rest ≡ self.old.rest ++ filter (λ t. is_on (place_of channel) t) tickets.now }
+        ensures rest { self.new.rest ≡ self.old.rest ++ filter (λ t. is_on (channel_index channel) t) tickets.now }
         ensures kept { self.new.kept ≡ self.old.kept }
         ensures room { (self.new.room ≡ self.old.room) × (length self.new.rest ≤ length self.old.rest + length tickets.now) }
     {

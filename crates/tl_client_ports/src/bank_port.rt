@@ -23,9 +23,9 @@ pub struct BankPort<'a, R: Wait, G: Gate> {
 }
 
 impl<'a, R: Wait, G: Gate> Model for BankPort<'a, R, G> {
-    ghost use Rattle.tl_client_ports.specs.Ports.{ToBank};
+    ghost use Rattle.tl_client_ports.specs.Ports.{BankPortView};
 
-    ghost Value = { ToBank };
+    ghost Value = { BankPortView };
 
     ghost view = { λ p. record { bank = p.locked.now.number; asked = p.asked } };
 }

@@ -1,42 +1,66 @@
 //! A client's port to the locked banks.
-ghost use Rattle.std.specs.Prelude.{◌≡◌, []};
+ghost use Rattle.std.specs.Prelude.{◌≡◌, ◌≢◌, ◌<◌, [], length, IfErr, OnOk, MatchResult};
+ghost use Rattle.tl_bank_spec.specs.declared.refusal.Refusal.TheVariants.{Memory as NoMemory};
 
 use crate::gate::{Gate, Who};
-use crate::history::History;
 use crate::locked::Locked;
 use crate::port::{Port, Success};
+use std::alloc::Global;
+use std::marker::Model;
 use std::sync::{MutexGuard, Wait};
 use tl_bank::{Bank, Loaded, Refusal, Share, When};
 use tl_types::{AccessBytes, BankNo, BlockNo, ClientId, Grow, Perm, Prune, Ticket};
 
-/// A client's port: each call locks the bank that it asks, and no other. Contracts see the loads and stores that
-/// succeeded.
+/// A client's port: each call locks the bank that it asks, and no other. It keeps the loads and stores that succeeded, oldest
+/// first; where there is no room for one more, a load or a store is refused `Memory`, and no bank is asked.
 #[derive(Drop)]
 pub struct ClientPort<'a, R: Wait, G: Gate> {
     rt: &'a R,
     locked: &'a Locked,
     gate: &'a G,
     client: ClientId,
-    successes: History<Success>,
+    successes: Vec<Success>,
+}
+
+impl<'a, R: Wait, G: Gate> Model for ClientPort<'a, R, G> {
+    ghost use Rattle.std.specs.Prelude.{vec_capacity};
+    ghost use Rattle.tl_client_ports.specs.Ports.{OfClient};
+
+    ghost Value = { OfClient };
+
+    ghost view = { λ p. record { client = p.client; successes = p.successes.items; room = vec_capacity p.successes } };
 }
 
 impl<'a, R: Wait, G: Gate> ClientPort<'a, R, G> {
     /// A port at which nothing has succeeded yet.
     pub(crate) fn new(
         rt: &'a R,
+        alloc: Global,
         locked: &'a Locked,
         gate: &'a G,
         client: ClientId,
     ) -> ClientPort<'a, R, G>
-        ensures { result.successes ≡ [] }
+        ensures { result ≡ record { client = client; successes = []; room = 0 } }
     {
         ClientPort {
             rt,
             locked,
             gate,
             client,
-            successes: History::new(),
+            successes: Vec::new(alloc),
         }
+    }
+
+    /// Makes room for one more success. Want of memory is the only refusal.
+    fn make_room(&mut self) -> Result<(), Refusal>
+        ensures room { OnOk result (length self.new.successes < self.new.room) }
+        ensures memory { IfErr result (λ refusal. refusal ≡ NoMemory) }
+        ensures same { self.new ≡ record self.old { room = self.new.room } }
+    {
+        if self.successes.reserve(1).is_err() {
+            return Err(Refusal::Memory);
+        }
+        Ok(())
     }
 
     /// Takes the lock of a bank, if there is one with this number.
@@ -52,10 +76,48 @@ impl<'a, R: Wait, G: Gate> ClientPort<'a, R, G> {
         drop(bank);
         self.gate.left(number, Who::Client(self.client));
     }
+
+    /// Asks the bank of an address for a load, where a success can be kept.
+    fn ask_load(
+        &self,
+        client: ClientId,
+        address: u32,
+        len: usize,
+        when: When,
+    ) -> Result<Loaded, Refusal>
+        requires { length self.now.successes < self.now.room }
+    {
+        let number = self.locked.bank_at(address);
+        let mut bank = self.enter(number)?;
+        let answer = bank.load(client, address, len, when);
+        self.leave(number, bank);
+        answer
+    }
+
+    /// Asks the bank of an address for a store, where a success can be kept.
+    fn ask_store(
+        &self,
+        client: ClientId,
+        address: u32,
+        bytes: &[u8],
+        when: When,
+    ) -> Result<u64, Refusal>
+        requires { length self.now.successes < self.now.room }
+    {
+        let number = self.locked.bank_at(address);
+        let mut bank = self.enter(number)?;
+        let answer = bank.store(client, address, bytes, when);
+        self.leave(number, bank);
+        answer
+    }
 }
 
 impl<'a, R: Wait, G: Gate> Port for ClientPort<'a, R, G> {
     ghost successes = { λ p. p.successes };
+
+    fn successes(&self) -> &[Success] {
+        &self.successes
+    }
 
     fn load(
         &mut self,
@@ -64,12 +126,9 @@ impl<'a, R: Wait, G: Gate> Port for ClientPort<'a, R, G> {
         len: usize,
         when: When,
     ) -> Result<Loaded, Refusal> {
-        let number = self.locked.bank_at(address);
-        let mut bank = self.enter(number)?;
-        let answer = bank.load(client, address, len, when);
-        self.leave(number, bank);
-        let loaded = answer?;
-        self.successes.push(Success::Loaded {
+        self.make_room()?;
+        let loaded = self.ask_load(client, address, len, when)?;
+        self.successes.push_reserved(Success::Loaded {
             client,
             address,
             len,
@@ -87,15 +146,12 @@ impl<'a, R: Wait, G: Gate> Port for ClientPort<'a, R, G> {
         bytes: &[u8],
         when: When,
     ) -> Result<u64, Refusal> {
+        self.make_room()?;
         let Some(stored) = AccessBytes::from_slice(bytes) else {
             return Err(Refusal::OutOfRange);
         };
-        let number = self.locked.bank_at(address);
-        let mut bank = self.enter(number)?;
-        let answer = bank.store(client, address, bytes, when);
-        self.leave(number, bank);
-        let stamp = answer?;
-        self.successes.push(Success::Stored {
+        let stamp = self.ask_store(client, address, bytes, when)?;
+        self.successes.push_reserved(Success::Stored {
             client,
             address,
             bytes: stored,

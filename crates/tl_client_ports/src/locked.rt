@@ -103,14 +103,17 @@ impl Locked {
         }
     }
 
-    /// A port for a client, at which nothing has succeeded yet.
+    /// A client's own port, at which nothing has succeeded yet.
     pub fn client_port<'a, R: Wait, G: Gate>(
         &'a self,
         rt: &'a R,
+        alloc: Global,
         gate: &'a G,
         client: ClientId,
-    ) -> ClientPort<'a, R, G> {
-        ClientPort::new(rt, self, gate, client)
+    ) -> ClientPort<'a, R, G>
+        ensures { result ≡ record { client = client; successes = []; room = 0 } }
+    {
+        ClientPort::new(rt, alloc, self, gate, client)
     }
 
     /// A port for the home of a bank, if there is one with this number, at which nothing was asked yet.

@@ -38,9 +38,13 @@ pub struct Asked {
     pub served: bool,
 }
 
-/// A client's calls. `successes` is the list of the loads and stores that succeeded at this port, in order; contracts alone see it.
+/// A client's calls.
 pub trait Port {
     ghost successes: { Self → List Success };
+
+    /// The loads and stores that succeeded at this port, oldest first. The port stores them.
+    fn successes(&self) -> &[Success]
+        ensures { result.now ≡ successes self.now };
 
     fn load(
         &mut self,

@@ -3,7 +3,7 @@ use Rattle.std.proofs.Common.{◌≡◌, ℕ, ◌+◌, ◌<◌, ◌≤◌, ◌==
 use Rattle.std.proofs.lemmas.Bool.Decides.{nat_tests}
 use Rattle.std.proofs.lemmas.List.{map-append}
 use Rattle.tl_copies.specs.declared.held.Held.{Held}
-use Rattle.tl_copies.specs.Held.{is_granted}
+use Rattle.tl_copies.specs.Held.{is_renewed_entry}
 use Rattle.tl_copies.specs.Entries.{Entry, found, without_entry, replaced, kept, AreApart, IsTable}
 use Rattle.tl_copies.specs.Copies.{order_without, order_after}
 
@@ -206,7 +206,7 @@ length-replaced block held (e ∷ rest) = new_length (e.block == block) block he
 -- ## A copy kept
 
 -- a kept copy, put last or in its entry's place, is what the table then has of its block
-kept_is : (granted : Bool) (n block b : ℕ) (held : Held) (es : List Entry) → is_granted (found block es) held ≡ granted
+kept_is : (granted : Bool) (n block b : ℕ) (held : Held) (es : List Entry) → is_renewed_entry (found block es) held ≡ granted
     → AreApart n es → (b == block) ≡ true
     → found b (if granted then without_entry block es ++ entry block held ∷ [] else replaced block held es) ≡ Some held
 kept_is true n block b held es g a h =
@@ -214,7 +214,7 @@ kept_is true n block b held es g a h =
 kept_is false n block b held es g a h = rw (eqb-true b block h) (old_one (found block es) refl)
   where
     old_one : (old : Option Held) → found block es ≡ old → found block (replaced block held es) ≡ Some held
-    old_one None f = let is : is_granted None held ≡ false = rw f at g in cc
+    old_one None f = let is : is_renewed_entry None held ≡ false = rw f at g in cc
     old_one (Some old) f = found-replaced_here block held old es f
 
 -- a kept copy, put last or in its entry's place, leaves what the table has of another block
@@ -230,8 +230,8 @@ pub found-kept : (n block : ℕ) (held : Held) (es : List Entry) → AreApart n 
 found-kept n block held es a b = by_test (b == block) refl
   where
     by_test : (here : Bool) → (b == block) ≡ here → found b (kept block held es) ≡ (if here then Some held else found b es)
-    by_test true h = kept_is (is_granted (found block es) held) n block b held es refl a h
-    by_test false h = kept_other (is_granted (found block es) held) block b held es h
+    by_test true h = kept_is (is_renewed_entry (found block es) held) n block b held es refl a h
+    by_test false h = kept_other (is_renewed_entry (found block es) held) block b held es h
 
 -- the blocks stay apart where a copy of a block of the memory is put last or in its entry's place
 kept_apart : (granted : Bool) (n block : ℕ) (held : Held) (es : List Entry) → AreApart n es → block < n
@@ -256,8 +256,8 @@ pub IsTable-kept : (limit n block : ℕ) (held : Held) (es : List Entry) → IsT
     → (found block es ≡ None → length es < limit)
     → IsTable limit n (kept block held es)
 IsTable-kept limit n block held es t l r = record {
-  short = kept_length (is_granted (found block es) held) limit block held es (found block es) refl t.short r;
-  apart = kept_apart (is_granted (found block es) held) n block held es t.apart l;
+  short = kept_length (is_renewed_entry (found block es) held) limit block held es (found block es) refl t.short r;
+  apart = kept_apart (is_renewed_entry (found block es) held) n block held es t.apart l;
 }
 
 -- and it stays one where an entry is taken out
@@ -316,5 +316,5 @@ kept_order false block held es = order-replaced block held es
 
 -- a kept copy moves its block to the end of the order if its entry is new or its Grant came, and else leaves the order
 pub order-kept : (block : ℕ) (held : Held) (es : List Entry)
-    → blocks (kept block held es) ≡ order_after (is_granted (found block es) held) block (blocks es)
-order-kept block held es = kept_order (is_granted (found block es) held) block held es
+    → blocks (kept block held es) ≡ order_after (is_renewed_entry (found block es) held) block (blocks es)
+order-kept block held es = kept_order (is_renewed_entry (found block es) held) block held es

@@ -3,7 +3,7 @@ use Rattle.std.proofs.Common.{◌≡◌, ◌≢◌, ℕ, zero, suc, ◌<◌, ◌
 use Rattle.std.specs.Prelude.{remove}
 use Rattle.std.proofs.lemmas.Bool.{ne_eqb}
 use Rattle.tl_copies.specs.declared.held.Held.{Held}
-use Rattle.tl_copies.specs.Held.{is_granted, is_renewed}
+use Rattle.tl_copies.specs.Held.{is_renewed_entry, is_renewed}
 use Rattle.tl_copies.specs.Entries.{Entry, found, without_entry, replaced, kept, IsPlace, AreApart}
 use Rattle.tl_copies.proofs.EntryLaws.{entry}
 
@@ -93,7 +93,7 @@ kept-new block held es n = rw n (ap (λ (zs : List Entry). zs ++ entry block hel
 
 -- whether a block's Grant came is told by the entry at its place
 granted_is : (block : ℕ) (held : Held) (es : List Entry) (place : ℕ) (old : Entry) (renewed : Bool) → IsPlace block es place
-    → old ≡ slice_index_or es place old → is_renewed old.held held ≡ renewed → is_granted (found block es) held ≡ renewed
+    → old ≡ slice_index_or es place old → is_renewed old.held held ≡ renewed → is_renewed_entry (found block es) held ≡ renewed
 granted_is block held es place old renewed p o r =
     let is : found block es ≡ Some old.held = found-place block es place old p ∙ ap (λ (e : Entry). Some e.held) (sym o) in
     rw is r

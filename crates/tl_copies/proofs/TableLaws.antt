@@ -5,9 +5,9 @@ use Rattle.std.proofs.Common.{Ok, Err}
 use Rattle.std.proofs.lemmas.List.Elements.{All-set}
 use Rattle.std.proofs.lemmas.Bool.{cases_order}
 use Rattle.std.proofs.lemmas.List.{get_or_default, get_or-set_same, get_or-set_other}
-use Rattle.tl_types.specs.declared.wait.Wait.{Wait}
+use Rattle.tl_types.specs.declared.wait.Awaited.{Awaited}
 use Rattle.tl_copies.specs.declared.held.Held.{Held}
-use Rattle.tl_copies.specs.Held.{is_granted, waiting}
+use Rattle.tl_copies.specs.Held.{is_renewed_entry, waiting}
 use Rattle.tl_copies.specs.Entries.{Entry, found, without_entry, replaced, kept, IsTable}
 use Rattle.tl_copies.specs.Copies.{Tables, clients_of, held_at, order_in, is_cell, entries, order_without, order_after}
 use Rattle.tl_copies.proofs.EntryLaws.{blocks, flipped, found-replaced_here, found-replaced_other, AreApart-replaced, length-replaced, order-replaced, found-kept, found-without, order-kept, order-without, IsTable-kept, IsTable-without}
@@ -177,10 +177,10 @@ module _ {m : Tables} {bank limit n : ℕ} {tables : List (List Entry)} {at clie
   pub order_in-kept : (block : ℕ) (held : Held) (new : List Entry) → new ≡ kept block held old
       → (x : ℕ)
       → order_in (tables_of bank limit n (slice_set tables at new)) x
-      ≡ (if x == client then order_after (is_granted (held_at m client block) held) block (order_in m x) else order_in m x)
+      ≡ (if x == client then order_after (is_renewed_entry (held_at m client block) held) block (order_in m x) else order_in m x)
   order_in-kept block held new e x =
       rw (held_at-row block, ← r.view, ← r.at_client)
-      (order_in-set bank limit n tables at old new (order_after (is_granted (found block old) held) block) at_inside table_is
+      (order_in-set bank limit n tables at old new (order_after (is_renewed_entry (found block old) held) block) at_inside table_is
       (rw e (order-kept block held old)) x)
 
   -- all tables stay sound
@@ -193,7 +193,7 @@ module _ {m : Tables} {bank limit n : ℕ} {tables : List (List Entry)} {at clie
       All-set (λ t. IsTable limit n t) tables at new (kept_sound result limit n block held old new e u f table_sound inside) r.sound
 
   -- a copy is kept with the answer that is waited for
-  pub kept-waiting : (block : ℕ) (wait : Wait) (new : List Entry) → new ≡ kept block (waiting wait (found block old)) old
+  pub kept-waiting : (block : ℕ) (wait : Awaited) (new : List Entry) → new ≡ kept block (waiting wait (found block old)) old
       → new ≡ kept block (waiting wait (held_at m client block)) old
   kept-waiting block wait new e = e ∙ ap (λ (o : Option Held). kept block (waiting wait o) old) (sym (held_at-row block))
 

@@ -1,7 +1,7 @@
 -- One client's table: its entries, the one granted longest ago first. No public clause cites this module.
 use Rattle.std.specs.Prelude.{◌≡◌, ◌≢◌, ℕ, ◌<◌, ◌≤◌, ◌==◌, List, [], ◌∷◌, ◌++◌, length, Option, Some, None, if◌then◌else◌, slice_index_or}
 use Rattle.tl_copies.specs.declared.held.Held.{Held}
-use Rattle.tl_copies.specs.Held.{is_copy, is_granted}
+use Rattle.tl_copies.specs.Held.{is_copy, is_renewed_entry}
 
 -- what a client holds of a block, with the block
 pub record Entry : Type 0 where
@@ -26,7 +26,7 @@ replaced block held (e ∷ rest) = if e.block == block then record { block = blo
 -- the table after a copy is kept: last if its entry is new or its Grant came, else in its entry's place
 abbrev pub kept : ℕ → Held → List Entry → List Entry
 kept block held es =
-    if is_granted (found block es) held then without_entry block es ++ record { block = block; held = held } ∷ [] else replaced block held es
+    if is_renewed_entry (found block es) held then without_entry block es ++ record { block = block; held = held } ∷ [] else replaced block held es
 
 -- the first entry that is a copy
 abbrev pub oldest_in : List Entry → Option ℕ

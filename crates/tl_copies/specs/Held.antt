@@ -3,8 +3,8 @@ use Rattle.std.specs.Prelude.{ℕ, Bool, true, false, not, ◌&&◌, List, [], O
 use Rattle.tl_types.specs.Bytes.{overwrite}
 use Rattle.tl_types.specs.declared.permission.Perm.{Perm}
 use Rattle.tl_types.specs.declared.permission.Perm.TheVariants as perm
-use Rattle.tl_types.specs.declared.wait.Wait.{Wait}
-use Rattle.tl_types.specs.declared.wait.Wait.TheVariants.{Nothing, ForGrant, ForReleaseAck}
+use Rattle.tl_types.specs.declared.wait.Awaited.{Awaited}
+use Rattle.tl_types.specs.declared.wait.Awaited.TheVariants.{Nothing, ForGrant, ForReleaseAck}
 use Rattle.tl_copies.specs.declared.held.Held.{Held}
 
 -- a permission to read, or to read and write
@@ -23,7 +23,7 @@ has_copy None = false
 has_copy (Some held) = is_copy held
 
 -- what is waited for is a Grant
-abbrev pub waits_for_grant : Wait → Bool
+abbrev pub waits_for_grant : Awaited → Bool
 waits_for_grant Nothing = false
 waits_for_grant ForGrant = true
 waits_for_grant ForReleaseAck = false
@@ -33,12 +33,12 @@ abbrev pub is_renewed : Held → Held → Bool
 is_renewed old new = waits_for_grant old.wait && not (waits_for_grant new.wait)
 
 -- the entry is new, or its Grant came
-abbrev pub is_granted : Option Held → Held → Bool
-is_granted None new = true
-is_granted (Some old) new = is_renewed old new
+abbrev pub is_renewed_entry : Option Held → Held → Bool
+is_renewed_entry None new = true
+is_renewed_entry (Some old) new = is_renewed old new
 
 -- an answer is waited for
-abbrev pub waits : Wait → Bool
+abbrev pub waits : Awaited → Bool
 waits Nothing = false
 waits ForGrant = true
 waits ForReleaseAck = true
@@ -53,6 +53,6 @@ abbrev pub stored : ℕ → List ℕ → Held → Held
 stored offset bytes held = record held { dirty = true; bytes = overwrite offset bytes held.bytes }
 
 -- what a client holds that waits for an answer from then on: what it held, or no copy
-abbrev pub waiting : Wait → Option Held → Held
+abbrev pub waiting : Awaited → Option Held → Held
 waiting wait None = record { perm = perm.None; dirty = false; bytes = []; wait = wait }
 waiting wait (Some held) = record held { wait = wait }

@@ -1,7 +1,7 @@
 -- How a table keeps its entries: keys in order, and for each a slot with what is held. No public clause cites this module.
 use Rattle.std.specs.Prelude.{◌≡◌, ℕ, ◌+◌, ◌≤◌, ◌==◌, List, [], length, map, count_by, slice_index_or, false}
 use Rattle.tl_types.specs.declared.permission.Perm.TheVariants.{None as p_None}
-use Rattle.tl_types.specs.declared.wait.Wait.TheVariants.{Nothing}
+use Rattle.tl_types.specs.declared.wait.Awaited.TheVariants.{Nothing}
 use Rattle.tl_copies.specs.declared.held.Held.{Held}
 use Rattle.tl_copies.specs.declared.table.Key.{Key}
 use Rattle.tl_copies.specs.Entries.{Entry}

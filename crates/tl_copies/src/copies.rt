@@ -2,7 +2,7 @@
 ghost use Rattle.std.specs.Prelude.{◌≡◌, ◌↔◌, ◌≤◌, ◌<◌, ◌+◌, ℕ, ◌==◌, [], None, Some, IfErr, IfOk, IfSome, IsErr, IsTrue, MatchOption, OnErr, OnOk, true, false, length, map, option_copied, option_map, slice_index_or, if◌then◌else◌};
 ghost use Rattle.std.specs.List.{find};
 ghost use Rattle.tl_copies.specs.Entries.{Entry, found, IsTable};
-ghost use Rattle.tl_copies.specs.Held.{has_copy, is_granted, is_awaited, stored, waiting};
+ghost use Rattle.tl_copies.specs.Held.{has_copy, is_renewed_entry, is_awaited, stored, waiting};
 ghost use Rattle.tl_copies.specs.Copies.{clients_of, held_at, order_in, is_cell, entries, copies, order_without, order_after, SameSize};
 
 use crate::held::Held;
@@ -10,7 +10,7 @@ use crate::table::{Full, Table};
 use std::alloc::{AllocError, Global};
 use std::marker::Model;
 use tl_map::Geometry;
-use tl_types::{AccessBytes, BLOCK_BYTES, BankNo, BlockNo, COPIES, ClientId, Wait};
+use tl_types::{AccessBytes, Awaited, BLOCK_BYTES, BankNo, BlockNo, COPIES, ClientId};
 
 /// The copies of one bank's blocks. Each client has at most as many entries as the geometry says.
 #[derive(Drop)]
@@ -64,7 +64,16 @@ impl Copies {
     }
 
     /// What a client holds of a block, where its table has an entry of it.
-    pub fn of(&self, client: ClientId, block: BlockNo) -> Option<&Held>
+    pub fn of(&self, client: ClientId, block: BlockNo) -> Option<Held>
+        requires { client < clients_of self.now }
+        ensures { result ≡ held_at self.now client block }
+    {
+        let held = self.held(client, block)?;
+        Some(held.copied())
+    }
+
+    /// The same where it lies, for a call that only looks at it.
+    pub fn held(&self, client: ClientId, block: BlockNo) -> Option<&Held>
         requires { client < clients_of self.now }
         ensures { option_copied result ≡ held_at self.now client block }
     {
@@ -162,7 +171,7 @@ impl Copies {
         ensures order { OnOk result
             ((x : ℕ)
             → order_in self.new x
-            ≡ (if x == client then order_after (is_granted (held_at self.old client block) held) block (order_in self.old x)
+            ≡ (if x == client then order_after (is_renewed_entry (held_at self.old client block) held) block (order_in self.old x)
             else order_in self.old x)) }
 
         ensures full { IsErr result ↔ ((held_at self.old client block ≡ None) × (self.old.limit ≤ entries self.old client)) }
@@ -177,7 +186,7 @@ impl Copies {
     /// entry of the block it has a new one, for which there has to be room. A new entry goes last in the order of age, and so
     /// does one that waited for a Grant and no longer does.
     #[tactic(auto, unfolding(crate::specs::Copies::clients_of, crate::specs::Copies::held_at, crate::specs::Copies::order_in))]
-    pub fn wait_for(&mut self, client: ClientId, block: BlockNo, wait: Wait)
+    pub fn wait_for(&mut self, client: ClientId, block: BlockNo, wait: Awaited)
         requires client { client < clients_of self.old }
         requires block { block < self.old.blocks }
         requires room { held_at self.old client block ≡ None → entries self.old client < self.old.limit }
@@ -188,7 +197,7 @@ impl Copies {
         ensures order { (x : ℕ)
             → order_in self.new x
             ≡ (if x == client
-            then order_after (is_granted (held_at self.old client block) (waiting wait (held_at self.old client block))) block (order_in self.old x)
+            then order_after (is_renewed_entry (held_at self.old client block) (waiting wait (held_at self.old client block))) block (order_in self.old x)
             else order_in self.old x) }
     {
         self.tables[client.index()].wait_for(block, wait);

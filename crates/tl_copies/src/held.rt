@@ -2,7 +2,7 @@
 ghost use Rattle.std.specs.Prelude.{◌≡◌, ◌≤◌, ◌+◌, None, Some, length, if◌then◌else◌};
 ghost use Rattle.tl_copies.specs.Held.{is_copy, is_renewed, stored, waiting, waits};
 
-use tl_types::{AccessBytes, BLOCK_BYTES, BlockBytes, Perm, Wait};
+use tl_types::{AccessBytes, Awaited, BLOCK_BYTES, BlockBytes, Perm};
 
 /// What a client holds of a block: its permission, whether it stored into it, the bytes, and the answer that it waits for.
 #[derive(Debug, Drop)]
@@ -10,7 +10,7 @@ pub struct Held {
     pub perm: Perm,
     pub dirty: bool,
     pub bytes: BlockBytes,
-    pub wait: Wait,
+    pub wait: Awaited,
 }
 
 impl Held {
@@ -40,18 +40,18 @@ impl Held {
     pub(crate) fn is_granted_as(&self, next: &Held) -> bool
         ensures { result ≡ is_renewed self.now next.now }
     {
-        matches!(self.wait, Wait::ForGrant) && !matches!(next.wait, Wait::ForGrant)
+        matches!(self.wait, Awaited::ForGrant) && !matches!(next.wait, Awaited::ForGrant)
     }
 
     /// Whether this waited for a Grant and `next` is no Grant: the Grant came.
-    pub(crate) fn is_granted_with(&self, next: Wait) -> bool
+    pub(crate) fn is_granted_with(&self, next: Awaited) -> bool
         ensures { result ≡ is_renewed self.now (waiting next (Some self.now)) }
     {
-        matches!(self.wait, Wait::ForGrant) && !matches!(next, Wait::ForGrant)
+        matches!(self.wait, Awaited::ForGrant) && !matches!(next, Awaited::ForGrant)
     }
 
     /// What a client holds that has no copy, and waits for an answer.
-    pub(crate) fn awaiting(wait: Wait) -> Held
+    pub(crate) fn awaiting(wait: Awaited) -> Held
         ensures { result ≡ waiting wait None }
     {
         Held {
@@ -63,7 +63,7 @@ impl Held {
     }
 
     /// An answer is waited for from then on, or none.
-    pub(crate) fn wait_for(&mut self, wait: Wait)
+    pub(crate) fn wait_for(&mut self, wait: Awaited)
         ensures { self.new ≡ waiting wait (Some self.old) }
     {
         self.wait = wait;
@@ -74,8 +74,8 @@ impl Held {
         ensures { result ≡ waits self.now.wait }
     {
         match self.wait {
-            Wait::Nothing => false,
-            Wait::ForGrant | Wait::ForReleaseAck => true,
+            Awaited::Nothing => false,
+            Awaited::ForGrant | Awaited::ForReleaseAck => true,
         }
     }
 

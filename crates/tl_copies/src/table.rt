@@ -7,7 +7,7 @@ use crate::held::Held;
 use arrayvec::ArrayVec;
 use std::default::Default;
 use std::marker::Model;
-use tl_types::{AccessBytes, BLOCK_BYTES, BlockBytes, BlockNo, COPIES, Perm, Wait};
+use tl_types::{AccessBytes, Awaited, BLOCK_BYTES, BlockBytes, BlockNo, COPIES, Perm};
 
 /// The block of an entry, and the slot of what the client holds of it.
 #[derive(Debug, Drop)]
@@ -31,7 +31,7 @@ impl Default for Held {
             perm: Perm::None,
             dirty: false,
             bytes: BlockBytes::new(),
-            wait: Wait::Nothing,
+            wait: Awaited::Nothing,
         }
     }
 }
@@ -217,7 +217,7 @@ impl Table {
 
     /// The client waits for an answer about a block from then on, or for none, and keeps the copy that it has; where it has no
     /// entry of the block it has a new one.
-    pub(crate) fn wait_for(&mut self, block: BlockNo, wait: Wait)
+    pub(crate) fn wait_for(&mut self, block: BlockNo, wait: Awaited)
         requires once { HasEachOnce self.old }
         requires room { found block self.old ≡ None → length self.old < COPIES }
         ensures { self.new ≡ kept block (waiting wait (found block self.old)) self.old }
@@ -307,7 +307,7 @@ impl Table {
     }
 
     /// The client waits for an answer from then on, or for none, by the entry at a place.
-    fn wait_at(&mut self, place: usize, wait: Wait)
+    fn wait_at(&mut self, place: usize, wait: Awaited)
         requires { place < length self.old }
         ensures { (e : Entry)
             → self.new

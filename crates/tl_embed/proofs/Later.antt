@@ -3,9 +3,9 @@ use Rattle.std.proofs.Common.{◌≡◌, inl, inr, ℕ, List, [], ◌∷◌, ◌
 use Rattle.std.proofs.lemmas.List.{append-nil}
 use Rattle.tl_protocol.specs.declared.event.Event.{Event}
 use Rattle.tl_registers.specs.declared.register.Register.{Register}
-use Rattle.tl_bank_spec.specs.Effects.{Evicts, Serves, TakesMemory}
+use Rattle.tl_bank_spec.specs.Effects.{Evicts, AppendsWith, TakesMemory}
 use Rattle.tl_bank_spec.specs.Refusal.{first_of}
-use Rattle.tl_bank_spec.specs.Share.{Holding}
+use Rattle.tl_bank_spec.specs.Share.{ShareView}
 use Rattle.tl_bank_spec.specs.Steps.{Appends}
 use Rattle.tl_bank_spec.specs.View.{View}
 use Rattle.tl_bank_spec.specs.declared.refusal.Refusal.{Refusal}
@@ -44,7 +44,7 @@ appends-later old new event h = record {
 }
 
 -- the same where registers and ways changed
-serves-later : (old new : View) (event : Event) (registers : List Register) (lies : ℕ → Option ℕ) → Serves old new event registers lies
+serves-later : (old new : View) (event : Event) (registers : List Register) (lies : ℕ → Option ℕ) → AppendsWith old new event registers lies
     → IsLater old new
 serves-later old new event registers lies h = record {
   geometry = ap (λ (v : View). v.geometry) h.is;
@@ -82,7 +82,7 @@ later-twice a b c h k = record {
 -- ## A step
 
 -- a call with a ticket
-ticket-later : (call : TicketCall) (ticket : Ticket) (old new : View) (before after : Holding) (answer : Answer)
+ticket-later : (call : TicketCall) (ticket : Ticket) (old new : View) (before after : ShareView) (answer : Answer)
     → TicketDoes call ticket old new before after answer → IsLater old new
 ticket-later AnswerProbe ticket old new before after answer h = appends-later old new _ h.0.appends
 ticket-later TakeGrant ticket old new before after answer h = appends-later old new _ h.0.appends

@@ -1,6 +1,6 @@
 -- What an answer in plain numbers says.
 use Rattle.std.specs.Prelude.{ℕ, ◌-◌, List, [], ◌++◌, length, replicate, Option, Some, None}
-use Rattle.tl_types.specs.Channel.{place_of}
+use Rattle.tl_types.specs.Channel.{channel_index}
 use Rattle.tl_types.specs.Codes.{code_of}
 use Rattle.tl_types.specs.Bodies.{body_bytes, body_kind}
 use Rattle.tl_types.specs.declared.kind.Kind.{Kind}
@@ -89,7 +89,7 @@ message_told ticket body block =
       what = 1;
       bank = ticket.bank;
       client = ticket.client;
-      channel = place_of ticket.channel;
+      channel = channel_index ticket.channel;
       place = block;
       serial = ticket.serial;
     }))

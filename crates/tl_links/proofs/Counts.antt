@@ -1,11 +1,11 @@
 -- How many messages wait on each channel, as one channel of one client changes.
-use Rattle.std.proofs.Common.{◌≡◌, ◌≢◌, ℕ, zero, suc, ◌+◌, ◌-◌, ◌*◌, ◌<◌, ◌≤◌, false, true, List, [], ◌∷◌, length, refl, sym, ◌∙◌, ap, arith, inl, inr}
+use Rattle.std.proofs.Common.{◌≡◌, ◌≢◌, ℕ, zero, suc, ◌+◌, ◌-◌, ◌*◌, ◌<◌, ◌≤◌, false, true, List, [], ◌∷◌, length, slice_index_or, refl, sym, ◌∙◌, ap, arith, inl, inr}
 use Rattle.std.proofs.Math.Bool.{or-true}
 use Rattle.std.specs.Prelude.{slice_index, slice_set}
 use Rattle.std.specs.List.{list_any}
 use Rattle.std.proofs.lemmas.Bool.{cases_eq}
-use Rattle.std.proofs.lemmas.List.{get_or-set_same, get_or-set_other, length_push, nil_from_length, length-set}
-use Rattle.tl_types.specs.Channel.{place_of}
+use Rattle.std.proofs.lemmas.List.{get_or-set_same, get_or-set_other, get_or_default, length_push, nil_from_length, length-set}
+use Rattle.tl_types.specs.Channel.{channel_index}
 use Rattle.tl_types.specs.Lane.{Lane, bodies_of, empty_lane, first_taken, with_message, without_first}
 use Rattle.tl_types.specs.declared.channel.Channel.{Channel}
 use Rattle.tl_types.specs.declared.channel.Channel.TheVariants.{A, B, C, D, E}
@@ -15,7 +15,7 @@ use Rattle.tl_links.specs.Table.{LinkTable, lane_in, some_has, waiting_below, Is
 use Rattle.tl_links.specs.Wanted.{is_wanted}
 
 -- there are five channels
-place-few : (k : Channel) → place_of k < 5
+place-few : (k : Channel) → channel_index k < 5
 place-few A = omega arith
 place-few B = omega arith
 place-few C = omega arith
@@ -28,7 +28,7 @@ waits_at t x l = length (lane_in t x l).messages
 
 -- the table with another lane as one channel of a client
 abbrev pub placed : LinkTable → ℕ → Channel → Lane → LinkTable
-placed t c k lane = record { bank = t.bank; clients = t.clients; lanes = slice_set t.lanes (c * 5 + place_of k) lane }
+placed t c k lane = record { bank = t.bank; clients = t.clients; lanes = slice_set t.lanes (c * 5 + channel_index k) lane }
 
 -- where only empty channels stand, none waits
 waiting-none : (t : LinkTable) (l : Channel) → ((x : ℕ) (k : Channel) → lane_in t x k ≡ empty_lane) → (n : ℕ) → waiting_below t l n ≡ 0
@@ -86,17 +86,17 @@ length-without taken [] h = absurd (h refl)
 length-without taken (x ∷ rest) h = omega arith
 
 module _ (t : LinkTable) (c : ℕ) (k : Channel) (lane : Lane) where
-  at-here : c * 5 + place_of k < length t.lanes → (l : Channel) → place_of l ≡ place_of k → lane_in (placed t c k lane) c l ≡ lane
+  at-here : c * 5 + channel_index k < length t.lanes → (l : Channel) → channel_index l ≡ channel_index k → lane_in (placed t c k lane) c l ≡ lane
   unfolding lane_in
-  at-here inside l e = rw e (get_or-set_same t.lanes (c * 5 + place_of k) lane empty_lane inside)
+  at-here inside l e = rw e (get_or-set_same t.lanes (c * 5 + channel_index k) lane empty_lane inside)
 
-  was-here : (l : Channel) → place_of l ≡ place_of k → waits_at t c l ≡ waits_at t c k
+  was-here : (l : Channel) → channel_index l ≡ channel_index k → waits_at t c l ≡ waits_at t c k
   unfolding lane_in
   was-here l e = rw e refl
 
-  at-other : (x : ℕ) (l : Channel) → x * 5 + place_of l ≢ c * 5 + place_of k → lane_in (placed t c k lane) x l ≡ lane_in t x l
+  at-other : (x : ℕ) (l : Channel) → x * 5 + channel_index l ≢ c * 5 + channel_index k → lane_in (placed t c k lane) x l ≡ lane_in t x l
   unfolding lane_in
-  at-other x l apart = get_or-set_other t.lanes (c * 5 + place_of k) (x * 5 + place_of l) lane empty_lane apart
+  at-other x l apart = get_or-set_other t.lanes (c * 5 + channel_index k) (x * 5 + channel_index l) lane empty_lane apart
 
   -- another client's channel stays
   other-client : (x : ℕ) (l : Channel) → x ≢ c → lane_in (placed t c k lane) x l ≡ lane_in t x l
@@ -105,13 +105,13 @@ module _ (t : LinkTable) (c : ℕ) (k : Channel) (lane : Lane) where
       at-other x l (λ e. apart (omega arith))
 
   -- and another channel
-  other-channel : (x : ℕ) (l : Channel) → place_of l ≢ place_of k → lane_in (placed t c k lane) x l ≡ lane_in t x l
+  other-channel : (x : ℕ) (l : Channel) → channel_index l ≢ channel_index k → lane_in (placed t c k lane) x l ≡ lane_in t x l
   other-channel x l apart =
       let few = place-few k in let fewer = place-few l in
       at-other x l (λ e. apart (omega arith))
 
   -- as many wait on another channel
-  waiting-other : (l : Channel) → place_of l ≢ place_of k → (n : ℕ) → waiting_below (placed t c k lane) l n ≡ waiting_below t l n
+  waiting-other : (l : Channel) → channel_index l ≢ channel_index k → (n : ℕ) → waiting_below (placed t c k lane) l n ≡ waiting_below t l n
   waiting-other l apart zero = refl
   waiting-other l apart (suc n) = rw (waiting-other l apart n, other-channel n l apart) refl
 
@@ -122,7 +122,7 @@ module _ (t : LinkTable) (c : ℕ) (k : Channel) (lane : Lane) where
       rw (waiting-before l n (omega arith), other-client n l (λ e. absurd (omega arith))) refl
 
   -- on the channel itself as many more or fewer wait as on the one that changed
-  waiting-changed : c * 5 + place_of k < length t.lanes → (l : Channel) → place_of l ≡ place_of k → (n : ℕ) → c < n
+  waiting-changed : c * 5 + channel_index k < length t.lanes → (l : Channel) → channel_index l ≡ channel_index k → (n : ℕ) → c < n
       → waiting_below (placed t c k lane) l n + waits_at t c k ≡ waiting_below t l n + length lane.messages
   waiting-changed inside l e zero h = absurd (omega arith)
   waiting-changed inside l e (suc n) h =
@@ -141,12 +141,12 @@ module _ (t : LinkTable) (c : ℕ) (k : Channel) (lane : Lane) where
       ]
 
   -- no channel has more than 64
-  most-placed : c * 5 + place_of k < length t.lanes → length lane.messages ≤ 64 → ((x : ℕ) (l : Channel) → waits_at t x l ≤ 64)
+  most-placed : c * 5 + channel_index k < length t.lanes → length lane.messages ≤ 64 → ((x : ℕ) (l : Channel) → waits_at t x l ≤ 64)
       → (x : ℕ) (l : Channel) → waits_at (placed t c k lane) x l ≤ 64
   most-placed inside few most x l =
       elim (cases_eq x c) [
         | inl same ↦
-            elim (cases_eq (place_of l) (place_of k)) [
+            elim (cases_eq (channel_index l) (channel_index k)) [
               | inl e ↦
                   let now : waits_at (placed t c k lane) x l ≡ length lane.messages =
                   ap (λ y. waits_at (placed t c k lane) y l) same ∙ ap (λ (a : Lane). length a.messages) (at-here inside l e) in
@@ -159,72 +159,80 @@ module _ (t : LinkTable) (c : ℕ) (k : Channel) (lane : Lane) where
 -- A table with its numbers.
 module _ {t : LinkTable} {numbers : List ℕ} (counted : IsCounted t numbers) where
   -- a client's channel is one of the lanes
-  inside-lanes : (c : ℕ) (k : Channel) → c < t.clients → c * 5 + place_of k < length t.lanes
+  inside-lanes : (c : ℕ) (k : Channel) → c < t.clients → c * 5 + channel_index k < length t.lanes
   inside-lanes c k h = let few = place-few k in omega (arith, counted.all)
 
   -- a number is no less than what waits on a channel of one client
-  pub number-some : (c : ℕ) (k : Channel) → c < t.clients → waits_at t c k ≤ slice_index numbers (place_of k)
+  pub number-some : (c : ℕ) (k : Channel) → c < t.clients → waits_at t c k ≤ slice_index numbers (channel_index k)
   number-some c k h = omega (arith, counted.numbered k, waiting-some t k t.clients c h)
 
   -- and at most 1,024
-  pub number-most : (k : Channel) → slice_index numbers (place_of k) ≤ 1024
+  pub number-most : (k : Channel) → slice_index numbers (channel_index k) ≤ 1024
   number-most k = omega (arith, counted.numbered k, waiting-most t k counted.most t.clients, counted.few)
 
   -- where a number is 0, no client has a message that is looked for
-  pub none-has : (k : Channel) (block : ℕ) (wanted : Wanted) → slice_index numbers (place_of k) ≡ 0
+  pub none-has : (k : Channel) (block : ℕ) (wanted : Wanted) → slice_index numbers (channel_index k) ≡ 0
       → some_has t k block wanted t.clients ≡ false
   none-has k block wanted h = none-below t k block wanted t.clients (sym (counted.numbered k) ∙ h)
 
   -- a channel changes, and its number with it
   pub IsCounted-placed : (c : ℕ) (k : Channel) (lane : Lane) (number : ℕ) → c < t.clients → length lane.messages ≤ 64
-      → number + waits_at t c k ≡ slice_index numbers (place_of k) + length lane.messages
-      → IsCounted (placed t c k lane) (slice_set numbers (place_of k) number)
+      → number + waits_at t c k ≡ slice_index numbers (channel_index k) + length lane.messages
+      → IsCounted (placed t c k lane) (slice_set numbers (channel_index k) number)
   IsCounted-placed c k lane number h few sum =
       let inside = inside-lanes c k h in
       record {
-        all = length-set t.lanes (c * 5 + place_of k) lane ∙ counted.all;
+        all = length-set t.lanes (c * 5 + channel_index k) lane ∙ counted.all;
         few = counted.few;
         most = most-placed t c k lane inside few counted.most;
-        five = length-set numbers (place_of k) number ∙ counted.five;
+        five = length-set numbers (channel_index k) number ∙ counted.five;
         numbered = λ l.
-            elim (cases_eq (place_of l) (place_of k)) [
+            elim (cases_eq (channel_index l) (channel_index k)) [
               | inl e ↦
                   let short = place-few k in
-                  let set : slice_index (slice_set numbers (place_of k) number) (place_of k) ≡ number =
-                  get_or-set_same numbers (place_of k) number 0 (omega (arith, counted.five)) in
-                  let old : slice_index numbers (place_of l) ≡ waiting_below t l t.clients = counted.numbered l in
-                  let then : slice_index numbers (place_of l) ≡ slice_index numbers (place_of k) = ap (λ p. slice_index numbers p) e in
-                  let here : slice_index (slice_set numbers (place_of k) number) (place_of l) ≡ number =
-                  ap (λ p. slice_index (slice_set numbers (place_of k) number) p) e ∙ set in
+                  let set : slice_index (slice_set numbers (channel_index k) number) (channel_index k) ≡ number =
+                  get_or-set_same numbers (channel_index k) number 0 (omega (arith, counted.five)) in
+                  let old : slice_index numbers (channel_index l) ≡ waiting_below t l t.clients = counted.numbered l in
+                  let then : slice_index numbers (channel_index l) ≡ slice_index numbers (channel_index k) = ap (λ p. slice_index numbers p) e in
+                  let here : slice_index (slice_set numbers (channel_index k) number) (channel_index l) ≡ number =
+                  ap (λ p. slice_index (slice_set numbers (channel_index k) number) p) e ∙ set in
                   let changed = waiting-changed t c k lane inside l e t.clients h in
                   omega arith
               | inr e ↦
-                  get_or-set_other numbers (place_of k) (place_of l) number 0 e ∙ counted.numbered l
+                  get_or-set_other numbers (channel_index k) (channel_index l) number 0 e ∙ counted.numbered l
                   ∙ sym (waiting-other t c k lane l e t.clients)
             ];
       }
 
+  -- what a channel's place holds is its lane
+  pub lane-read : (c : ℕ) (k : Channel) (place : ℕ) (lane : Lane) → c < t.clients → place ≡ c * 5 + channel_index k
+      → lane ≡ slice_index_or t.lanes place lane → lane ≡ lane_in t c k
+  unfolding lane_in
+  lane-read c k place lane h e read =
+      read ∙ ap (λ p. slice_index_or t.lanes p lane) e
+      ∙ get_or_default t.lanes (c * 5 + channel_index k) lane empty_lane (inside-lanes c k h)
+
   -- one message more
   pub IsCounted-sent : (c : ℕ) (k : Channel) (message : Message) (new : Lane) → c < t.clients
       → new ≡ with_message (lane_in t c k) message → waits_at t c k ≢ 64
-      → IsCounted (placed t c k new) (slice_set numbers (place_of k) (slice_index numbers (place_of k) + 1))
+      → IsCounted (placed t c k new) (slice_set numbers (channel_index k) (slice_index numbers (channel_index k) + 1))
   IsCounted-sent c k message new h e room =
       let most : waits_at t c k ≤ 64 = counted.most c k in
       let more : length new.messages ≡ waits_at t c k + 1 =
       ap (λ (l : Lane). length l.messages) e ∙ length_push (lane_in t c k).messages message in
-      IsCounted-placed c k new (slice_index numbers (place_of k) + 1) h (omega arith) (omega arith)
+      IsCounted-placed c k new (slice_index numbers (channel_index k) + 1) h (omega arith) (omega arith)
 
   -- one message fewer
   pub IsCounted-taken : (c : ℕ) (k : Channel) (new : Lane) → c < t.clients
       → new ≡ without_first (lane_in t c k) → (lane_in t c k).messages ≢ []
-      → IsCounted (placed t c k new) (slice_set numbers (place_of k) (slice_index numbers (place_of k) - 1))
+      → IsCounted (placed t c k new) (slice_set numbers (channel_index k) (slice_index numbers (channel_index k) - 1))
   IsCounted-taken c k new h e waits =
       let most : waits_at t c k ≤ 64 = counted.most c k in
       let some : 1 ≤ waits_at t c k = length-some (lane_in t c k).messages waits in
-      let all : waits_at t c k ≤ slice_index numbers (place_of k) = number-some c k h in
+      let all : waits_at t c k ≤ slice_index numbers (channel_index k) = number-some c k h in
       let fewer : length new.messages + 1 ≡ waits_at t c k =
       ap (λ (l : Lane). length l.messages + 1) e ∙ length-without (lane_in t c k).taken (lane_in t c k).messages waits in
-      IsCounted-placed c k new (slice_index numbers (place_of k) - 1) h (omega arith) (omega arith)
+      IsCounted-placed c k new (slice_index numbers (channel_index k) - 1) h (omega arith) (omega arith)
 
 -- the numbers at the start
 pub IsCounted-empty : (t : LinkTable) → length t.lanes ≡ t.clients * 5 → t.clients ≤ 16
@@ -238,7 +246,7 @@ IsCounted-empty t all few e =
       numbered = λ k. zero-at k ∙ sym (waiting-none t k e t.clients);
     }
   where
-    zero-at : (k : Channel) → slice_index (0 ∷ 0 ∷ 0 ∷ 0 ∷ 0 ∷ []) (place_of k) ≡ 0
+    zero-at : (k : Channel) → slice_index (0 ∷ 0 ∷ 0 ∷ 0 ∷ 0 ∷ []) (channel_index k) ≡ 0
     zero-at A = refl
     zero-at B = refl
     zero-at C = refl

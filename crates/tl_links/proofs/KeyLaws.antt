@@ -1,17 +1,21 @@
--- The keys of one channel, and its messages under them.
-use Rattle.std.proofs.Common.{◌≡◌, ◌≢◌, ℕ, ◌+◌, ◌-◌, zero, suc, true, false, List, [], ◌∷◌, ◌++◌, length, Option, Some, None, IsSome, slice_get, refl, sym, ◌∙◌, ap, subst, arith}
+-- A channel's keys and messages after one is put last, and after the first is taken.
+use Rattle.std.proofs.Common.{◌≡◌, ◌≢◌, ℕ, ◌+◌, ◌-◌, ◌^◌, zero, suc, ◌<◌, ◌≤◌, List, [], ◌∷◌, ◌++◌, length, Option, Some, None, IsSome, slice_get, refl, sym, ◌∙◌, ap, subst, arith, length-append}
+use Rattle.std.proofs.lemmas.Bool.{le-ltb}
 use Rattle.std.proofs.lemmas.List.Elements.{filter_map-append}
-use Rattle.std.specs.Prelude.{nat_lt, Bool, MatchOption, option_copied, if◌then◌else◌}
-use Rattle.std.specs.Borrow.{Bor}
-use Rattle.std.specs.List.{cons_option}
-use Rattle.std.specs.Option.{option_and_then}
-use Rattle.slab.specs.Slab.{Slab, get, ContainsKey, Updates}
-use Rattle.tl_types.specs.Lane.{message_at, first_taken, without_first}
+use Rattle.std.proofs.lemmas.Option.{slice_get_past}
+use Rattle.std.specs.Prelude.{OnSome}
+use Rattle.std.specs.List.{cons_option, AllByRecursion}
+use Rattle.slab.specs.Slab.{Slab, get, ContainsKey, slab_len, Updates}
+use Rattle.tl_types.specs.Lane.{Lane, message_at, sent, with_message, first_taken, without_first}
 use Rattle.tl_types.specs.declared.message.Message.{Message}
-use Rattle.tl_links.specs.Keys.{KeyLane, key_at, in_order, lane_of, NotAmong, AreKeys, AreApart}
+use Rattle.tl_links.specs.Keys.{in_order, AreKeys, IsSound}
+
+-- no key of these is the key
+abbrev pub NotAmong : ℕ → List ℕ → Type 0
+NotAmong key keys = AllByRecursion (λ other. key ≢ other) keys
 
 -- a key that has no message is none of these
-pub fresh : (slab : Slab Message) (key : ℕ) (keys : List ℕ) → AreKeys slab keys → get slab key ≡ None → NotAmong key keys
+fresh : (slab : Slab Message) (key : ℕ) (keys : List ℕ) → AreKeys slab keys → get slab key ≡ None → NotAmong key keys
 fresh slab key [] k n = tt
 fresh slab key (x ∷ rest) k n =
     (λ e. let there : IsSome (get slab key) = subst (λ y. IsSome (get slab y)) (sym e) k.0 in cc, fresh slab key rest k.2 n)
@@ -21,7 +25,7 @@ flipped : (a b : ℕ) → a ≢ b → b ≢ a
 flipped a b d = λ e. d (sym e)
 
 -- keys other than the one that changed keep their messages
-pub same_order : (old new : Slab Message) (key : ℕ) (slot : Option Message) (keys : List ℕ) → Updates old new key slot
+same_order : (old new : Slab Message) (key : ℕ) (slot : Option Message) (keys : List ℕ) → Updates old new key slot
     → NotAmong key keys
     → in_order new keys ≡ in_order old keys
 same_order old new key slot [] u d = refl
@@ -30,7 +34,7 @@ same_order old new key slot (x ∷ rest) u d =
     rw (here, same_order old new key slot rest u d.1) refl
 
 -- and stay keys
-pub same_keys : (old new : Slab Message) (key : ℕ) (slot : Option Message) (keys : List ℕ) → Updates old new key slot
+same_keys : (old new : Slab Message) (key : ℕ) (slot : Option Message) (keys : List ℕ) → Updates old new key slot
     → NotAmong key keys
     → AreKeys old keys → AreKeys new keys
 same_keys old new key slot [] u d k = tt
@@ -65,18 +69,6 @@ in_order-append old new key message keys k n u =
     let last : in_order new (key ∷ []) ≡ message ∷ [] = ap (λ (slot : Option Message). cons_option slot []) u.changed in
     filter_map-append (λ x. get new x) keys (key ∷ []) ∙ rw (same_order old new key (Some message) keys u apart, last) refl
 
--- a lane once the message put in front is taken
-first_taken-cons_option : (taken : ℕ) (slot : Option Message) (rest : List Message) → IsSome slot
-    → first_taken taken (cons_option slot rest) ≡ record { taken = taken + 1; messages = rest }
-first_taken-cons_option taken None rest h = cc
-first_taken-cons_option taken (Some message) rest h = refl
-
--- the first message taken from under its key
-pub lane-rest : (old new : Slab Message) (lane rest : KeyLane) (key : ℕ) → lane.keys ≡ key ∷ rest.keys → rest.taken ≡ lane.taken + 1
-    → AreKeys old (key ∷ rest.keys) → Updates old new key None → lane_of new rest ≡ without_first (lane_of old lane)
-lane-rest old new lane rest key k t a u =
-    rw (k, t, same_order old new key None rest.keys u a.1, first_taken-cons_option lane.taken (get old key) (in_order old rest.keys) a.0) refl
-
 -- a key that has a message puts one more in front
 length-cons_option : (slot : Option Message) (messages : List Message) → IsSome slot
     → length (cons_option slot messages) ≡ length messages + 1
@@ -100,50 +92,99 @@ next-cons_option None messages i h = cc
 next-cons_option (Some message) messages i h = refl
 
 -- the message at a place is the one under the key at that place
-pub at_key : (slab : Slab Message) (keys : List ℕ) (place : ℕ) → AreKeys slab keys
-    → slice_get (in_order slab keys) place ≡ option_and_then (λ key. get slab key) (slice_get keys place)
-at_key slab [] place k = refl
-at_key slab (x ∷ rest) zero k = first-cons_option (get slab x) (in_order slab rest) k.0
-at_key slab (x ∷ rest) (suc i) k =
-    next-cons_option (get slab x) (in_order slab rest) i k.0 ∙ at_key slab rest i k.2
+pub at_key : (slab : Slab Message) (keys : List ℕ) (place key : ℕ) → AreKeys slab keys → slice_get keys place ≡ Some key
+    → slice_get (in_order slab keys) place ≡ get slab key
+at_key slab [] place key k h = cc
+at_key slab (x ∷ rest) zero key k h =
+    let same : x ≡ key = cc in
+    subst (λ y. slice_get (in_order slab (x ∷ rest)) 0 ≡ get slab y) same (first-cons_option (get slab x) (in_order slab rest) k.0)
+at_key slab (x ∷ rest) (suc i) key k h =
+    next-cons_option (get slab x) (in_order slab rest) i k.0 ∙ at_key slab rest i key k.2 h
 
--- and so is the message with a serial
-pub at_serial : (slab : Slab Message) (lane : KeyLane) (serial : ℕ) → AreKeys slab lane.keys
-    → message_at (lane_of slab lane) serial ≡ option_and_then (λ key. get slab key) (key_at lane serial)
-at_serial slab lane serial k = by_test (nat_lt serial lane.taken)
-  where
-    by_test : (below : Bool)
-        → (if below then None else slice_get (in_order slab lane.keys) (serial - lane.taken))
-        ≡ option_and_then (λ key. get slab key) (if below then None else slice_get lane.keys (serial - lane.taken))
-    by_test true = refl
-    by_test false = at_key slab lane.keys (serial - lane.taken) k
+-- what is said where there is a value holds where one is known
+pub at_some : {P : Type 0} (slot : Option Message) → IsSome slot → OnSome slot P → P
+at_some None h p = cc
+at_some (Some message) h p = p
 
--- what is read as the first message is the first, where there is one
-pub first-read : (found : Option (Bor Message)) (messages : List Message) → option_copied found ≡ slice_get messages 0
-    → MatchOption found (messages ≡ []) (λ x. (rest : List Message) × (messages ≡ x.now ∷ rest))
-first-read None [] e = refl
-first-read None (x ∷ rest) e = cc
-first-read (Some found) [] e = cc
-first-read (Some found) (x ∷ rest) e = let same : found.now ≡ x = cc in (rest, rw same refl)
+-- ## A channel that is sound
 
--- ## Keys of two channels
+-- the lane that contracts see
+abbrev pub lane_of : ℕ → Slab Message → List ℕ → Lane
+lane_of taken slab keys = record { taken = taken; messages = in_order slab keys }
 
--- one key more on one side
-pub AreApart-append : (keys : List ℕ) (key : ℕ) (others : List ℕ) → AreApart keys others → NotAmong key others
-    → AreApart (keys ++ key ∷ []) others
-AreApart-append [] key others a n = (n, tt)
-AreApart-append (x ∷ rest) key others a n = (a.0, AreApart-append rest key others a.1 n)
+module _ {taken : ℕ} {slab : Slab Message} {keys : List ℕ} {places : ℕ} {lane : Lane}
+    (s : IsSound taken slab keys places) (v : lane_of taken slab keys ≡ lane) where
+  -- as many keys as messages wait
+  pub length-keys : length keys ≡ length lane.messages
+  length-keys = sym (length-in_order slab keys s.apart) ∙ ap (λ (l : Lane). length l.messages) v
 
--- the first key of the other side is none of this side's, and the rest are apart from them
-parted : (keys : List ℕ) (key : ℕ) (others : List ℕ) → AreApart keys (key ∷ others) → NotAmong key keys × AreApart keys others
-parted [] key others a = (tt, tt)
-parted (x ∷ rest) key others a =
-    let more = parted rest key others a.1 in
-    ((flipped x key a.0.0, more.0), (a.0.1, more.1))
+  pub sent-keys : taken + length keys ≡ sent lane
+  sent-keys = omega (arith, length-keys, ap (λ (l : Lane). l.taken) v)
 
--- apart either way round
-pub AreApart-sym : (keys others : List ℕ) → AreApart keys others → AreApart others keys
-AreApart-sym keys [] a = tt
-AreApart-sym keys (x ∷ rest) a =
-    let both = parted keys x rest a in
-    (both.0, AreApart-sym keys rest both.1)
+  -- the message with a serial is the one at so many places behind the first
+  at_place : (serial place : ℕ) → taken ≤ serial → serial - taken ≡ place
+      → slice_get (in_order slab keys) place ≡ message_at lane serial
+  at_place serial place l p = rw (← v, le-ltb serial taken l, p) refl
+
+  pub message-key : (serial place key : ℕ) → taken ≤ serial → serial - taken ≡ place → slice_get keys place ≡ Some key
+      → get slab key ≡ message_at lane serial
+  message-key serial place key l p h = sym (at_key slab keys place key s.apart h) ∙ at_place serial place l p
+
+  -- past the last key none waits
+  pub message-past : (serial place : ℕ) → taken ≤ serial → serial - taken ≡ place → length keys ≤ place
+      → None ≡ message_at lane serial
+  message-past serial place l p h =
+      let few : length (in_order slab keys) ≤ place = rw (length-in_order slab keys s.apart) h in
+      sym (slice_get_past (in_order slab keys) place few) ∙ at_place serial place l p
+
+  -- one more message
+  pub lane-append : (new : Slab Message) (key : ℕ) (message : Message) → get slab key ≡ None → Updates slab new key (Some message)
+      → lane_of taken new (keys ++ key ∷ []) ≡ with_message lane message
+  lane-append new key message n u = rw (← v, in_order-append slab new key message keys s.apart n u) refl
+
+  pub IsSound-append : (new : Slab Message) (key : ℕ) (message : Message) → get slab key ≡ None
+      → Updates slab new key (Some message)
+      → slab_len new ≡ slab_len slab + 1 → new.capacity ≡ slab.capacity → length lane.messages < 64 → sent lane < 2 ^ 64 - 1
+      → IsSound taken new (keys ++ key ∷ []) places
+  IsSound-append new key message n u l c f t =
+      let len : length (keys ++ key ∷ []) ≡ length keys + 1 = length-append keys (key ∷ []) in
+      let all : slab_len slab ≡ length keys = s.all in
+      let room : 64 ≤ slab.capacity = s.messages_room in
+      let few : length keys ≡ length lane.messages = length-keys in
+      let count : taken + length keys ≡ sent lane = sent-keys in
+      record {
+        apart = AreKeys-append slab new key message keys s.apart n u;
+        all = l ∙ omega arith;
+        few = omega arith;
+        messages_room = omega arith;
+        order_room = s.order_room;
+        counted = omega arith;
+      }
+
+module _ {taken : ℕ} {slab : Slab Message} {key : ℕ} {rest : List ℕ} {places : ℕ} (s : IsSound taken slab (key ∷ rest) places) where
+  -- the first message taken
+  pub IsSound-rest : (new : Slab Message) → Updates slab new key None → slab_len new + 1 ≡ slab_len slab
+      → new.capacity ≡ slab.capacity
+      → IsSound (taken + 1) new rest places
+  IsSound-rest new u l c =
+      let all : slab_len slab ≡ length (key ∷ rest) = s.all in
+      let few : length (key ∷ rest) ≤ 64 = s.few in
+      let room : 64 ≤ slab.capacity = s.messages_room in
+      let counted : taken + length (key ∷ rest) < 2 ^ 64 = s.counted in
+      record {
+        apart = same_keys slab new key None rest u s.apart.1 s.apart.2;
+        all = omega arith;
+        few = omega arith;
+        messages_room = omega arith;
+        order_room = s.order_room;
+        counted = omega arith;
+      }
+
+  popped : (slot : Option Message) → IsSome slot
+      → lane_of (taken + 1) slab rest ≡ first_taken taken (cons_option slot (in_order slab rest))
+  popped None h = cc
+  popped (Some message) h = refl
+
+  pub lane-rest : (new : Slab Message) (lane : Lane) → lane_of taken slab (key ∷ rest) ≡ lane → Updates slab new key None
+      → lane_of (taken + 1) new rest ≡ without_first lane
+  lane-rest new lane v u = rw (← v, same_order slab new key None rest u s.apart.1) (popped (get slab key) s.apart.0)

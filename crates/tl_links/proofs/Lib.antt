@@ -1,3 +1,2 @@
 pub mod KeyLaws
-pub mod LaneLaws
 pub mod Counts

@@ -1,7 +1,7 @@
 -- The links of a bank: a lane for each client and channel.
 use Rattle.std.specs.Prelude.{◌≡◌, ◌≢◌, ◌≤◌, ℕ, zero, suc, ◌+◌, ◌*◌, ◌||◌, Bool, false, List, [], length, slice_index, slice_index_or}
 use Rattle.std.specs.List.{list_any}
-use Rattle.tl_types.specs.Channel.{place_of}
+use Rattle.tl_types.specs.Channel.{channel_index}
 use Rattle.tl_types.specs.Lane.{Lane, bodies_of, empty_lane}
 use Rattle.tl_types.specs.declared.channel.Channel.{Channel}
 use Rattle.tl_links.specs.declared.ticket_error.TicketError.{TicketError}
@@ -15,13 +15,9 @@ pub record LinkTable : Type 0 where
   pub clients : ℕ
   pub lanes : List Lane
 
--- a channel by its number
-abbrev pub lane_at : List Lane → ℕ → Lane
-lane_at lanes place = slice_index_or lanes place empty_lane
-
 -- a client's channel
 unfoldable pub lane_in : LinkTable → ℕ → Channel → Lane
-lane_in table client channel = slice_index_or table.lanes (client * 5 + place_of channel) empty_lane
+lane_in table client channel = slice_index_or table.lanes (client * 5 + channel_index channel) empty_lane
 
 -- the bank and the clients stay
 pub record SameSize (old new : LinkTable) : Type 0 where
@@ -51,4 +47,4 @@ pub record IsCounted (table : LinkTable) (numbers : List ℕ) : Type 0 where
   pub few : table.clients ≤ 16
   pub most : (client : ℕ) (channel : Channel) → length (lane_in table client channel).messages ≤ 64
   pub five : length numbers ≡ 5
-  pub numbered : (channel : Channel) → slice_index numbers (place_of channel) ≡ waiting_below table channel table.clients
+  pub numbered : (channel : Channel) → slice_index numbers (channel_index channel) ≡ waiting_below table channel table.clients

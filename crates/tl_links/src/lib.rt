@@ -1,7 +1,6 @@
 //! The links between home and its clients: for each client and channel a list of messages with serials.
 #![tactic(auto)]
 
-mod lanes;
 mod links;
 mod queue;
 mod ticket_error;

@@ -1,16 +1,14 @@
 //! The links of one bank: five channels for each client.
-#![tactic(auto, unfolding(crate::specs::Table::lane_in))]
-
 ghost use Rattle.std.specs.Prelude.{◌≡◌, ◌↔◌, ◌≤◌, ◌<◌, ◌+◌, ◌-◌, ◌^◌, ◌∷◌, ◌*◌, ℕ, List, [], length, IfOk, IfErr, OnOk, OnErr, IsErr, MatchOption, MatchResult, option_copied, if◌then◌else◌};
 ghost use Rattle.std.specs.List.{list_any};
-ghost use Rattle.tl_types.specs.Channel.{place_of};
+ghost use Rattle.tl_types.specs.Channel.{channel_index};
 ghost use Rattle.tl_types.specs.Lane.{empty_lane, message_at, sent, is_here, with_message, without_first, bodies_of};
 ghost use Rattle.tl_types.specs.declared.channel.Channel.{Channel};
 ghost use Rattle.tl_types.specs.declared.message.Message.{Message};
 ghost use Rattle.tl_links.specs.Table.{lane_in, some_has, IsNotHead, SameSize};
 ghost use Rattle.tl_links.specs.Wanted.{is_wanted};
 
-use crate::lanes::Lanes;
+use crate::queue::Queue;
 use crate::ticket_error::TicketError;
 use crate::wanted::Wanted;
 use std::alloc::{AllocError, Global};
@@ -22,7 +20,7 @@ use tl_types::{BankNo, BlockNo, CLIENTS, Channel, ClientId, MESSAGES, Message, T
 pub struct Links {
     bank: BankNo,
     clients: u32,
-    lanes: Lanes,
+    queues: Vec<Queue>,
     /// How many messages wait on each of the five channels, at all clients.
     waiting: [u32; 5],
 }
@@ -32,9 +30,9 @@ impl Model for Links {
 
     ghost Value = { LinkTable };
 
-    ghost view = { λ l. record { bank = l.bank; clients = l.clients; lanes = l.lanes } };
+    ghost view = { λ l. record { bank = l.bank; clients = l.clients; lanes = l.queues.items } };
 
-    ghost invariant = { λ l. IsCounted (record { bank = l.bank; clients = l.clients; lanes = l.lanes }) l.waiting };
+    ghost invariant = { λ l. IsCounted (record { bank = l.bank; clients = l.clients; lanes = l.queues.items }) l.waiting };
 }
 
 /// 64 messages wait on the channel. The message comes back.
@@ -45,16 +43,21 @@ pub struct Full {
 
 impl Links {
     /// The links of a bank to so many clients, with no message on them. All memory that they ever use is taken here.
+    #[tactic(auto, unfolding(crate::specs::Table::lane_in))]
     pub fn new(alloc: Global, bank: BankNo, clients: u32) -> Result<Links, AllocError>
         requires { clients ≤ CLIENTS }
         ensures bank { IfOk result (λ l. l.bank ≡ bank) }
         ensures clients { IfOk result (λ l. l.clients ≡ clients) }
         ensures empty { IfOk result (λ l. (x : ℕ) (k : Channel) → lane_in l x k ≡ empty_lane) }
     {
+        let mut queues = Vec::with_capacity(alloc, clients as usize * Channel::ALL.len())?;
+        for _ in 0..clients as usize * Channel::ALL.len() {
+            queues.push(Queue::new(alloc)?)?;
+        }
         Ok(Links {
             bank,
             clients,
-            lanes: Lanes::new(alloc, clients as usize * Channel::ALL.len())?,
+            queues,
             waiting: [0; 5],
         })
     }
@@ -79,7 +82,7 @@ impl Links {
         requires { client < self.now.clients }
         ensures { result ≡ sent (lane_in self.now client channel) }
     {
-        self.lanes.sent(place(client, channel))
+        self.queue(client, channel).sent()
     }
 
     /// How many messages of a channel were taken: the serial of the first that waits.
@@ -87,7 +90,7 @@ impl Links {
         requires { client < self.now.clients }
         ensures { result ≡ (lane_in self.now client channel).taken }
     {
-        self.lanes.taken(place(client, channel))
+        self.queue(client, channel).taken()
     }
 
     /// How many messages wait on a channel.
@@ -96,7 +99,7 @@ impl Links {
         ensures value { result ≡ length (lane_in self.now client channel).messages }
         ensures few { result ≤ MESSAGES }
     {
-        self.lanes.waiting(place(client, channel))
+        self.queue(client, channel).waiting()
     }
 
     /// The first message that waits on a channel.
@@ -105,7 +108,7 @@ impl Links {
         ensures { MatchOption result ((lane_in self.now client channel).messages ≡ [])
             (λ x. (rest : List Message) × ((lane_in self.now client channel).messages ≡ x.now ∷ rest)) }
     {
-        self.lanes.first(place(client, channel))
+        self.queue(client, channel).first()
     }
 
     /// The message that a ticket names, where it waits on the ticket's channel; none where that serial was taken or is not sent yet.
@@ -114,8 +117,8 @@ impl Links {
         requires { ticket.client < self.now.clients }
         ensures { option_copied result ≡ message_at (lane_in self.now ticket.client ticket.channel) ticket.serial }
     {
-        self.lanes
-            .message(place(ticket.client, ticket.channel), ticket.serial)
+        self.queue(ticket.client, ticket.channel)
+            .message(ticket.serial)
     }
 
     /// Whether some message of a block that waits on a channel is one that is looked for.
@@ -123,7 +126,7 @@ impl Links {
         requires { client < self.now.clients }
         ensures { result ≡ list_any (is_wanted wanted) (bodies_of block (lane_in self.now client channel).messages) }
     {
-        self.lanes.has(place(client, channel), block, wanted)
+        self.queue(client, channel).has(block, wanted)
     }
 
     /// Whether some client has, among the messages of a block that wait on a channel, one that is looked for.
@@ -142,6 +145,7 @@ impl Links {
     }
 
     /// Sends a message. The answer is its ticket, or the message where 64 wait already, and then nothing changes.
+    #[tactic(auto, unfolding(crate::specs::Table::lane_in))]
     pub fn send(
         &mut self,
         client: ClientId,
@@ -164,13 +168,14 @@ impl Links {
         ensures message { IfErr result (λ full. full.message ≡ message) }
         ensures unchanged { OnErr result (self.new ≡ self.old) }
     {
-        if self.lanes.waiting(place(client, channel)) == MESSAGES {
+        if self.queue(client, channel).waiting() == MESSAGES {
             return Err(Full { message });
         }
         Ok(self.send_reserved(client, channel, message))
     }
 
     /// Sends a message on a channel that has room for it. The answer is its ticket.
+    #[tactic(auto, unfolding(crate::specs::Table::lane_in))]
     pub fn send_reserved(&mut self, client: ClientId, channel: Channel, message: Message) -> Ticket
         requires here { client < self.old.clients }
         requires room { length (lane_in self.old client channel).messages < MESSAGES }
@@ -182,9 +187,8 @@ impl Links {
             → lane_in self.new x k
             ≡ (if is_here client channel x k then with_message (lane_in self.old x k) message else lane_in self.old x k) }
     {
-        let place = place(client, channel);
-        let serial = self.lanes.sent(place);
-        self.lanes.push(place, message);
+        let serial = self.queue(client, channel).sent();
+        self.queues[place(client, channel)].push(message);
         self.waiting[channel.index()] += 1;
         Ticket {
             bank: self.bank,
@@ -203,12 +207,13 @@ impl Links {
         ensures serial { OnOk result (ticket.serial ≡ (lane_in self.now ticket.client ticket.channel).taken) }
         ensures refused { IfErr result (IsNotHead (lane_in self.now ticket.client ticket.channel) ticket.serial) }
     {
-        let place = place(ticket.client, ticket.channel);
-        self.lanes.check_first(place, ticket.serial)?;
-        self.lanes.first(place).ok_or(TicketError::NothingThere)
+        let queue = self.queue(ticket.client, ticket.channel);
+        queue.check_first(ticket.serial)?;
+        queue.first().ok_or(TicketError::NothingThere)
     }
 
     /// Takes the message that a ticket names, where it is the first that waits on its channel; else nothing changes.
+    #[tactic(auto, unfolding(crate::specs::Table::lane_in))]
     pub fn take(&mut self, ticket: Ticket) -> Result<Message, TicketError>
         requires bank { ticket.bank ≡ self.old.bank }
         requires here { ticket.client < self.old.clients }
@@ -225,16 +230,26 @@ impl Links {
         ensures refused { IfErr result (IsNotHead (lane_in self.old ticket.client ticket.channel) ticket.serial) }
         ensures unchanged { OnErr result (self.new ≡ self.old) }
     {
-        let place = place(ticket.client, ticket.channel);
-        self.lanes.check_first(place, ticket.serial)?;
+        self.queue(ticket.client, ticket.channel)
+            .check_first(ticket.serial)?;
         self.waiting[ticket.channel.index()] -= 1;
-        self.lanes.pop(place).ok_or(TicketError::NothingThere)
+        self.queues[place(ticket.client, ticket.channel)]
+            .pop()
+            .ok_or(TicketError::NothingThere)
+    }
+
+    #[tactic(auto, unfolding(crate::specs::Table::lane_in))]
+    fn queue(&self, client: ClientId, channel: Channel) -> &Queue
+        requires { client < self.now.clients }
+        ensures { result.now ≡ lane_in self.now client channel }
+    {
+        &self.queues[place(client, channel)]
     }
 }
 
 /// A client's channel among all channels.
 fn place(client: ClientId, channel: Channel) -> usize
-    ensures { result ≡ client * 5 + place_of channel }
+    ensures { result ≡ client * 5 + channel_index channel }
 {
     client.number() as usize * Channel::ALL.len() + channel.index()
 }

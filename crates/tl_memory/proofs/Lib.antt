@@ -1,2 +1,1 @@
-pub mod BeatLaws
 pub mod BlockLaws

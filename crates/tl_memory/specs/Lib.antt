@@ -1,2 +1,1 @@
-pub mod Beats
 pub mod Blocks

@@ -2,29 +2,27 @@
 ghost use Rattle.std.specs.Prelude.{◌≡◌, ◌*◌, ◌%◌, ◌<◌, ◌≤◌, ◌++◌, [], length};
 ghost use Rattle.std.specs.Fork.{slice_chunk};
 
-use arrayvec::ArrayVec;
 use std::marker::Model;
-use tl_types::{BLOCK_BYTES, BlockBytes};
+use tl_types::{AccessBytes, BLOCK_BYTES, BlockBytes};
 
 /// The bytes of a beat.
 const BEAT: usize = 8;
 
-/// The bytes of a block in at most eight beats: beat i carries bytes 8i to 8i + 7. Contracts see the bytes of all beats joined.
+/// The bytes of a block in at most eight beats: beat i carries bytes 8i to 8i + 7. The beats lie side by side, as the block's
+/// bytes do, so that a burst is moved whole. Contracts see the bytes of all beats joined.
 #[derive(Debug, Drop)]
 pub struct Burst {
-    beats: ArrayVec<[u8; 8], 8>,
+    bytes: BlockBytes,
 }
 
 impl Model for Burst {
-    ghost use Rattle.std.specs.Prelude.{List, ℕ};
-    ghost use Rattle.std.specs.List.{concat};
-    ghost use Rattle.tl_memory.specs.Beats.{AreBeats};
+    ghost use Rattle.std.specs.Prelude.{◌≡◌, ◌%◌, List, ℕ, length};
 
     ghost Value = { List ℕ };
 
-    ghost view = { λ b. concat b.beats.items };
+    ghost view = { λ b. b.bytes };
 
-    ghost invariant = { λ b. AreBeats b.beats.items };
+    ghost invariant = { λ b. length b.bytes % 8 ≡ 0 };
 }
 
 impl Burst {
@@ -33,24 +31,16 @@ impl Burst {
         ensures { result ≡ [] }
     {
         Burst {
-            beats: ArrayVec::new(),
+            bytes: BlockBytes::new(),
         }
     }
 
     /// The beats of a block whose bytes fill them.
-    pub fn of_block(block: &BlockBytes) -> Burst
-        requires { length block.now % 8 ≡ 0 }
-        ensures { result ≡ block.now }
+    pub fn of_block(block: BlockBytes) -> Burst
+        requires { length block % 8 ≡ 0 }
+        ensures { result ≡ block }
     {
-        let bytes = block.as_slice();
-        let mut burst = Burst::new();
-        for i in 0..bytes.len() / BEAT {
-            let from = i * BEAT;
-            let mut beat = [0; BEAT];
-            beat.copy_from_slice(&bytes[from..from + BEAT]);
-            burst.push_beat(beat);
-        }
-        burst
+        Burst { bytes: block }
     }
 
     /// How many beats there are.
@@ -58,7 +48,7 @@ impl Burst {
         ensures count { result * 8 ≡ length self.now }
         ensures few { result ≤ 8 }
     {
-        self.beats.len()
+        self.bytes.as_slice().len() / BEAT
     }
 
     /// The bytes of a beat.
@@ -66,7 +56,11 @@ impl Burst {
         requires { index * 8 < length self.now }
         ensures { result ≡ slice_chunk self.now 8 index }
     {
-        self.beats.as_slice()[index]
+        let bytes = self.bytes.as_slice();
+        let from = index * BEAT;
+        let mut beat = [0; BEAT];
+        beat.copy_from_slice(&bytes[from..from + BEAT]);
+        beat
     }
 
     /// Puts a beat behind the others, of which there are fewer than eight.
@@ -74,17 +68,24 @@ impl Burst {
         requires { length self.old < BLOCK_BYTES }
         ensures { self.new ≡ self.old ++ beat }
     {
-        self.beats.push(beat);
+        let len = self.bytes.as_slice().len();
+        let beat = AccessBytes::from_slice(&beat).unwrap();
+        self.bytes.overwrite(len, &beat);
     }
 
     /// The beats joined.
     pub fn block(&self) -> BlockBytes
-        ensures { result ≡ self.now }
+        ensures value { result ≡ self.now }
+        ensures whole { length self.now % 8 ≡ 0 }
     {
-        let mut bytes = ArrayVec::<u8, 64>::new();
-        for beat in self.beats.as_slice() {
-            let _ = bytes.try_extend_from_slice(beat);
-        }
-        BlockBytes::from_slice(bytes.as_slice()).unwrap()
+        self.bytes.copied()
+    }
+
+    /// The same, to look at.
+    pub fn as_block(&self) -> &BlockBytes
+        ensures value { result.now ≡ self.now }
+        ensures whole { length self.now % 8 ≡ 0 }
+    {
+        &self.bytes
     }
 }

@@ -153,14 +153,14 @@ impl Memory {
         match request {
             Request::Get { size, address } => Reply::AccessAckData {
                 size,
-                burst: Burst::of_block(&self.read(self.geometry.block_at(address))),
+                burst: Burst::of_block(self.read(self.geometry.block_at(address))),
             },
             Request::Put {
                 size,
                 address,
                 burst,
             } => {
-                self.write(self.geometry.block_at(address), &burst.block());
+                self.write(self.geometry.block_at(address), burst.as_block());
                 Reply::AccessAck { size }
             }
         }

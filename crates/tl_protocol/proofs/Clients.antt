@@ -9,8 +9,8 @@ use Rattle.tl_types.specs.declared.permission.Grow.{Grow}
 use Rattle.tl_types.specs.declared.permission.Prune.{Prune}
 use Rattle.tl_types.specs.declared.permission.ProbeCap.{ProbeCap}
 use Rattle.tl_types.specs.declared.permission.GrantCap.{GrantCap}
-use Rattle.tl_types.specs.declared.wait.Wait.{Wait}
-use Rattle.tl_types.specs.declared.wait.Wait.TheVariants.{Nothing, ForGrant, ForReleaseAck}
+use Rattle.tl_types.specs.declared.wait.Awaited.{Awaited}
+use Rattle.tl_types.specs.declared.wait.Awaited.TheVariants.{Nothing, ForGrant, ForReleaseAck}
 use Rattle.tl_types.specs.declared.message.ProbeAnswer.{ProbeAnswer}
 use Rattle.tl_types.specs.declared.message.Surrender.{Surrender}
 use Rattle.tl_types.specs.declared.message.Upward.{Upward}
@@ -29,13 +29,13 @@ use Rattle.tl_protocol.proofs.Talk.{acquire_talk, release_talk, answer_talk, gra
 -- ## At most one message on A and on B
 
 -- an Acquire is on A only while the client waits for a Grant
-pub no_asks : (a : List Grow) (wait : Wait) → wait ≢ ForGrant → Asks a wait → a ≡ []
+pub no_asks : (a : List Grow) (wait : Awaited) → wait ≢ ForGrant → Asks a wait → a ≡ []
 no_asks [] wait n t = refl
 no_asks (grow ∷ []) wait n t = absurd (n t)
 no_asks (first ∷ second ∷ rest) wait n t = absurd t
 
 -- with nothing on A the client may wait for anything
-pub none_asks : (a : List Grow) (wait : Wait) → a ≡ [] → Asks a wait
+pub none_asks : (a : List Grow) (wait : Awaited) → a ≡ [] → Asks a wait
 none_asks [] wait e = tt
 none_asks (x ∷ rest) wait e = cc
 
@@ -45,7 +45,7 @@ one_asks [] grow e = refl
 one_asks (x ∷ rest) grow e = cc
 
 -- an Acquire is alone on A, and its client waits for a Grant
-pub taken_asks : (grow : Grow) (rest : List Grow) (wait : Wait) → Asks (grow ∷ rest) wait → (rest ≡ []) × (wait ≡ ForGrant)
+pub taken_asks : (grow : Grow) (rest : List Grow) (wait : Awaited) → Asks (grow ∷ rest) wait → (rest ≡ []) × (wait ≡ ForGrant)
 taken_asks grow [] wait t = (refl, t)
 taken_asks grow (x ∷ rest) wait t = absurd t
 

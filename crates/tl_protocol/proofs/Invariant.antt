@@ -9,8 +9,8 @@ use Rattle.tl_types.specs.declared.permission.Perm.{Perm}
 use Rattle.tl_types.specs.declared.permission.Perm.TheVariants.{None as p_None, Tip}
 use Rattle.tl_types.specs.declared.permission.Grow.{Grow}
 use Rattle.tl_types.specs.declared.permission.ProbeCap.{ProbeCap}
-use Rattle.tl_types.specs.declared.wait.Wait.{Wait}
-use Rattle.tl_types.specs.declared.wait.Wait.TheVariants.{ForGrant, ForReleaseAck}
+use Rattle.tl_types.specs.declared.wait.Awaited.{Awaited}
+use Rattle.tl_types.specs.declared.wait.Awaited.TheVariants.{ForGrant, ForReleaseAck}
 use Rattle.tl_types.specs.declared.message.Upward.{Upward}
 use Rattle.tl_types.specs.declared.message.Upward.TheVariants.{ProbeAck, Release}
 use Rattle.tl_types.specs.declared.message.Downward.{Downward}
@@ -60,7 +60,7 @@ IsSent (Some bytes) now held = (held ≡ Absent) × (bytes ≡ now)
 
 -- Where nothing is on D, the messages on C lead from what home records to what the client holds: none, an answer to a Probe, a
 -- Release, or an answer and then a Release, which brings no data.
-abbrev pub Heard : List ℕ → CachedCopy → Wait → Perm → List ProbeCap → List Upward → Type 0
+abbrev pub Heard : List ℕ → CachedCopy → Awaited → Perm → List ProbeCap → List Upward → Type 0
 Heard now held wait recorded b [] = (wait ≢ ForReleaseAck) × (recorded ≡ perm_of held)
 Heard now held wait recorded b (ProbeAck answer ∷ []) =
     (wait ≢ ForReleaseAck) × (b ≡ []) × Leads now recorded (ProbeAck answer) (perm_of held)
@@ -73,7 +73,7 @@ Heard now held wait recorded b (message ∷ rest) = ⊥
 
 -- At most one message is on D. With a Grant there nothing is on B and C, home records what it grants, and the copy is still the old
 -- one; with a ReleaseAck nothing is on C, and home records what the client holds.
-abbrev pub Talk : List ℕ → CachedCopy → Wait → Perm → List ProbeCap → List Upward → List Downward → Type 0
+abbrev pub Talk : List ℕ → CachedCopy → Awaited → Perm → List ProbeCap → List Upward → List Downward → Type 0
 Talk now held wait recorded b c [] = Heard now held wait recorded b c
 Talk now held wait recorded b c (Grant cap bytes ∷ []) =
     (c ≡ []) × (wait ≡ ForGrant) × (b ≡ []) × (recorded ≡ grant_perm cap) × IsSent bytes now held
@@ -81,7 +81,7 @@ Talk now held wait recorded b c (ReleaseAck ∷ []) = (c ≡ []) × (wait ≡ Fo
 Talk now held wait recorded b c (first ∷ second ∷ rest) = ⊥
 
 -- at most one Acquire is on A, of a client that waits for its Grant
-abbrev pub Asks : List Grow → Wait → Type 0
+abbrev pub Asks : List Grow → Awaited → Type 0
 Asks [] wait = Unit {0}
 Asks (grow ∷ []) wait = wait ≡ ForGrant
 Asks (first ∷ second ∷ rest) wait = ⊥

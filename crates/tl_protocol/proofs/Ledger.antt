@@ -17,7 +17,7 @@ use Rattle.tl_protocol.specs.Ledger.{IsSilent, LedgerAddsUp, has_copy, is_record
 use Rattle.tl_protocol.specs.declared.shape.Shape.{Shape}
 use Rattle.tl_protocol.specs.Protocol.{Block, is_none}
 use Rattle.tl_protocol.specs.declared.copy.CachedCopy.{CachedCopy}
-use Rattle.tl_types.specs.declared.wait.Wait.{Wait}
+use Rattle.tl_types.specs.declared.wait.Awaited.{Awaited}
 use Rattle.tl_types.specs.declared.message.Upward.{Upward}
 use Rattle.tl_types.specs.declared.message.Upward.TheVariants.{ProbeAck, Release}
 use Rattle.tl_types.specs.declared.message.Downward.{Downward}
@@ -57,7 +57,7 @@ two_weight a_NtoN given e = absurd (release_not_none given (sym e))
 
 -- what is recorded is what is held and what is given up on C
 heard_weight :
-    (now : List ℕ) (held : CachedCopy) (wait : Wait) (recorded : Perm) (b : List ProbeCap) (c : List Upward)
+    (now : List ℕ) (held : CachedCopy) (wait : Awaited) (recorded : Perm) (b : List ProbeCap) (c : List Upward)
     → Heard now held wait recorded b c → weight recorded ≡ weight (perm_of held) + one_if (gives_up c)
 heard_weight now held wait recorded b [] talk = omega (arith, ap weight talk.1)
 heard_weight now held wait recorded b (ProbeAck answer ∷ []) talk =
@@ -84,7 +84,7 @@ none_given false c e = ap (λ (u : List Upward). one_if (gives_up u)) e
 
 -- what is recorded is what is held and what is under way
 talk_weight :
-    (now : List ℕ) (held : CachedCopy) (wait : Wait) (recorded : Perm) (b : List ProbeCap) (c : List Upward) (d : List Downward)
+    (now : List ℕ) (held : CachedCopy) (wait : Awaited) (recorded : Perm) (b : List ProbeCap) (c : List Upward) (d : List Downward)
     → Talk now held wait recorded b c d → weight recorded ≡ weight (perm_of held) + one_if (has_grant_data d || gives_up c)
 talk_weight now held wait recorded b c [] talk = heard_weight now held wait recorded b c talk
 talk_weight now held wait recorded b c (Grant cap bytes ∷ []) talk =

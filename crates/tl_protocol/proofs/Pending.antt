@@ -5,8 +5,8 @@ use Rattle.tl_types.specs.declared.permission.Perm.TheVariants.{None as p_None, 
 use Rattle.tl_types.specs.declared.permission.Grow.{Grow}
 use Rattle.tl_types.specs.declared.permission.ProbeCap.{ProbeCap}
 use Rattle.tl_types.specs.declared.permission.ProbeCap.TheVariants.{ToB as cap_ToB, ToN as cap_ToN}
-use Rattle.tl_types.specs.declared.wait.Wait.{Wait}
-use Rattle.tl_types.specs.declared.wait.Wait.TheVariants.{ForGrant}
+use Rattle.tl_types.specs.declared.wait.Awaited.{Awaited}
+use Rattle.tl_types.specs.declared.wait.Awaited.TheVariants.{ForGrant}
 use Rattle.tl_types.specs.declared.message.Upward.{Upward}
 use Rattle.tl_types.specs.declared.message.Upward.TheVariants.{ProbeAck, Release}
 use Rattle.tl_types.specs.declared.message.Downward.{Downward}
@@ -31,13 +31,13 @@ use Rattle.tl_protocol.proofs.Coherent.{end_kept, home_there}
 -- ## One client
 
 -- at most one Acquire is on A
-one_asks : (a : List Grow) (wait : Wait) → Asks a wait → length a ≤ 1
+one_asks : (a : List Grow) (wait : Awaited) → Asks a wait → length a ≤ 1
 one_asks [] wait asks = omega arith
 one_asks (grow ∷ []) wait asks = omega arith
 one_asks (first ∷ second ∷ rest) wait asks = absurd asks
 
 -- its client waits for a Grant
-asker_waits : (a : List Grow) (wait : Wait) (grow : Grow) (rest : List Grow) → a ≡ grow ∷ rest → Asks a wait → wait ≡ ForGrant
+asker_waits : (a : List Grow) (wait : Awaited) (grow : Grow) (rest : List Grow) → a ≡ grow ∷ rest → Asks a wait → wait ≡ ForGrant
 asker_waits [] wait grow rest e asks = cc
 asker_waits (own ∷ []) wait grow rest e asks = asks
 asker_waits (first ∷ second ∷ more) wait grow rest e asks = absurd asks
@@ -50,7 +50,7 @@ one_on_b (first ∷ second ∷ rest) one = absurd one
 
 -- at most two messages are on C
 two_heard :
-    (now : List ℕ) (held : CachedCopy) (wait : Wait) (recorded : Perm) (b : List ProbeCap) (c : List Upward)
+    (now : List ℕ) (held : CachedCopy) (wait : Awaited) (recorded : Perm) (b : List ProbeCap) (c : List Upward)
     → Heard now held wait recorded b c → length c ≤ 2
 two_heard now held wait recorded b [] talk = omega arith
 two_heard now held wait recorded b (ProbeAck answer ∷ []) talk = omega arith
@@ -60,7 +60,7 @@ two_heard now held wait recorded b (message ∷ rest) talk = absurd talk
 
 -- whatever is on D, on which at most one message is
 two_on_c :
-    (now : List ℕ) (held : CachedCopy) (wait : Wait) (recorded : Perm) (b : List ProbeCap) (c : List Upward) (d : List Downward)
+    (now : List ℕ) (held : CachedCopy) (wait : Awaited) (recorded : Perm) (b : List ProbeCap) (c : List Upward) (d : List Downward)
     → Talk now held wait recorded b c d → (length c ≤ 2) × (length d ≤ 1)
 two_on_c now held wait recorded b c [] talk = (two_heard now held wait recorded b c talk, omega arith)
 two_on_c now held wait recorded b c (Grant cap bytes ∷ []) talk =
@@ -71,7 +71,7 @@ two_on_c now held wait recorded b c (first ∷ second ∷ rest) talk = absurd ta
 
 -- the messages on C lead from what is recorded to what is held
 heard_leads :
-    (now : List ℕ) (held : CachedCopy) (wait : Wait) (recorded : Perm) (b : List ProbeCap) (c : List Upward)
+    (now : List ℕ) (held : CachedCopy) (wait : Awaited) (recorded : Perm) (b : List ProbeCap) (c : List Upward)
     → Heard now held wait recorded b c → Lead recorded c (perm_of held)
 heard_leads now held wait recorded b [] talk = talk.1
 heard_leads now held wait recorded b (ProbeAck answer ∷ []) talk = (talk.2.0, talk.2.1)
@@ -86,7 +86,7 @@ none_lead (message ∷ rest) from to e same = cc
 
 -- whatever is on D but a Grant
 talk_leads :
-    (now : List ℕ) (held : CachedCopy) (wait : Wait) (recorded : Perm) (b : List ProbeCap) (c : List Upward) (d : List Downward)
+    (now : List ℕ) (held : CachedCopy) (wait : Awaited) (recorded : Perm) (b : List ProbeCap) (c : List Upward) (d : List Downward)
     → has_grant d ≡ false → Talk now held wait recorded b c d → Lead recorded c (perm_of held)
 talk_leads now held wait recorded b c [] none talk = heard_leads now held wait recorded b c talk
 talk_leads now held wait recorded b c (Grant cap bytes ∷ []) none talk = cc

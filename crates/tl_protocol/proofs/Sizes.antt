@@ -7,7 +7,7 @@ use Rattle.tl_types.specs.Bodies.{downward_bytes}
 use Rattle.tl_types.specs.declared.permission.Perm.{Perm}
 use Rattle.tl_types.specs.declared.permission.Grow.{Grow}
 use Rattle.tl_types.specs.declared.permission.ProbeCap.{ProbeCap}
-use Rattle.tl_types.specs.declared.wait.Wait.{Wait}
+use Rattle.tl_types.specs.declared.wait.Awaited.{Awaited}
 use Rattle.tl_types.specs.declared.message.Upward.{Upward}
 use Rattle.tl_types.specs.declared.message.Upward.TheVariants.{ProbeAck, Release}
 use Rattle.tl_types.specs.declared.message.Downward.{Downward}
@@ -147,7 +147,7 @@ DownwardIsWhole size message = IsWhole size (downward_bytes message)
 
 -- the messages on C, where nothing is on D
 heard_whole :
-    (size : ℕ) (now : List ℕ) (held : CachedCopy) (wait : Wait) (recorded : Perm) (b : List ProbeCap) (c : List Upward)
+    (size : ℕ) (now : List ℕ) (held : CachedCopy) (wait : Awaited) (recorded : Perm) (b : List ProbeCap) (c : List Upward)
     → length now ≡ size → Heard now held wait recorded b c → All (UpwardIsWhole size) c
 heard_whole size now held wait recorded b [] long talk = All-nil (UpwardIsWhole size)
 heard_whole size now held wait recorded b (ProbeAck answer ∷ []) long talk =
@@ -169,7 +169,7 @@ empty_whole size c e = subst (λ (c : List Upward). All (UpwardIsWhole size) c) 
 
 -- the messages on C
 pub c_whole :
-    (size : ℕ) (now : List ℕ) (held : CachedCopy) (wait : Wait) (recorded : Perm) (b : List ProbeCap) (c : List Upward)
+    (size : ℕ) (now : List ℕ) (held : CachedCopy) (wait : Awaited) (recorded : Perm) (b : List ProbeCap) (c : List Upward)
     (d : List Downward)
     → length now ≡ size → Talk now held wait recorded b c d → All (UpwardIsWhole size) c
 c_whole size now held wait recorded b c [] long talk = heard_whole size now held wait recorded b c long talk
@@ -179,7 +179,7 @@ c_whole size now held wait recorded b c (first ∷ second ∷ rest) long talk = 
 
 -- the messages on D
 pub d_whole :
-    (size : ℕ) (now : List ℕ) (held : CachedCopy) (wait : Wait) (recorded : Perm) (b : List ProbeCap) (c : List Upward)
+    (size : ℕ) (now : List ℕ) (held : CachedCopy) (wait : Awaited) (recorded : Perm) (b : List ProbeCap) (c : List Upward)
     (d : List Downward)
     → length now ≡ size → Talk now held wait recorded b c d → All (DownwardIsWhole size) d
 d_whole size now held wait recorded b c [] long talk = All-nil (DownwardIsWhole size)

@@ -8,8 +8,8 @@ use Rattle.tl_types.specs.declared.permission.Perm.TheVariants.{None as p_None, 
 use Rattle.tl_types.specs.declared.permission.Prune.{Prune}
 use Rattle.tl_types.specs.declared.permission.ProbeCap.{ProbeCap}
 use Rattle.tl_types.specs.declared.permission.GrantCap.{GrantCap}
-use Rattle.tl_types.specs.declared.wait.Wait.{Wait}
-use Rattle.tl_types.specs.declared.wait.Wait.TheVariants.{Nothing, ForGrant, ForReleaseAck}
+use Rattle.tl_types.specs.declared.wait.Awaited.{Awaited}
+use Rattle.tl_types.specs.declared.wait.Awaited.TheVariants.{Nothing, ForGrant, ForReleaseAck}
 use Rattle.tl_types.specs.declared.message.ProbeAnswer.{ProbeAnswer}
 use Rattle.tl_types.specs.declared.message.Surrender.{Surrender}
 use Rattle.tl_types.specs.declared.message.Upward.{Upward}
@@ -23,7 +23,7 @@ use Rattle.tl_protocol.proofs.Messages.{grant_not_none, to_not_tip, to_le, not_d
 
 -- a client that waits for nothing may wait for a Grant: the messages on C stay right
 pub acquire_heard :
-    (now : List ℕ) (held : CachedCopy) (wait : Wait) (recorded : Perm) (b : List ProbeCap) (c : List Upward)
+    (now : List ℕ) (held : CachedCopy) (wait : Awaited) (recorded : Perm) (b : List ProbeCap) (c : List Upward)
     → wait ≡ Nothing → Heard now held wait recorded b c → Heard now held ForGrant recorded b c
 acquire_heard now held wait recorded b [] waits talk = ((λ e. cc), talk.1)
 acquire_heard now held wait recorded b (ProbeAck answer ∷ []) waits talk = ((λ e. cc), talk.1, talk.2)
@@ -33,7 +33,7 @@ acquire_heard now held wait recorded b (message ∷ rest) waits talk = absurd ta
 
 -- and so do those on C and D
 pub acquire_talk :
-    (now : List ℕ) (held : CachedCopy) (wait : Wait) (recorded : Perm) (b : List ProbeCap) (c : List Upward) (d : List Downward)
+    (now : List ℕ) (held : CachedCopy) (wait : Awaited) (recorded : Perm) (b : List ProbeCap) (c : List Upward) (d : List Downward)
     → wait ≡ Nothing → Talk now held wait recorded b c d → Talk now held ForGrant recorded b c d
 acquire_talk now held wait recorded b c [] waits talk = acquire_heard now held wait recorded b c waits talk
 acquire_talk now held wait recorded b c (Grant cap bytes ∷ []) waits talk = cc
@@ -42,7 +42,7 @@ acquire_talk now held wait recorded b c (first ∷ second ∷ rest) waits talk =
 
 -- a Release joins the messages on C, which then lead to the reduced copy
 pub release_heard :
-    (now : List ℕ) (held : CachedCopy) (wait : Wait) (recorded : Perm) (b : List ProbeCap) (c : List Upward) (prune : Prune)
+    (now : List ℕ) (held : CachedCopy) (wait : Awaited) (recorded : Perm) (b : List ProbeCap) (c : List Upward) (prune : Prune)
     → IsCurrent now held → wait ≡ Nothing → perm_of held ≡ prune_from prune → Heard now held wait recorded b c
     → Heard now (reduced held (prune_to prune)) ForReleaseAck recorded b (c ++ Release (surrender prune (dirty_bytes held)) ∷ [])
 release_heard now held wait recorded b [] prune current waits e talk = (
@@ -61,7 +61,7 @@ release_heard now held wait recorded b (message ∷ rest) prune current waits e 
 
 -- and so they do with what is on D
 pub release_talk :
-    (now : List ℕ) (held : CachedCopy) (wait : Wait) (recorded : Perm) (b : List ProbeCap) (c : List Upward) (d : List Downward)
+    (now : List ℕ) (held : CachedCopy) (wait : Awaited) (recorded : Perm) (b : List ProbeCap) (c : List Upward) (d : List Downward)
     (prune : Prune)
     → IsCurrent now held → wait ≡ Nothing → perm_of held ≡ prune_from prune → Talk now held wait recorded b c d
     → Talk now (reduced held (prune_to prune)) ForReleaseAck recorded b (c ++ Release (surrender prune (dirty_bytes held)) ∷ []) d
@@ -73,7 +73,7 @@ release_talk now held wait recorded b c (first ∷ second ∷ rest) prune curren
 
 -- an answer to a Probe joins the messages on C, which then lead to the reduced copy
 pub answer_heard :
-    (now : List ℕ) (held : CachedCopy) (wait : Wait) (recorded : Perm) (cap : ProbeCap) (rest : List ProbeCap) (c : List Upward)
+    (now : List ℕ) (held : CachedCopy) (wait : Awaited) (recorded : Perm) (cap : ProbeCap) (rest : List ProbeCap) (c : List Upward)
     → IsAtMostOne (cap ∷ rest) → IsCurrent now held → wait ≢ ForReleaseAck → Heard now held wait recorded (cap ∷ rest) c
     → Heard now (reduced held (probe_perm cap)) wait recorded rest
     (c ++ ProbeAck (probe_answer (perm_of held) cap (dirty_bytes held)) ∷ [])
@@ -91,7 +91,7 @@ answer_heard now held wait recorded cap rest (message ∷ tail) one current n ta
 
 -- and so they do with what is on D
 pub answer_talk :
-    (now : List ℕ) (held : CachedCopy) (wait : Wait) (recorded : Perm) (cap : ProbeCap) (rest : List ProbeCap) (c : List Upward)
+    (now : List ℕ) (held : CachedCopy) (wait : Awaited) (recorded : Perm) (cap : ProbeCap) (rest : List ProbeCap) (c : List Upward)
     (d : List Downward)
     → IsAtMostOne (cap ∷ rest) → IsCurrent now held → wait ≢ ForReleaseAck → Talk now held wait recorded (cap ∷ rest) c d
     → Talk now (reduced held (probe_perm cap)) wait recorded rest
@@ -104,7 +104,7 @@ answer_talk now held wait recorded cap rest c (first ∷ second ∷ tail) one cu
 
 -- what a Grant that is first on D tells
 pub granted_talk :
-    (now : List ℕ) (held : CachedCopy) (wait : Wait) (recorded : Perm) (b : List ProbeCap) (c : List Upward) (cap : GrantCap)
+    (now : List ℕ) (held : CachedCopy) (wait : Awaited) (recorded : Perm) (b : List ProbeCap) (c : List Upward) (cap : GrantCap)
     (bytes : Option (List ℕ)) (rest : List Downward)
     → Talk now held wait recorded b c (Grant cap bytes ∷ rest)
     → (c ≡ []) × (wait ≡ ForGrant) × (b ≡ []) × (recorded ≡ grant_perm cap) × IsSent bytes now held × (rest ≡ [])
@@ -113,7 +113,7 @@ granted_talk now held wait recorded b c cap bytes (y ∷ rest) talk = absurd tal
 
 -- what a ReleaseAck that is first on D tells
 pub acked_talk :
-    (now : List ℕ) (held : CachedCopy) (wait : Wait) (recorded : Perm) (b : List ProbeCap) (c : List Upward) (rest : List Downward)
+    (now : List ℕ) (held : CachedCopy) (wait : Awaited) (recorded : Perm) (b : List ProbeCap) (c : List Upward) (rest : List Downward)
     → Talk now held wait recorded b c (ReleaseAck ∷ rest)
     → (c ≡ []) × (wait ≡ ForReleaseAck) × (recorded ≡ perm_of held) × (rest ≡ [])
 acked_talk now held wait recorded b c [] talk = (talk.0, talk.1, talk.2, refl)
@@ -121,7 +121,7 @@ acked_talk now held wait recorded b c (y ∷ rest) talk = absurd talk
 
 -- where no answer to a Probe is on C, a Probe may join B
 pub probe_heard :
-    (now : List ℕ) (held : CachedCopy) (wait : Wait) (recorded : Perm) (b more : List ProbeCap) (c : List Upward)
+    (now : List ℕ) (held : CachedCopy) (wait : Awaited) (recorded : Perm) (b more : List ProbeCap) (c : List Upward)
     → has_probe_ack c ≡ false → Heard now held wait recorded b c → Heard now held wait recorded more c
 probe_heard now held wait recorded b more [] n talk = talk
 probe_heard now held wait recorded b more (ProbeAck answer ∷ []) n talk = cc
@@ -131,7 +131,7 @@ probe_heard now held wait recorded b more (message ∷ rest) n talk = absurd tal
 
 -- and so it may where no Grant is on D
 pub probe_talk :
-    (now : List ℕ) (held : CachedCopy) (wait : Wait) (recorded : Perm) (b more : List ProbeCap) (c : List Upward) (d : List Downward)
+    (now : List ℕ) (held : CachedCopy) (wait : Awaited) (recorded : Perm) (b more : List ProbeCap) (c : List Upward) (d : List Downward)
     → has_probe_ack c ≡ false → has_grant d ≡ false → Talk now held wait recorded b c d → Talk now held wait recorded more c d
 probe_talk now held wait recorded b more c [] n g talk = probe_heard now held wait recorded b more c n talk
 probe_talk now held wait recorded b more c (Grant cap bytes ∷ []) n g talk = cc
@@ -140,7 +140,7 @@ probe_talk now held wait recorded b more c (first ∷ second ∷ rest) n g talk 
 
 -- The first message from a client leads from what home records.
 pub first_heard :
-    (now : List ℕ) (held : CachedCopy) (wait : Wait) (recorded : Perm) (b : List ProbeCap) (message : Upward) (rest : List Upward)
+    (now : List ℕ) (held : CachedCopy) (wait : Awaited) (recorded : Perm) (b : List ProbeCap) (message : Upward) (rest : List Upward)
     → Heard now held wait recorded b (message ∷ rest)
     → (recorded ≡ upward_from message) × IsData now (upward_bytes message) recorded
 first_heard now held wait recorded b (ProbeAck answer) [] talk = (talk.2.0, talk.2.2)
@@ -150,7 +150,7 @@ first_heard now held wait recorded b message rest talk = absurd talk
 
 -- then nothing is on D
 pub first_talk :
-    (now : List ℕ) (held : CachedCopy) (wait : Wait) (recorded : Perm) (b : List ProbeCap) (message : Upward) (rest : List Upward)
+    (now : List ℕ) (held : CachedCopy) (wait : Awaited) (recorded : Perm) (b : List ProbeCap) (message : Upward) (rest : List Upward)
     (d : List Downward)
     → Talk now held wait recorded b (message ∷ rest) d
     → (recorded ≡ upward_from message) × IsData now (upward_bytes message) recorded × (d ≡ [])
@@ -162,7 +162,7 @@ first_talk now held wait recorded b message rest (first ∷ second ∷ more) tal
 
 -- home takes an answer to a Probe: the other messages lead from what it leaves
 pub take_ack_heard :
-    (now : List ℕ) (held : CachedCopy) (wait : Wait) (recorded : Perm) (b : List ProbeCap) (answer : ProbeAnswer)
+    (now : List ℕ) (held : CachedCopy) (wait : Awaited) (recorded : Perm) (b : List ProbeCap) (answer : ProbeAnswer)
     (rest : List Upward)
     → Heard now held wait recorded b (ProbeAck answer ∷ rest) → Heard now held wait (upward_to (ProbeAck answer)) b rest
 take_ack_heard now held wait recorded b answer [] talk = (talk.0, talk.2.1)
@@ -172,7 +172,7 @@ take_ack_heard now held wait recorded b answer rest talk = absurd talk
 
 -- and nothing is on D
 pub take_ack_talk :
-    (now : List ℕ) (held : CachedCopy) (wait : Wait) (recorded : Perm) (b : List ProbeCap) (answer : ProbeAnswer)
+    (now : List ℕ) (held : CachedCopy) (wait : Awaited) (recorded : Perm) (b : List ProbeCap) (answer : ProbeAnswer)
     (rest : List Upward) (d : List Downward)
     → Talk now held wait recorded b (ProbeAck answer ∷ rest) d → Talk now held wait (upward_to (ProbeAck answer)) b rest d
 take_ack_talk now held wait recorded b answer rest [] talk = take_ack_heard now held wait recorded b answer rest talk
@@ -182,7 +182,7 @@ take_ack_talk now held wait recorded b answer rest (first ∷ second ∷ more) t
 
 -- a Release is the last message on C
 pub take_release_heard :
-    (now : List ℕ) (held : CachedCopy) (wait : Wait) (recorded : Perm) (b : List ProbeCap) (given : Surrender)
+    (now : List ℕ) (held : CachedCopy) (wait : Awaited) (recorded : Perm) (b : List ProbeCap) (given : Surrender)
     (rest : List Upward)
     → Heard now held wait recorded b (Release given ∷ rest)
     → (rest ≡ []) × (wait ≡ ForReleaseAck) × (upward_to (Release given) ≡ perm_of held)
@@ -191,7 +191,7 @@ take_release_heard now held wait recorded b given (message ∷ rest) talk = absu
 
 -- home takes a Release, and answers it
 pub take_release_talk :
-    (now : List ℕ) (held : CachedCopy) (wait : Wait) (recorded : Perm) (b : List ProbeCap) (given : Surrender)
+    (now : List ℕ) (held : CachedCopy) (wait : Awaited) (recorded : Perm) (b : List ProbeCap) (given : Surrender)
     (rest : List Upward) (d : List Downward)
     → Talk now held wait recorded b (Release given ∷ rest) d
     → Talk now held wait (upward_to (Release given)) b rest (d ++ ReleaseAck ∷ [])
@@ -203,7 +203,7 @@ take_release_talk now held wait recorded b given rest (first ∷ second ∷ more
 
 -- A client that waits for a Grant has nothing under way, where no Probe and no Grant is pending at it.
 pub idle_heard :
-    (now : List ℕ) (held : CachedCopy) (wait : Wait) (recorded : Perm) (b : List ProbeCap) (c : List Upward)
+    (now : List ℕ) (held : CachedCopy) (wait : Awaited) (recorded : Perm) (b : List ProbeCap) (c : List Upward)
     → wait ≡ ForGrant → has_probe_ack c ≡ false → Heard now held wait recorded b c → (c ≡ []) × (recorded ≡ perm_of held)
 idle_heard now held wait recorded b [] waits n talk = (refl, talk.1)
 idle_heard now held wait recorded b (ProbeAck answer ∷ []) waits n talk = cc
@@ -213,7 +213,7 @@ idle_heard now held wait recorded b (message ∷ rest) waits n talk = absurd tal
 
 -- and nothing is on D either
 pub idle_talk :
-    (now : List ℕ) (held : CachedCopy) (wait : Wait) (recorded : Perm) (b : List ProbeCap) (c : List Upward) (d : List Downward)
+    (now : List ℕ) (held : CachedCopy) (wait : Awaited) (recorded : Perm) (b : List ProbeCap) (c : List Upward) (d : List Downward)
     → wait ≡ ForGrant → has_probe_ack c ≡ false → has_grant d ≡ false → Talk now held wait recorded b c d
     → (c ≡ []) × (d ≡ []) × (recorded ≡ perm_of held)
 idle_talk now held wait recorded b c [] waits n g talk =
@@ -224,7 +224,7 @@ idle_talk now held wait recorded b c (first ∷ second ∷ rest) waits n g talk 
 
 -- A client with Tip has no message on C, and home records Tip.
 pub tip_heard :
-    (now : List ℕ) (held : CachedCopy) (wait : Wait) (recorded : Perm) (b : List ProbeCap) (c : List Upward)
+    (now : List ℕ) (held : CachedCopy) (wait : Awaited) (recorded : Perm) (b : List ProbeCap) (c : List Upward)
     → perm_of held ≡ Tip → Heard now held wait recorded b c → (c ≡ []) × (recorded ≡ Tip)
 tip_heard now held wait recorded b [] e talk = (refl, talk.1 ∙ e)
 tip_heard now held wait recorded b (ProbeAck answer ∷ []) e talk = absurd (to_not_tip (ProbeAck answer) (talk.2.1 ∙ e))
@@ -235,7 +235,7 @@ tip_heard now held wait recorded b (message ∷ rest) e talk = absurd talk
 
 -- whatever is on D
 pub tip_talk :
-    (now : List ℕ) (held : CachedCopy) (wait : Wait) (recorded : Perm) (b : List ProbeCap) (c : List Upward) (d : List Downward)
+    (now : List ℕ) (held : CachedCopy) (wait : Awaited) (recorded : Perm) (b : List ProbeCap) (c : List Upward) (d : List Downward)
     → perm_of held ≡ Tip → Talk now held wait recorded b c d → (c ≡ []) × (recorded ≡ Tip)
 tip_talk now held wait recorded b c [] e talk = tip_heard now held wait recorded b c e talk
 tip_talk now held wait recorded b c (Grant cap bytes ∷ []) e talk = absurd (sent_not_tip now held bytes talk.4 e)
@@ -244,7 +244,7 @@ tip_talk now held wait recorded b c (first ∷ second ∷ rest) e talk = absurd 
 
 -- The messages stay right where another copy of the same permission stands for the copy, with other bytes last stored.
 pub store_heard :
-    (now later : List ℕ) (held copy : CachedCopy) (wait : Wait) (recorded : Perm) (b : List ProbeCap) (c : List Upward)
+    (now later : List ℕ) (held copy : CachedCopy) (wait : Awaited) (recorded : Perm) (b : List ProbeCap) (c : List Upward)
     → perm_of held ≡ Tip → perm_of copy ≡ Tip → Heard now held wait recorded b c → Heard later copy wait recorded b c
 store_heard now later held copy wait recorded b [] e f talk = (talk.0, talk.1 ∙ (e ∙ sym f))
 store_heard now later held copy wait recorded b (message ∷ rest) e f talk =
@@ -252,7 +252,7 @@ store_heard now later held copy wait recorded b (message ∷ rest) e f talk =
 
 -- and so they do with what is on D
 pub store_talk :
-    (now later : List ℕ) (held copy : CachedCopy) (wait : Wait) (recorded : Perm) (b : List ProbeCap) (c : List Upward)
+    (now later : List ℕ) (held copy : CachedCopy) (wait : Awaited) (recorded : Perm) (b : List ProbeCap) (c : List Upward)
     (d : List Downward)
     → perm_of held ≡ Tip → perm_of copy ≡ Tip → Talk now held wait recorded b c d → Talk later copy wait recorded b c d
 store_talk now later held copy wait recorded b c [] e f talk = store_heard now later held copy wait recorded b c e f talk
@@ -262,7 +262,7 @@ store_talk now later held copy wait recorded b c (first ∷ second ∷ rest) e f
 
 -- Messages of a client that home records None say nothing of the bytes last stored.
 pub none_heard :
-    (now later : List ℕ) (held : CachedCopy) (wait : Wait) (recorded : Perm) (b : List ProbeCap) (c : List Upward)
+    (now later : List ℕ) (held : CachedCopy) (wait : Awaited) (recorded : Perm) (b : List ProbeCap) (c : List Upward)
     → recorded ≡ p_None → Heard now held wait recorded b c → Heard later held wait recorded b c
 none_heard now later held wait recorded b [] e talk = talk
 none_heard now later held wait recorded b (ProbeAck answer ∷ []) e talk =
@@ -275,7 +275,7 @@ none_heard now later held wait recorded b (message ∷ rest) e talk = absurd tal
 
 -- and so it is with what is on D
 pub none_talk :
-    (now later : List ℕ) (held : CachedCopy) (wait : Wait) (recorded : Perm) (b : List ProbeCap) (c : List Upward)
+    (now later : List ℕ) (held : CachedCopy) (wait : Awaited) (recorded : Perm) (b : List ProbeCap) (c : List Upward)
     (d : List Downward)
     → recorded ≡ p_None → Talk now held wait recorded b c d → Talk later held wait recorded b c d
 none_talk now later held wait recorded b c [] e talk = none_heard now later held wait recorded b c e talk
@@ -285,7 +285,7 @@ none_talk now later held wait recorded b c (first ∷ second ∷ rest) e talk = 
 
 -- A copy is at most what home records.
 pub held_heard :
-    (now : List ℕ) (held : CachedCopy) (wait : Wait) (recorded : Perm) (b : List ProbeCap) (c : List Upward)
+    (now : List ℕ) (held : CachedCopy) (wait : Awaited) (recorded : Perm) (b : List ProbeCap) (c : List Upward)
     → Heard now held wait recorded b c → rank (perm_of held) ≤ rank recorded
 held_heard now held wait recorded b [] talk = omega (arith, ap rank talk.1)
 held_heard now held wait recorded b (ProbeAck answer ∷ []) talk =
@@ -298,7 +298,7 @@ held_heard now held wait recorded b (message ∷ rest) talk = absurd talk
 
 -- whatever is on D
 pub held_talk :
-    (now : List ℕ) (held : CachedCopy) (wait : Wait) (recorded : Perm) (b : List ProbeCap) (c : List Upward) (d : List Downward)
+    (now : List ℕ) (held : CachedCopy) (wait : Awaited) (recorded : Perm) (b : List ProbeCap) (c : List Upward) (d : List Downward)
     → Talk now held wait recorded b c d → rank (perm_of held) ≤ rank recorded
 held_talk now held wait recorded b c [] talk = held_heard now held wait recorded b c talk
 held_talk now held wait recorded b c (Grant cap bytes ∷ []) talk =

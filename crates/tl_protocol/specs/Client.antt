@@ -12,7 +12,7 @@ use Rattle.tl_types.specs.declared.permission.ProbeCap.{ProbeCap}
 use Rattle.tl_types.specs.declared.permission.GrantCap.{GrantCap}
 use Rattle.tl_protocol.specs.Copy.{perm_of, bytes_of, dirty_bytes, clean_copy, reduced, stored_in}
 use Rattle.tl_protocol.specs.declared.copy.CachedCopy.TheVariants.{Absent}
-use Rattle.tl_types.specs.declared.wait.Wait.TheVariants.{Nothing, ForGrant, ForReleaseAck}
+use Rattle.tl_types.specs.declared.wait.Awaited.TheVariants.{Nothing, ForGrant, ForReleaseAck}
 use Rattle.tl_types.specs.declared.message.Upward.{Upward}
 use Rattle.tl_types.specs.declared.message.Upward.TheVariants.{ProbeAck, Release}
 use Rattle.tl_types.specs.declared.message.Downward.{Downward}

@@ -14,5 +14,5 @@ pub mod Queue
 pub mod Runs
 pub mod Merges
 pub mod Sizes
-pub mod Journal
+pub mod LogView
 pub mod Past

@@ -15,7 +15,7 @@ use Rattle.tl_types.specs.declared.message.Upward.{Upward}
 use Rattle.tl_types.specs.declared.message.Upward.TheVariants.{ProbeAck}
 use Rattle.tl_types.specs.declared.message.Downward.{Downward}
 use Rattle.tl_types.specs.declared.message.Downward.TheVariants.{Grant, ReleaseAck}
-use Rattle.tl_types.specs.declared.wait.Wait.TheVariants.{ForGrant, ForReleaseAck}
+use Rattle.tl_types.specs.declared.wait.Awaited.TheVariants.{ForGrant, ForReleaseAck}
 use Rattle.tl_protocol.specs.declared.client.Client.{Client}
 use Rattle.tl_protocol.specs.declared.event.Event.{Event}
 use Rattle.tl_protocol.specs.declared.home.Accepted.{Accepted}

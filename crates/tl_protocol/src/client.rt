@@ -12,8 +12,8 @@ use crate::shape::Shape;
 use std::alloc::{AllocError, Global};
 use std::mem;
 use tl_types::{
-    AccessBytes, BLOCK_BYTES, BlockBytes, Downward, GrantCap, Grow, Perm, ProbeAnswer, ProbeCap,
-    Prune, Surrender, Upward, Wait,
+    AccessBytes, Awaited, BLOCK_BYTES, BlockBytes, Downward, GrantCap, Grow, Perm, ProbeAnswer,
+    ProbeCap, Prune, Surrender, Upward,
 };
 
 /// A client, the permission that home records for it, and the messages between them, oldest first.
@@ -22,7 +22,7 @@ pub struct Client {
     /// Its copy.
     pub held: CachedCopy,
     /// The answer that it waits for.
-    pub wait: Wait,
+    pub wait: Awaited,
     /// The permission that home records for it.
     pub recorded: Perm,
     /// Acquires, from the client.
@@ -44,7 +44,7 @@ impl Client {
     {
         Client {
             held: CachedCopy::Absent,
-            wait: Wait::Nothing,
+            wait: Awaited::Nothing,
             recorded: Perm::None,
             a: Queue::new(alloc),
             b: Queue::new(alloc),
@@ -84,21 +84,21 @@ impl Client {
     pub fn may_send_acquire(&self, grow: Grow) -> bool
         ensures { IsTrue result ↔ MaySendAcquire self.now grow }
     {
-        self.wait == Wait::Nothing && self.held.perm() == grow.from()
+        self.wait == Awaited::Nothing && self.held.perm() == grow.from()
     }
 
     /// Whether it may give up: it waits for nothing, and its copy has the permission that `prune` starts from.
     pub fn may_send_release(&self, prune: Prune) -> bool
         ensures { IsTrue result ↔ MaySendRelease self.now prune }
     {
-        self.wait == Wait::Nothing && self.held.perm() == prune.from()
+        self.wait == Awaited::Nothing && self.held.perm() == prune.from()
     }
 
     /// Whether it may answer a Probe: there is one, and no Release of its own waits for the answer.
     pub fn may_answer_probe(&self) -> bool
         ensures { IsTrue result ↔ MayAnswerProbe self.now }
     {
-        self.b.has_first() && self.wait != Wait::ForReleaseAck
+        self.b.has_first() && self.wait != Awaited::ForReleaseAck
     }
 
     /// Whether the first message on D is a Grant.
@@ -174,7 +174,7 @@ impl Client {
         ensures err { OnErr result (self.new ≡ self.old) }
     {
         self.a.push(grow)?;
-        self.wait = Wait::ForGrant;
+        self.wait = Awaited::ForGrant;
         Ok(())
     }
 
@@ -187,7 +187,7 @@ impl Client {
         let data = self.held.dirty_bytes();
         self.c.push(Upward::Release(Surrender::of(prune, data)))?;
         self.held.reduce(prune.to());
-        self.wait = Wait::ForReleaseAck;
+        self.wait = Awaited::ForReleaseAck;
         Ok(())
     }
 
@@ -217,7 +217,7 @@ impl Client {
         if let Some(Downward::Grant(cap, data)) = self.d.pop_front() {
             let own = mem::replace(&mut self.held, CachedCopy::Absent).into_bytes();
             self.held = CachedCopy::clean(cap.perm(), data.unwrap_or(own));
-            self.wait = Wait::Nothing;
+            self.wait = Awaited::Nothing;
         }
         Ok(())
     }
@@ -227,7 +227,7 @@ impl Client {
         ensures { self.new ≡ took_release_ack self.old }
     {
         self.d.pop_front();
-        self.wait = Wait::Nothing;
+        self.wait = Awaited::Nothing;
     }
 
     /// Sends a Probe to the client. Out of memory leaves it as it was.

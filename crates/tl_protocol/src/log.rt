@@ -1,6 +1,6 @@
 //! The log of a bank.
 ghost use Rattle.std.specs.Prelude.{◌≡◌, ◌≤◌, ◌<◌, ◌+◌, ◌-◌, ◌^◌, ◌∷◌, ◌++◌, ℕ, List, [], length, drop, nat_lt, IsOk, OnOk, OnErr, if◌then◌else◌};
-ghost use Rattle.tl_protocol.specs.Journal.{Journal};
+ghost use Rattle.tl_protocol.specs.LogView.{LogView};
 
 use crate::event::Event;
 use std::alloc::{AllocError, Global};
@@ -43,10 +43,10 @@ pub struct Log {
 impl Model for Log {
     //! The log of a bank.
     ghost use Rattle.std.specs.Prelude.{◌≡◌, ◌<◌, ◌-◌, ◌++◌, ◌^◌, length, vec_len, vec_capacity};
-    ghost use Rattle.tl_protocol.specs.Journal.{Journal};
+    ghost use Rattle.tl_protocol.specs.LogView.{LogView};
     ghost use Rattle.tl_protocol.specs.Past.{all_past};
 
-    ghost Value = { Journal };
+    ghost Value = { LogView };
 
     ghost view = { λ l. record { events = all_past l.past ++ l.events.items; forgotten = l.forgotten; room = vec_capacity l.events - vec_len l.events } };
 

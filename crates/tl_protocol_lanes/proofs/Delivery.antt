@@ -9,7 +9,7 @@ use Rattle.tl_protocol.specs.declared.event.Event.{Event}
 use Rattle.tl_protocol.specs.declared.shape.Shape.{Shape}
 use Rattle.tl_protocol.specs.Protocol.{Block, block_of}
 use Rattle.tl_protocol.specs.Runs.{IsRunFrom, at_reset, after_next, end_of}
-use Rattle.tl_protocol_lanes.specs.Lanes.{Post, Place, post_of, take_of, taken_from, sent_to, lane_after, lane_from, lane_of}
+use Rattle.tl_protocol_lanes.specs.Lanes.{Post, LinkChannel, post_of, take_of, taken_from, sent_to, lane_after, lane_from, lane_of}
 use Rattle.tl_protocol_lanes.specs.Lawful.{Lawful, TakeInOrder}
 use Rattle.tl_protocol_lanes.specs.Lists.{list_in}
 use Rattle.tl_protocol_lanes.specs.Delivery.{first_as, message_sent, message_taken, sent_from, taken_along, EveryMessageIsDeliveredInOrder}
@@ -19,7 +19,7 @@ use Rattle.tl_types.proofs.Lanes.{bodies_of-first}
 -- ## What is taken from a lane
 
 -- what is taken there of a lane, if something is: its first message
-abbrev lane_taken : Option Place → ℕ → Channel → Lane → List Message
+abbrev lane_taken : Option LinkChannel → ℕ → Channel → Lane → List Message
 lane_taken None x l lane = []
 lane_taken (Some place) x l lane = if is_here place.client place.channel x l then take 1 lane.messages else []
 
@@ -52,7 +52,7 @@ taken_if false lane = (refl, omega arith)
 
 -- what is taken was first
 taken_split :
-    (place : Option Place) (x : ℕ) (l : Channel) (lane : Lane)
+    (place : Option LinkChannel) (x : ℕ) (l : Channel) (lane : Lane)
     → (lane.messages ≡ lane_taken place x l lane ++ (taken_from place x l lane).messages)
     × ((taken_from place x l lane).taken ≡ lane.taken + length (lane_taken place x l lane))
 taken_split None x l lane = (refl, omega arith)
@@ -135,7 +135,7 @@ same_if false block lane bodies first is = refl
 
 -- what an event takes of its block's list is what it takes of the lane
 taken-same :
-    (shape : Shape) (image : List ℕ) (log : List Event) (place : Option Place) (block x : ℕ) (l : Channel) → Lawful shape image log
+    (shape : Shape) (image : List ℕ) (log : List Event) (place : Option LinkChannel) (block x : ℕ) (l : Channel) → Lawful shape image log
     → FirstIf place block x l (lane_of shape image log x l)
     → message_taken place (end_of shape image log block) block x l ≡ lane_taken place x l (lane_of shape image log x l)
 taken-same shape image log None block x l lawful first = refl

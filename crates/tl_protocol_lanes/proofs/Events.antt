@@ -30,7 +30,7 @@ use Rattle.tl_protocol.specs.Copy.{perm_of, dirty_bytes}
 use Rattle.tl_protocol.specs.Queue.{HasFirst}
 use Rattle.tl_protocol.specs.Protocol.{Block, MayOn, after, accepted_from, grants, granted, served, took_data, home_bytes}
 use Rattle.tl_protocol.proofs.Blocks.{put}
-use Rattle.tl_protocol_lanes.specs.Lanes.{Post, Place, post_of, take_of, answer_post, ack_post, grant_post}
+use Rattle.tl_protocol_lanes.specs.Lanes.{Post, LinkChannel, post_of, take_of, answer_post, ack_post, grant_post}
 use Rattle.tl_protocol_lanes.specs.Lists.{list_in, shed, added, EveryEventMovesItsLists, EveryEventIsOfOneClient, SameHome, EverySuchEventLeavesHome}
 use Rattle.tl_protocol_lanes.proofs.Lists.{shed_here, added_here, shed_is, added_is, PostIsOf, follow_put}
 
@@ -172,7 +172,7 @@ ack_is_of c (Release given ∷ rest) = refl
 -- ## Each event
 
 -- the lists after an event of one client, by the lists of that client
-abbrev Moves : (ℕ → Client) → (ℕ → Client) → Option Place → Option Post → Type 0
+abbrev Moves : (ℕ → Client) → (ℕ → Client) → Option LinkChannel → Option Post → Type 0
 Moves old new take post = (x : ℕ) (l : Channel) → list_in (new x) l ≡ added post x l (shed take x l (list_in (old x) l))
 
 -- a client answers its first Probe

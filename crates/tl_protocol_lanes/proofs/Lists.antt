@@ -7,7 +7,7 @@ use Rattle.tl_types.specs.declared.channel.Channel.{Channel}
 use Rattle.tl_types.specs.declared.message.Body.{Body}
 use Rattle.tl_protocol.specs.declared.client.Client.{Client}
 use Rattle.tl_protocol.proofs.Blocks.{put, at_put}
-use Rattle.tl_protocol_lanes.specs.Lanes.{Post, Place}
+use Rattle.tl_protocol_lanes.specs.Lanes.{Post, LinkChannel}
 use Rattle.tl_protocol_lanes.specs.Lists.{list_in, shed, added}
 
 -- ## Elsewhere
@@ -17,7 +17,7 @@ not_here : (c : ℕ) (channel : Channel) (x : ℕ) (l : Channel) → x ≢ c →
 not_here c channel x l n = ap (λ (t : Bool). t && same_channel l channel) (ne_eqb x c n)
 
 -- what is taken is of this client
-abbrev pub TakeIsOf : ℕ → Option Place → Type 0
+abbrev pub TakeIsOf : ℕ → Option LinkChannel → Type 0
 TakeIsOf c None = Unit {0}
 TakeIsOf c (Some place) = place.client ≡ c
 
@@ -28,7 +28,7 @@ PostIsOf c (Some post) = post.client ≡ c
 
 -- nothing is taken from another client's list
 pub shed_elsewhere :
-    (take : Option Place) (c x : ℕ) (l : Channel) (bodies : List Body) → x ≢ c → TakeIsOf c take → shed take x l bodies ≡ bodies
+    (take : Option LinkChannel) (c x : ℕ) (l : Channel) (bodies : List Body) → x ≢ c → TakeIsOf c take → shed take x l bodies ≡ bodies
 shed_elsewhere None c x l bodies n of = refl
 shed_elsewhere (Some place) c x l bodies n of =
     ap (λ (t : Bool). if t then drop 1 bodies else bodies) (not_here place.client place.channel x l (λ e. n (e ∙ of)))
@@ -70,7 +70,7 @@ added_is c channel body l bodies = ap (λ (t : Bool). if t then bodies ++ body �
 
 -- where one client's lists move by what is taken and sent, all lists do
 pub follow_put :
-    (client : ℕ → Client) (c : ℕ) (k : Client) (take : Option Place) (post : Option Post) → TakeIsOf c take → PostIsOf c post
+    (client : ℕ → Client) (c : ℕ) (k : Client) (take : Option LinkChannel) (post : Option Post) → TakeIsOf c take → PostIsOf c post
     → ((l : Channel) → list_in k l ≡ added post c l (shed take c l (list_in (client c) l)))
     → (x : ℕ) (l : Channel) → list_in (put client c k x) l ≡ added post x l (shed take x l (list_in (client x) l))
 follow_put client c k take post take_of post_of moves x l =

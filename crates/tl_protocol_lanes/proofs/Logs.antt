@@ -32,7 +32,7 @@ use Rattle.tl_protocol.specs.Copy.{perm_of, dirty_bytes}
 use Rattle.tl_protocol.specs.Protocol.{Block, block_of, after, granted, home_bytes}
 use Rattle.tl_protocol.specs.Runs.{at_reset, after_next, MayNext, end_from, end_of}
 use Rattle.tl_protocol.proofs.Runs.{run_joined, end_joined}
-use Rattle.tl_protocol_lanes.specs.Lanes.{Post, Place, post_of, take_of, answer_post, ack_post, grant_post, taken_from, sent_to, lane_after, lane_from, lane_of}
+use Rattle.tl_protocol_lanes.specs.Lanes.{Post, LinkChannel, post_of, take_of, answer_post, ack_post, grant_post, taken_from, sent_to, lane_after, lane_from, lane_of}
 use Rattle.tl_protocol_lanes.specs.Lists.{list_in, shed, added, ListsFollow}
 use Rattle.tl_protocol_lanes.specs.Lawful.{IsNext, TakesFirst, TakeInOrder, Lawful, EmptyIsLawful, LawfulGrowsByOne, LanesGrowByOne, FirstHeadsItsList, MessagesFitTheirChannels}
 use Rattle.tl_protocol_lanes.proofs.Events.{every_event_moves_its_lists}
@@ -83,7 +83,7 @@ bodies-taken_if true block of lane first = bodies_of-without_first block of lane
 bodies-taken_if false block of lane first = same_cond (of == block) (bodies_of block lane.messages)
 
 -- where something is taken from the lane, its first message is of the block
-abbrev pub FirstIf : Option Place → ℕ → ℕ → Channel → Lane → Type 0
+abbrev pub FirstIf : Option LinkChannel → ℕ → ℕ → Channel → Lane → Type 0
 FirstIf None of x l lane = Unit {0}
 FirstIf (Some place) of x l lane = is_here place.client place.channel x l ≡ true → IsFirst of lane.messages
 
@@ -97,7 +97,7 @@ bodies-sent (Some post) block of x l lane = bodies-sent_if (is_here post.client 
 
 -- a message that is taken was the first of its block's list
 bodies-taken :
-    (take : Option Place) (block of x : ℕ) (l : Channel) (lane : Lane) → FirstIf take of x l lane
+    (take : Option LinkChannel) (block of x : ℕ) (l : Channel) (lane : Lane) → FirstIf take of x l lane
     → bodies_of block (taken_from take x l lane).messages
     ≡ cond (of == block) (shed take x l (bodies_of block lane.messages)) (bodies_of block lane.messages)
 bodies-taken None block of x l lane first = same_cond (of == block) (bodies_of block lane.messages)
@@ -111,7 +111,7 @@ nested false f g xs = refl
 
 -- a block's list after what is taken and sent
 bodies-after :
-    (post : Option Post) (take : Option Place) (block of x : ℕ) (l : Channel) (lane : Lane) → FirstIf take of x l lane
+    (post : Option Post) (take : Option LinkChannel) (block of x : ℕ) (l : Channel) (lane : Lane) → FirstIf take of x l lane
     → bodies_of block (sent_to post of x l (taken_from take x l lane)).messages
     ≡ cond (of == block) (added post x l (shed take x l (bodies_of block lane.messages))) (bodies_of block lane.messages)
 bodies-after post take block of x l lane first =
@@ -121,7 +121,7 @@ bodies-after post take block of x l lane first =
 
 -- the first message of the channel is the first of each lane that it is
 pub first_if :
-    (shape : Shape) (image : List ℕ) (log : List Event) (take : Option Place) (of x : ℕ) (l : Channel)
+    (shape : Shape) (image : List ℕ) (log : List Event) (take : Option LinkChannel) (of x : ℕ) (l : Channel)
     → IsNext shape image log of take → FirstIf take of x l (lane_of shape image log x l)
 first_if shape image log None of x l next = tt
 first_if shape image log (Some place) of x l next = λ h.
@@ -180,7 +180,7 @@ sent-taken_if true lane = sent-without_first lane
 sent-taken_if false lane = refl
 
 -- a message that is taken was sent
-sent-taken : (take : Option Place) (x : ℕ) (l : Channel) (lane : Lane) → sent (taken_from take x l lane) ≡ sent lane
+sent-taken : (take : Option LinkChannel) (x : ℕ) (l : Channel) (lane : Lane) → sent (taken_from take x l lane) ≡ sent lane
 sent-taken None x l lane = refl
 sent-taken (Some place) x l lane = sent-taken_if (is_here place.client place.channel x l) lane
 
@@ -339,7 +339,7 @@ taken_fits_if false l lane all = all
 
 -- what waits after something is taken
 taken_fits :
-    (take : Option Place) (x : ℕ) (l : Channel) (lane : Lane) → All (Fits l) lane.messages
+    (take : Option LinkChannel) (x : ℕ) (l : Channel) (lane : Lane) → All (Fits l) lane.messages
     → All (Fits l) (taken_from take x l lane).messages
 taken_fits None x l lane all = all
 taken_fits (Some place) x l lane all = taken_fits_if (is_here place.client place.channel x l) l lane all

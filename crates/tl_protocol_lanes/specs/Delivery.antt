@@ -8,7 +8,7 @@ use Rattle.tl_protocol.specs.declared.event.Event.{Event}
 use Rattle.tl_protocol.specs.declared.shape.Shape.{Shape}
 use Rattle.tl_protocol.specs.Protocol.{Block, block_of}
 use Rattle.tl_protocol.specs.Runs.{at_reset, after_next}
-use Rattle.tl_protocol_lanes.specs.Lanes.{Post, Place, post_of, take_of, lane_of}
+use Rattle.tl_protocol_lanes.specs.Lanes.{Post, LinkChannel, post_of, take_of, lane_of}
 use Rattle.tl_protocol_lanes.specs.Lawful.{Lawful}
 use Rattle.tl_protocol_lanes.specs.Lists.{list_in}
 
@@ -24,7 +24,7 @@ first_as block [] = []
 first_as block (body ∷ rest) = record { block = block; body = body } ∷ []
 
 -- the message that an event takes there, if it does: the first of the list that its own block has there
-abbrev pub message_taken : Option Place → Block → ℕ → ℕ → Channel → List Message
+abbrev pub message_taken : Option LinkChannel → Block → ℕ → ℕ → Channel → List Message
 message_taken None s block x l = []
 message_taken (Some place) s block x l =
     if is_here place.client place.channel x l then first_as block (list_in (s.client x) l) else []

@@ -30,7 +30,7 @@ pub record Post : Type 0 where
   pub body : Body
 
 -- a channel of a client
-pub record Place : Type 0 where
+pub record LinkChannel : Type 0 where
   pub client : ℕ
   pub channel : Channel
 
@@ -69,7 +69,7 @@ post_of shape s (SendGrant c block) = grant_post shape s c s.accepted
 post_of shape s event = None
 
 -- the channel of which an event takes the first message
-abbrev pub take_of : Event → Option Place
+abbrev pub take_of : Event → Option LinkChannel
 take_of (AnswerProbe c block) = Some (record { client = c; channel = B })
 take_of (TakeGrant c block) = Some (record { client = c; channel = D })
 take_of (TakeReleaseAck c block) = Some (record { client = c; channel = D })
@@ -81,7 +81,7 @@ take_of event = None
 -- ## The lanes of a log
 
 -- the lane of the client x and the channel l after something is taken
-abbrev pub taken_from : Option Place → ℕ → Channel → Lane → Lane
+abbrev pub taken_from : Option LinkChannel → ℕ → Channel → Lane → Lane
 taken_from None x l lane = lane
 taken_from (Some place) x l lane = if is_here place.client place.channel x l then without_first lane else lane
 

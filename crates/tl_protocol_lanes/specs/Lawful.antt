@@ -11,11 +11,11 @@ use Rattle.tl_protocol.specs.declared.shape.Shape.{Shape}
 use Rattle.tl_protocol.specs.Protocol.{block_of}
 use Rattle.tl_protocol.specs.Runs.{MayNext, IsRun, end_of}
 use Rattle.tl_protocol.specs.Sizes.{IsWhole}
-use Rattle.tl_protocol_lanes.specs.Lanes.{Place, take_of, lane_of, lane_after}
+use Rattle.tl_protocol_lanes.specs.Lanes.{LinkChannel, take_of, lane_of, lane_after}
 use Rattle.tl_protocol_lanes.specs.Lists.{list_in}
 
 -- the first message that waits there is of this block
-abbrev pub IsNext : Shape → List ℕ → List Event → ℕ → Option Place → Type 0
+abbrev pub IsNext : Shape → List ℕ → List Event → ℕ → Option LinkChannel → Type 0
 IsNext shape image log block None = Unit {0}
 IsNext shape image log block (Some place) = IsFirst block (lane_of shape image log place.client place.channel).messages
 

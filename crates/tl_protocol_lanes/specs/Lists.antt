@@ -14,7 +14,7 @@ use Rattle.tl_protocol.specs.declared.event.Event.{Event}
 use Rattle.tl_protocol.specs.declared.event.Event.TheVariants.{Load, Store, SendAcquire, SendRelease, AnswerProbe, TakeGrant, TakeReleaseAck, AcceptAcquire, SendProbe, TakeC, SendGrant, TakeGrantAck, SendGet, Serve, TakeData, Drop, SendPut, TakePutAck}
 use Rattle.tl_protocol.specs.declared.shape.Shape.{Shape}
 use Rattle.tl_protocol.specs.Protocol.{Block, May, after}
-use Rattle.tl_protocol_lanes.specs.Lanes.{Post, Place, post_of, take_of}
+use Rattle.tl_protocol_lanes.specs.Lanes.{Post, LinkChannel, post_of, take_of}
 
 -- a client's messages of one block on a channel, oldest first
 abbrev pub list_in : Client → Channel → List Body
@@ -25,7 +25,7 @@ list_in k D = map b_Downward k.d
 list_in k E = replicate k.e GrantAck
 
 -- the list of the client x and the channel l after something is taken
-abbrev pub shed : Option Place → ℕ → Channel → List Body → List Body
+abbrev pub shed : Option LinkChannel → ℕ → Channel → List Body → List Body
 shed None x l bodies = bodies
 shed (Some place) x l bodies = if is_here place.client place.channel x l then drop 1 bodies else bodies
 

@@ -18,7 +18,7 @@ use Rattle.tl_registers.specs.NextAction.{probes_before}
 use Rattle.tl_registers.specs.Register.{has_probed, is_other, works_on, is_block, victim_in}
 use Rattle.tl_registers.proofs.Blocks.{Keeps, nothing-keeps, event-keeps}
 use Rattle.tl_registers.proofs.Pending.{any_below-none, any_below-false}
-use Rattle.tl_registers.specs.Pending.{is_granted, grant_pending}
+use Rattle.tl_registers.specs.Pending.{has_grant_pending, grant_pending}
 
 -- ## One block
 
@@ -47,8 +47,8 @@ was-pending shape s later k pending =
       | inl e ↦ e
       | inr e ↦
           let none : grant_pending shape later ≡ false =
-          any_below-none (λ x. is_granted (later.client x)) shape.clients
-          (λ x l. (k.probes x).grants_none (any_below-false (λ y. is_granted (s.client y)) shape.clients x e l)) in
+          any_below-none (λ x. has_grant_pending (later.client x)) shape.clients
+          (λ x l. (k.probes x).grants_none (any_below-false (λ y. has_grant_pending (s.client y)) shape.clients x e l)) in
           let bad : true ≡ false = sym pending ∙ none in
           cc
     ]

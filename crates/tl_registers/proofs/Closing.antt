@@ -23,7 +23,7 @@ use Rattle.tl_registers.specs.declared.register.Task.TheVariants.{Acquire, Repla
 use Rattle.tl_registers.specs.Agree.{IsAtRest, Each, Agree, GrantingKeepsAgreement, PuttingKeepsAgreement, DroppingKeepsAgreement, ClosingKeepsAgreement, EndingKeepsAgreement}
 use Rattle.tl_registers.specs.Fit.{Ask, Answer, ProbeFits, Leaves, IsServed, Awaits, TaskFits, Fits}
 use Rattle.tl_registers.specs.NextAction.{probes_before}
-use Rattle.tl_registers.specs.Pending.{is_probed, is_granted, grant_pending}
+use Rattle.tl_registers.specs.Pending.{is_probed, has_grant_pending, grant_pending}
 use Rattle.tl_registers.specs.Register.{victim_in, has_probed, is_other, is_block, works_on, IsBelow}
 use Rattle.tl_registers.specs.Registers.{is_busy, closed, ended, is_evict, task_without, without_victim}
 use Rattle.tl_registers.proofs.Agreement.{WorksOn}
@@ -473,19 +473,19 @@ putting-keeps-agreement shape states registers block agree may busy =
 -- ## The GrantAck is taken
 
 -- while its GrantAck is on its way a client's Grant is pending
-granted-by : (k : Client) → 0 < k.e → is_granted k ≡ true
+granted-by : (k : Client) → 0 < k.e → has_grant_pending k ≡ true
 granted-by k l =
-    elim (cases_Bool (is_granted k)) [
+    elim (cases_Bool (has_grant_pending k)) [
       | inl e ↦ e
       | inr e ↦ let free = grant-free k e in absurd (omega (arith, free.1))
     ]
 
 -- where one client is granted, a Grant is pending
-pending-at : (shape : Shape) (s : Block) (c : ℕ) → c < shape.clients → is_granted (s.client c) ≡ true → grant_pending shape s ≡ true
+pending-at : (shape : Shape) (s : Block) (c : ℕ) → c < shape.clients → has_grant_pending (s.client c) ≡ true → grant_pending shape s ≡ true
 pending-at shape s c l h =
     elim (cases_Bool (grant_pending shape s)) [
       | inl e ↦ e
-      | inr e ↦ let bad : true ≡ false = sym h ∙ any_below-false (λ x. is_granted (s.client x)) shape.clients c e l in cc
+      | inr e ↦ let bad : true ≡ false = sym h ∙ any_below-false (λ x. has_grant_pending (s.client x)) shape.clients c e l in cc
     ]
 
 -- of a block whose Grant is pending, a register with another own block has another victim
@@ -553,7 +553,7 @@ free-closed own block (q ∷ rest) each h =
     ]
 
 -- a client at which no Grant is pending has none pending once a GrantAck is taken
-pub fewer-acks : (k : Client) → is_granted k ≡ false → is_granted (took_grant_ack k) ≡ false
+pub fewer-acks : (k : Client) → has_grant_pending k ≡ false → has_grant_pending (took_grant_ack k) ≡ false
 fewer-acks k h =
     let free = grant-free k h in
     let none : k.e - 1 ≡ 0 = omega (arith, free.1) in

@@ -27,7 +27,7 @@ use Rattle.tl_registers.specs.declared.way_of_set.WayOfSet.{WayOfSet}
 use Rattle.tl_registers.specs.Agree.{IsAtRest, Each, Agree, IsSteady, IsFreeVictim, EvictingKeepsAgreement, AcceptingKeepsAgreement}
 use Rattle.tl_registers.specs.Fit.{Ask, Answer, ProbesFit, NobodyIsProbed, IsPutting, IsGetting, Leaves, IsServed, Awaits, Fits}
 use Rattle.tl_registers.specs.NextAction.{probes_before}
-use Rattle.tl_registers.specs.Pending.{has_first, is_granted, grant_pending}
+use Rattle.tl_registers.specs.Pending.{has_first, has_grant_pending, grant_pending}
 use Rattle.tl_registers.specs.Register.{opened, acquire_task, has_probed, works_on}
 use Rattle.tl_registers.specs.Registers.{is_busy}
 use Rattle.tl_registers.proofs.Agreement.{KeepsFor, fits-kept}
@@ -160,7 +160,7 @@ served-fresh shape s r c grow rest none inside kept free = record {
   held = λ h.
       let later = accepted-block s c grow rest in
       let ungranted : grant_pending shape later ≡ false =
-      any_below-none (λ x. is_granted (later.client x)) shape.clients
+      any_below-none (λ x. has_grant_pending (later.client x)) shape.clients
       (λ x l. (put-probes s c (record (s.client c) { a = rest }) (same-probes (s.client c) _ refl refl refl (λ h. h)) x).grants_none (free-grant (s.client x) (kept.no_grant free.not_accepted x))) in
       let bad : true ≡ false = sym h ∙ ungranted in
       cc;

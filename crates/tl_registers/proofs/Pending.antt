@@ -11,7 +11,7 @@ use Rattle.tl_protocol.specs.declared.shape.Shape.{Shape}
 use Rattle.tl_protocol.specs.Client.{NoProbePending, NoGrantPending}
 use Rattle.tl_protocol.specs.Pending.{IsGrantPending}
 use Rattle.tl_protocol.specs.Protocol.{Block, NoProbe, NoGrant}
-use Rattle.tl_registers.specs.Pending.{has_first, is_probed, is_granted, any_below, probe_pending, grant_pending, is_quiet, PendingIsTheProtocols}
+use Rattle.tl_registers.specs.Pending.{has_first, is_probed, has_grant_pending, any_below, probe_pending, grant_pending, is_quiet, PendingIsTheProtocols}
 
 -- ## Tests below a number
 
@@ -51,13 +51,13 @@ pub free-probe : (k : Client) → NoProbePending k → is_probed k ≡ false
 free-probe k h = rw (h.0, h.1) refl
 
 -- where the test finds no Grant pending at a client, none is
-pub grant-free : (k : Client) → is_granted k ≡ false → NoGrantPending k
+pub grant-free : (k : Client) → has_grant_pending k ≡ false → NoGrantPending k
 grant-free k h =
     let both = or_parts (list_any is_grant k.d) (not (k.e == 0)) h in
     (both.0, eqb-true k.e 0 (not-false (k.e == 0) both.1))
 
 -- and where none is, it finds none
-pub free-grant : (k : Client) → NoGrantPending k → is_granted k ≡ false
+pub free-grant : (k : Client) → NoGrantPending k → has_grant_pending k ≡ false
 free-grant k h =
     let e : (k.e == 0) ≡ true = eq-eqb k.e 0 h.1 in
     rw (h.0, e) refl
@@ -74,11 +74,11 @@ probe-none shape s h = any_below-none (λ c. is_probed (s.client c)) shape.clien
 
 -- where the test finds no Grant of the block pending, none is
 pub no-grant : (shape : Shape) (s : Block) → grant_pending shape s ≡ false → NoGrant shape s
-no-grant shape s h = λ x l. grant-free (s.client x) (any_below-false (λ c. is_granted (s.client c)) shape.clients x h l)
+no-grant shape s h = λ x l. grant-free (s.client x) (any_below-false (λ c. has_grant_pending (s.client c)) shape.clients x h l)
 
 -- and where none is, it finds none
 pub grant-none : (shape : Shape) (s : Block) → NoGrant shape s → grant_pending shape s ≡ false
-grant-none shape s h = any_below-none (λ c. is_granted (s.client c)) shape.clients (λ x l. free-grant (s.client x) (h x l))
+grant-none shape s h = any_below-none (λ c. has_grant_pending (s.client c)) shape.clients (λ x l. free-grant (s.client x) (h x l))
 
 -- where some number below n passes, here is one
 any_below-some : (test : ℕ → Bool) (n : ℕ) → any_below test n ≡ true → (x : ℕ) × (test x ≡ true)
@@ -95,7 +95,7 @@ above-zero zero h = cc
 above-zero (suc n) h = omega arith
 
 -- where the test finds a Grant pending at a client, it is pending there
-some-pending : (k : Client) → is_granted k ≡ true → IsGrantPending k
+some-pending : (k : Client) → has_grant_pending k ≡ true → IsGrantPending k
 some-pending k h =
     elim (cases_Bool (list_any is_grant k.d)) [
       | inl e ↦ inl e
@@ -105,7 +105,7 @@ some-pending k h =
 -- a client of which a Grant is pending
 pub some-granted : (shape : Shape) (s : Block) → grant_pending shape s ≡ true → (x : ℕ) × IsGrantPending (s.client x)
 some-granted shape s h =
-    let y = any_below-some (λ c. is_granted (s.client c)) shape.clients h in (y.0, some-pending (s.client y.0) y.1)
+    let y = any_below-some (λ c. has_grant_pending (s.client c)) shape.clients h in (y.0, some-pending (s.client y.0) y.1)
 
 -- where the test finds nothing between home and the memory, nothing passes
 pub quiet-is : (o : Outward) → is_quiet o ≡ true → o ≡ Quiet

@@ -19,14 +19,14 @@ use Rattle.tl_protocol.specs.Copy.{perm_of, dirty_bytes}
 use Rattle.tl_protocol.specs.declared.client.Client.{Client}
 use Rattle.tl_protocol.proofs.Pending.{every_answer_is_within}
 use Rattle.tl_registers.specs.Fit.{Ask, Answer, ProbeFits}
-use Rattle.tl_registers.specs.Pending.{has_first, is_probed, is_granted}
+use Rattle.tl_registers.specs.Pending.{has_first, is_probed, has_grant_pending}
 use Rattle.tl_registers.specs.Register.{is_above}
 
 -- What a step of a client does to what is pending at it: it keeps the Probes that fit, and brings no Probe and no Grant up.
 pub record KeepsProbes (k later : Client) : Type 0 where
   pub keeps : (cap : ProbeCap) (probed other : Bool) → ProbeFits k cap probed other → ProbeFits later cap probed other
   pub brings_none : is_probed k ≡ false → is_probed later ≡ false
-  pub grants_none : is_granted k ≡ false → is_granted later ≡ false
+  pub grants_none : has_grant_pending k ≡ false → has_grant_pending later ≡ false
 
 -- ## The messages on C
 
@@ -89,7 +89,7 @@ falls Tip q ToN l h = cc
 
 -- a step that leaves B, C and the record leaves the Probes
 pub same-probes : (k later : Client) → later.b ≡ k.b → later.c ≡ k.c → later.recorded ≡ k.recorded
-    → (is_granted k ≡ false → is_granted later ≡ false) → KeepsProbes k later
+    → (has_grant_pending k ≡ false → has_grant_pending later ≡ false) → KeepsProbes k later
 same-probes k later b c recorded granted =
     let same : is_probed later ≡ is_probed k = rw (b, c) refl in
     record {
@@ -146,7 +146,7 @@ pub took_grant-probes : (k : Client) (d : List Downward) → k.d ≡ d → Keeps
 took_grant-probes k [] is = same-probes k k refl refl refl (λ h. h)
 took_grant-probes k (ReleaseAck ∷ rest) is = same-probes k k refl refl refl (λ h. h)
 took_grant-probes k (Grant cap bytes ∷ rest) is = same-probes k (took_grant k (Grant cap bytes ∷ rest)) refl refl refl
-    (λ h. let was : is_granted k ≡ true = rw is refl in let bad : true ≡ false = sym was ∙ h in cc)
+    (λ h. let was : has_grant_pending k ≡ true = rw is refl in let bad : true ≡ false = sym was ∙ h in cc)
 
 -- home takes the first message of C, which does not lead upward
 pub took_c-probes : (k : Client) (c : List Upward) → k.c ≡ c

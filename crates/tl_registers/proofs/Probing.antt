@@ -21,7 +21,7 @@ use Rattle.tl_registers.specs.declared.register.Task.TheVariants.{Acquire, Repla
 use Rattle.tl_registers.specs.Agree.{IsSteady, IsToProbe, ProbingKeepsAgreement, FetchingKeepsAgreement}
 use Rattle.tl_registers.specs.Fit.{Ask, ProbeFits, ProbesFit, Leaves, IsServed, Awaits, TaskFits, Fits}
 use Rattle.tl_registers.specs.NextAction.{probes_before}
-use Rattle.tl_registers.specs.Pending.{has_first, is_probed, is_granted, grant_pending}
+use Rattle.tl_registers.specs.Pending.{has_first, is_probed, has_grant_pending, grant_pending}
 use Rattle.tl_registers.specs.Register.{with_probed, has_probed, is_above, is_other, is_block, victim_in, victim_of, works_on}
 use Rattle.tl_registers.specs.Registers.{is_busy, with_probe_of, noted}
 use Rattle.tl_registers.proofs.Agreement.{on-own, on-victim}
@@ -164,11 +164,11 @@ nobody-recorded shape s kept none x = unrecorded (s.client x).recorded (λ n. le
 probed-ungranted : (shape : Shape) (s : Block) (c : ℕ) (cap : ProbeCap) → NoGrant shape s
     → grant_pending shape (with_client s c (sent_probe (s.client c) cap)) ≡ false
 probed-ungranted shape s c cap free =
-    any_below-none (λ x. is_granted ((with_client s c (sent_probe (s.client c) cap)).client x)) shape.clients
+    any_below-none (λ x. has_grant_pending ((with_client s c (sent_probe (s.client c) cap)).client x)) shape.clients
     (λ x l. elim (cases_Bool (x == c)) [
       | inl e ↦
-          let P = λ (y : ℕ). is_granted (s.client y) ≡ false in
-          let here : is_granted (s.client c) ≡ false = subst P (eqb-true x c e) (free-grant (s.client x) (free x l)) in
+          let P = λ (y : ℕ). has_grant_pending (s.client y) ≡ false in
+          let here : has_grant_pending (s.client c) ≡ false = subst P (eqb-true x c e) (free-grant (s.client x) (free x l)) in
           rw e here
       | inr e ↦ rw e (free-grant (s.client x) (free x l))
     ])

@@ -9,7 +9,7 @@ use Rattle.tl_types.specs.declared.permission.Perm.TheVariants.{None as NoAccess
 use Rattle.tl_types.specs.declared.permission.ProbeCap.{ProbeCap}
 use Rattle.tl_types.specs.declared.permission.ProbeCap.TheVariants.{ToB, ToN}
 use Rattle.tl_protocol.specs.Protocol.{Block}
-use Rattle.tl_ways.specs.Lines.{Line as Entry, line_perm}
+use Rattle.tl_ways.specs.Entries.{Entry, entry_perm}
 use Rattle.tl_registers.specs.Records.{Records}
 use Rattle.tl_registers.specs.Register.{has_probed, is_above, is_other, must_probe}
 use Rattle.tl_registers.specs.declared.register.Register.{Register}
@@ -25,7 +25,7 @@ nothing-above ToN = refl
 
 -- what an entry says of a client is what the state says
 pub probed-by : (r : Register) (entry : Entry) (s : Block) (asking : Option ℕ) (cap : ProbeCap) (client number : ℕ) (perm : Perm)
-    → Records (Some entry) s → client ≡ number → perm ≡ line_perm entry client
+    → Records (Some entry) s → client ≡ number → perm ≡ entry_perm entry client
     → probes_at r asking cap client perm ≡ must_probe r s asking cap number
 probed-by r entry s asking cap client number perm records same is =
     ap (probes_at r asking cap client) (is ∙ sym (records.1 client)) ∙ ap (must_probe r s asking cap) same
@@ -40,14 +40,14 @@ not-above Tip ToN within = let bad : 2 ≤ 0 = within in absurd (omega (arith, b
 
 -- where an entry records no more than the cap for the clients below a number, none of them has to be probed
 pub none-probed : (r : Register) (entry : Entry) (s : Block) (asking : Option ℕ) (cap : ProbeCap) (n : ℕ)
-    → Records (Some entry) s → ((client : ℕ) → client < n → rank (line_perm entry client) ≤ rank (probe_perm cap))
+    → Records (Some entry) s → ((client : ℕ) → client < n → rank (entry_perm entry client) ≤ rank (probe_perm cap))
     → lowest (must_probe r s asking cap) n ≡ None
 none-probed r entry s asking cap n records few =
     none-lowest (must_probe r s asking cap) n
     (λ client below.
     ap (probes_at r asking cap client) (records.1 client)
     ∙ ap (λ above. is_other asking client && (above && not (has_probed r client)))
-    (not-above (line_perm entry client) cap (few client below))
+    (not-above (entry_perm entry client) cap (few client below))
     ∙ and-false (is_other asking client))
 
 -- where there is no lowest, there is none below a lower number either

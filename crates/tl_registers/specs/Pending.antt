@@ -19,8 +19,8 @@ abbrev pub is_probed : Client → Bool
 is_probed k = has_first k.b || list_any is_probe_ack k.c
 
 -- a Grant is on its way to the client, or a GrantAck from it
-abbrev pub is_granted : Client → Bool
-is_granted k = list_any is_grant k.d || not (k.e == 0)
+abbrev pub has_grant_pending : Client → Bool
+has_grant_pending k = list_any is_grant k.d || not (k.e == 0)
 
 -- some number below n passes a test
 abbrev pub any_below : (ℕ → Bool) → ℕ → Bool
@@ -33,7 +33,7 @@ probe_pending shape s = any_below (λ c. is_probed (s.client c)) shape.clients
 
 -- a Grant of the block is pending at some client
 abbrev pub grant_pending : Shape → Block → Bool
-grant_pending shape s = any_below (λ c. is_granted (s.client c)) shape.clients
+grant_pending shape s = any_below (λ c. has_grant_pending (s.client c)) shape.clients
 
 -- nothing passes between home and the memory
 abbrev pub is_quiet : Outward → Bool

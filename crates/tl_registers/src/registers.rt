@@ -3,11 +3,11 @@ ghost use Rattle.std.specs.Prelude.{◌≡◌, ◌≤◌, ◌<◌, ◌∷◌, �
 ghost use Rattle.std.specs.Option.{option_copied};
 ghost use Rattle.tl_registers.specs.declared.register.Task.{Task};
 ghost use Rattle.tl_registers.specs.Register.{opened, acquire_task, IsKnown};
-ghost use Rattle.tl_registers.specs.Registers.{register_of, due_of, is_busy, is_held, held_in, noted, ended, closed, without_evict, without_victim};
+ghost use Rattle.tl_registers.specs.Registers.{register_of, due_of, is_busy, held_in, noted, ended, closed, without_evict, without_victim};
 
 use crate::due::Due;
-use crate::protocol::Protocol;
 use crate::register::{Register, Task};
+use crate::register_view::{BlockView, RegisterView};
 use crate::way_of_set::WayOfSet;
 use arrayvec::ArrayVec;
 use std::marker::Model;
@@ -110,13 +110,13 @@ impl Registers {
             .find(|register| register.own == block)
     }
 
-    /// What the register of a block does next: None where it waits, and where the block has none.
-    pub fn next_action<V: Protocol>(&self, block: BlockNo, view: &V) -> Option<Due>
-        requires few { (V.shape view.now).clients ≤ CLIENTS }
-        requires known { IfSome (register_of block self.now.open_registers) (IsKnown (V.shape view.now).blocks) }
-        ensures { result ≡ due_of (V.shape view.now) (V.state view.now) (register_of block self.now.open_registers) }
+    /// What the register of the view's block does next: None where it waits, and where the block has none.
+    pub fn next_action<V: RegisterView>(&self, view: &BlockView<'_, V>) -> Option<Due>
+        requires few { (V.shape view.now.view.now).clients ≤ CLIENTS }
+        requires known { IfSome (register_of view.now.block self.now.open_registers) (IsKnown (V.shape view.now.view.now).blocks) }
+        ensures { result ≡ due_of (V.shape view.now.view.now) (V.state view.now.view.now) (register_of view.now.block self.now.open_registers) }
     {
-        self.of_block(block)?.next_action(view)
+        self.of_block(view.block)?.next_action(view.view)
     }
 
     /// Whether a block is the own block or the victim of an open register.
@@ -126,14 +126,6 @@ impl Registers {
         self.as_slice()
             .iter()
             .any(|register| register.works_on(block))
-    }
-
-    /// Whether a register holds a way.
-    pub fn is_held(&self, way: WayOfSet) -> bool
-        ensures { result ≡ is_held way self.now.open_registers }
-    {
-        self.as_slice().iter().any(|register| register.way.set == way.set
-            && register.way.way == way.way)
     }
 
     /// The numbers of the ways of a set that registers hold.

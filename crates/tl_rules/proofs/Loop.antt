@@ -3,7 +3,7 @@ use Rattle.std.proofs.Common.{◌≡◌, ℕ, zero, suc, ◌+◌, ◌<◌, ◌�
 use native.Mathlib.Numerals.{unary_clauses}
 use Rattle.std.specs.List.{cons_option}
 use Rattle.std.specs.Borrow.{Bor}
-use Rattle.tl_protocol.specs.Journal.{Journal}
+use Rattle.tl_protocol.specs.LogView.{LogView}
 use Rattle.tl_protocol.specs.declared.event.Access.{Access}
 use Rattle.tl_protocol.specs.declared.event.Event.{Event}
 use Rattle.tl_rules.specs.declared.merge.Mark.{Mark}
@@ -242,17 +242,17 @@ certified_to logs c =
 
 -- ## The logs of banks
 
-logged_drop : (logs : List (Bor Journal)) (i : ℕ) (log : Bor Journal) → i < length logs → log ≡ get_or logs i log
+logged_drop : (logs : List (Bor LogView)) (i : ℕ) (log : Bor LogView) → i < length logs → log ≡ get_or logs i log
     → take (i + 1) (logs_of logs) ≡ take i (logs_of logs) ++ drop log.now.forgotten log.now.events ∷ []
 logged_drop [] i log lt is = absurd (omega arith)
-logged_drop (x ∷ xs) zero log lt is = ap (λ (l : Bor Journal). drop l.now.forgotten l.now.events ∷ []) (sym is)
+logged_drop (x ∷ xs) zero log lt is = ap (λ (l : Bor LogView). drop l.now.forgotten l.now.events ∷ []) (sym is)
 logged_drop (x ∷ xs) (suc i) log lt is = simp unary_clauses (ap (λ (ls : List (List Event)). drop x.now.forgotten x.now.events ∷ ls) (simp unary_clauses at (logged_drop xs i log (omega arith) is)))
 
 events_push : (xs : List (Bor (List Event))) (x : Bor (List Event)) → events_of (xs ++ x ∷ []) ≡ events_of xs ++ x.now ∷ []
 events_push [] x = refl
 events_push (y ∷ ys) x = ap (λ (ls : List (List Event)). y.now ∷ ls) (events_push ys x)
 
-pub pushed : (logs : List (Bor Journal)) (i : ℕ) (log : Bor Journal) (items : List (Bor (List Event))) (events : Bor (List Event))
+pub pushed : (logs : List (Bor LogView)) (i : ℕ) (log : Bor LogView) (items : List (Bor (List Event))) (events : Bor (List Event))
     → i < length logs → log ≡ get_or logs i log → events_of items ≡ take i (logs_of logs) → events.now ≡ drop log.now.forgotten log.now.events
     → events_of (items ++ events ∷ []) ≡ take (i + 1) (logs_of logs)
 pushed logs i log items events lt is so_far same =

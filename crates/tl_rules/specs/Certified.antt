@@ -4,7 +4,7 @@ use Rattle.std.specs.Borrow.{Bor}
 use Rattle.tl_protocol.specs.declared.event.Access.{Access}
 use Rattle.tl_protocol.specs.declared.event.Event.{Event}
 use Rattle.tl_protocol.specs.OneMemory.{access_of}
-use Rattle.tl_protocol.specs.Journal.{Journal}
+use Rattle.tl_protocol.specs.LogView.{LogView}
 
 -- the accesses among some events, oldest first
 abbrev pub accesses_of : List Event → List Access
@@ -43,5 +43,5 @@ abbrev pub events_of : List (Bor (List Event)) → List (List Event)
 events_of logs = map (λ log. log.now) logs
 
 -- the events that some logs keep: those that are not forgotten
-abbrev pub logs_of : List (Bor Journal) → List (List Event)
+abbrev pub logs_of : List (Bor LogView) → List (List Event)
 logs_of logs = map (λ log. drop log.now.forgotten log.now.events) logs

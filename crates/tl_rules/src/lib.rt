@@ -12,5 +12,5 @@ pub use merge::{certify, certify_events};
 pub use plain::{ApplyError, Plain, may_follow};
 pub use theorem::every_order;
 pub use tl_protocol::{
-    Accepted, Access, CachedCopy, Client, Event, Line, Outward, Shape, every_run, some_run,
+    Accepted, Access, CachedCopy, Client, Event, Line, Log, Outward, Shape, every_run, some_run,
 };

@@ -12,9 +12,9 @@ use Rattle.clap.proofs.WalkLemmas.{first_value-rows}
 use Rattle.std.proofs.lemmas.Option.{same_Some}
 use Rattle.std.specs.Box.{box_value}
 use Rattle.tl_runner.specs.declared.asked.Job.{Job}
-use Rattle.tl_runner.specs.declared.asked.JobError.{JobError}
-use Rattle.tl_runner.specs.declared.asked.JobError.TheVariants.{Usage, Memory}
-use Rattle.tl_runner.specs.Error.{fault_of_kind}
+use Rattle.tl_streams.specs.declared.command_line.WordsError.{WordsError as JobError}
+use Rattle.tl_streams.specs.declared.command_line.WordsError.TheVariants.{Usage, Memory}
+use Rattle.tl_streams.specs.Words.{error_of_parse}
 use Rattle.tl_runner.specs.Job.{tlcache, job_of, asked_in, asked_of, unless_refused}
 
 -- ## The command line
@@ -70,7 +70,7 @@ is_refused [] k job among = absurd among
 is_refused (x ∷ xs) k job among = refl
 
 -- an error that is a fault of usage is not one for want of memory
-not_memory : (k : ErrorKind) → fault_of_kind k ≡ Usage → k ≡ OutOfMemory → ⊥
+not_memory : (k : ErrorKind) → error_of_parse k ≡ Usage → k ≡ OutOfMemory → ⊥
 not_memory k h e = let bad : Memory ≡ Usage = rw e at h in cc
 
 -- the fault of an answer, and Usage where it has none
@@ -83,7 +83,7 @@ pub same_fault : {T : Type 0} (r : Result T JobError) (a b : JobError) → r ≡
 same_fault {T} r a b p q = sym (ap (λ (s : Result T JobError). fault_in s) p) ∙ ap (λ (s : Result T JobError). fault_in s) q
 
 -- an error that is not for memory refuses the words
-pub refused_by : (a : App) (words : List Text) (k : ErrorKind) → a ≡ tlcache → (is_simple_and_free a ≡ true → (k ≡ OutOfMemory) ⊎ IsAmong k (fault_of a words)) → fault_of_kind k ≡ Usage → asked_of words ≡ None
+pub refused_by : (a : App) (words : List Text) (k : ErrorKind) → a ≡ tlcache → (is_simple_and_free a ≡ true → (k ≡ OutOfMemory) ⊎ IsAmong k (fault_of a words)) → error_of_parse k ≡ Usage → asked_of words ≡ None
 refused_by a words k same fails usage =
     let free : is_simple_and_free a ≡ true = ap (λ (b : App). is_simple_and_free b) same ∙ tlcache_is_free in
     elim (fails free) [

@@ -3,4 +3,3 @@ pub mod Cause
 pub mod Fault
 pub mod Trace
 pub mod Job
-pub mod Error

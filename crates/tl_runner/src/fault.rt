@@ -1,7 +1,8 @@
 //! What stops a job, and the status that the program ends with.
 ghost use Rattle.std.specs.Prelude.{◌≡◌};
-ghost use Rattle.tl_runner.specs.declared.fault.Fault.TheVariants as a;
+ghost use Rattle.tl_runner.specs.declared.fault.Fault.TheVariants as its;
 ghost use Rattle.tl_runner.specs.Fault.{fault_of_job, fault_of_read};
+ghost use Rattle.tl_streams.specs.declared.fault.ProgramFault.TheVariants as program;
 
 use crate::asked::JobError;
 use std::alloc::AllocError;
@@ -9,17 +10,14 @@ use std::fmt;
 use thiserror::Error;
 use tl_runner_report::RunError;
 use tl_script::ScriptError;
-use tl_streams::ReadError;
+use tl_streams::{ProgramFault, ReadError};
 
 /// What stops a job. It prints as the one fault line.
 #[derive(Debug, Drop, Error)]
 pub enum Fault {
-    /// The words of the command line were refused.
-    Usage,
-    /// The file could not be read, or the output not written.
-    File,
-    /// A request for memory was refused outside the script's reading and its run.
-    Memory,
+    /// The words were refused, the file could not be read or the output not written, or a request for memory was refused outside the
+    /// script's reading and its run.
+    Program(ProgramFault),
     /// The script was refused, or could not be read for want of memory.
     Script(ScriptError),
     /// The run gave no report.
@@ -34,9 +32,7 @@ impl fmt::Display for Fault {
 
     fn fmt<W: fmt::Write>(&self, f: &mut fmt::Formatter<W>) -> fmt::Result {
         match self {
-            Fault::Usage => write!(f, "error usage"),
-            Fault::File => write!(f, "error file"),
-            Fault::Memory => write!(f, "error 41 memory"),
+            Fault::Program(fault) => write!(f, "{fault}"),
             Fault::Script(error) => write!(f, "{error}"),
             Fault::Run(error) => write!(f, "{error}"),
         }
@@ -47,10 +43,7 @@ impl From<JobError> for Fault {
     ghost from_gives = { λ error fault. fault ≡ fault_of_job error };
 
     fn from(error: JobError) -> Fault {
-        match error {
-            JobError::Usage => Fault::Usage,
-            JobError::Memory => Fault::Memory,
-        }
+        Fault::Program(ProgramFault::from(error))
     }
 }
 
@@ -58,15 +51,12 @@ impl From<ReadError> for Fault {
     ghost from_gives = { λ error fault. fault ≡ fault_of_read error };
 
     fn from(error: ReadError) -> Fault {
-        match error {
-            ReadError::Memory => Fault::Memory,
-            ReadError::File => Fault::File,
-        }
+        Fault::Program(ProgramFault::from(error))
     }
 }
 
 impl From<ScriptError> for Fault {
-    ghost from_gives = { λ error fault. fault ≡ a.Script error };
+    ghost from_gives = { λ error fault. fault ≡ its.Script error };
 
     fn from(error: ScriptError) -> Fault {
         Fault::Script(error)
@@ -74,7 +64,7 @@ impl From<ScriptError> for Fault {
 }
 
 impl From<RunError> for Fault {
-    ghost from_gives = { λ error fault. fault ≡ a.Run error };
+    ghost from_gives = { λ error fault. fault ≡ its.Run error };
 
     fn from(error: RunError) -> Fault {
         Fault::Run(error)
@@ -82,10 +72,10 @@ impl From<RunError> for Fault {
 }
 
 impl From<AllocError> for Fault {
-    ghost from_gives = { λ _ fault. fault ≡ a.Memory };
+    ghost from_gives = { λ _ fault. fault ≡ its.Program program.Memory };
 
     fn from(_error: AllocError) -> Fault {
-        Fault::Memory
+        Fault::Program(ProgramFault::Memory)
     }
 }
 
@@ -97,11 +87,10 @@ impl Fault {
         ensures { result ≡ status_of self.now }
     {
         match self {
-            Fault::Script(ScriptError::Memory) | Fault::Run(RunError::Memory) | Fault::Memory => 4,
-            Fault::Script(_) => 1,
-            Fault::Usage => 2,
+            Fault::Program(fault) => fault.status(),
+            Fault::Script(error) => error.status(),
+            Fault::Run(RunError::Memory) => ProgramFault::Memory.status(),
             Fault::Run(_) => 3,
-            Fault::File => 5,
         }
     }
 }

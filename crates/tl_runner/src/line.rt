@@ -4,6 +4,7 @@ ghost use Rattle.std.specs.Prelude.{◌≡◌, false, IfOk, map, string_bytes};
 ghost use Rattle.clap.specs.Words.{app_of, subcommand_rows_of};
 ghost use Rattle.clap.specs.declared.builder.command.Command.TheViews.{out-Command};
 ghost use Rattle.tl_runner.specs.Job.{with_file, tlcache, job_of, asked_of};
+ghost use Rattle.tl_streams.specs.declared.command_line.WordsError.TheVariants.{Usage};
 
 use crate::asked::{Job, JobError};
 use clap::{Arg, ArgAction, ArgMatches, Command};
@@ -35,7 +36,7 @@ fn command<'a>(alloc: Global) -> Result<Command<'a>, AllocError>
 // The job of the subcommand that was met.
 fn chosen(alloc: Global, matches: &ArgMatches<'_>) -> Result<Job, JobError>
     ensures ok { IfOk result (λ j. job_of (subcommand_rows_of matches.now) ≡ Some (j.traces, string_bytes j.file)) }
-    ensures usage { result ≡ Err JobError.Usage → job_of (subcommand_rows_of matches.now) ≡ None }
+    ensures usage { result ≡ Err Usage → job_of (subcommand_rows_of matches.now) ≡ None }
 {
     match matches.subcommand() {
         None => Err(JobError::Usage),
@@ -54,7 +55,7 @@ fn chosen(alloc: Global, matches: &ArgMatches<'_>) -> Result<Job, JobError>
 pub fn job(alloc: Global, words: &[String]) -> Result<Job, JobError>
     // The job is what `clap` reads of these words.
     ensures ok { IfOk result (λ j. asked_of (map string_bytes words.now) ≡ Some (j.traces, string_bytes j.file)) }
-    ensures usage { result ≡ Err JobError.Usage → asked_of (map string_bytes words.now) ≡ None }
+    ensures usage { result ≡ Err Usage → asked_of (map string_bytes words.now) ≡ None }
 {
     let command = command(alloc)?;
     let matches = command.try_get_matches_from(words)?;

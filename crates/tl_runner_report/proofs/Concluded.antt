@@ -8,7 +8,7 @@ use Rattle.tl_text.specs.declared.report.Answered.{Answered}
 use Rattle.tl_text.specs.declared.report.Report.{Report}
 use Rattle.tl_script.specs.Commands.{commands as commands_in}
 use Rattle.tl_script.specs.declared.script.Script.{Script}
-use Rattle.tl_bank_spec.specs.Share.{Holding}
+use Rattle.tl_bank_spec.specs.Share.{ShareView}
 use Rattle.tl_bank_spec.specs.View.{View}
 use Rattle.tl_rules.specs.Certified.{events_of, IsCertified}
 use Rattle.tl_runner_report.specs.Banks.{AreBanksOf, logs_in}
@@ -46,12 +46,12 @@ shown_moved cs ds ls ms xs ys p q r shows =
     (subst (λ (a : List (Vec Answered Global)). ShowsAll (commands_in cs) ls a (length cs)) (sym r) shows))
 
 -- when 42 is answered
-abbrev pub IsNotOrdered : Script → List View → List (Vec Holding Global) → Result Report RunError → Type 0
+abbrev pub IsNotOrdered : Script → List View → List (Vec ShareView Global) → Result Report RunError → Type 0
 IsNotOrdered script banks shares r =
     (r ≡ Err NotOrdered → AreAllShares banks shares × (AreMatched script banks → ⊥))
     × (AreAllShares banks shares × (AreMatched script banks → ⊥) → r ≡ Err NotOrdered)
 
-pub is_ordered : (script : Script) (banks : List View) (shares : List (Vec Holding Global)) (r : Result Report RunError)
+pub is_ordered : (script : Script) (banks : List View) (shares : List (Vec ShareView Global)) (r : Result Report RunError)
     → AreMatched script banks → (r ≡ Err NotOrdered → ⊥) → IsNotOrdered script banks shares r
 is_ordered script banks shares r m never = (λ p. absurd (never p), λ n. absurd (n.1 m))
 

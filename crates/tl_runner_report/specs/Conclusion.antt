@@ -14,7 +14,7 @@ use Rattle.tl_script.specs.declared.script.Script.{Script}
 use Rattle.tl_text.specs.declared.report.Answered.{Answered}
 use Rattle.tl_text.specs.declared.report.BankLine.{BankLine}
 use Rattle.tl_text.specs.declared.report.Report.{Report}
-use Rattle.tl_bank_spec.specs.Share.{Holding}
+use Rattle.tl_bank_spec.specs.Share.{ShareView}
 use Rattle.tl_bank_spec.specs.View.{View, shape_of}
 use Rattle.tl_bank_spec.specs.Views.{pairs_at}
 use Rattle.tl_rules.specs.Certified.{all_accesses, IsCertified}
@@ -26,7 +26,7 @@ use Rattle.tl_runner_report.specs.declared.error.RunError.{RunError}
 use Rattle.tl_runner_report.specs.declared.error.RunError.TheVariants.{Stalled, Memory, NotOrdered, Shares}
 
 -- there is one list for each bank, with the shares of that bank
-abbrev pub AreAllShares : List View → List (Vec Holding Global) → Type 0
+abbrev pub AreAllShares : List View → List (Vec ShareView Global) → Type 0
 AreAllShares banks shares = AllZip (λ v list. AreShares v list.items) banks shares
 
 -- The banks are those of the script, their accesses have one order, each carries out the command at its index, and each client has
@@ -78,7 +78,7 @@ pub record IsReportOf (script : Script) (banks : List View) (report : Report) : 
 -- What an Ok says: all shares were given back; the banks match the script; the accesses of their logs, in order of stamp and then
 -- client, hold each client's loads and stores in script order, each once, and are one memory's over the script's image; and the
 -- report's lines show their bytes, its bank lines the copies held and recorded.
-pub record IsConclusion (script : Script) (banks : List View) (shares : List (Vec Holding Global)) (report : Report) : Type 0 where
+pub record IsConclusion (script : Script) (banks : List View) (shares : List (Vec ShareView Global)) (report : Report) : Type 0 where
   pub shares_back : AreAllShares banks shares
   pub matched : AreMatched script banks
   pub one_memory : IsOneMemory script banks report.clients.items
@@ -87,11 +87,11 @@ pub record IsConclusion (script : Script) (banks : List View) (shares : List (Ve
 -- a report of a run: the conclusion from some banks and the shares that were given back
 abbrev pub IsRunReport : Script → Report → Type 0
 IsRunReport script report =
-    (banks : List View) × (shares : List (Vec Holding Global)) × IsConclusion script banks shares report
+    (banks : List View) × (shares : List (Vec ShareView Global)) × IsConclusion script banks shares report
 
 -- Why there is none: shares are missing; or all are back and the banks do not match; or both are right and a request for memory
 -- was refused. Nothing is said of a stall here.
-abbrev pub IsRefusal : Script → List View → List (Vec Holding Global) → RunError → Type 0
+abbrev pub IsRefusal : Script → List View → List (Vec ShareView Global) → RunError → Type 0
 IsRefusal script banks shares Shares = AreAllShares banks shares → ⊥
 IsRefusal script banks shares NotOrdered = AreAllShares banks shares × (AreMatched script banks → ⊥)
 IsRefusal script banks shares Memory = AreAllShares banks shares × AreMatched script banks

@@ -5,11 +5,12 @@ ghost use Rattle.tl_runner_report.specs.declared.error.RunError.TheVariants.{Mem
 use std::alloc::{AllocError, AllocFailed};
 use std::fmt;
 use thiserror::Error;
+use tl_streams::ProgramFault;
 
 /// Why a run gave no report. It prints as the one fault line.
 #[derive(Debug, Drop, Error)]
 pub enum RunError {
-    /// A client's command was not answered within the script's turns.
+    /// A thread made the script's turns before it ended. A script of no command can meet this too.
     Stalled(u32),
     /// A request for memory was refused.
     Memory,
@@ -28,7 +29,7 @@ impl fmt::Display for RunError {
     fn fmt<W: fmt::Write>(&self, f: &mut fmt::Formatter<W>) -> fmt::Result {
         match self {
             RunError::Stalled(turns) => write!(f, "error 40 stalled {turns}"),
-            RunError::Memory => write!(f, "error 41 memory"),
+            RunError::Memory => write!(f, "{}", ProgramFault::Memory),
             RunError::NotOrdered => write!(f, "error 42 not ordered"),
             RunError::Shares => write!(f, "error 43 shares"),
         }

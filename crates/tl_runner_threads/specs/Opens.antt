@@ -1,8 +1,9 @@
 -- Which passes and seats are those of a run's mailboxes and bells. No public clause cites this module.
-use Rattle.std.specs.Prelude.{◌≡◌, ◌+◌, vec_len}
+use Rattle.std.specs.Prelude.{◌≡◌, ◌+◌, ℕ, vec_len}
 use Rattle.std.specs.List.{All}
 use Rattle.tl_map.specs.Numbers.{Numbers}
 use Rattle.tl_tickets.specs.Bell.{IsSeatOf}
+use Rattle.tl_runner_threads.specs.declared.mailbox.Mailbox.{Mailbox}
 use Rattle.tl_runner_threads.specs.declared.mailroom.Mailroom.{Mailroom}
 use Rattle.tl_runner_threads.specs.declared.mailroom.AllKeys.{AllKeys}
 use Rattle.tl_runner_threads.specs.Keys.{FitEach}
@@ -18,3 +19,8 @@ pub record Opens (geometry : Numbers) (mailroom : Mailroom) (keys : AllKeys) : T
   pub stop : All (IsSeatOf mailroom.stop) keys.stop.items
   pub at_done : vec_len keys.done ≡ geometry.clients + geometry.banks
   pub at_stop : vec_len keys.stop ≡ geometry.clients + geometry.banks + 1
+
+-- each inbox of a mailroom holds so many tickets
+abbrev pub HoldsEach : ℕ → Mailroom → Type 0
+HoldsEach capacity mailroom =
+    All (λ (m : Mailbox). m.inbox.capacity ≡ capacity) mailroom.clients.items × All (λ (m : Mailbox). m.inbox.capacity ≡ capacity) mailroom.homes.items

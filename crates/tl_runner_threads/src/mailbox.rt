@@ -36,6 +36,7 @@ fn open_inbox(
     ensures receiver { IfOk result (λ made. IsReceiverOf made.0 made.1) }
     ensures senders { IfOk result (λ made. All (IsSenderOf made.0) made.2.items) }
     ensures count { IfOk result (λ made. vec_len made.2 ≡ senders) }
+    ensures room { IfOk result (λ made. made.0.capacity ≡ capacity) }
 {
     let (inbox, mut passes) = Inbox::new(alloc, capacity, senders)?;
     let receiver = passes.remove(0);
@@ -52,7 +53,7 @@ pub(crate) fn open_bell(alloc: Global, seats: usize) -> Result<(Bell, Vec<Seat>)
     Ok(made)
 }
 
-/// A mailbox for so many senders, and its passes and seats.
+/// A mailbox for so many senders, whose inbox holds so many tickets, and its passes and seats.
 fn open_mailbox(
     alloc: Global,
     capacity: usize,
@@ -60,7 +61,8 @@ fn open_mailbox(
 ) -> Result<(Mailbox, Keys), AllocError>
     requires capacity { (0 < capacity) × (capacity ≤ 4096) }
     requires senders { (0 < senders) × (senders ≤ CLIENTS) }
-    ensures { IfOk result (λ made. Fits senders made.0 made.1) }
+    ensures fits { IfOk result (λ made. Fits senders made.0 made.1) }
+    ensures room { IfOk result (λ made. made.0.inbox.capacity ≡ capacity) }
 {
     let (inbox, receiver, passes) = open_inbox(alloc, capacity, senders)?;
     let (bell, mut seats) = open_bell(alloc, senders + 1)?;
@@ -75,7 +77,7 @@ fn open_mailbox(
     Ok((mailbox, keys))
 }
 
-/// So many mailboxes, each for so many senders, and the passes and seats of each.
+/// So many mailboxes, each for so many senders and with an inbox that holds so many tickets, and the passes and seats of each.
 pub(crate) fn open_mailboxes(
     alloc: Global,
     count: u32,
@@ -86,6 +88,7 @@ pub(crate) fn open_mailboxes(
     requires senders { (0 < senders) × (senders ≤ CLIENTS) }
     ensures each { IfOk result (λ made. FitEach senders made.0.items made.1.items) }
     ensures count { IfOk result (λ made. vec_len made.1 ≡ count) }
+    ensures room { IfOk result (λ made. All (λ mailbox. mailbox.inbox.capacity ≡ capacity) made.0.items) }
 {
     let mut mailboxes = Vec::new(alloc);
     let mut rows = Vec::new(alloc);

@@ -1,6 +1,6 @@
 //! The mailboxes and bells of a run.
 ghost use Rattle.std.specs.Prelude.{◌≡◌, ◌+◌, ◌<◌, ◌≤◌, IfOk, vec_len};
-ghost use Rattle.tl_runner_threads.specs.Opens.{Opens};
+ghost use Rattle.tl_runner_threads.specs.Opens.{HoldsEach, Opens};
 
 use crate::deal::{Post, deal, posts, ringers};
 use crate::mailbox::{Keys, Mailbox, open_bell, open_mailboxes};
@@ -34,14 +34,15 @@ pub(crate) struct Posts<'x> {
     pub(crate) stop: Ringer<'x>,
 }
 
-/// The mailboxes and bells for the clients and banks of a geometry, and for a runner.
+/// The mailboxes and bells for the clients and banks of a geometry, and for a runner. Each inbox holds so many tickets.
 pub(crate) fn open_mailroom(
     alloc: Global,
     geometry: Geometry,
     capacity: usize,
 ) -> Result<(Mailroom, AllKeys), AllocError>
     requires { (0 < capacity) × (capacity ≤ 4096) }
-    ensures { IfOk result (λ made. Opens geometry made.0 made.1) }
+    ensures opens { IfOk result (λ made. Opens geometry made.0 made.1) }
+    ensures room { IfOk result (λ made. HoldsEach capacity made.0) }
 {
     let clients = geometry.clients();
     let banks = geometry.banks();

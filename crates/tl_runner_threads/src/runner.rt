@@ -1,7 +1,10 @@
 //! A run of a script over banks and threads.
-ghost use Rattle.std.specs.Prelude.{◌≡◌, ◌<◌, ◌≤◌, IfErr, IfOk, length, vec_len};
+ghost use Rattle.std.specs.Prelude.{◌≡◌, ◌<◌, ◌≤◌, ◌||◌, true, Err, IfErr, IfOk, OnOk, length, vec_len};
+ghost use Rattle.std.specs.List.{list_all, list_any};
 ghost use Rattle.tl_runner_report.specs.Conclusion.{IsRunReport};
 ghost use Rattle.tl_runner_report.specs.RunError.{TellsTurns};
+ghost use Rattle.tl_runner_report.specs.declared.error.RunError.TheVariants.{Memory as NoMemory};
+ghost use Rattle.tl_runner_threads.specs.Ends.{is_finished, lacks_memory};
 
 use crate::banks::{Opened, no_shares, open_banks};
 use crate::deal::Post;
@@ -137,25 +140,24 @@ fn run_posts<R: Threads + Wait + Clock + Sync, G: Gate + Sync>(
         homes,
         stop,
     } = posts?;
-    let clients = client_workers(shared, geometry, &script.commands, clients, shares)?;
-    let homes = home_workers(shared, homes)?;
-    let joined = run_threads(rt, shared.alloc, stop, clients, homes)?;
+    let clients = client_workers(shared.alloc, geometry, &script.commands, clients, shares)?;
+    let homes = home_workers(shared.alloc, homes)?;
+    let joined = run_threads(rt, shared.alloc, shared, stop, clients, homes)?;
     end_of(&joined, script.turns)?;
     Ok(given_back(shared.alloc, geometry.banks(), joined.clients)?)
 }
 
 /// The worker of a client, with its commands and shares.
-fn client_worker<'s, 'x, 'y, G: Gate>(
-    shared: &'y Shared<'y, G>,
+fn client_worker<'s, 'x>(
+    alloc: Global,
     geometry: Geometry,
     client: ClientId,
     commands: &'s [Command],
     post: Post<'x>,
     own: Vec<Share>,
-) -> Result<ClientWorker<'s, 'x, 'y, G>, AllocError> {
-    let agent = Agent::new(shared.alloc, client, geometry, commands, own)?;
+) -> Result<ClientWorker<'s, 'x>, AllocError> {
+    let agent = Agent::new(alloc, client, geometry, commands, own)?;
     Ok(ClientWorker {
-        shared,
         client,
         agent,
         mail: post.mail,
@@ -165,24 +167,24 @@ fn client_worker<'s, 'x, 'y, G: Gate>(
 }
 
 /// The workers of the clients, with their commands and shares.
-fn client_workers<'s, 'x, 'y, G: Gate>(
-    shared: &'y Shared<'y, G>,
+fn client_workers<'s, 'x>(
+    alloc: Global,
     geometry: Geometry,
     commands: &'s [Vec<Command>],
     mut posts: Vec<Post<'x>>,
     shares: Vec<Vec<Share>>,
-) -> Result<Vec<ClientWorker<'s, 'x, 'y, G>>, AllocError>
+) -> Result<Vec<ClientWorker<'s, 'x>>, AllocError>
     requires shares { vec_len shares ≡ length commands.now }
     requires posts { vec_len posts ≡ length commands.now }
     requires few { length commands.now ≤ CLIENTS }
 {
-    let mut workers = Vec::with_capacity(shared.alloc, shares.len())?;
+    let mut workers = Vec::with_capacity(alloc, shares.len())?;
     let mut number: u32 = 0;
     for own in shares {
         let post = posts.remove(0);
         let commands = commands[number as usize].as_slice();
         let client = ClientId::new(number);
-        let worker = client_worker(shared, geometry, client, commands, post, own)?;
+        let worker = client_worker(alloc, geometry, client, commands, post, own)?;
         workers.push(worker)?;
         number += 1;
     }
@@ -190,14 +192,13 @@ fn client_workers<'s, 'x, 'y, G: Gate>(
 }
 
 /// The worker of a bank's home.
-fn home_worker<'x, 'y, G: Gate>(
-    shared: &'y Shared<'y, G>,
+fn home_worker<'x>(
+    alloc: Global,
     bank: BankNo,
     post: Post<'x>,
-) -> Result<HomeWorker<'x, 'y, G>, AllocError> {
-    let home = Home::new(shared.alloc, bank)?;
+) -> Result<HomeWorker<'x>, AllocError> {
+    let home = Home::new(alloc, bank)?;
     Ok(HomeWorker {
-        shared,
         number: bank,
         home,
         mail: post.mail,
@@ -207,16 +208,13 @@ fn home_worker<'x, 'y, G: Gate>(
 }
 
 /// The workers of the homes.
-fn home_workers<'x, 'y, G: Gate>(
-    shared: &'y Shared<'y, G>,
-    posts: Vec<Post<'x>>,
-) -> Result<Vec<HomeWorker<'x, 'y, G>>, AllocError>
+fn home_workers<'x>(alloc: Global, posts: Vec<Post<'x>>) -> Result<Vec<HomeWorker<'x>>, AllocError>
     requires { vec_len posts ≤ BANKS }
 {
-    let mut workers = Vec::with_capacity(shared.alloc, posts.len())?;
+    let mut workers = Vec::with_capacity(alloc, posts.len())?;
     let mut number: u32 = 0;
     for post in posts {
-        let worker = home_worker(shared, BankNo::new(number), post)?;
+        let worker = home_worker(alloc, BankNo::new(number), post)?;
         workers.push(worker)?;
         number += 1;
     }
@@ -224,28 +222,23 @@ fn home_workers<'x, 'y, G: Gate>(
 }
 
 /// Whether all threads finished. Want of memory goes before a stall; a thread that was stopped says nothing of why.
-fn end_of<G>(
-    joined: &Joined<ClientWorker<'_, '_, '_, G>, HomeWorker<'_, '_, G>>,
-    turns: u32,
-) -> Result<(), RunError>
-    ensures { IfErr result (TellsTurns turns) }
+fn end_of(joined: &Joined<ClientWorker<'_, '_>, HomeWorker<'_>>, turns: u32) -> Result<(), RunError>
+    ensures memory { (list_any (λ w. lacks_memory w.end) joined.now.clients.items || list_any (λ w. lacks_memory w.end) joined.now.homes.items) ≡ true
+        → result ≡ Err NoMemory }
+    ensures finished { OnOk result ((list_all (λ w. is_finished w.end) joined.now.clients.items ≡ true)
+        × (list_all (λ w. is_finished w.end) joined.now.homes.items ≡ true)) }
+    ensures stalled { IfErr result (TellsTurns turns) }
 {
-    let mut are_finished = true;
-    for worker in &joined.clients {
-        match worker.end {
-            End::Memory => return Err(RunError::Memory),
-            End::Stalled | End::Stopped => are_finished = false,
-            End::Finished => {}
-        }
+    let clients = joined.clients.as_slice();
+    let homes = joined.homes.as_slice();
+    if clients.iter().any(|worker| worker.end.lacks_memory())
+        || homes.iter().any(|worker| worker.end.lacks_memory())
+    {
+        return Err(RunError::Memory);
     }
-    for worker in &joined.homes {
-        match worker.end {
-            End::Memory => return Err(RunError::Memory),
-            End::Stalled | End::Stopped => are_finished = false,
-            End::Finished => {}
-        }
-    }
-    if are_finished {
+    if clients.iter().all(|worker| worker.end.is_finished())
+        && homes.iter().all(|worker| worker.end.is_finished())
+    {
         Ok(())
     } else {
         Err(RunError::Stalled(turns))
@@ -263,16 +256,16 @@ fn sort_by_bank(shares: &mut Vec<Vec<Share>>, own: Vec<Share>) -> Result<(), All
 }
 
 /// The shares that a client's agent gives back.
-fn shares_of<G>(worker: ClientWorker<'_, '_, '_, G>) -> Vec<Share> {
+fn shares_of(worker: ClientWorker<'_, '_>) -> Vec<Share> {
     let (_, own) = worker.agent.into_parts();
     own
 }
 
 /// The shares of each bank, as the agents give them back.
-fn given_back<G>(
+fn given_back(
     alloc: Global,
     banks: u32,
-    workers: Vec<ClientWorker<'_, '_, '_, G>>,
+    workers: Vec<ClientWorker<'_, '_>>,
 ) -> Result<Vec<Vec<Share>>, AllocError> {
     let mut shares = no_shares(alloc, banks)?;
     for worker in workers {

@@ -1,5 +1,5 @@
 //! A thread for each worker.
-ghost use Rattle.std.specs.Prelude.{◌≡◌, ◌≤◌, ◌+◌, IfOk, vec_len, vec_capacity};
+ghost use Rattle.std.specs.Prelude.{◌≡◌, ◌≤◌, ◌+◌, true, IfOk, vec_len, vec_capacity};
 ghost use Rattle.std.specs.Thread.{IsSend, IsSync};
 
 use std::alloc::{AllocError, Global};
@@ -9,10 +9,10 @@ use std::thread::{JoinHandle, Scope, Threads};
 use std::time::Clock;
 use tl_tickets::Ringer;
 
-/// What a thread owns and does.
-pub(crate) trait Work: Drop {
+/// What a thread owns and does, over what all threads share.
+pub(crate) trait Work<S>: Drop {
     /// Works until it ends, and comes back.
-    fn work<R: Wait + Clock>(self, rt: &R) -> Self;
+    fn work<R: Wait + Clock>(self, rt: &R, shared: &S) -> Self;
 }
 
 /// All workers again, once their threads have ended.
@@ -23,17 +23,19 @@ pub(crate) struct Joined<C: Drop, H: Drop> {
 }
 
 /// Starts a thread for each worker, up to the first that could not be started. `false` where one could not.
-fn start<'s, E, R: Threads + Wait + Clock + Sync, W: Work + Send + 's>(
+fn start<'s, E, R: Threads + Wait + Clock + Sync, S: Sync, W: Work<S> + Send + 's>(
     scope: &Scope<'s, E>,
     rt: &'s R,
+    shared: &'s S,
     workers: Vec<W>,
     threads: &mut Vec<JoinHandle<W>>,
 ) -> bool
     requires { vec_len threads.old + vec_len workers ≤ vec_capacity threads.old }
-    ensures { vec_len threads.new ≤ vec_len threads.old + vec_len workers }
+    ensures most { vec_len threads.new ≤ vec_len threads.old + vec_len workers }
+    ensures all { result ≡ true → vec_len threads.new ≡ vec_len threads.old + vec_len workers }
 {
     for worker in workers {
-        match scope.spawn(move || worker.work(rt)) {
+        match scope.spawn(move || worker.work(rt, shared)) {
             Ok(thread) => {
                 let Ok(()) = threads.push(thread) else {
                     unreachable!()
@@ -46,8 +48,9 @@ fn start<'s, E, R: Threads + Wait + Clock + Sync, W: Work + Send + 's>(
 }
 
 /// Joins each thread.
-fn join_each<R: Threads, W: Work + Send>(rt: &R, threads: Vec<JoinHandle<W>>, ended: &mut Vec<W>)
+fn join_each<R: Threads, W: Drop + Send>(rt: &R, threads: Vec<JoinHandle<W>>, ended: &mut Vec<W>)
     requires { vec_len ended.old + vec_len threads ≤ vec_capacity ended.old }
+    ensures { vec_len ended.new ≡ vec_len ended.old + vec_len threads }
 {
     for thread in threads {
         let Ok(()) = ended.push(thread.join(rt)) else {
@@ -58,7 +61,7 @@ fn join_each<R: Threads, W: Work + Send>(rt: &R, threads: Vec<JoinHandle<W>>, en
 
 /// Room for the threads that are started and for the workers that end.
 #[derive(Drop)]
-struct Places<C: Work + Send, H: Work + Send> {
+struct Places<C: Drop + Send, H: Drop + Send> {
     client_threads: Vec<JoinHandle<C>>,
     home_threads: Vec<JoinHandle<H>>,
     ended_clients: Vec<C>,
@@ -66,7 +69,7 @@ struct Places<C: Work + Send, H: Work + Send> {
 }
 
 /// Room for so many clients and homes.
-fn open_places<C: Work + Send, H: Work + Send>(
+fn open_places<C: Drop + Send, H: Drop + Send>(
     alloc: Global,
     clients: usize,
     homes: usize,
@@ -82,20 +85,29 @@ fn open_places<C: Work + Send, H: Work + Send>(
     })
 }
 
-/// Runs each worker in a thread of its own, joins all threads and gives the workers back. Where a thread could not be started, no other
-/// is, and those that run are stopped and joined.
-pub(crate) fn run_threads<R: Threads + Wait + Clock + Sync, C: Work + Send, H: Work + Send>(
+/// Runs each worker in a thread of its own, joins all threads and gives the workers back, as many as there were. Where a thread could
+/// not be started, no other is, and those that run are stopped and joined: the error is that, or want of memory.
+pub(crate) fn run_threads<
+    R: Threads + Wait + Clock + Sync,
+    S: Sync,
+    C: Work<S> + Send,
+    H: Work<S> + Send,
+>(
     rt: &R,
     alloc: Global,
+    shared: &S,
     mut stop: Ringer<'_>,
     clients: Vec<C>,
     homes: Vec<H>,
-) -> Result<Joined<C, H>, AllocError> {
+) -> Result<Joined<C, H>, AllocError>
+    ensures { IfOk result (λ joined. (vec_len joined.clients ≡ vec_len clients) × (vec_len joined.homes ≡ vec_len homes)) }
+{
     thread::scope(
         thread::scope_env(),
         rt,
         move |scope| -> Result<Joined<C, H>, AllocError>
-            requires { IsSync R.row × IsSend C.row × IsSend H.row }
+            requires { IsSync R.row × IsSync S.row × IsSend C.row × IsSend H.row }
+            ensures { IfOk result (λ joined. (vec_len joined.clients ≡ vec_len clients.entry) × (vec_len joined.homes ≡ vec_len homes.entry)) }
         {
             let Places {
                 mut client_threads,
@@ -103,8 +115,8 @@ pub(crate) fn run_threads<R: Threads + Wait + Clock + Sync, C: Work + Send, H: W
                 mut ended_clients,
                 mut ended_homes,
             } = open_places(alloc, clients.len(), homes.len())?;
-            let are_started = start(scope, rt, clients, &mut client_threads)
-                && start(scope, rt, homes, &mut home_threads);
+            let are_started = start(scope, rt, shared, clients, &mut client_threads)
+                && start(scope, rt, shared, homes, &mut home_threads);
             if !are_started {
                 stop.ring();
             }

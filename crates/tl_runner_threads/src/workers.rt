@@ -1,11 +1,14 @@
 //! What each thread owns, and what it does.
+ghost use Rattle.std.specs.Prelude.{◌≡◌, ◌<◌, ◌≤◌};
+ghost use Rattle.tl_runner_threads.specs.Ends.{end_of_turn, is_finished, lacks_memory};
+ghost use Rattle.tl_runner_threads.specs.declared.workers.End.{End};
+
 use crate::threads::Work;
 use std::alloc::Global;
 use std::sync::Wait;
 use std::time::Clock;
-use tl_client::{Agent, Home, Turn};
+use tl_client::{Agent, Gate, Home, HomePort, Locked, Port, Turn};
 use tl_client_mail::Mail;
-use tl_client_ports::{Gate, HomePort, Locked, Port};
 use tl_tickets::Ringer;
 use tl_types::{BankNo, ClientId};
 
@@ -22,6 +25,28 @@ pub(crate) enum End {
     Memory,
 }
 
+impl End {
+    /// Whether all clients were done.
+    pub(crate) fn is_finished(self) -> bool
+        ensures { result ≡ is_finished self }
+    {
+        match self {
+            End::Finished => true,
+            End::Stopped | End::Stalled | End::Memory => false,
+        }
+    }
+
+    /// Whether a request for memory was refused.
+    pub(crate) fn lacks_memory(self) -> bool
+        ensures { result ≡ lacks_memory self }
+    {
+        match self {
+            End::Memory => true,
+            End::Finished | End::Stopped | End::Stalled => false,
+        }
+    }
+}
+
 /// What all threads share.
 #[derive(Drop)]
 pub(crate) struct Shared<'y, G> {
@@ -34,8 +59,7 @@ pub(crate) struct Shared<'y, G> {
 
 /// A client's thread owns its agent, its mail, and a seat at the stop bell.
 #[derive(Drop)]
-pub(crate) struct ClientWorker<'s, 'x, 'y, G> {
-    pub(crate) shared: &'y Shared<'y, G>,
+pub(crate) struct ClientWorker<'s, 'x> {
     pub(crate) client: ClientId,
     pub(crate) agent: Agent<'s>,
     pub(crate) mail: Mail<'x>,
@@ -45,8 +69,7 @@ pub(crate) struct ClientWorker<'s, 'x, 'y, G> {
 
 /// A home's thread owns its home, its mail, and a seat at the stop bell.
 #[derive(Drop)]
-pub(crate) struct HomeWorker<'x, 'y, G> {
-    pub(crate) shared: &'y Shared<'y, G>,
+pub(crate) struct HomeWorker<'x> {
     pub(crate) number: BankNo,
     pub(crate) home: Home,
     pub(crate) mail: Mail<'x>,
@@ -55,7 +78,9 @@ pub(crate) struct HomeWorker<'x, 'y, G> {
 }
 
 /// What a turn comes to, for the thread that made it: its end, if it was the last.
-fn end_after(turn: Turn) -> Option<End> {
+fn end_after(turn: Turn) -> Option<End>
+    ensures { result ≡ end_of_turn turn }
+{
     match turn {
         Turn::Finished => Some(End::Finished),
         Turn::Memory => Some(End::Memory),
@@ -63,7 +88,8 @@ fn end_after(turn: Turn) -> Option<End> {
     }
 }
 
-/// An agent's turns, until one is the last, the run is stopped, or the turns are used up.
+/// An agent's turns, until one is the last, the run is stopped, or the turns are used up. Where the stop bell was rung before, it makes
+/// none.
 fn client_turns<P: Port, R: Wait + Clock, G: Gate>(
     rt: &R,
     shared: &Shared<'_, G>,
@@ -71,7 +97,10 @@ fn client_turns<P: Port, R: Wait + Clock, G: Gate>(
     agent: &mut Agent<'_>,
     mail: &mut Mail<'_>,
     stop: &mut Ringer<'_>,
-) -> End {
+) -> End
+    ensures stopped { 0 < stop.old.seat.seen → 0 < shared.now.turns → result ≡ End.Stopped }
+    ensures finished { result ≡ End.Finished → shared.now.clients ≤ mail.new.done.seat.seen }
+{
     for _ in 0..shared.turns {
         if stop.heard() != 0 {
             return End::Stopped;
@@ -91,7 +120,10 @@ fn home_turns<P: HomePort, R: Wait + Clock, G: Gate>(
     home: &mut Home,
     mail: &mut Mail<'_>,
     stop: &mut Ringer<'_>,
-) -> End {
+) -> End
+    ensures stopped { 0 < stop.old.seat.seen → 0 < shared.now.turns → result ≡ End.Stopped }
+    ensures finished { result ≡ End.Finished → shared.now.clients ≤ mail.new.done.seat.seen }
+{
     for _ in 0..shared.turns {
         if stop.heard() != 0 {
             return End::Stopped;
@@ -113,21 +145,21 @@ fn stop_if_known(end: End, stop: &mut Ringer<'_>) {
     }
 }
 
-impl<'s, 'x, 'y, G: Gate> Work for ClientWorker<'s, 'x, 'y, G> {
-    fn work<R: Wait + Clock>(self, rt: &R) -> Self {
+impl<'s, 'x, 'y, G: Gate> Work<Shared<'y, G>> for ClientWorker<'s, 'x> {
+    fn work<R: Wait + Clock>(self, rt: &R, shared: &Shared<'y, G>) -> Self {
         let ClientWorker {
-            shared,
             client,
             mut agent,
             mut mail,
             mut stop,
             end: _,
         } = self;
-        let mut port = shared.locked.client_port(rt, shared.gate, client);
+        let mut port = shared
+            .locked
+            .client_port(rt, shared.alloc, shared.gate, client);
         let end = client_turns(rt, shared, &mut port, &mut agent, &mut mail, &mut stop);
         stop_if_known(end, &mut stop);
         ClientWorker {
-            shared,
             client,
             agent,
             mail,
@@ -137,10 +169,9 @@ impl<'s, 'x, 'y, G: Gate> Work for ClientWorker<'s, 'x, 'y, G> {
     }
 }
 
-impl<'x, 'y, G: Gate> Work for HomeWorker<'x, 'y, G> {
-    fn work<R: Wait + Clock>(self, rt: &R) -> Self {
+impl<'x, 'y, G: Gate> Work<Shared<'y, G>> for HomeWorker<'x> {
+    fn work<R: Wait + Clock>(self, rt: &R, shared: &Shared<'y, G>) -> Self {
         let HomeWorker {
-            shared,
             number,
             mut home,
             mut mail,
@@ -153,7 +184,6 @@ impl<'x, 'y, G: Gate> Work for HomeWorker<'x, 'y, G> {
         };
         stop_if_known(end, &mut stop);
         HomeWorker {
-            shared,
             number,
             home,
             mail,

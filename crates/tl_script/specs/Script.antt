@@ -3,6 +3,7 @@ use Rattle.std.specs.Prelude.{ℕ, ◌||◌, nat_lt, Bool, List, length, Result,
 use Rattle.std.specs.List.{list_any}
 use Rattle.toml.specs.Data.{Members}
 use Rattle.tl_map.specs.Numbers.{Numbers}
+use Rattle.tl_map.specs.declared.numbers.GeometryNumbers.{GeometryNumbers}
 use Rattle.tl_script_words.specs.declared.command.Command.{Command}
 use Rattle.tl_script_words.specs.declared.step.Step.{Step}
 use Rattle.tl_script.specs.declared.error.ScriptError.{ScriptError}
@@ -17,6 +18,7 @@ use Rattle.tl_script.specs.Steps.{step_texts_of, steps_of}
 
 -- a script, without where it lies in memory
 pub record ScriptValue : Type 0 where
+  pub numbers : GeometryNumbers
   pub geometry : Numbers
   pub turns : ℕ
   pub image : List ℕ
@@ -25,7 +27,7 @@ pub record ScriptValue : Type 0 where
 
 -- a script's value
 abbrev pub value_of : Script → ScriptValue
-value_of s = record { geometry = s.geometry; turns = s.turns; image = s.image.items; commands = commands s.commands.items; steps = s.steps.items }
+value_of s = record { numbers = s.numbers; geometry = s.geometry; turns = s.turns; image = s.image.items; commands = commands s.commands.items; steps = s.steps.items }
 
 -- more lists of commands than clients, or more commands of a client or steps than a script may have
 abbrev pub are_too_many : ℕ → List (List (List ℕ)) → List (List ℕ) → Bool
@@ -47,7 +49,7 @@ script_of document = do
   texts ← step_texts_of document
   commands ← counted_of geometry lists texts
   steps ← steps_of texts
-  Ok (record { geometry = geometry; turns = turns; image = image; commands = commands; steps = steps })
+  Ok (record { numbers = numbers; geometry = geometry; turns = turns; image = image; commands = commands; steps = steps })
 
 -- what the bytes say
 unfoldable pub read_of : List ℕ → Result ScriptValue ScriptError

@@ -116,11 +116,11 @@ fn command_at(
     match Command::parse(text) {
         Some(command) => {
             if !fits(geometry, &command) {
-                return Err(ScriptError::Command { client, index });
+                return Err(ScriptError::Command(client, index));
             }
             Ok(command)
         }
-        None => Err(ScriptError::Command { client, index }),
+        None => Err(ScriptError::Command(client, index)),
     }
 }
 

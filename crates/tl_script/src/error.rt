@@ -1,6 +1,7 @@
 //! Why a script could not be read.
 
 ghost use Rattle.std.specs.Prelude.{◌≡◌};
+ghost use Rattle.tl_script.specs.ScriptError.{script_error_status};
 ghost use Rattle.tl_script.specs.declared.error.ScriptError.TheVariants.{Memory};
 
 use crate::key::Key;
@@ -8,6 +9,7 @@ use std::alloc::{AllocError, AllocFailed};
 use std::fmt;
 use thiserror::Error;
 use tl_map::GeometryError;
+use tl_streams::ProgramFault;
 
 /// Why a script could not be read: the first thing that is wrong with it, or want of memory. It prints as the one
 /// fault line.
@@ -19,8 +21,8 @@ pub enum ScriptError {
     Missing(Key),
     /// The numbers make no geometry.
     Geometry(GeometryError),
-    /// This command of this client is outside the grammar, or its bytes do not lie in the memory and in one block.
-    Command { client: usize, index: usize },
+    /// The command of this client at this index is outside the grammar, or its bytes do not lie in the memory and in one block.
+    Command(usize, usize),
     /// More lists of commands than clients, or more than 4,096 commands of a client or steps.
     TooMany,
     /// This step is outside the grammar.
@@ -40,12 +42,10 @@ impl fmt::Display for ScriptError {
             ScriptError::NotToml => write!(f, "error 30 not toml"),
             ScriptError::Missing(key) => write!(f, "error 31 missing {key}"),
             ScriptError::Geometry(cause) => write!(f, "error 32 geometry {cause}"),
-            ScriptError::Command { client, index } => {
-                write!(f, "error 33 command {client} {index}")
-            }
+            ScriptError::Command(client, index) => write!(f, "error 33 command {client} {index}"),
             ScriptError::TooMany => write!(f, "error 34 too many"),
             ScriptError::Step(index) => write!(f, "error 35 step {index}"),
-            ScriptError::Memory => write!(f, "error 41 memory"),
+            ScriptError::Memory => write!(f, "{}", ProgramFault::Memory),
         }
     }
 }
@@ -63,5 +63,17 @@ impl<T: Drop> From<AllocFailed<T>> for ScriptError {
 
     fn from(_error: AllocFailed<T>) -> ScriptError {
         ScriptError::Memory
+    }
+}
+
+impl ScriptError {
+    /// The status of a program that ends so: 1 for a script that is refused, and that of want of memory.
+    pub fn status(self) -> u8
+        ensures { result ≡ script_error_status self }
+    {
+        match self {
+            ScriptError::Memory => ProgramFault::Memory.status(),
+            _ => 1,
+        }
     }
 }

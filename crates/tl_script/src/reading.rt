@@ -43,6 +43,7 @@ fn script(alloc: Global, table: &Table) -> Result<Script, ScriptError>
     let commands = counted(alloc, geometry, lists, &step_texts)?;
     let steps = steps(alloc, &step_texts)?;
     Ok(Script {
+        numbers,
         geometry,
         turns,
         image,

@@ -1,15 +1,18 @@
 //! A script.
 
-ghost use Rattle.std.specs.Prelude.{◌≡◌, ◌*◌, ◌≤◌, length, map, true};
+ghost use Rattle.std.specs.Prelude.{◌≡◌, ◌*◌, ◌≤◌, Ok, length, map, true};
 ghost use Rattle.tl_script.specs.Commands.{all_fit};
+ghost use Rattle.tl_script.specs.Numbers.{geometry_of};
 
-use tl_map::Geometry;
+use tl_map::{Geometry, GeometryNumbers};
 use tl_script_words::{Command, Step};
 
 /// What a script asks for.
 #[derive(Debug, Drop)]
 pub struct Script {
-    /// The geometry of the cache.
+    /// The numbers of the cache, as the document gives them.
+    pub numbers: GeometryNumbers,
+    /// The geometry that the numbers make.
     pub geometry: Geometry,
     /// How many turns a thread makes at most.
     pub turns: u32,
@@ -20,6 +23,8 @@ pub struct Script {
     /// The steps of a trace.
     pub steps: Vec<Step>,
 
+    // The geometry is that of the numbers.
+    pub ghost made: { geometry_of numbers ≡ Ok geometry },
     // The image is no longer than the memory.
     pub ghost inside: { length image.items ≤ geometry.memory_blocks * geometry.block_bytes },
     // Each client has its list of commands.

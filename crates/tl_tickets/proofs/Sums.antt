@@ -12,8 +12,8 @@ use Rattle.std.proofs.lemmas.List.Sums.{sum_by-append, sum_by-cons}
 use Rattle.tl_protocol.specs.declared.client.Client.{Client}
 use Rattle.tl_protocol.specs.declared.event.Event.{Event}
 use Rattle.tl_bank_spec.specs.Cases.{no_client}
-use Rattle.tl_bank_spec.specs.Share.{Holding}
-use Rattle.tl_bank_spec.specs.View.{View, shape_of, block_at, client_at}
+use Rattle.tl_bank_spec.specs.Share.{ShareView}
+use Rattle.tl_bank_spec.specs.View.{View, shape_of, end_at, client_at}
 use Rattle.tl_bank_spec.specs.Own.{IsOwn}
 use Rattle.tl_bank_spec.specs.Tables.{copies_at}
 use Rattle.tl_bank_spec.specs.Views.{not_own, blocks_below, pairs_below, pairs_at}
@@ -22,20 +22,20 @@ use Rattle.tl_tickets.specs.Shares.{share_at, sum_of, copies_below}
 -- ## Shares
 
 -- an element among others
-record Among (xs : List Holding) (x : Holding) : Type 0 where
-  front : List Holding
-  back : List Holding
+record Among (xs : List ShareView) (x : ShareView) : Type 0 where
+  front : List ShareView
+  back : List ShareView
   is : xs ≡ front ++ x ∷ back
 
-among : (xs : List Holding) (x : Holding) (k : ℕ) → k < length xs → get_or xs k x ≡ x → Among xs x
+among : (xs : List ShareView) (x : ShareView) (k : ℕ) → k < length xs → get_or xs k x ≡ x → Among xs x
 among [] x k lt is = absurd (omega arith)
-among (y ∷ ys) x zero lt is = record { front = []; back = ys; is = ap (λ (h : Holding). h ∷ ys) is }
+among (y ∷ ys) x zero lt is = record { front = []; back = ys; is = ap (λ (h : ShareView). h ∷ ys) is }
 among (y ∷ ys) x (suc k) lt is =
     let rest : Among ys x = among ys x k (omega arith) is in
-    record { front = y ∷ rest.front; back = rest.back; is = ap (λ (hs : List Holding). y ∷ hs) rest.is }
+    record { front = y ∷ rest.front; back = rest.back; is = ap (λ (hs : List ShareView). y ∷ hs) rest.is }
 
 -- another is among the rest
-still : (front : List Holding) (x : Holding) (back : List Holding) (y : Holding) → (y ≡ x → ⊥) → (k : ℕ)
+still : (front : List ShareView) (x : ShareView) (back : List ShareView) (y : ShareView) → (y ≡ x → ⊥) → (k : ℕ)
     → k < length (front ++ x ∷ back) → get_or (front ++ x ∷ back) k y ≡ y → Contains (front ++ back) y
 still [] x back y n zero lt is = absurd (n (sym is))
 still [] x back y n (suc k) lt is = (k, omega arith, is)
@@ -43,31 +43,31 @@ still (z ∷ zs) x back y n zero lt is = (0, omega arith, is)
 still (z ∷ zs) x back y n (suc k) lt is =
     let rest = still zs x back y n k (omega arith) is in (suc rest.0, omega (arith, rest.1), rest.2)
 
-sum_with : (front : List Holding) (x : Holding) (back : List Holding) → sum_of (front ++ x ∷ back) ≡ sum_of (front ++ back) + x.count
+sum_with : (front : List ShareView) (x : ShareView) (back : List ShareView) → sum_of (front ++ x ∷ back) ≡ sum_of (front ++ back) + x.count
 sum_with front x back =
-    let count : Holding → ℕ = λ h. h.count in
+    let count : ShareView → ℕ = λ h. h.count in
     let whole = sum_by-append count front (x ∷ back) in
     let one = sum_by-cons count x back in
     let rest = sum_by-append count front back in
     omega arith
 
 -- The shares of a bank add up to the copies of its clients.
-pub shares_add_up : (v : View) (n : ℕ) (shares : List Holding) → length shares ≡ n
+pub shares_add_up : (v : View) (n : ℕ) (shares : List ShareView) → length shares ≡ n
     → ((client : ℕ) → client < n → Contains shares (share_at v client)) → sum_of shares ≡ copies_below v n
 shares_add_up v zero [] long each = refl
 shares_add_up v zero (x ∷ xs) long each = absurd (omega arith)
 shares_add_up v (suc n) shares long each =
     let own = each n (omega arith) in
-    let x : Holding = share_at v n in
+    let x : ShareView = share_at v n in
     let a : Among shares x = among shares x own.0 own.1 own.2 in
-    let whole = ap (λ (hs : List Holding). length hs) a.is in
+    let whole = ap (λ (hs : List ShareView). length hs) a.is in
     let one = length-append a.front (x ∷ a.back) in
     let less = length-append a.front a.back in
     let fewer : length (a.front ++ a.back) ≡ n = omega arith in
     let more : (client : ℕ) → client < n → Contains (a.front ++ a.back) (share_at v client) =
     λ client lt.
-    let there = subst (λ (hs : List Holding). Contains hs (share_at v client)) a.is (each client (omega arith)) in
-    still a.front x a.back (share_at v client) (λ e. let same : client ≡ n = ap (λ (h : Holding). h.client) e in omega arith) there.0 there.1 there.2 in
+    let there = subst (λ (hs : List ShareView). Contains hs (share_at v client)) a.is (each client (omega arith)) in
+    still a.front x a.back (share_at v client) (λ e. let same : client ≡ n = ap (λ (h : ShareView). h.client) e in omega arith) there.0 there.1 there.2 in
     ap sum_of a.is ∙ (sum_with a.front x a.back ∙ ap (λ (s : ℕ). s + copies_at v n) (shares_add_up v n (a.front ++ a.back) fewer more))
 
 -- ## Copies by client and by block
@@ -115,7 +115,7 @@ copies_none : (v : View) (n : ℕ) → copies_to v n 0 ≡ 0
 copies_none v zero = refl
 copies_none v (suc n) = let rest = copies_none v n in omega arith
 
-copies_more : (v : View) (n m : ℕ) → copies_to v n (suc m) ≡ copies_to v n m + count_clients has_copy n (block_at v m).client
+copies_more : (v : View) (n m : ℕ) → copies_to v n (suc m) ≡ copies_to v n m + count_clients has_copy n (end_at v m).client
 copies_more v zero m = refl
 copies_more v (suc n) m =
     let rest = copies_more v n m in
@@ -132,12 +132,12 @@ module _ (blocks : RunsAreOfBlocks) (v : View) (own : All (λ e. IsOwn v.geometr
   pairs_to (suc m) =
       let shape = shape_of v.geometry in
       let n : ℕ = v.geometry.clients in
-      let row : ℕ = count_clients has_copy n (block_at v m).client in
+      let row : ℕ = count_clients has_copy n (end_at v m).client in
       let more = copies_more v n m in
       let so_far = pairs_to m in
       cond_both (not_own v m) (blocks_below v m) (m ∷ blocks_below v m)
-      (λ (bs : List ℕ). count_pairs has_copy shape (block_at v) bs ≡ copies_to v n (suc m))
-      (λ other. let none : row ≡ 0 = none_has n (block_at v m).client (no_copy blocks v own m other) in omega arith)
+      (λ (bs : List ℕ). count_pairs has_copy shape (end_at v) bs ≡ copies_to v n (suc m))
+      (λ other. let none : row ≡ 0 = none_has n (end_at v m).client (no_copy blocks v own m other) in omega arith)
       (λ _. omega arith)
 
   pub held_is : pairs_at has_copy v ≡ copies_below v v.geometry.clients
@@ -145,7 +145,7 @@ module _ (blocks : RunsAreOfBlocks) (v : View) (own : All (λ e. IsOwn v.geometr
 
 -- ## A client's share as it was looked for
 
-abbrev make : ℕ → ℕ → ℕ → Holding
+abbrev make : ℕ → ℕ → ℕ → ShareView
 make client bank count = record { client = client; bank = bank; count = count }
 
 -- the copies that a bank says of a client that is there

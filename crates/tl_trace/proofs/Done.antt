@@ -11,7 +11,7 @@ use Rattle.tl_registers.specs.Fit.{event_of}
 use Rattle.tl_registers.specs.declared.due.Due.{Due}
 use Rattle.tl_registers.specs.declared.due.Due.TheVariants.{Probe as due_Probe, Grant as due_Grant, Get as due_Get, Put as due_Put, Drop as due_Drop}
 use Rattle.tl_bank_spec.specs.Effects.{Advances, action_of}
-use Rattle.tl_bank_spec.specs.View.{View, block_at, shape_of}
+use Rattle.tl_bank_spec.specs.View.{View, end_at, shape_of}
 use Rattle.tl_bank_spec.specs.Steps.{Extends}
 use Rattle.tl_bank_spec.specs.Own.{IsOwn}
 use Rattle.tl_bank_spec.specs.declared.action.Action.{Action}
@@ -32,8 +32,8 @@ AllOwn w = All (λ e. IsOwn w.geometry w.number (block_of (shape_of w.geometry) 
 -- a PutFullData has the bytes of home's copy
 written : (v w : View) (block : ℕ) → Extends v w (SendPut block) → AllOwn w → IsWritten w block
 written v w block x own =
-    let s : Block = block_at v block in
-    let is : block_at w block ≡ after (shape_of v.geometry) s (SendPut block) =
+    let s : Block = end_at v block in
+    let is : end_at w block ≡ after (shape_of v.geometry) s (SendPut block) =
     block-next v w (SendPut block) block x ∙ rw (eq-eqb block block refl) refl in
     record {
       own =

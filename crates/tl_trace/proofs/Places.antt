@@ -6,7 +6,7 @@ use Rattle.std.proofs.lemmas.List.{set-get_or}
 use Rattle.std.proofs.lemmas.Option.{slice_get-get_or}
 use Rattle.tl_script_words.specs.declared.step.Step.{Step}
 use Rattle.tl_bank_spec.specs.Refusal.{first_of}
-use Rattle.tl_bank_spec.specs.Share.{Holding}
+use Rattle.tl_bank_spec.specs.Share.{ShareView}
 use Rattle.tl_bank_spec.specs.Steps.{Forgets}
 use Rattle.tl_bank_spec.specs.View.{View}
 use Rattle.tl_text.specs.declared.answer.Answer.{Answer}
@@ -21,7 +21,7 @@ refill-whole : {X : Type 0} (xs ws : List X) → length ws ≡ length xs → ref
 refill-whole xs ws same = grind (arith, common_steps)
 
 -- a share that was handed to the bank, and written back
-pub asked-at : (index : ℕ) (step : Step) (old new : SharedBankState) (before after place : ℕ) (shown : List Holding) (other left : Holding)
+pub asked-at : (index : ℕ) (step : Step) (old new : SharedBankState) (before after place : ℕ) (shown : List ShareView) (other left : ShareView)
     (answer : Answer) → place ≡ share_place old.shares (client_named step) → place < length old.shares → shown ≡ old.shares
     → new.shares ≡ refill (length old.shares) old.shares (set shown place left)
     → IsStep index step (record { bank = old.bank; share = get_or shown place other; clock = before })
@@ -29,7 +29,7 @@ pub asked-at : (index : ℕ) (step : Step) (old new : SharedBankState) (before a
     → IsStepAt index step old new before after answer
 asked-at index step old new before after place shown other left answer at inside is shares acts =
     let written : refill (length old.shares) old.shares (set shown place left) ≡ set old.shares place left =
-    ap (λ (xs : List Holding). refill (length old.shares) old.shares (set xs place left)) is
+    ap (λ (xs : List ShareView). refill (length old.shares) old.shares (set xs place left)) is
     ∙ refill-whole old.shares (set old.shares place left) (length-set old.shares place left) in
     record {
       share = get_or shown place other;
@@ -37,7 +37,7 @@ asked-at index step old new before after place shown other left answer at inside
       is_share =
           subst (λ (n : ℕ). slice_get old.shares n ≡ Some (get_or shown place other)) at
           (slice_get-get_or old.shares place other inside
-          ∙ ap (λ (xs : List Holding). Some (get_or xs place other)) (sym is));
+          ∙ ap (λ (xs : List ShareView). Some (get_or xs place other)) (sym is));
       acts = acts;
       shares = shares ∙ (written ∙ ap (λ (n : ℕ). set old.shares n left) at);
     }
@@ -64,20 +64,20 @@ played index step old new place client clock shared_bank other left answer at of
 }
 
 -- a share that was handed to a bank without memory, and written back
-pub starved-at : (step : Step) (old new : SharedBankState) (before after place : ℕ) (shown : List Holding) (other left : Holding)
+pub starved-at : (step : Step) (old new : SharedBankState) (before after place : ℕ) (shown : List ShareView) (other left : ShareView)
     → place < length old.shares → shown ≡ old.shares
     → new.shares ≡ refill (length old.shares) old.shares (set shown place left)
     → IsStarved (first_of (cases_of (record { bank = old.bank; share = get_or shown place other; clock = before }) step)) old.bank.room
     ((new.bank ≡ old.bank) × (left ≡ get_or shown place other) × (after ≡ before))
     → IsStarvedAt old new before after
 starved-at step old new before after place shown other left inside is shares starved =
-    let back : set shown place left ≡ shown = ap (λ (x : Holding). set shown place x) starved.0.1 ∙ set-get_or shown place other in
+    let back : set shown place left ≡ shown = ap (λ (x : ShareView). set shown place x) starved.0.1 ∙ set-get_or shown place other in
     let same : new.shares ≡ old.shares =
-    shares ∙ (ap (λ (xs : List Holding). refill (length old.shares) old.shares xs) (back ∙ is) ∙ refill-whole old.shares old.shares refl) in
+    shares ∙ (ap (λ (xs : List ShareView). refill (length old.shares) old.shares xs) (back ∙ is) ∙ refill-whole old.shares old.shares refl) in
     record {
       same =
           ap (λ (b : View). record { bank = b; shares = new.shares }) starved.0.0
-          ∙ ap (λ (xs : List Holding). record { bank = old.bank; shares = xs }) same;
+          ∙ ap (λ (xs : List ShareView). record { bank = old.bank; shares = xs }) same;
       clock = starved.0.2;
       room = step-room (record { bank = old.bank; share = get_or shown place other; clock = before }) step old.bank.room starved.1;
     }

@@ -1,6 +1,6 @@
 -- One more bank at reset.
 use Rattle.std.proofs.Common.{◌≡◌, ℕ, zero, suc, ◌+◌, ◌<◌, List, [], ◌∷◌, ◌++◌, length, length-append, refl, sym, subst, arith}
-use Rattle.tl_bank_spec.specs.Share.{Holding, first_shares}
+use Rattle.tl_bank_spec.specs.Share.{ShareView, first_shares}
 use Rattle.tl_map.specs.Numbers.{Numbers}
 use Rattle.tl_trace.specs.NetworkState.{AreFresh, IsFresh, SharedBankState}
 
@@ -32,9 +32,9 @@ count-more shared_banks more shared_bank n count after = rw after (omega (arith,
 length-first_shares : (bank n : ℕ) → length (first_shares bank n) ≡ n
 length-first_shares bank zero = refl
 length-first_shares bank (suc n) =
-    let last : Holding = record { client = n; bank = bank; count = 0 } in
+    let last : ShareView = record { client = n; bank = bank; count = 0 } in
     omega (arith, length-append (first_shares bank n) (last ∷ []), length-first_shares bank n)
 
 -- where there are clients there are shares
-pub some-shares : (bank n : ℕ) (shares : List Holding) → shares ≡ first_shares bank n → 0 < n → 0 < length shares
+pub some-shares : (bank n : ℕ) (shares : List ShareView) → shares ≡ first_shares bank n → 0 < n → 0 < length shares
 some-shares bank n shares is some = rw is (omega (arith, length-first_shares bank n))

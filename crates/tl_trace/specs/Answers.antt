@@ -3,15 +3,15 @@ use Rattle.std.specs.Prelude.{◌≡◌, ℕ, ◌*◌, List, Option, Some, None}
 use Rattle.tl_types.specs.declared.message.Message.{Message}
 use Rattle.tl_types.specs.declared.ticket.Ticket.{Ticket}
 use Rattle.tl_protocol.specs.declared.home.Outward.TheVariants.{Put}
-use Rattle.tl_bank_spec.specs.View.{View, block_at}
+use Rattle.tl_memory.specs.declared.request.Reply.{Reply}
+use Rattle.tl_memory.specs.declared.request.Reply.TheVariants as reply
+use Rattle.tl_bank_spec.specs.View.{View, end_at}
 use Rattle.tl_bank_spec.specs.Views.{in_flight_at}
 use Rattle.tl_bank_spec.specs.declared.action.Action.{Action}
 use Rattle.tl_bank_spec.specs.declared.action.Action.TheVariants.{Probe as did_Probe, Grant as did_Grant, Get as did_Get, Put as did_Put, Drop as did_Drop}
 use Rattle.tl_bank_spec.specs.Refusal.{IsRefused}
 use Rattle.tl_bank_spec.specs.declared.refusal.Refusal.{Refusal}
 use Rattle.tl_bank_spec.specs.declared.refusal.Refusal.TheVariants.{Memory as r_Memory}
-use Rattle.tl_bank_spec.specs.declared.reply.Reply.{Reply}
-use Rattle.tl_bank_spec.specs.declared.reply.Reply.TheVariants as reply
 use Rattle.tl_text.specs.Memory.{bytes_of_size}
 use Rattle.tl_text.specs.declared.answer.Answer.{Answer}
 use Rattle.tl_text.specs.declared.answer.Answer.TheVariants.{Sent, Memory, Dropped, Done, Refused}
@@ -40,7 +40,7 @@ address_of v block = block * v.geometry.block_bytes
 -- The answer shows a PutFullData of a block, with the bytes that are on their way to the memory.
 pub record ShowsPut (v : View) (block : ℕ) (answer : Answer) : Type 0 where
   pub bytes : List ℕ
-  pub outward : (block_at v block).outward ≡ Put bytes
+  pub outward : (end_at v block).outward ≡ Put bytes
   pub shows : ShowsMemory v (PutFullData (address_of v block) bytes) answer
 
 -- what `advance` of a block did, where that left the bank so
@@ -58,8 +58,8 @@ ShowsIfSent v (Some ticket) answer = Shows v ticket answer
 
 -- what the memory answered
 abbrev pub message_in : Reply → MemoryMessage
-message_in (reply.AccessAckData bytes) = AccessAckData bytes
-message_in reply.AccessAck = AccessAck
+message_in (reply.AccessAckData size bytes) = AccessAckData bytes
+message_in (reply.AccessAck size) = AccessAck
 
 -- ## Refusals
 

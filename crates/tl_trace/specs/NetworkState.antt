@@ -7,7 +7,7 @@ use Rattle.tl_map.specs.Places.{bank_of, block_of_address, has_block}
 use Rattle.tl_script_words.specs.declared.step.Step.{Step}
 use Rattle.tl_script_words.specs.declared.step.Step.TheVariants.{Load, Store, Acquire, Release, Ticket, Block}
 use Rattle.tl_bank_spec.specs.Coherent.{IsCoherent}
-use Rattle.tl_bank_spec.specs.Share.{Holding, first_shares}
+use Rattle.tl_bank_spec.specs.Share.{ShareView, first_shares}
 use Rattle.tl_bank_spec.specs.Steps.{Forgets}
 use Rattle.tl_bank_spec.specs.View.{View}
 use Rattle.tl_bank_spec.specs.Own.{way_at}
@@ -15,7 +15,7 @@ use Rattle.tl_bank_spec.specs.Own.{way_at}
 -- a bank, and the share of each client in it
 pub record SharedBankState : Type 0 where
   pub bank : View
-  pub shares : List Holding
+  pub shares : List ShareView
 
 -- all banks, by number, and the clock of each client
 pub record NetworkState : Type 0 where
@@ -122,5 +122,5 @@ client_named (Ticket call ticket) = ticket.client
 client_named (Block call block) = 0
 
 -- the place of a client's share among those of a bank, and that of client 0's for a client that is not there
-abbrev pub share_place : List Holding → ℕ → ℕ
+abbrev pub share_place : List ShareView → ℕ → ℕ
 share_place shares client = if nat_lt client (length shares) then client else 0

@@ -2,7 +2,7 @@
 use Rattle.std.specs.Prelude.{◌≡◌, ℕ, suc, List, [], ◌∷◌, slice_get, slice_index, slice_set, Some}
 use Rattle.tl_map.specs.Numbers.{Numbers}
 use Rattle.tl_script_words.specs.declared.step.Step.{Step}
-use Rattle.tl_bank_spec.specs.Share.{Holding}
+use Rattle.tl_bank_spec.specs.Share.{ShareView}
 use Rattle.tl_text.specs.declared.answer.Answer.{Answer}
 use Rattle.tl_text.specs.declared.trace.Trace.{Trace}
 use Rattle.tl_trace.specs.Steps.{IsStep}
@@ -13,8 +13,8 @@ use Rattle.tl_trace.specs.NetworkState.{SharedBankState, NetworkState, AreCohere
 
 -- A step is asked of one bank, with the share of the client that it names.
 pub record IsStepAt (index : ℕ) (step : Step) (old new : SharedBankState) (before after : ℕ) (answer : Answer) : Type 0 where
-  pub share : Holding
-  pub left : Holding
+  pub share : ShareView
+  pub left : ShareView
   pub is_share : slice_get old.shares (share_place old.shares (client_named step)) ≡ Some share
   pub acts :
       IsStep index step (record { bank = old.bank; share = share; clock = before })

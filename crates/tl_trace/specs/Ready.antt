@@ -2,7 +2,7 @@
 use Rattle.std.specs.Prelude.{◌≡◌, ℕ, ◌<◌, List, IsSome}
 use Rattle.tl_types.specs.declared.ticket.Ticket.{Ticket}
 use Rattle.tl_protocol.specs.declared.home.Outward.TheVariants.{Put}
-use Rattle.tl_bank_spec.specs.View.{View, block_at}
+use Rattle.tl_bank_spec.specs.View.{View, end_at}
 use Rattle.tl_bank_spec.specs.Own.{IsOwn}
 use Rattle.tl_bank_spec.specs.Views.{in_flight_at}
 use Rattle.tl_bank_spec.specs.declared.action.Action.{Action}
@@ -16,7 +16,7 @@ IsThere v ticket = IsSome (in_flight_at v ticket)
 pub record IsWritten (v : View) (block : ℕ) : Type 0 where
   pub own : IsOwn v.geometry v.number block
   pub bytes : List ℕ
-  pub put : (block_at v block).outward ≡ Put bytes
+  pub put : (end_at v block).outward ≡ Put bytes
 
 -- what an action sent is there
 abbrev pub IsDone : View → ℕ → Action → Type 0

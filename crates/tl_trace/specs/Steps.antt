@@ -16,18 +16,18 @@ use Rattle.tl_script_words.specs.declared.step.TicketCall.TheVariants.{AnswerPro
 use Rattle.tl_bank_spec.specs.Calls.{load_cases, store_cases, acquire_cases, release_cases, answer_probe_cases, take_grant_cases, take_release_ack_cases}
 use Rattle.tl_bank_spec.specs.Cases.{block_named}
 use Rattle.tl_bank_spec.specs.Delivered.{Sends}
-use Rattle.tl_bank_spec.specs.Effects.{Accepts, Advances, Evicts, MemoryReplies, Serves, TakesMemory, answer_to}
+use Rattle.tl_bank_spec.specs.Effects.{Accepts, Advances, Evicts, MemoryReplies, AppendsWith, TakesMemory, answer_to}
 use Rattle.tl_bank_spec.specs.HomeCalls.{accept_cases, advance_cases, evict_cases, serve_memory_cases, take_c_cases, take_grant_ack_cases, take_memory_cases}
 use Rattle.tl_bank_spec.specs.Refusal.{first_of}
-use Rattle.tl_bank_spec.specs.Share.{Holding, recounted}
-use Rattle.tl_bank_spec.specs.View.{View, block_at, client_at, perm_at}
+use Rattle.tl_bank_spec.specs.Share.{ShareView, recounted}
+use Rattle.tl_bank_spec.specs.View.{View, end_at, client_at, perm_at}
 use Rattle.tl_bank_spec.specs.Steps.{Appends}
 use Rattle.tl_bank_spec.specs.Clock.{latest}
 use Rattle.tl_bank_spec.specs.Channels.{next_ticket}
 use Rattle.tl_bank_spec.specs.Own.{way_at}
 use Rattle.tl_bank_spec.specs.declared.action.Action.{Action}
 use Rattle.tl_bank_spec.specs.declared.refusal.Refusal.{Refusal}
-use Rattle.tl_bank_spec.specs.declared.reply.Reply.{Reply}
+use Rattle.tl_memory.specs.declared.request.Reply.{Reply}
 use Rattle.tl_text.specs.declared.answer.Answer.{Answer}
 use Rattle.tl_text.specs.declared.answer.Answer.TheVariants.{Loaded, Done}
 use Rattle.tl_trace.specs.Answers.{Answers, Shows, ShowsAction, ShowsIfSent, ShowsMemory, message_in}
@@ -35,13 +35,13 @@ use Rattle.tl_trace.specs.Answers.{Answers, Shows, ShowsAction, ShowsIfSent, Sho
 -- What a step is asked of: a bank, and a share and the clock of the client that it names.
 pub record Scene : Type 0 where
   pub bank : View
-  pub share : Holding
+  pub share : ShareView
   pub clock : ℕ
 
 -- ## Refusals
 
 -- the cases in which a call with a ticket is refused, in the order in which they are tested
-abbrev pub ticket_cases_of : View → Holding → TicketCall → Ticket → List (Bool × Refusal)
+abbrev pub ticket_cases_of : View → ShareView → TicketCall → Ticket → List (Bool × Refusal)
 ticket_cases_of v share AnswerProbe ticket = answer_probe_cases v ticket share
 ticket_cases_of v share TakeGrant ticket = take_grant_cases v ticket share
 ticket_cases_of v share TakeReleaseAck ticket = take_release_ack_cases v ticket
@@ -102,18 +102,18 @@ pub record Logs (old new : View) (event : Event) (answer : Answer) : Type 0 wher
   pub says : answer ≡ Done
 
 -- the share counts what became of the client's copy of a block
-abbrev pub Recounts : View → View → ℕ → ℕ → Holding → Holding → Type 0
+abbrev pub Recounts : View → View → ℕ → ℕ → ShareView → ShareView → Type 0
 Recounts old new client block before after = after ≡ recounted (perm_at old client block) (perm_at new client block) before
 
 -- Home takes the first message of C, and the answer shows the ReleaseAck where it was a Release.
 pub record TakesC (old new : View) (ticket : Ticket) (answer : Answer) : Type 0 where
-  pub serves : Serves old new (event.TakeC ticket.client (block_named old ticket C)) old.registers (way_at old)
+  pub serves : AppendsWith old new (event.TakeC ticket.client (block_named old ticket C)) old.registers (way_at old)
   pub shows : ShowsIfSent new (answer_to old ticket) answer
 
 -- Home takes a GrantAck, and the register of its block closes.
 pub record TakesGrantAck (old new : View) (ticket : Ticket) (answer : Answer) : Type 0 where
   pub serves :
-      Serves old new (event.TakeGrantAck ticket.client (block_named old ticket E)) (closed (block_named old ticket E) old.registers)
+      AppendsWith old new (event.TakeGrantAck ticket.client (block_named old ticket E)) (closed (block_named old ticket E) old.registers)
       (way_at old)
   pub says : answer ≡ Done
 
@@ -137,9 +137,9 @@ pub record SendsAway (old new : View) (block : ℕ) (answer : Answer) : Type 0 w
 
 -- The memory answers a request, and the answer shows that.
 pub record Replies (old new : View) (block : ℕ) (answer : Answer) : Type 0 where
-  pub serves : Serves old new (event.Serve block) old.registers (way_at old)
+  pub serves : AppendsWith old new (event.Serve block) old.registers (way_at old)
   pub reply : Reply
-  pub replies : MemoryReplies (block_at old block) reply
+  pub replies : MemoryReplies old block reply
   pub shows : ShowsMemory new (message_in reply) answer
 
 -- Home takes what the memory answered.
@@ -150,7 +150,7 @@ pub record TakesReply (old new : View) (block : ℕ) (answer : Answer) : Type 0 
 -- ## Steps
 
 -- what a call with a ticket does to a bank and a share, where it is not refused
-abbrev pub TicketDoes : TicketCall → Ticket → View → View → Holding → Holding → Answer → Type 0
+abbrev pub TicketDoes : TicketCall → Ticket → View → View → ShareView → ShareView → Answer → Type 0
 TicketDoes AnswerProbe ticket old new before after answer =
     Posts old new (event.AnswerProbe ticket.client (block_named old ticket B)) (next_ticket old ticket.client C) answer
     × Recounts old new ticket.client (block_named old ticket B) before after

@@ -83,8 +83,11 @@ pub(crate) fn reply(bank: &Bank, reply: Reply) -> Answer
     ensures { ShowsMemory bank.now (message_in reply) result }
 {
     match reply {
-        Reply::AccessAckData(bytes) => of_memory(bank, MemoryMessage::AccessAckData { bytes }),
-        Reply::AccessAck => of_memory(bank, MemoryMessage::AccessAck),
+        Reply::AccessAckData { size: _, burst } => {
+            let bytes = burst.block();
+            of_memory(bank, MemoryMessage::AccessAckData { bytes })
+        }
+        Reply::AccessAck { size: _ } => of_memory(bank, MemoryMessage::AccessAck),
     }
 }
 

@@ -2,7 +2,7 @@
 use Rattle.std.proofs.Common.{◌≡◌, ℕ, ◌+◌, ◌==◌, Bool, true, false, List, [], ◌∷◌, ◌++◌, length, drop, if◌then◌else◌, refl, ◌∙◌, arith, length-append, eqb-true, eq-eqb}
 use Rattle.std.proofs.lemmas.List.{append-nil}
 use Rattle.std.proofs.lemmas.Bool.{and_parts}
-use Rattle.tl_types.specs.Channel.{place_of, same_channel}
+use Rattle.tl_types.specs.Channel.{channel_index, same_channel}
 use Rattle.tl_types.specs.Lane.{Lane, sent, is_here, with_message, first_taken, without_first, bodies_of, IsFirst}
 use Rattle.tl_types.specs.declared.channel.Channel.{Channel}
 use Rattle.tl_types.specs.declared.channel.Channel.TheVariants.{A, B, C, D, E}
@@ -41,7 +41,7 @@ same_channel-true E E h = refl
 
 -- a channel is the same as itself
 pub same_channel-self : (k : Channel) → same_channel k k ≡ true
-same_channel-self k = eq-eqb (place_of k) (place_of k) refl
+same_channel-self k = eq-eqb (channel_index k) (channel_index k) refl
 
 -- what is here is this client and this channel
 pub is_here-true : (client : ℕ) (channel : Channel) (x : ℕ) (l : Channel) → is_here client channel x l ≡ true

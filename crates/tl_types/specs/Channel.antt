@@ -4,12 +4,12 @@ use Rattle.tl_types.specs.declared.channel.Channel.{Channel}
 use Rattle.tl_types.specs.declared.channel.Channel.TheVariants.{A, B, C, D, E}
 
 -- a channel's place among the five
-abbrev pub place_of : Channel → ℕ
-place_of A = 0
-place_of B = 1
-place_of C = 2
-place_of D = 3
-place_of E = 4
+abbrev pub channel_index : Channel → ℕ
+channel_index A = 0
+channel_index B = 1
+channel_index C = 2
+channel_index D = 3
+channel_index E = 4
 
 -- the letter that it prints as
 abbrev pub letter_of : Channel → List ℕ
@@ -21,4 +21,4 @@ letter_of E = codes "E"
 
 -- whether two channels are one
 abbrev pub same_channel : Channel → Channel → Bool
-same_channel k l = place_of k == place_of l
+same_channel k l = channel_index k == channel_index l

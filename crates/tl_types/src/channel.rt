@@ -1,6 +1,6 @@
 //! The five channels of a link.
 ghost use Rattle.std.specs.Prelude.{◌≡◌, ◌<◌, Some};
-ghost use Rattle.tl_types.specs.Channel.{place_of, letter_of};
+ghost use Rattle.tl_types.specs.Channel.{channel_index, letter_of};
 
 use std::fmt;
 
@@ -25,7 +25,7 @@ impl Channel {
 
     /// The channel's place among the five, from 0.
     pub fn index(self) -> usize
-        ensures value { result ≡ place_of self }
+        ensures value { result ≡ channel_index self }
         ensures small { result < 5 }
     {
         match self {

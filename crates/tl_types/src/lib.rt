@@ -21,4 +21,4 @@ pub use message::{Body, Downward, Message, ProbeAnswer, Surrender, Upward};
 pub use names::{BankNo, BlockNo, ClientId};
 pub use permission::{Cap, DirtyPrune, GrantCap, Grow, Perm, ProbeCap, ProbeReport, Prune, Report};
 pub use ticket::Ticket;
-pub use wait::Wait;
+pub use wait::Awaited;

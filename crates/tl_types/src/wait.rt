@@ -2,7 +2,7 @@
 
 /// Which answer of home a client waits for on a block. It waits for one at a time.
 #[derive(Clone, Copy, Debug, PartialEq, Eq)]
-pub enum Wait {
+pub enum Awaited {
     /// None.
     Nothing,
     /// The Grant of its Acquire.

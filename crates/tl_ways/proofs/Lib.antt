@@ -1,4 +1,4 @@
-pub mod LineLaws
+pub mod EntryLaws
 pub mod OrderLaws
 pub mod RowLaws
 pub mod StoreLaws

@@ -2,7 +2,7 @@
 ghost use Rattle.std.specs.Prelude.{◌≡◌, ◌≢◌, ℕ, ◌<◌, ◌≤◌, ◌&&◌, IfNone, IfSome, IsTrue, None, Some, find, is_none, length, not, slice_set};
 ghost use Rattle.tl_types.specs.Lowest.{lowest};
 ghost use Rattle.tl_ways.specs.Orders.{is_busy, rising, touched};
-ghost use Rattle.tl_ways.specs.Rows.{IsEmpty, chosen_in, line_in, tag_in};
+ghost use Rattle.tl_ways.specs.Rows.{IsEmpty, chosen_in, entry_in, tag_in};
 
 use crate::entry::Entry;
 use crate::way::Way;
@@ -23,9 +23,9 @@ impl Model for Row {
 
     ghost Value = { Row };
 
-    ghost view = { λ r. record { lines = r.entries.items; order = r.order.items } };
+    ghost view = { λ r. record { entries = r.entries.items; order = r.order.items } };
 
-    ghost invariant = { λ r. IsRow (record { lines = r.entries.items; order = r.order.items }) };
+    ghost invariant = { λ r. IsRow (record { entries = r.entries.items; order = r.order.items }) };
 }
 
 impl Row {
@@ -46,7 +46,7 @@ impl Row {
 
     /// How many ways there are.
     pub fn ways(&self) -> u32
-        ensures is { result ≡ length self.now.lines }
+        ensures is { result ≡ length self.now.entries }
         ensures few { result ≤ WAYS }
     {
         self.entries.len() as u32
@@ -54,7 +54,7 @@ impl Row {
 
     /// The entry of a way, if a block lies there.
     pub fn entry(&self, way: Way) -> Option<Entry>
-        ensures { result ≡ line_in self.now way }
+        ensures { result ≡ entry_in self.now way }
     {
         match self.entries.as_slice().get(way.index()) {
             Some(entry) => *entry,
@@ -65,7 +65,7 @@ impl Row {
     /// The way of the block with this tag.
     pub fn find(&self, tag: Tag) -> Option<Way>
         ensures found { IfSome result (λ way. tag_in self.now way ≡ Some tag) }
-        ensures inside { IfSome result (λ way. way < length self.now.lines) }
+        ensures inside { IfSome result (λ way. way < length self.now.entries) }
         ensures alone { IfSome result (λ way. (other : ℕ) → tag_in self.now other ≡ Some tag → other ≡ way) }
         ensures none { IfNone result ((way : ℕ) → tag_in self.now way ≢ Some tag) }
     {
@@ -84,24 +84,24 @@ impl Row {
 
     /// Puts an entry into a way. No other way has its tag.
     pub fn place(&mut self, way: Way, entry: Entry)
-        requires inside { way < length self.old.lines }
+        requires inside { way < length self.old.entries }
         requires alone { (other : ℕ) → other ≢ way → tag_in self.old other ≢ Some entry.tag }
-        ensures { self.new ≡ record self.old { lines = slice_set self.old.lines way (Some entry) } }
+        ensures { self.new ≡ record self.old { entries = slice_set self.old.entries way (Some entry) } }
     {
         self.entries[way.index()] = Some(entry);
     }
 
     /// Frees a way.
     pub fn clear(&mut self, way: Way)
-        requires { way < length self.old.lines }
-        ensures { self.new ≡ record self.old { lines = slice_set self.old.lines way None } }
+        requires { way < length self.old.entries }
+        ensures { self.new ≡ record self.old { entries = slice_set self.old.entries way None } }
     {
         self.entries[way.index()] = None;
     }
 
     /// Moves a way last in the order.
     pub fn touch(&mut self, way: Way)
-        requires { way < length self.old.lines }
+        requires { way < length self.old.entries }
         ensures { self.new ≡ record self.old { order = touched way self.old.order } }
     {
         let mut order = ArrayVec::new();
@@ -118,8 +118,8 @@ impl Row {
     #[tactic(auto, unfolding(crate::specs::Orders::chosen))]
     pub fn choose(&self, busy: &[Way]) -> Option<Way>
         ensures is { result ≡ chosen_in self.now busy.now }
-        ensures inside { IfSome result (λ way. way < length self.now.lines) }
-        ensures none { IfNone result ((way : ℕ) → way < length self.now.lines → IsTrue (is_busy busy.now way)) }
+        ensures inside { IfSome result (λ way. way < length self.now.entries) }
+        ensures none { IfNone result ((way : ℕ) → way < length self.now.entries → IsTrue (is_busy busy.now way)) }
     {
         match self.lowest_free(busy) {
             Some(way) => Some(way),
@@ -129,8 +129,8 @@ impl Row {
 
     /// The lowest free way that is not busy.
     fn lowest_free(&self, busy: &[Way]) -> Option<Way>
-        ensures is { result ≡ lowest (λ way. is_none (line_in self.now way) && not (is_busy busy.now way)) (length self.now.lines) }
-        ensures inside { IfSome result (λ way. way < length self.now.lines) }
+        ensures is { result ≡ lowest (λ way. is_none (entry_in self.now way) && not (is_busy busy.now way)) (length self.now.entries) }
+        ensures inside { IfSome result (λ way. way < length self.now.entries) }
     {
         for number in 0..self.ways() {
             let way = Way::new(number);
@@ -144,8 +144,8 @@ impl Row {
     /// The first way in the order that is not busy.
     fn first_in_order(&self, busy: &[Way]) -> Option<Way>
         ensures is { result ≡ find (λ way. not (is_busy busy.now way)) self.now.order }
-        ensures inside { IfSome result (λ way. way < length self.now.lines) }
-        ensures none { IfNone result ((way : ℕ) → way < length self.now.lines → IsTrue (is_busy busy.now way)) }
+        ensures inside { IfSome result (λ way. way < length self.now.entries) }
+        ensures none { IfNone result ((way : ℕ) → way < length self.now.entries → IsTrue (is_busy busy.now way)) }
     {
         for way in self.order.as_slice() {
             if !is_busy(busy, *way) {

@@ -1,7 +1,7 @@
 //! The ways of all sets: which block lies where, what home records of it, and which way is taken next.
 ghost use Rattle.std.specs.Prelude.{◌≡◌, ◌≢◌, ℕ, ◌<◌, ◌==◌, ◌&&◌, IfNone, IfOk, IfSome, IsTrue, None, Some, if◌then◌else◌};
 ghost use Rattle.tl_ways.specs.Orders.{is_busy, touched};
-ghost use Rattle.tl_ways.specs.Tables.{IsFresh, IsSameSize, chosen_at, line_at, order_at, set_count, tag_at};
+ghost use Rattle.tl_ways.specs.Tables.{IsFresh, IsSameSize, chosen_at, entry_at, order_at, set_count, tag_at};
 
 use crate::entry::Entry;
 use crate::row::Row;
@@ -28,7 +28,7 @@ impl Model for Ways {
     ghost invariant = { λ w. IsTable (record { ways = w.ways; rows = w.rows.items }) };
 }
 
-#[tactic(auto, unfolding(crate::specs::Tables::set_count, crate::specs::Tables::row_at, crate::specs::Tables::line_at, crate::specs::Tables::order_at))]
+#[tactic(auto, unfolding(crate::specs::Tables::set_count, crate::specs::Tables::row_at, crate::specs::Tables::entry_at, crate::specs::Tables::order_at))]
 impl Ways {
     /// The ways of a geometry's sets, all free. Takes all memory that they need.
     pub fn new(alloc: Global, geometry: Geometry) -> Result<Ways, AllocError>
@@ -60,7 +60,7 @@ impl Ways {
     /// The entry in a way of a set, if a block lies there.
     pub fn entry(&self, set: Set, way: Way) -> Option<Entry>
         requires { set < set_count self.now }
-        ensures { result ≡ line_at self.now set way }
+        ensures { result ≡ entry_at self.now set way }
     {
         let row = &self.rows[set.index()];
         row.entry(way)
@@ -94,7 +94,7 @@ impl Ways {
         requires set { set < set_count self.old }
         requires way { way < self.old.ways }
         requires alone { (other : ℕ) → other ≢ way → tag_at self.old set other ≢ Some entry.tag }
-        ensures lines { (x y : ℕ) → line_at self.new x y ≡ (if x == set && y == way then Some entry else line_at self.old x y) }
+        ensures entries { (x y : ℕ) → entry_at self.new x y ≡ (if x == set && y == way then Some entry else entry_at self.old x y) }
         ensures orders { (x : ℕ) → order_at self.new x ≡ order_at self.old x }
         ensures size { IsSameSize self.old self.new }
     {
@@ -106,7 +106,7 @@ impl Ways {
     pub fn clear(&mut self, set: Set, way: Way)
         requires set { set < set_count self.old }
         requires way { way < self.old.ways }
-        ensures lines { (x y : ℕ) → line_at self.new x y ≡ (if x == set && y == way then None else line_at self.old x y) }
+        ensures entries { (x y : ℕ) → entry_at self.new x y ≡ (if x == set && y == way then None else entry_at self.old x y) }
         ensures orders { (x : ℕ) → order_at self.new x ≡ order_at self.old x }
         ensures size { IsSameSize self.old self.new }
     {
@@ -118,7 +118,7 @@ impl Ways {
     pub fn touch(&mut self, set: Set, way: Way)
         requires set { set < set_count self.old }
         requires way { way < self.old.ways }
-        ensures lines { (x y : ℕ) → line_at self.new x y ≡ line_at self.old x y }
+        ensures entries { (x y : ℕ) → entry_at self.new x y ≡ entry_at self.old x y }
         ensures orders { (x : ℕ) → order_at self.new x ≡ (if x == set then touched way (order_at self.old set) else order_at self.old x) }
         ensures size { IsSameSize self.old self.new }
     {

@@ -3,10 +3,10 @@
 
 use std::fs::File;
 use std::process::ExitCode;
-use tl_runner::{Free, Job, JobError, answer, job};
+use tl_runner::{Job, JobError, answer, job};
 use tl_streams::words;
 
-/// The job that the words ask for. A word that is no UTF-8 names no file that can be opened here, so it is no job.
+/// The job that the words ask for. A word that is no UTF-8 names no file that can be opened here, so it is none.
 fn asked(rt: &HostRuntime) -> Result<Job, JobError> {
     let words = words(rt)?;
     job(rt.alloc(), &words)
@@ -20,6 +20,6 @@ fn main(rt: HostRuntime) -> ExitCode {
     };
     let mut output = rt.stdout();
     let mut faults = rt.stderr();
-    let status = answer(&rt, rt.alloc(), &Free, job, file, &mut output, &mut faults);
+    let status = answer(&rt, rt.alloc(), job, file, &mut output, &mut faults);
     ExitCode::from(status)
 }

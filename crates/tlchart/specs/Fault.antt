@@ -1,41 +1,36 @@
 -- What each fault prints, and its status (this project's own).
-use Rattle.std.specs.Prelude.{ℕ, List, codes}
-use Rattle.tl_script.specs.declared.error.ScriptError.{ScriptError}
-use Rattle.tl_script.specs.declared.error.ScriptError.TheVariants as script
+use Rattle.std.specs.Prelude.{ℕ, List}
+use Rattle.tl_streams.specs.Fault.{fault_of_read as program_fault_of_read, fault_of_words as program_fault_of_words, program_fault_status, program_fault_text}
+use Rattle.tl_streams.specs.declared.command_line.WordsError.{WordsError}
+use Rattle.tl_streams.specs.declared.fault.ProgramFault.TheVariants as program
+use Rattle.tl_streams.specs.declared.reading.ReadError.{ReadError}
+use Rattle.tl_script.specs.ScriptError.{script_error_status}
 use Rattle.tlchart_draw.specs.Draw.{draw_error_text}
 use Rattle.tlchart_draw.specs.declared.draw.DrawError.{DrawError}
 use Rattle.tlchart_draw.specs.declared.draw.DrawError.TheVariants as draw
-use Rattle.tlchart.specs.declared.asked.AskedError.{AskedError}
-use Rattle.tlchart.specs.declared.asked.AskedError.TheVariants as words
 use Rattle.tlchart.specs.declared.fault.Fault.{Fault}
-use Rattle.tlchart.specs.declared.fault.Fault.TheVariants.{Usage, File, Memory, Draw}
+use Rattle.tlchart.specs.declared.fault.Fault.TheVariants.{Program, Draw}
 
 -- the fault of words that ask for nothing
-abbrev pub fault_of_words : AskedError → Fault
-fault_of_words words.Usage = Usage
-fault_of_words words.Memory = Memory
+abbrev pub fault_of_words : WordsError → Fault
+fault_of_words error = Program (program_fault_of_words error)
 
--- a script that is refused ends with 1, want of memory with 4
-abbrev pub script_status : ScriptError → ℕ
-script_status script.Memory = 4
-script_status _ = 1
+-- the fault of a file that is not read to its end
+abbrev pub fault_of_read : ReadError → Fault
+fault_of_read error = Program (program_fault_of_read error)
 
 -- too many steps end with 6
 abbrev pub draw_status : DrawError → ℕ
-draw_status (draw.Script error) = script_status error
+draw_status (draw.Script error) = script_error_status error
 draw_status (draw.TooMany steps) = 6
-draw_status draw.Memory = 4
+draw_status draw.Memory = program_fault_status program.Memory
 
--- usage ends with 2, want of memory with 4, the file with 5
+-- a script that is not drawn ends as above, each other fault as in every program
 abbrev pub status_of : Fault → ℕ
-status_of Usage = 2
-status_of File = 5
-status_of Memory = 4
+status_of (Program fault) = program_fault_status fault
 status_of (Draw error) = draw_status error
 
 -- the line of a fault
 abbrev pub fault_text : Fault → List ℕ
-fault_text Usage = codes "error usage"
-fault_text File = codes "error file"
-fault_text Memory = codes "error 41 memory"
+fault_text (Program fault) = program_fault_text fault
 fault_text (Draw error) = draw_error_text error

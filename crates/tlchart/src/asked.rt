@@ -1,9 +1,9 @@
 //! The command line: `tlchart [--mermaid] [--block NUM] FILE`.
 
-use clap::error::ErrorKind;
 use clap::{Arg, ArgAction, ArgMatches, Command};
 use std::alloc::{AllocError, Global};
 use tl_script_words::parse_number;
+use tl_streams::WordsError;
 use tl_types::BlockNo;
 use tlchart_draw::Form;
 
@@ -13,30 +13,6 @@ pub(crate) struct Asked {
     pub(crate) file: String,
     pub(crate) form: Form,
     pub(crate) block: Option<BlockNo>,
-}
-
-/// Why the words ask for nothing.
-#[derive(Clone, Copy, Debug, PartialEq, Eq)]
-pub(crate) enum AskedError {
-    /// The words are refused, or ask for help.
-    Usage,
-    /// A request for memory was refused.
-    Memory,
-}
-
-impl From<AllocError> for AskedError {
-    fn from(_error: AllocError) -> AskedError {
-        AskedError::Memory
-    }
-}
-
-impl From<clap::Error> for AskedError {
-    fn from(error: clap::Error) -> AskedError {
-        match error.kind() {
-            ErrorKind::OutOfMemory => AskedError::Memory,
-            _ => AskedError::Usage,
-        }
-    }
 }
 
 /// The words that the program takes.
@@ -61,12 +37,12 @@ fn command<'a>(alloc: Global) -> Result<Command<'a>, AllocError> {
 }
 
 /// The block that is asked for, if one is.
-fn block_asked(matches: &ArgMatches<'_>) -> Result<Option<BlockNo>, AskedError> {
+fn block_asked(matches: &ArgMatches<'_>) -> Result<Option<BlockNo>, WordsError> {
     match matches.get_str("block") {
         None => Ok(None),
         Some(text) => match parse_number(text) {
             Some(number) => Ok(Some(BlockNo::new(number))),
-            None => Err(AskedError::Usage),
+            None => Err(WordsError::Usage),
         },
     }
 }
@@ -81,8 +57,8 @@ fn form_asked(matches: &ArgMatches<'_>) -> Form {
 }
 
 /// What the words that were matched ask for.
-fn asked_in(alloc: Global, matches: &ArgMatches<'_>) -> Result<Asked, AskedError> {
-    let file = matches.get_str("file").ok_or(AskedError::Usage)?;
+fn asked_in(alloc: Global, matches: &ArgMatches<'_>) -> Result<Asked, WordsError> {
+    let file = matches.get_str("file").ok_or(WordsError::Usage)?;
     Ok(Asked {
         file: String::from_str(alloc, file)?,
         form: form_asked(matches),
@@ -91,7 +67,7 @@ fn asked_in(alloc: Global, matches: &ArgMatches<'_>) -> Result<Asked, AskedError
 }
 
 /// What the words after the program's name ask for.
-pub(crate) fn asked_by(alloc: Global, words: &[String]) -> Result<Asked, AskedError> {
+pub(crate) fn asked_by(alloc: Global, words: &[String]) -> Result<Asked, WordsError> {
     let matches = command(alloc)?.try_get_matches_from(words)?;
     asked_in(alloc, &matches)
 }

@@ -1,24 +1,19 @@
 //! What stops the program, and how it is told.
 ghost use Rattle.std.specs.Prelude.{◌≡◌};
 ghost use Rattle.tlchart.specs.declared.fault.Fault.TheVariants as its;
-ghost use Rattle.tlchart.specs.Fault.{fault_of_words, status_of};
+ghost use Rattle.tlchart.specs.Fault.{fault_of_read, fault_of_words, status_of};
 
-use crate::asked::AskedError;
 use std::fmt;
 use std::io::Write;
-use tl_script::ScriptError;
-use tl_streams::{ReadError, tell};
+use tl_streams::{ProgramFault, ReadError, WordsError, tell};
 use tlchart_draw::DrawError;
 
 /// What stops the program. It prints as the one fault line.
 #[derive(Debug, Drop)]
 pub(crate) enum Fault {
-    /// The words of the command line were refused.
-    Usage,
-    /// The file could not be read, or the picture not written.
-    File,
-    /// A request for memory was refused.
-    Memory,
+    /// The words were refused, the file could not be read or the picture not written, or a request for memory was refused outside the
+    /// drawing.
+    Program(ProgramFault),
     /// The script is not drawn.
     Draw(DrawError),
 }
@@ -31,31 +26,25 @@ impl fmt::Display for Fault {
 
     fn fmt<W: fmt::Write>(&self, f: &mut fmt::Formatter<W>) -> fmt::Result {
         match self {
-            Fault::Usage => write!(f, "error usage"),
-            Fault::File => write!(f, "error file"),
-            Fault::Memory => write!(f, "error 41 memory"),
+            Fault::Program(fault) => write!(f, "{fault}"),
             Fault::Draw(error) => write!(f, "{error}"),
         }
     }
 }
 
-impl From<AskedError> for Fault {
+impl From<WordsError> for Fault {
     ghost from_gives = { λ error fault. fault ≡ fault_of_words error };
 
-    fn from(error: AskedError) -> Fault {
-        match error {
-            AskedError::Usage => Fault::Usage,
-            AskedError::Memory => Fault::Memory,
-        }
+    fn from(error: WordsError) -> Fault {
+        Fault::Program(ProgramFault::from(error))
     }
 }
 
 impl From<ReadError> for Fault {
+    ghost from_gives = { λ error fault. fault ≡ fault_of_read error };
+
     fn from(error: ReadError) -> Fault {
-        match error {
-            ReadError::Memory => Fault::Memory,
-            ReadError::File => Fault::File,
-        }
+        Fault::Program(ProgramFault::from(error))
     }
 }
 
@@ -73,12 +62,9 @@ impl Fault {
         ensures { result ≡ status_of self.now }
     {
         match self {
-            Fault::Memory
-            | Fault::Draw(DrawError::Memory)
-            | Fault::Draw(DrawError::Script(ScriptError::Memory)) => 4,
-            Fault::Draw(DrawError::Script(_)) => 1,
-            Fault::Usage => 2,
-            Fault::File => 5,
+            Fault::Program(fault) => fault.status(),
+            Fault::Draw(DrawError::Memory) => ProgramFault::Memory.status(),
+            Fault::Draw(DrawError::Script(error)) => error.status(),
             Fault::Draw(DrawError::TooMany(_)) => 6,
         }
     }

@@ -8,7 +8,7 @@ use asked::{Asked, asked_by, title_of};
 use fault::{Fault, show};
 use std::fs::File;
 use std::process::ExitCode;
-use tl_streams::{read_whole, words, write_whole};
+use tl_streams::{ProgramFault, read_whole, words, write_whole};
 use tlchart_draw::draw_script;
 
 /// The bytes of the file that is asked for.
@@ -18,7 +18,7 @@ fn bytes(rt: &HostRuntime, file: &str) -> Result<Vec<u8>, Fault> {
     }
     match File::open(rt, file) {
         Ok(mut file) => Ok(read_whole(rt.alloc(), &mut file)?),
-        Err(_) => Err(Fault::File),
+        Err(_) => Err(Fault::Program(ProgramFault::File)),
     }
 }
 
@@ -34,13 +34,11 @@ fn picture(rt: &HostRuntime, asked: &Asked) -> Result<String, Fault> {
 }
 
 fn answer(rt: &HostRuntime) -> Result<(), Fault> {
-    let Ok(words) = words(rt) else {
-        return Err(Fault::Usage);
-    };
+    let words = words(rt)?;
     let picture = picture(rt, &asked_by(rt.alloc(), &words)?)?;
     match write_whole(&mut rt.stdout(), picture.as_bytes()) {
         Ok(()) => Ok(()),
-        Err(_) => Err(Fault::File),
+        Err(_) => Err(Fault::Program(ProgramFault::File)),
     }
 }
 

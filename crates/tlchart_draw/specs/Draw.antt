@@ -4,6 +4,8 @@ use Rattle.tl_script.specs.Each.{Fails}
 use Rattle.tl_script.specs.Script.{read_of, value_of}
 use Rattle.tl_script.specs.ScriptError.{script_error_text}
 use Rattle.tl_script.specs.declared.script.Script.{Script as ScriptRead}
+use Rattle.tl_streams.specs.Fault.{program_fault_text}
+use Rattle.tl_streams.specs.declared.fault.ProgramFault.TheVariants as program
 use Rattle.tlchart_draw.specs.declared.draw.DrawError.{DrawError}
 use Rattle.tlchart_draw.specs.declared.draw.DrawError.TheVariants.{Script, TooMany, Memory}
 
@@ -25,4 +27,4 @@ IsWhy bytes Memory = Unit {0}
 abbrev pub draw_error_text : DrawError → List ℕ
 draw_error_text (Script error) = script_error_text error
 draw_error_text (TooMany steps) = codes "error 60 " ++ decimal steps ++ codes " steps, at most 200 are drawn"
-draw_error_text Memory = codes "error 41 memory"
+draw_error_text Memory = program_fault_text program.Memory

@@ -8,6 +8,7 @@ use std::alloc::{AllocError, Global};
 use std::fmt;
 use thiserror::Error;
 use tl_script::{Script, ScriptError, read_script};
+use tl_streams::ProgramFault;
 use tl_trace::play;
 use tl_types::BlockNo;
 use tlchart_model::chart_of;
@@ -38,7 +39,7 @@ impl fmt::Display for DrawError {
             DrawError::TooMany(steps) => {
                 write!(f, "error 60 {steps} steps, at most 200 are drawn")
             },
-            DrawError::Memory => write!(f, "error 41 memory"),
+            DrawError::Memory => write!(f, "{}", ProgramFault::Memory),
         }
     }
 }

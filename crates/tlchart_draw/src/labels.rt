@@ -2,10 +2,9 @@
 
 use std::alloc::AllocError;
 use std::fmt::Write;
-use tl_bank_spec::Refusal;
 use tl_script_words::{Address, BlockCall, Hex, Step, TicketCall};
 use tl_text::{BankClosing, BlockLine};
-use tl_types::{AccessBytes, Perm};
+use tl_types::AccessBytes;
 use tlchart_model::{Lifeline, Mark, ShownMessage};
 
 /// How many bytes of a block are shown.
@@ -40,36 +39,6 @@ pub(crate) fn push_lifeline(text: &mut String, lifeline: Lifeline) -> Result<(),
     Ok(())
 }
 
-/// The name of a permission.
-pub(crate) fn perm_name(perm: Perm) -> &'static str {
-    match perm {
-        Perm::None => "None",
-        Perm::Branch => "Branch",
-        Perm::Tip => "Tip",
-    }
-}
-
-/// The name of a refusal.
-fn refusal_name(refusal: Refusal) -> &'static str {
-    match refusal {
-        Refusal::NoPermission => "NoPermission",
-        Refusal::Waiting => "Waiting",
-        Refusal::WrongFrom => "WrongFrom",
-        Refusal::NothingThere => "NothingThere",
-        Refusal::NotHead => "NotHead",
-        Refusal::ReleasePending => "ReleasePending",
-        Refusal::NoRegister => "NoRegister",
-        Refusal::BlockBusy => "BlockBusy",
-        Refusal::NotYet => "NotYet",
-        Refusal::OutOfRange => "OutOfRange",
-        Refusal::WrongBank => "WrongBank",
-        Refusal::CopiesFull => "CopiesFull",
-        Refusal::LinkFull => "LinkFull",
-        Refusal::Memory => "Memory",
-        Refusal::ClockFull => "ClockFull",
-    }
-}
-
 fn push_access(text: &mut String, word: &str, bytes: &AccessBytes) -> Result<(), AllocError> {
     write!(text, "{word} {}", Hex(bytes.as_slice()))?;
     Ok(())
@@ -82,9 +51,8 @@ pub(crate) fn push_mark(text: &mut String, mark: &Mark) -> Result<(), AllocError
         Mark::Stored(bytes) => push_access(text, "store", bytes),
         Mark::Dropped => text.push_str("drop"),
         Mark::Evicting(block) => Ok(write!(text, "evict b{block}")?),
-        Mark::Refused(refusal) => {
-            Ok(write!(text, "refused {refusal} {}", refusal_name(*refusal))?)
-        }
+        // A refusal prints as its number, and its name is that of the case.
+        Mark::Refused(refusal) => Ok(write!(text, "refused {refusal} {refusal:?}")?),
     }
 }
 

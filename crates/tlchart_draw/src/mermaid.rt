@@ -1,7 +1,7 @@
 //! A chart as a Mermaid `sequenceDiagram`.
 
 use crate::labels::{
-    perm_name, push_bank_line, push_block_line, push_lifeline, push_mark, push_message, push_title,
+    push_bank_line, push_block_line, push_lifeline, push_mark, push_message, push_title,
 };
 use crate::sheet::Sheet;
 use std::alloc::AllocError;
@@ -101,7 +101,7 @@ fn push_change(text: &mut String, chart: &Chart, change: Change) -> Result<(), A
     }
     text.push_str("    Note over ")?;
     push_short(text, change.client)?;
-    write!(text, ": {} of b{}\n", perm_name(change.perm), chart.block)?;
+    write!(text, ": {:?} of b{}\n", change.perm, chart.block)?;
     if before == Perm::None {
         return push_bar(text, "activate", change.client);
     }

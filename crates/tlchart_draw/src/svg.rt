@@ -1,8 +1,7 @@
 //! A chart as an SVG document.
 
 use crate::labels::{
-    perm_name, push_bank_line, push_block_line, push_lifeline, push_mark, push_message, push_step,
-    push_title,
+    push_bank_line, push_block_line, push_lifeline, push_mark, push_message, push_step, push_title,
 };
 use crate::layout::{BESIDE, REACH, ROW, until, width, x, y, y_sent, y_taken};
 use crate::sheet::Sheet;
@@ -159,8 +158,8 @@ fn push_band(text: &mut String, chart: &Chart, change: Change) -> Result<(), All
     let height = y(until(chart, change)).saturating_sub(top);
     write!(
         text,
-        "<rect class=\"{}\" x=\"{left}\" y=\"{top}\" width=\"10\" height=\"{height}\"/>\n",
-        perm_name(change.perm)
+        "<rect class=\"{:?}\" x=\"{left}\" y=\"{top}\" width=\"10\" height=\"{height}\"/>\n",
+        change.perm
     )?;
     Ok(())
 }

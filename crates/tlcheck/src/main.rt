@@ -20,8 +20,9 @@ fn refuse(rt: &HostRuntime, ending: Ending) -> u8 {
 }
 
 fn status(rt: &HostRuntime) -> u8 {
-    let Ok(words) = words(rt) else {
-        return refuse(rt, Ending::Memory);
+    let words = match words(rt) {
+        Ok(words) => words,
+        Err(error) => return refuse(rt, Ending::from(error)),
     };
     match words.as_slice() {
         [name] => {

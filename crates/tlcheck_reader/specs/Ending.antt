@@ -5,7 +5,11 @@ use Rattle.tlcheck_reader.specs.Outcome.{IsOutcome}
 use Rattle.tlcheck_reader.specs.declared.outcome.Outcome.{Outcome}
 use Rattle.tlcheck_reader.specs.declared.outcome.Outcome.TheVariants.{Lawful, Broken, Unreadable, Empty}
 use Rattle.tlcheck_record.specs.Reason.{reason_text}
+use Rattle.tl_streams.specs.Fault.{program_fault_text}
 use Rattle.tl_streams.specs.Written.{AppendsBeginning}
+use Rattle.tl_streams.specs.declared.command_line.WordsError.{WordsError}
+use Rattle.tl_streams.specs.declared.command_line.WordsError.TheVariants as words
+use Rattle.tl_streams.specs.declared.fault.ProgramFault.TheVariants as program
 use Rattle.tlcheck_record.specs.State.{end_lines, state_lines}
 use Rattle.tlcheck_reader.specs.declared.ending.Ending.{Ending}
 use Rattle.tlcheck_reader.specs.declared.ending.Ending.TheVariants.{Usage, Judged, Memory, File}
@@ -24,6 +28,11 @@ status_of (Judged outcome) = outcome_status outcome
 status_of Memory = 4
 status_of File = 5
 
+-- words that ask for nothing end as usage, or for want of memory
+abbrev pub ending_of_words : WordsError → Ending
+ending_of_words words.Usage = Usage
+ending_of_words words.Memory = Memory
+
 -- what was said of a record
 abbrev pub outcome_text : Outcome → List ℕ
 outcome_text (Lawful judge count) = codes "lawful: " ++ decimal count ++ codes " entries"
@@ -41,10 +50,10 @@ beside Empty = []
 
 -- what the program ends with
 abbrev pub ending_text : Ending → List ℕ
-ending_text Usage = codes "error usage"
+ending_text Usage = program_fault_text program.Usage
 ending_text (Judged outcome) = outcome_text outcome
-ending_text Memory = codes "error 41 memory"
-ending_text File = codes "error file"
+ending_text Memory = program_fault_text program.Memory
+ending_text File = program_fault_text program.File
 
 -- that, as a line
 abbrev pub ending_line : Ending → List ℕ

@@ -1,13 +1,13 @@
 //! What the program ends with, and how it is told.
 ghost use Rattle.std.specs.Prelude.{◌≡◌, ◌++◌, Some, IfOk, OnOk, string_bytes};
 ghost use Rattle.tl_streams.specs.Written.{AppendsBeginning};
-ghost use Rattle.tlcheck_reader.specs.Ending.{beside, ending_line, ending_lines, ending_text, outcome_text, status_of};
+ghost use Rattle.tlcheck_reader.specs.Ending.{beside, ending_of_words, ending_line, ending_lines, ending_text, outcome_text, status_of};
 
 use crate::outcome::Outcome;
 use std::alloc::{AllocError, Global};
 use std::fmt;
 use std::io::Write;
-use tl_streams::tell;
+use tl_streams::{ProgramFault, WordsError, tell};
 use tlcheck_record::{Reason, push_end, push_state};
 
 /// What the program ends with. It prints as its first line.
@@ -52,10 +52,21 @@ impl fmt::Display for Ending {
 
     fn fmt<W: fmt::Write>(&self, f: &mut fmt::Formatter<W>) -> fmt::Result {
         match self {
-            Ending::Usage => f.write_str("error usage"),
+            Ending::Usage => write!(f, "{}", ProgramFault::Usage),
             Ending::Judged(outcome) => write!(f, "{}", OutcomeText(outcome)),
-            Ending::Memory => f.write_str("error 41 memory"),
-            Ending::File => f.write_str("error file"),
+            Ending::Memory => write!(f, "{}", ProgramFault::Memory),
+            Ending::File => write!(f, "{}", ProgramFault::File),
+        }
+    }
+}
+
+impl From<WordsError> for Ending {
+    ghost from_gives = { λ error ending. ending ≡ ending_of_words error };
+
+    fn from(error: WordsError) -> Ending {
+        match error {
+            WordsError::Usage => Ending::Usage,
+            WordsError::Memory => Ending::Memory,
         }
     }
 }

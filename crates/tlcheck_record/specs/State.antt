@@ -12,8 +12,8 @@ use Rattle.tl_types.specs.declared.permission.GrantCap.TheVariants.{ToT, ToB}
 use Rattle.tl_types.specs.declared.permission.Perm.{Perm}
 use Rattle.tl_types.specs.declared.permission.Perm.TheVariants.{None as NoAccess, Branch, Tip}
 use Rattle.tl_types.specs.declared.permission.ProbeCap.{ProbeCap}
-use Rattle.tl_types.specs.declared.wait.Wait.{Wait}
-use Rattle.tl_types.specs.declared.wait.Wait.TheVariants.{Nothing, ForGrant, ForReleaseAck}
+use Rattle.tl_types.specs.declared.wait.Awaited.{Awaited}
+use Rattle.tl_types.specs.declared.wait.Awaited.TheVariants.{Nothing, ForGrant, ForReleaseAck}
 use Rattle.tl_script_words.specs.Hex.{hex_text}
 use Rattle.tl_protocol.specs.Ledger.{count_clients, has_copy, is_recorded}
 use Rattle.tl_protocol.specs.Protocol.{Block, granted}
@@ -45,7 +45,7 @@ copy_text (Writable bytes false) = codes "Tip " ++ hex_text bytes
 copy_text (Writable bytes true) = codes "Tip dirty " ++ hex_text bytes
 
 -- what a client waits for
-abbrev pub wait_text : Wait → List ℕ
+abbrev pub wait_text : Awaited → List ℕ
 wait_text Nothing = []
 wait_text ForGrant = codes ", waits for a Grant"
 wait_text ForReleaseAck = codes ", waits for a ReleaseAck"
@@ -116,7 +116,7 @@ must_be_probed shape s c (Some acquire) =
 -- ## What is at rest
 
 -- a client waits for nothing
-abbrev pub waits_for_nothing : Wait → Bool
+abbrev pub waits_for_nothing : Awaited → Bool
 waits_for_nothing Nothing = true
 waits_for_nothing ForGrant = false
 waits_for_nothing ForReleaseAck = false

@@ -9,7 +9,7 @@ use std::fmt;
 use tl_protocol::AckCount;
 use tl_rules::{CachedCopy, Client};
 use tl_script_words::Hex;
-use tl_types::{ClientId, Downward, Grow, Perm, ProbeCap, Upward, Wait};
+use tl_types::{Awaited, ClientId, Downward, Grow, Perm, ProbeCap, Upward};
 
 fn has_answer(client: &Client) -> bool
     ensures { result ≡ list_any is_probe_ack client.now.c }
@@ -32,7 +32,7 @@ pub(crate) fn is_probed(client: &Client) -> bool
 pub(crate) fn is_still(client: &Client) -> bool
     ensures { result ≡ is_still client.now }
 {
-    client.wait == Wait::Nothing
+    client.wait == Awaited::Nothing
         && client.a.as_slice().is_empty()
         && client.b.as_slice().is_empty()
         && client.c.as_slice().is_empty()
@@ -82,16 +82,16 @@ impl fmt::Display for Held<'_> {
 
 // What a client waits for.
 #[derive(Clone, Copy)]
-struct Waits(Wait);
+struct Waits(Awaited);
 
 impl fmt::Display for Waits {
     ghost output = { λ x. Some (wait_text x.0) };
 
     fn fmt<W: fmt::Write>(&self, f: &mut fmt::Formatter<W>) -> fmt::Result {
         match self.0 {
-            Wait::Nothing => Ok(()),
-            Wait::ForGrant => f.write_str(", waits for a Grant"),
-            Wait::ForReleaseAck => f.write_str(", waits for a ReleaseAck"),
+            Awaited::Nothing => Ok(()),
+            Awaited::ForGrant => f.write_str(", waits for a Grant"),
+            Awaited::ForReleaseAck => f.write_str(", waits for a ReleaseAck"),
         }
     }
 }

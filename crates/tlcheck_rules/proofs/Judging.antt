@@ -14,7 +14,7 @@ use Rattle.tl_protocol.specs.declared.shape.Shape.{Shape}
 use Rattle.tl_protocol.specs.Protocol.{Block, May, MayOn, after, block_of}
 use Rattle.tl_protocol.specs.Runs.{MayNext, after_next, end_of}
 use Rattle.tl_protocol.proofs.Runs.{runs_grow_by_one}
-use Rattle.tl_protocol_lanes.specs.Lanes.{Place, Post, lane_of, lane_after, post_of, sent_to, take_of, taken_from}
+use Rattle.tl_protocol_lanes.specs.Lanes.{LinkChannel, Post, lane_of, lane_after, post_of, sent_to, take_of, taken_from}
 use Rattle.tl_protocol_lanes.specs.Lawful.{IsNext, Lawful}
 use Rattle.tl_protocol_lanes.proofs.Logs.{empty_is_lawful, lanes_grow_by_one, lawful_grows_by_one}
 use Rattle.tl_rules.specs.Plain.{IsReset, state_of_plain}
@@ -49,7 +49,7 @@ without : (t : Bool) (lane : Lane) → map block_in (cond t (without_first lane)
 without false lane = refl
 without true lane = front lane.taken lane.messages
 
-pub map_taken : (p : Option Place) (x : ℕ) (l : Channel) (lane : Lane) → map block_in (taken_from p x l lane).messages ≡ removed p x l (map block_in lane.messages)
+pub map_taken : (p : Option LinkChannel) (x : ℕ) (l : Channel) (lane : Lane) → map block_in (taken_from p x l lane).messages ≡ removed p x l (map block_in lane.messages)
 map_taken None x l lane = refl
 map_taken (Some p) x l lane = without (is_here p.client p.channel x l) lane
 
@@ -77,7 +77,7 @@ map_lane shape s e x l lane =
 -- ## The client of an event
 
 -- an event that takes from a channel is of a client that is there
-pub taker_is_there : (shape : Shape) (s : Block) (e : Event) (place : Place) → MayOn shape s e → Some place ≡ take_of e → client_of e < shape.clients
+pub taker_is_there : (shape : Shape) (s : Block) (e : Event) (place : LinkChannel) → MayOn shape s e → Some place ≡ take_of e → client_of e < shape.clients
 taker_is_there shape s (Load access) place m same = m.0
 taker_is_there shape s (Store access) place m same = m.0
 taker_is_there shape s (SendAcquire c block grow) place m same = m.0

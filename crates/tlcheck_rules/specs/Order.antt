@@ -1,9 +1,9 @@
 -- Which blocks' messages wait on each channel, oldest first.
 use Rattle.std.specs.Prelude.{◌≡◌, ℕ, ◌+◌, ◌*◌, List, [], ◌∷◌, ◌++◌, drop, Option, Some, None, slice_index_or, if◌then◌else◌}
-use Rattle.tl_types.specs.Channel.{place_of}
+use Rattle.tl_types.specs.Channel.{channel_index}
 use Rattle.tl_types.specs.Lane.{is_here}
 use Rattle.tl_types.specs.declared.message.Body.{Body}
-use Rattle.tl_protocol_lanes.specs.Lanes.{Place, Post}
+use Rattle.tl_protocol_lanes.specs.Lanes.{LinkChannel, Post}
 use Rattle.tl_types.specs.declared.channel.Channel.{Channel}
 
 -- how many clients there are, and the blocks of the messages of their channels
@@ -13,7 +13,7 @@ pub record Waiting : Type 0 where
 
 -- the blocks of the messages that wait on a client's channel
 unfoldable pub waiting_in : Waiting → ℕ → Channel → List ℕ
-waiting_in order client channel = slice_index_or order.lists (client * 5 + place_of channel) []
+waiting_in order client channel = slice_index_or order.lists (client * 5 + channel_index channel) []
 
 -- a block is the first of these
 abbrev pub HeadIs : ℕ → List ℕ → Type 0
@@ -21,12 +21,12 @@ HeadIs block [] = ⊥
 HeadIs block (first ∷ rest) = first ≡ block
 
 -- the first message of the channel that is taken from, if one is, is of a block
-abbrev pub IsNextIn : Waiting → ℕ → Option Place → Type 0
+abbrev pub IsNextIn : Waiting → ℕ → Option LinkChannel → Type 0
 IsNextIn order block None = Unit {0}
 IsNextIn order block (Some place) = HeadIs block (waiting_in order place.client place.channel)
 
 -- a channel of a client
-abbrev pub place_at : ℕ → Channel → Place
+abbrev pub place_at : ℕ → Channel → LinkChannel
 place_at client channel = record { client = client; channel = channel }
 
 -- a message that is sent there
@@ -34,7 +34,7 @@ abbrev pub post_at : ℕ → Channel → Body → Post
 post_at client channel body = record { client = client; channel = channel; body = body }
 
 -- the blocks that wait after something is taken
-abbrev pub removed : Option Place → ℕ → Channel → List ℕ → List ℕ
+abbrev pub removed : Option LinkChannel → ℕ → Channel → List ℕ → List ℕ
 removed None x l blocks = blocks
 removed (Some place) x l blocks = if is_here place.client place.channel x l then drop 1 blocks else blocks
 

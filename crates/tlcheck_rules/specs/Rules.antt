@@ -6,7 +6,7 @@ use Rattle.tl_types.specs.declared.permission.Perm.{Perm}
 use Rattle.tl_types.specs.declared.permission.Perm.TheVariants.{None as p_None, Tip}
 use Rattle.tl_types.specs.declared.permission.Grow.{Grow}
 use Rattle.tl_types.specs.declared.permission.ProbeCap.{ProbeCap}
-use Rattle.tl_types.specs.declared.wait.Wait.TheVariants.{Nothing, ForReleaseAck}
+use Rattle.tl_types.specs.declared.wait.Awaited.TheVariants.{Nothing, ForReleaseAck}
 use Rattle.tl_protocol.specs.Access.{FitsBlock, MayLoad}
 use Rattle.tl_protocol.specs.Client.{NoProbePending, MayTakeGrant, MayTakeReleaseAck}
 use Rattle.tl_protocol.specs.Copy.{perm_of}

@@ -11,7 +11,7 @@ ghost use Rattle.tlcheck_rules.specs.Rules.{IsFirstBroken, Keeps};
 
 use crate::rule::{Rule, access_of, cap_of, client_of, from_of, rules_of};
 use tl_rules::{Access, BlockState, Client, Event, Plain, Shape};
-use tl_types::{BLOCK_BYTES, ClientId, Perm, ProbeCap, Wait};
+use tl_types::{Awaited, BLOCK_BYTES, ClientId, Perm, ProbeCap};
 
 /// Whether the access, if there is one, is of 1 to 8 bytes in one block.
 fn fits(shape: Shape, access: Option<&Access>) -> bool
@@ -104,10 +104,10 @@ fn keeps(block: &BlockState, shape: Shape, event: &Event, rule: Rule) -> bool
             is_there && has_its_bytes(block.the_client(c), shape, access_of(event))
         }
         Rule::CopyIsWritable => is_there && block.the_client(c).held.perm() == Perm::Tip,
-        Rule::WaitsForNothing => is_there && block.the_client(c).wait == Wait::Nothing,
+        Rule::WaitsForNothing => is_there && block.the_client(c).wait == Awaited::Nothing,
         Rule::StartsFromItsCopy => is_there && starts_from(block.the_client(c), from_of(event)),
         Rule::ProbeWaits => is_there && block.the_client(c).b.has_first(),
-        Rule::NoReleaseUnanswered => is_there && block.the_client(c).wait != Wait::ForReleaseAck,
+        Rule::NoReleaseUnanswered => is_there && block.the_client(c).wait != Awaited::ForReleaseAck,
         Rule::GrantIsFirst => is_there && block.the_client(c).may_take_grant(),
         Rule::ReleaseAckIsFirst => is_there && block.the_client(c).may_take_release_ack(),
         Rule::AcquireWaits => is_there && block.the_client(c).may_take_a(),

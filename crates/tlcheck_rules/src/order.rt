@@ -1,6 +1,6 @@
 //! Which blocks' messages wait on each channel, oldest first.
 ghost use Rattle.std.specs.Prelude.{◌≡◌, ◌<◌, ◌+◌, ◌*◌, ◌∷◌, ◌++◌, ℕ, [], drop, IfOk, IfSome, OnOk, OnErr, MatchOption, if◌then◌else◌};
-ghost use Rattle.tl_types.specs.Channel.{place_of};
+ghost use Rattle.tl_types.specs.Channel.{channel_index};
 ghost use Rattle.tl_types.specs.Lane.{is_here};
 ghost use Rattle.tl_types.specs.declared.channel.Channel.{Channel};
 ghost use Rattle.std.specs.Option.{option_map};
@@ -118,7 +118,7 @@ impl Order {
 
 /// A client's channel among all channels.
 fn place(client: ClientId, channel: Channel) -> usize
-    ensures { result ≡ client * 5 + place_of channel }
+    ensures { result ≡ client * 5 + channel_index channel }
 {
     client.number() as usize * Channel::ALL.len() + channel.index()
 }

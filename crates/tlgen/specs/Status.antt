@@ -1,19 +1,23 @@
--- The status of each fault (this project's own).
-use Rattle.std.specs.Prelude.{ℕ}
-use Rattle.tl_script.specs.declared.error.ScriptError.{ScriptError}
-use Rattle.tl_script.specs.declared.error.ScriptError.TheVariants as script
+-- What each fault prints, and its status (this project's own).
+use Rattle.std.specs.Prelude.{ℕ, List, codes}
+use Rattle.tl_streams.specs.Fault.{fault_of_words as program_fault_of_words, program_fault_status, program_fault_text}
+use Rattle.tl_streams.specs.declared.command_line.WordsError.{WordsError}
+use Rattle.tl_script.specs.ScriptError.{script_error_status, script_error_text}
 use Rattle.tlgen.specs.declared.fault.Fault.{Fault}
-use Rattle.tlgen.specs.declared.fault.Fault.TheVariants.{Usage, File, Memory, Script, Refusals}
+use Rattle.tlgen.specs.declared.fault.Fault.TheVariants.{Program, Script, Refusals}
 
--- a script that is refused ends with 1, want of memory with 4
-abbrev pub script_status : ScriptError → ℕ
-script_status script.Memory = 4
-script_status _ = 1
+-- the fault of words that are no request
+abbrev pub fault_of_words : WordsError → Fault
+fault_of_words error = Program (program_fault_of_words error)
 
--- usage ends with 2, other refusals than were told with 3, want of memory with 4, an output that was not written with 5
+-- a fault as it prints
+abbrev pub fault_text : Fault → List ℕ
+fault_text (Program fault) = program_fault_text fault
+fault_text (Script error) = script_error_text error
+fault_text Refusals = codes "error 61 refusals"
+
+-- other refusals than were told end with 3, each other fault as in every program
 abbrev pub status_of : Fault → ℕ
-status_of Usage = 2
-status_of File = 5
-status_of Memory = 4
-status_of (Script error) = script_status error
+status_of (Program fault) = program_fault_status fault
+status_of (Script error) = script_error_status error
 status_of Refusals = 3

@@ -1,13 +1,15 @@
 //! The banks of a cache, and the next step that they accept.
 use crate::any::push_step;
+use crate::certify::is_refused;
 use crate::dice::Dice;
-use crate::shared_bank::{Answer, SharedBank};
 use crate::spots::Spots;
 use std::alloc::{AllocError, Global};
-use tl_bank::Refusal;
+use std::marker::Model;
 use tl_map::Geometry;
 use tl_script_words::{ParseError, Step};
-use tl_types::{BankNo, Ticket};
+use tl_text::Answer;
+use tl_trace::Network;
+use tl_types::Ticket;
 
 /// How many steps are asked where the banks refuse them.
 const TRIES: u32 = 1000;
@@ -15,12 +17,17 @@ const TRIES: u32 = 1000;
 /// One step in so many may be one that its bank refuses.
 const REFUSED: u32 = 8;
 
-/// Every bank, by number, and the tickets that were sent and not yet taken.
+/// Every bank, and the tickets that were sent and not yet taken. Its model says nothing: what is chosen is played back before it is told.
 #[derive(Drop)]
 pub(crate) struct Cache {
-    geometry: Geometry,
-    shared_banks: Vec<SharedBank>,
+    network: Network,
     sent: Vec<Ticket>,
+}
+
+impl Model for Cache {
+    ghost Value = { Unit {0} };
+
+    ghost view = { λ _. tt };
 }
 
 /// The words of a step that was asked of its bank, and whether that refused it.
@@ -33,13 +40,8 @@ pub(crate) struct Chosen {
 impl Cache {
     /// All banks at reset. Their memory has no image, since what a bank accepts depends on no byte.
     pub(crate) fn new(alloc: Global, geometry: Geometry) -> Result<Cache, AllocError> {
-        let mut shared_banks = Vec::new(alloc);
-        for number in 0..geometry.banks() {
-            shared_banks.push(SharedBank::new(alloc, geometry, BankNo::new(number))?)?;
-        }
         Ok(Cache {
-            geometry,
-            shared_banks,
+            network: Network::new(alloc, geometry, &[])?,
             sent: Vec::new(alloc),
         })
     }
@@ -73,50 +75,30 @@ impl Cache {
         words: &str,
         index: u32,
     ) -> Result<Option<bool>, AllocError> {
-        let step = match Step::parse(alloc, words) {
-            Ok(step) => step,
-            Err(ParseError::Malformed) => return Ok(None),
-            Err(ParseError::Memory) => return Err(AllocError),
-        };
-        match self.ask(&step, index) {
-            Ok(sent) => {
-                self.note(&step, sent)?;
-                Ok(Some(false))
-            }
-            Err(Refusal::Memory) => Err(AllocError),
-            Err(_) => Ok(Some(true)),
+        match Step::parse(alloc, words) {
+            Ok(step) => Ok(Some(self.ask(&step, index)?)),
+            Err(ParseError::Malformed) => Ok(None),
+            Err(ParseError::Memory) => Err(AllocError),
         }
     }
 
-    /// A step, asked of the bank that it names.
-    fn ask(&mut self, step: &Step, index: u32) -> Answer {
-        let bank = self.bank_asked(step);
-        match self.shared_banks.as_mut_slice().get_mut(bank.index()) {
-            Some(shared_bank) => shared_bank.ask(step, index),
-            None => Err(Refusal::OutOfRange),
+    /// Asks a step of the bank that it names, and says whether that refused it.
+    fn ask(&mut self, step: &Step, index: u32) -> Result<bool, AllocError> {
+        let answer = self.network.step(index, step)?;
+        if is_refused(&answer) {
+            return Ok(true);
         }
+        self.note(step, &answer)?;
+        Ok(false)
     }
 
-    /// The bank that a step names by its address, block or ticket.
-    fn bank_asked(&self, step: &Step) -> BankNo {
-        let geometry = self.geometry;
-        match step {
-            Step::Load { address, .. } => geometry.bank(geometry.block_at(*address)),
-            Step::Store { address, .. } => geometry.bank(geometry.block_at(*address)),
-            Step::Acquire { block, .. } => geometry.bank(*block),
-            Step::Release { block, .. } => geometry.bank(*block),
-            Step::Ticket(_, ticket) => ticket.bank,
-            Step::Block(_, block) => geometry.bank(*block),
-        }
-    }
-
-    /// Keeps what was sent, and lets go what was taken.
-    fn note(&mut self, step: &Step, sent: Option<Ticket>) -> Result<(), AllocError> {
+    /// Keeps the ticket of what was sent, and lets go that of what was taken.
+    fn note(&mut self, step: &Step, answer: &Answer) -> Result<(), AllocError> {
         if let Step::Ticket(_, taken) = step {
             self.sent.retain(|ticket| *ticket != *taken);
         }
-        if let Some(ticket) = sent {
-            self.sent.push(ticket)?;
+        if let Answer::Sent { ticket, .. } = answer {
+            self.sent.push(*ticket)?;
         }
         Ok(())
     }

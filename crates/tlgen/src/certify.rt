@@ -11,7 +11,7 @@ use tl_text::{Answer, Trace};
 use tl_trace::play;
 
 /// Whether a step was refused.
-fn is_refused(answer: &Answer) -> bool
+pub(crate) fn is_refused(answer: &Answer) -> bool
     ensures { result ≡ is_refused answer.now }
 {
     match answer {

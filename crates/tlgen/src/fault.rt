@@ -5,16 +5,13 @@ ghost use Rattle.tlgen.specs.Status.{status_of};
 use std::alloc::{AllocError, AllocFailed};
 use std::fmt;
 use tl_script::ScriptError;
+use tl_streams::{ProgramFault, WordsError};
 
 /// What stops the program. It prints as the one fault line.
 #[derive(Clone, Copy, Debug, PartialEq, Eq)]
 pub(crate) enum Fault {
-    /// The words of the command line are no request.
-    Usage,
-    /// The script could not be written.
-    File,
-    /// A request for memory was refused.
-    Memory,
+    /// The words are no request, the script could not be written, or a request for memory was refused outside its reading.
+    Program(ProgramFault),
     /// What is asked for makes no script.
     Script(ScriptError),
     /// The banks of the trace refused another number of steps than the banks of the generator.
@@ -22,26 +19,39 @@ pub(crate) enum Fault {
 }
 
 impl fmt::Display for Fault {
+    ghost use Rattle.std.specs.Prelude.{Some};
+    ghost use Rattle.tlgen.specs.Status.{fault_text};
+
+    ghost output = { λ fault. Some (fault_text fault) };
+
     fn fmt<W: fmt::Write>(&self, f: &mut fmt::Formatter<W>) -> fmt::Result {
         match self {
-            Fault::Usage => f.write_str("usage: tlgen SEED run|trace [KEY=NUM ..]"),
-            Fault::File => f.write_str("error file"),
-            Fault::Memory => f.write_str("error 41 memory"),
+            Fault::Program(fault) => write!(f, "{fault}"),
             Fault::Script(error) => write!(f, "{error}"),
             Fault::Refusals => f.write_str("error 61 refusals"),
         }
     }
 }
 
+impl From<WordsError> for Fault {
+    ghost use Rattle.tlgen.specs.Status.{fault_of_words};
+
+    ghost from_gives = { λ error fault. fault ≡ fault_of_words error };
+
+    fn from(error: WordsError) -> Fault {
+        Fault::Program(ProgramFault::from(error))
+    }
+}
+
 impl From<AllocError> for Fault {
     fn from(_error: AllocError) -> Fault {
-        Fault::Memory
+        Fault::Program(ProgramFault::Memory)
     }
 }
 
 impl<T: Drop> From<AllocFailed<T>> for Fault {
     fn from(_error: AllocFailed<T>) -> Fault {
-        Fault::Memory
+        Fault::Program(ProgramFault::Memory)
     }
 }
 
@@ -57,11 +67,9 @@ impl Fault {
         ensures { result ≡ status_of self }
     {
         match self {
-            Fault::Script(ScriptError::Memory) | Fault::Memory => 4,
-            Fault::Script(_) => 1,
-            Fault::Usage => 2,
+            Fault::Program(fault) => fault.status(),
+            Fault::Script(error) => error.status(),
             Fault::Refusals => 3,
-            Fault::File => 5,
         }
     }
 }

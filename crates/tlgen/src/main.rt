@@ -10,24 +10,16 @@ mod fault;
 mod geometry;
 mod request;
 mod script;
-mod shared_bank;
 mod spots;
 
 use answer::answer;
-use fault::Fault;
 use std::process::ExitCode;
-use tl_streams::{tell, words};
+use tl_streams::words;
 
 fn status(rt: &HostRuntime) -> u8 {
     let mut output = rt.stdout();
     let mut faults = rt.stderr();
-    match words(rt) {
-        Ok(words) => answer(rt.alloc(), &words, &mut output, &mut faults),
-        Err(_) => {
-            let _ = tell(&mut faults, &Fault::Memory);
-            Fault::Memory.status()
-        }
-    }
+    answer(rt.alloc(), words(rt), &mut output, &mut faults)
 }
 
 fn main(rt: HostRuntime) -> ExitCode {

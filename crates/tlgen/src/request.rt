@@ -2,6 +2,10 @@
 use crate::fault::Fault;
 use std::alloc::Global;
 use tl_script_words::parse_number;
+use tl_streams::ProgramFault;
+
+/// The fault of words that are no request.
+const USAGE: Fault = Fault::Program(ProgramFault::Usage);
 
 /// What may be asked for by its number: each number of the geometry, how many commands a client has or how many steps there are, and
 /// among how many blocks they choose.
@@ -39,9 +43,9 @@ impl<'w> Request<'w> {
     /// The request that words make: `SEED run|trace [KEY=NUM ..]`. Usage where they make none.
     pub(crate) fn new(alloc: Global, words: &'w [String]) -> Result<Request<'w>, Fault> {
         let [seed, mode, rest @ ..] = words else {
-            return Err(Fault::Usage);
+            return Err(USAGE);
         };
-        let seed = parse_number(seed).ok_or(Fault::Usage)?;
+        let seed = parse_number(seed).ok_or(USAGE)?;
         let traces = traces(mode)?;
         let asked = asked_by_all(alloc, rest)?;
         Ok(Request {
@@ -66,7 +70,7 @@ fn traces(mode: &str) -> Result<bool, Fault> {
     match mode {
         "run" => Ok(false),
         "trace" => Ok(true),
-        _ => Err(Fault::Usage),
+        _ => Err(USAGE),
     }
 }
 
@@ -75,7 +79,7 @@ fn asked_by_all(alloc: Global, words: &[String]) -> Result<Vec<Asked<'_>>, Fault
     let mut all = Vec::new(alloc);
     for word in words {
         let Some(asked) = asked_by(word) else {
-            return Err(Fault::Usage);
+            return Err(USAGE);
         };
         all.push(asked)?;
     }

@@ -26,8 +26,9 @@ fn answer_to(rt: &HostRuntime, form: Form, name: &str) -> u8 {
 }
 
 fn status(rt: &HostRuntime) -> u8 {
-    let Ok(words) = words(rt) else {
-        return show(&mut rt.stderr(), &Ending::Memory);
+    let words = match words(rt) {
+        Ok(words) => words,
+        Err(error) => return show(&mut rt.stderr(), &Ending::from(error)),
     };
     match words.as_slice() {
         [name] => answer_to(rt, Form::Summary, name.as_str()),

@@ -3,6 +3,10 @@ use Rattle.std.specs.Prelude.{◌≡◌, ◌≢◌, ℕ, ◌-◌, ◌==◌, List
 use Rattle.std.specs.Io.KnownBytes.{Appends}
 use Rattle.std.specs.Borrow.{Bor}
 use Rattle.tl_protocol.specs.declared.event.Event.{Event}
+use Rattle.tl_streams.specs.Fault.{program_fault_text}
+use Rattle.tl_streams.specs.declared.command_line.WordsError.{WordsError}
+use Rattle.tl_streams.specs.declared.command_line.WordsError.TheVariants as words
+use Rattle.tl_streams.specs.declared.fault.ProgramFault.TheVariants as program
 use Rattle.tl_streams.specs.Written.{AppendsBeginning}
 use Rattle.tl_streams.specs.declared.reading.ReadError.{ReadError}
 use Rattle.tl_streams.specs.declared.reading.ReadError.TheVariants as read
@@ -39,16 +43,21 @@ wrong_text line fault =
 
 -- a fault as it prints
 abbrev pub fault_text : Ending → List ℕ
-fault_text Usage = codes "error usage"
+fault_text Usage = program_fault_text program.Usage
 fault_text (Answered messages explanation) = []
 fault_text (Wrong line fault) = wrong_text line fault
 fault_text Empty = codes "error 51 empty"
-fault_text Memory = codes "error 41 memory"
-fault_text File = codes "error file"
+fault_text Memory = program_fault_text program.Memory
+fault_text File = program_fault_text program.File
 
 -- the line of a fault
 abbrev pub fault_line : Ending → List ℕ
 fault_line ending = fault_text ending ++ codes "\n"
+
+-- words that ask for nothing end as usage, or for want of memory
+abbrev pub ending_of_words : WordsError → Ending
+ending_of_words words.Usage = Usage
+ending_of_words words.Memory = Memory
 
 -- a file that is not read to its end ends as a read, or for want of memory
 abbrev pub ending_of_read : ReadError → Ending

@@ -2,7 +2,7 @@
 ghost use Rattle.std.specs.Prelude.{◌≡◌, ◌++◌, Some, IfOk, OnOk, slice_get, string_bytes};
 ghost use Rattle.tl_streams.specs.Written.{AppendsBeginning};
 ghost use Rattle.tl_script_words.specs.Words.{texts};
-ghost use Rattle.tlwire_answer.specs.Ending.{answer_text, ending_of_read, explained_text, fault_line, fault_text, lent_line, not_explained_text, number_at, run_of, status_of, summary_line, summary_text, text_at};
+ghost use Rattle.tlwire_answer.specs.Ending.{answer_text, ending_of_read, ending_of_words, explained_text, fault_line, fault_text, lent_line, not_explained_text, number_at, run_of, status_of, summary_line, summary_text, text_at};
 
 use crate::run::RunText;
 use std::alloc::{AllocError, Global};
@@ -10,7 +10,7 @@ use std::fmt;
 use std::fmt::Write as WriteText;
 use std::io::Write;
 use tl_rules::Event;
-use tl_streams::{ReadError, tell};
+use tl_streams::{ProgramFault, ReadError, WordsError, tell};
 use tlwire_record::{Fault, Messages};
 use tlwire_search::Explanation;
 
@@ -45,7 +45,7 @@ impl fmt::Display for Ending {
 
     fn fmt<W: fmt::Write>(&self, f: &mut fmt::Formatter<W>) -> fmt::Result {
         match self {
-            Ending::Usage => f.write_str("error usage"),
+            Ending::Usage => write!(f, "{}", ProgramFault::Usage),
             Ending::Answered(_, _) => Ok(()),
             Ending::Wrong(line, fault) => {
                 if fault.is_outside() {
@@ -55,8 +55,19 @@ impl fmt::Display for Ending {
                 }
             }
             Ending::Empty => f.write_str("error 51 empty"),
-            Ending::Memory => f.write_str("error 41 memory"),
-            Ending::File => f.write_str("error file"),
+            Ending::Memory => write!(f, "{}", ProgramFault::Memory),
+            Ending::File => write!(f, "{}", ProgramFault::File),
+        }
+    }
+}
+
+impl From<WordsError> for Ending {
+    ghost from_gives = { λ error ending. ending ≡ ending_of_words error };
+
+    fn from(error: WordsError) -> Ending {
+        match error {
+            WordsError::Usage => Ending::Usage,
+            WordsError::Memory => Ending::Memory,
         }
     }
 }

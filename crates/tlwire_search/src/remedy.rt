@@ -5,7 +5,7 @@ use crate::sooner::granted_first;
 use crate::target::target;
 use crate::wires::Wires;
 use tl_rules::{BlockState, Client, Event, Outward};
-use tl_types::{BlockNo, Channel, ClientId, GrantCap, Wait};
+use tl_types::{Awaited, BlockNo, Channel, ClientId, GrantCap};
 use tlcheck_rules::{Breach, Judge, Rule, client_of};
 
 /// What takes the next step between home and the memory.
@@ -52,9 +52,9 @@ fn client_step(
     block: BlockNo,
 ) -> Option<Event> {
     match k.wait {
-        Wait::Nothing => on_channel(judge, wires, seen, c, Channel::A, block),
-        Wait::ForGrant => Some(Event::TakeGrant(c, block)),
-        Wait::ForReleaseAck => Some(Event::TakeReleaseAck(c, block)),
+        Awaited::Nothing => on_channel(judge, wires, seen, c, Channel::A, block),
+        Awaited::ForGrant => Some(Event::TakeGrant(c, block)),
+        Awaited::ForReleaseAck => Some(Event::TakeReleaseAck(c, block)),
     }
 }
 

@@ -3,7 +3,7 @@ use crate::clients::{Which, in_way};
 use crate::seen::{Seen, Wire};
 use crate::wires::Wires;
 use tl_rules::{BlockState, Client, Event};
-use tl_types::{BlockNo, Channel, ClientId, GrantCap, Grow, Kind, Perm, ProbeCap, Upward, Wait};
+use tl_types::{Awaited, BlockNo, Channel, ClientId, GrantCap, Grow, Kind, Perm, ProbeCap, Upward};
 use tlcheck_rules::Judge;
 
 /// What is next of a block on a client's channel, where it is seen.
@@ -79,7 +79,10 @@ fn before_answering(
     c: ClientId,
     block: BlockNo,
 ) -> Option<Event> {
-    if k.wait != Wait::Nothing || k.held.perm() != Perm::Branch || k.b.first()? != ProbeCap::ToN {
+    if k.wait != Awaited::Nothing
+        || k.held.perm() != Perm::Branch
+        || k.b.first()? != ProbeCap::ToN
+    {
         return None;
     }
     match kind_next(judge, wires, seen, c, Channel::A, block)? {

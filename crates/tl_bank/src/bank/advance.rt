@@ -3,19 +3,19 @@ ghost use Rattle.std.specs.Prelude.{◌≡◌, ◌≢◌, ◌<◌, ◌-◌, ◌^
 ghost use Rattle.tl_protocol.specs.Client.{grant_bytes};
 ghost use Rattle.tl_protocol.specs.Protocol.{granted, home_bytes, is_alone};
 ghost use Rattle.tl_registers.specs.declared.due.Due.{Due};
-ghost use Rattle.tl_ways.specs.Lines.{line_perm};
+ghost use Rattle.tl_ways.specs.Entries.{entry_perm};
 ghost use Rattle.tl_bank_spec.specs.Effects.{Advances};
 ghost use Rattle.tl_bank_spec.specs.HomeCalls.{advance_cases};
 ghost use Rattle.tl_bank_spec.specs.HomeCases.{due_at, due_full};
 ghost use Rattle.tl_bank_spec.specs.Refusal.{IsRefused, first_of};
-ghost use Rattle.tl_bank_spec.specs.View.{block_at, client_at, shape_of};
+ghost use Rattle.tl_bank_spec.specs.View.{end_at, client_at, shape_of};
 ghost use Rattle.tl_bank_spec.specs.Own.{IsOwn};
 
 use crate::bank::Bank;
 use crate::link;
 use tl_bank_spec::{Action, Refusal};
 use tl_protocol::{Accepted, Event};
-use tl_registers::{Due, Task};
+use tl_registers::{BlockView, Due, Task};
 use tl_types::{
     BlockBytes, BlockNo, Body, Channel, ClientId, Downward, GrantCap, Grow, Message, Perm, ProbeCap,
 };
@@ -54,7 +54,8 @@ impl Bank {
         if self.is_elsewhere(block) {
             return Err(Refusal::WrongBank);
         }
-        let Some(due) = self.registers.next_action(block, self) else {
+        let view = BlockView { block, view: self };
+        let Some(due) = self.registers.next_action(&view) else {
             return Err(Refusal::NotYet);
         };
         if self.is_due_full(block, &due) {
@@ -166,7 +167,7 @@ impl Bank {
 
     /// The Acquire of a block that home serves.
     fn accepted(&self, block: BlockNo) -> Option<Accepted>
-        ensures { result ≡ (block_at self.now block).accepted }
+        ensures { result ≡ (end_at self.now block).accepted }
     {
         match self.registers.of_block(block)?.task {
             Task::Acquire(acquire) => Some(acquire),
@@ -178,9 +179,9 @@ impl Bank {
     /// Home's entry of a block that it holds, and its bytes.
     fn home_line(&self, block: BlockNo) -> (Entry, &BlockBytes)
         requires own { IsOwn self.now.geometry self.now.number block }
-        requires held { (block_at self.now block).home ≢ None }
-        ensures recorded { (x : ℕ) → (client_at self.now x block).recorded ≡ line_perm result.0 x }
-        ensures bytes { result.1.now ≡ home_bytes (block_at self.now block).home }
+        requires held { (end_at self.now block).home ≢ None }
+        ensures recorded { (x : ℕ) → (client_at self.now x block).recorded ≡ entry_perm result.0 x }
+        ensures bytes { result.1.now ≡ home_bytes (end_at self.now block).home }
     {
         let Some(line) = self.home.line(block) else {
             unreachable!()
@@ -191,8 +192,8 @@ impl Bank {
     /// What an Acquire of a block is granted now, by home's entry: Tip too where Branch was asked for and no other client has a
     /// copy.
     fn granted(&self, acquire: Accepted, entry: Entry, block: BlockNo) -> GrantCap
-        requires { (x : ℕ) → (client_at self.now x block).recorded ≡ line_perm entry x }
-        ensures { result ≡ granted (shape_of self.now.geometry) (block_at self.now block) acquire }
+        requires { (x : ℕ) → (client_at self.now x block).recorded ≡ entry_perm entry x }
+        ensures { result ≡ granted (shape_of self.now.geometry) (end_at self.now block) acquire }
     {
         match acquire.grow {
             Grow::NtoB => {
@@ -208,8 +209,8 @@ impl Bank {
 
     /// Whether home's entry of a block records None for each client but this one.
     fn is_alone(&self, client: ClientId, entry: Entry, block: BlockNo) -> bool
-        requires { (x : ℕ) → (client_at self.now x block).recorded ≡ line_perm entry x }
-        ensures { result ≡ is_alone self.now.geometry.clients client (block_at self.now block).client }
+        requires { (x : ℕ) → (client_at self.now x block).recorded ≡ entry_perm entry x }
+        ensures { result ≡ is_alone self.now.geometry.clients client (end_at self.now block).client }
     {
         // For the prover: the clauses alone name it.
         let _ = block;

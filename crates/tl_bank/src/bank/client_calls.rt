@@ -22,7 +22,7 @@ use crate::{entry, link};
 use tl_bank_spec::{Loaded, Refusal, When};
 use tl_protocol::{Access, Event};
 use tl_types::{
-    AccessBytes, BlockNo, Body, Channel, ClientId, Grow, Message, Prune, Ticket, Upward, Wait,
+    AccessBytes, Awaited, BlockNo, Body, Channel, ClientId, Grow, Message, Prune, Ticket, Upward,
 };
 
 impl Bank {
@@ -52,7 +52,7 @@ impl Bank {
         ensures newest { IfOk result (λ loaded. AreLast self.old.image self.old.log address loaded.bytes) }
         ensures stamp { IfOk result (λ loaded. loaded.stamp ≡ latest self.old when.clock + 1) }
     {
-        let bytes = self.settle_load(client, address, len, when.clock)?;
+        let bytes = self.check_load(client, address, len, when.clock)?;
         let stamp = self.next_stamp(when.clock);
         self.make_room()?;
         self.clock = stamp;
@@ -87,7 +87,7 @@ impl Bank {
             }))) }
         ensures stamp { IfOk result (λ stamp. stamp ≡ latest self.old when.clock + 1) }
     {
-        let place = self.settle_store(client, address, bytes.len(), when.clock)?;
+        let place = self.check_store(client, address, bytes.len(), when.clock)?;
         let block = self.geometry.block_at(address);
         let access = entry::access_of(bytes);
         let stamp = self.next_stamp(when.clock);
@@ -119,11 +119,11 @@ impl Bank {
         ensures ticket { IfOk result (λ ticket. ticket ≡ next_ticket self.old client Channel.A) }
         ensures sends { IfOk result (λ ticket. Sends self.old self.new (Event.SendAcquire client block grow) ticket) }
     {
-        self.settle_acquire(client, block, grow)?;
+        self.check_acquire(client, block, grow)?;
         self.make_room()?;
         let body = Body::AcquireBlock(grow);
         let ticket = link::send(&mut self.links, client, Channel::A, Message { block, body });
-        self.copies.wait_for(client, block, Wait::ForGrant);
+        self.copies.wait_for(client, block, Awaited::ForGrant);
         self.log.append(Event::SendAcquire(client, block, grow));
         Ok(ticket)
     }
@@ -148,7 +148,7 @@ impl Bank {
         ensures counted { OnOk result (share.new.count ≡ copies_at self.new client) }
         ensures others { OnOk result ((x : ℕ) → x ≢ client → copies_at self.new x ≡ copies_at self.old x) }
     {
-        let found = self.settle_release(client, block, prune, share)?;
+        let found = self.check_release(client, block, prune, share)?;
         self.make_room()?;
         let later = found.copy.perm();
         let body = Body::Upward(Upward::Release(found.given));
@@ -158,7 +158,7 @@ impl Bank {
             client,
             block,
             found.copy,
-            Wait::ForReleaseAck,
+            Awaited::ForReleaseAck,
         );
         self.log.append(Event::SendRelease(client, block, prune));
         share.recount(found.before, later);
@@ -173,7 +173,7 @@ impl Bank {
         ensures appends { OnOk result
             (Appends self.old self.new (Event.TakeReleaseAck ticket.client (block_named self.old ticket Channel.D))) }
     {
-        let block = self.settle_release_ack(&ticket)?;
+        let block = self.check_release_ack(&ticket)?;
         self.make_room()?;
         link::discard(&mut self.links, ticket);
         entry::end_wait(&mut self.copies, ticket.client, block);
@@ -199,7 +199,7 @@ impl Bank {
         ensures counted { OnOk result (share.new.count ≡ copies_at self.new ticket.client) }
         ensures others { OnOk result ((x : ℕ) → x ≢ ticket.client → copies_at self.new x ≡ copies_at self.old x) }
     {
-        let found = self.settle_answer(&ticket, share)?;
+        let found = self.check_answer(&ticket, share)?;
         self.make_room()?;
         let block = found.block;
         let later = found.copy.perm();
@@ -241,7 +241,7 @@ impl Bank {
         ensures counted { OnOk result (share.new.count ≡ copies_at self.new ticket.client) }
         ensures others { OnOk result ((x : ℕ) → x ≢ ticket.client → copies_at self.new x ≡ copies_at self.old x) }
     {
-        let found = self.settle_grant(&ticket, share)?;
+        let found = self.check_grant(&ticket, share)?;
         self.make_room()?;
         let block = found.block;
         let later = found.copy.perm();
@@ -258,7 +258,7 @@ impl Bank {
             ticket.client,
             block,
             found.copy,
-            Wait::Nothing,
+            Awaited::Nothing,
         );
         self.log.append(Event::TakeGrant(ticket.client, block));
         share.recount(found.before, later);

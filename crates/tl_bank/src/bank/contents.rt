@@ -1,12 +1,36 @@
-//! What a bank shows of home's copy and of the memory's bytes of a block, and of the messages that wait. No view takes memory.
+//! What a bank shows of the clients' copies of a block, of home's copy and of the memory's bytes, and of the messages that wait. No
+//! view takes memory.
 ghost use Rattle.std.specs.Prelude.{◌≡◌};
-ghost use Rattle.tl_bank.specs.Contents.{line_at, memory_at, message_waiting};
+ghost use Rattle.tl_bank.specs.Contents.{copy_at, wait_at, line_at, memory_at, message_waiting};
 
 use crate::bank::Bank;
-use tl_protocol::Line;
-use tl_types::{BlockBytes, BlockNo, Channel, ClientId, Message, Ticket};
+use crate::entry;
+use tl_protocol::{CachedCopy, Line};
+use tl_types::{Awaited, BlockBytes, BlockNo, Channel, ClientId, Message, Ticket};
 
 impl Bank {
+    /// A client's copy of a block: its permission, its bytes, and whether they are dirty. None just where there is no such client, or
+    /// the block is not of the memory or of another bank.
+    pub fn copy(&self, client: ClientId, block: BlockNo) -> Option<CachedCopy>
+        ensures { result ≡ copy_at self.now client block }
+    {
+        if self.has_no_part(client, block) {
+            return None;
+        }
+        Some(self.copy_of(client, block))
+    }
+
+    /// The answer that a client waits for about a block. None just where there is no such client, or the block is not of the memory or
+    /// of another bank.
+    pub fn waits_for(&self, client: ClientId, block: BlockNo) -> Option<Awaited>
+        ensures { result ≡ wait_at self.now client block }
+    {
+        if self.has_no_part(client, block) {
+            return None;
+        }
+        Some(entry::wait_in(self.entry(client, block)))
+    }
+
     /// Home's copy of a block, where home has one. None also where the block is not of the memory or of another bank.
     pub fn line(&self, block: BlockNo) -> Option<Line>
         ensures { result ≡ line_at self.now block }

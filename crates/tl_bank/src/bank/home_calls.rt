@@ -11,7 +11,7 @@ ghost use Rattle.tl_bank_laws.specs.Given.{left_by, brought_by};
 ghost use Rattle.tl_bank_laws.specs.Link.{HasRoom};
 ghost use Rattle.tl_bank_spec.specs.Cases.{block_named};
 ghost use Rattle.tl_bank_spec.specs.Delivered.{Sends};
-ghost use Rattle.tl_bank_spec.specs.Effects.{Serves, answer_to};
+ghost use Rattle.tl_bank_spec.specs.Effects.{AppendsWith, answer_to};
 ghost use Rattle.tl_bank_spec.specs.HomeCalls.{take_c_cases, take_grant_ack_cases};
 ghost use Rattle.tl_bank_spec.specs.Refusal.{IsRefused, first_of};
 ghost use Rattle.tl_bank_spec.specs.Own.{way_at};
@@ -37,12 +37,12 @@ impl Bank {
         ensures unchanged { OnErr result (self.new ≡ self.old) }
         ensures permitted { OnOk result (first_of (take_c_cases self.old ticket) ≡ None) }
         ensures serves { OnOk result
-            (Serves self.old self.new (Event.TakeC ticket.client (block_named self.old ticket Channel.C)) self.old.registers (way_at self.old)) }
+            (AppendsWith self.old self.new (Event.TakeC ticket.client (block_named self.old ticket Channel.C)) self.old.registers (way_at self.old)) }
         ensures answer { IfOk result (λ sent. sent ≡ answer_to self.old ticket) }
         ensures sends { IfOk result
             (λ sent. IfSome sent (λ ack. Sends self.old self.new (Event.TakeC ticket.client (block_named self.old ticket Channel.C)) ack)) }
     {
-        self.settle_c(&ticket)?;
+        self.check_c(&ticket)?;
         self.make_room()?;
         let client = ticket.client;
         let message = link::take(&mut self.links, ticket);
@@ -65,10 +65,10 @@ impl Bank {
         ensures unchanged { OnErr result (self.new ≡ self.old) }
         ensures permitted { OnOk result (first_of (take_grant_ack_cases self.old ticket) ≡ None) }
         ensures serves { OnOk result
-            (Serves self.old self.new (Event.TakeGrantAck ticket.client (block_named self.old ticket Channel.E))
+            (AppendsWith self.old self.new (Event.TakeGrantAck ticket.client (block_named self.old ticket Channel.E))
             (closed (block_named self.old ticket Channel.E) self.old.registers) (way_at self.old)) }
     {
-        let block = self.settle_grant_ack(&ticket)?;
+        let block = self.check_grant_ack(&ticket)?;
         self.make_room()?;
         link::discard(&mut self.links, ticket);
         self.registers.close(block);
@@ -77,7 +77,7 @@ impl Bank {
     }
 
     /// Nothing but why home does not take a message on C, for want of memory aside.
-    fn settle_c(&self, ticket: &Ticket) -> Result<(), Refusal>
+    fn check_c(&self, ticket: &Ticket) -> Result<(), Refusal>
         ensures refused { IfErr result (λ r. first_of (take_c_cases self.now ticket.now) ≡ Some r) }
         ensures permitted { OnOk result (first_of (take_c_cases self.now ticket.now) ≡ None) }
     {
@@ -89,7 +89,7 @@ impl Bank {
     }
 
     /// The block of a GrantAck that home takes.
-    fn settle_grant_ack(&self, ticket: &Ticket) -> Result<BlockNo, Refusal>
+    fn check_grant_ack(&self, ticket: &Ticket) -> Result<BlockNo, Refusal>
         ensures refused { IfErr result (λ r. first_of (take_grant_ack_cases self.now ticket.now) ≡ Some r) }
         ensures permitted { OnOk result (first_of (take_grant_ack_cases self.now ticket.now) ≡ None) }
         ensures block { IfOk result (λ block. block ≡ block_named self.now ticket.now Channel.E) }

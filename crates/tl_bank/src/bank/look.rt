@@ -25,7 +25,7 @@ impl Bank {
         ensures bytes { bytes_in (option_copied result) ≡ bytes_of (client_at self.now client block).held }
         ensures has { is_some (option_copied result) ≡ has_entry (client_at self.now client block) }
     {
-        self.copies.of(client, block)
+        self.copies.held(client, block)
     }
 
     /// Where a client's table has its entry of a block; 0 where it has none.
@@ -46,12 +46,12 @@ impl Bank {
     }
 
     /// A client's copy of a block.
-    pub(super) fn copy(&self, client: ClientId, block: BlockNo) -> CachedCopy
+    pub(super) fn copy_of(&self, client: ClientId, block: BlockNo) -> CachedCopy
         requires client { client < self.now.geometry.clients }
         requires block { block < self.now.geometry.memory_blocks }
         ensures { result ≡ (client_at self.now client block).held }
     {
-        entry::copy_in(self.copies.of(client, block))
+        entry::copy_in(self.copies.held(client, block))
     }
 
     /// What a client may do with a block.
@@ -60,7 +60,7 @@ impl Bank {
         requires block { block < self.now.geometry.memory_blocks }
         ensures { result ≡ perm_at self.now client block }
     {
-        entry::perm_in(self.copies.of(client, block))
+        entry::perm_in(self.copies.held(client, block))
     }
 
     /// How many copies a client has.

@@ -1,38 +1,36 @@
 //! What passes between home and the memory: the memory answers a request, and home takes the answer.
 ghost use Rattle.std.specs.Prelude.{◌≡◌, None, IfErr, IfOk, OnErr, OnOk};
-ghost use Rattle.tl_bank_laws.specs.Memory.{RegisterHolds, memory_reply};
-ghost use Rattle.tl_bank_spec.specs.Effects.{MemoryReplies, Serves, TakesData, TakesMemory, TakesPutAck};
+ghost use Rattle.tl_bank_laws.specs.Memory.{RegisterHolds};
+ghost use Rattle.tl_bank_spec.specs.Effects.{MemoryReplies, AppendsWith, TakesData, TakesMemory, TakesPutAck};
 ghost use Rattle.tl_bank_spec.specs.HomeCalls.{serve_memory_cases, take_memory_cases};
 ghost use Rattle.tl_bank_spec.specs.Refusal.{IsRefused, first_of};
-ghost use Rattle.tl_bank_spec.specs.View.{block_at};
+ghost use Rattle.tl_bank_spec.specs.View.{end_at};
 ghost use Rattle.tl_bank_spec.specs.Own.{way_at};
-ghost use Rattle.tl_bank_home.specs.Homes.{outward_in};
 ghost use Rattle.tl_protocol.specs.Home.{IsData};
 ghost use Rattle.tl_protocol.specs.declared.event.Event.{Event};
-ghost use Rattle.tl_protocol.specs.declared.home.Outward.{Outward};
+ghost use Rattle.tl_protocol.specs.declared.home.Outward.TheVariants.{PutAck};
 
 use crate::bank::Bank;
-use tl_bank_home::Home;
-use tl_bank_spec::{Refusal, Reply};
-use tl_protocol::{Event, Outward};
+use tl_bank_spec::Refusal;
+use tl_memory::Reply;
+use tl_protocol::Event;
 use tl_types::BlockNo;
 use tl_ways::Way;
 
 impl Bank {
-    /// The memory answers what home asked of it: a Get with the block's bytes, a PutFullData once it is written. It is refused
-    /// with OutOfRange where the block is not there, WrongBank where it is another bank's, NothingThere where the memory has no
+    /// The memory answers what home asked of it: a Get with the block's bytes, in beats, a PutFullData once it is written. It is
+    /// refused with OutOfRange where the block is not there, WrongBank where it is another bank's, NothingThere where the memory has no
     /// request of it, and Memory where the log has no room and can't grow.
     pub fn serve_memory(&mut self, block: BlockNo) -> Result<Reply, Refusal>
         ensures refused { IfErr result (λ r. IsRefused (first_of (serve_memory_cases self.old block)) self.old.room r) }
         ensures unchanged { OnErr result (self.new ≡ self.old) }
         ensures permitted { OnOk result (first_of (serve_memory_cases self.old block) ≡ None) }
-        ensures serves { OnOk result (Serves self.old self.new (Event.Serve block) self.old.registers (way_at self.old)) }
-        ensures reply { IfOk result (λ reply. MemoryReplies (block_at self.old block) reply) }
+        ensures serves { OnOk result (AppendsWith self.old self.new (Event.Serve block) self.old.registers (way_at self.old)) }
+        ensures reply { IfOk result (λ reply. MemoryReplies self.old block reply) }
     {
-        self.settle_serve(block)?;
+        self.check_serve(block)?;
         self.make_room()?;
-        self.home.serve(block);
-        let reply = answered(&self.home, block);
+        let reply = self.home.serve(block);
         self.log.append(Event::Serve(block));
         Ok(reply)
     }
@@ -60,7 +58,7 @@ impl Bank {
     /// Home takes the bytes that it asked for.
     fn take_data(&mut self, block: BlockNo) -> Result<(), Refusal>
         requires permitted { first_of (take_memory_cases self.old block) ≡ None }
-        requires data { IsData (block_at self.old block).outward }
+        requires data { IsData (end_at self.old block).outward }
         ensures refused { IfErr result (λ refusal. (refusal ≡ Refusal.Memory) × (self.old.room ≡ 0)) }
         ensures unchanged { OnErr result (self.new ≡ self.old) }
         ensures takes { OnOk result (TakesData self.old self.new block) }
@@ -75,7 +73,7 @@ impl Bank {
     /// Home takes the acknowledgement of a Put: the victim is gone.
     fn take_put_ack(&mut self, block: BlockNo) -> Result<(), Refusal>
         requires permitted { first_of (take_memory_cases self.old block) ≡ None }
-        requires put_ack { (block_at self.old block).outward ≡ Outward.PutAck }
+        requires put_ack { (end_at self.old block).outward ≡ PutAck }
         ensures refused { IfErr result (λ refusal. (refusal ≡ Refusal.Memory) × (self.old.room ≡ 0)) }
         ensures unchanged { OnErr result (self.new ≡ self.old) }
         ensures takes { OnOk result (TakesPutAck self.old self.new block) }
@@ -89,7 +87,7 @@ impl Bank {
 
     /// The way that the register of a block holds whose bytes come.
     fn way_of_data(&self, block: BlockNo) -> Way
-        requires { IsData (block_at self.now block).outward }
+        requires { IsData (end_at self.now block).outward }
         ensures { RegisterHolds self.now block result }
     {
         let register = self.registers.of_block(block).unwrap();
@@ -97,7 +95,7 @@ impl Bank {
     }
 
     /// Nothing but why the memory does not answer, for want of memory for the log aside.
-    fn settle_serve(&self, block: BlockNo) -> Result<(), Refusal>
+    fn check_serve(&self, block: BlockNo) -> Result<(), Refusal>
         ensures refused { IfErr result (λ r. first_of (serve_memory_cases self.now block) ≡ Some r) }
         ensures permitted { OnOk result (first_of (serve_memory_cases self.now block) ≡ None) }
     {
@@ -127,15 +125,5 @@ impl Bank {
             return Some(Refusal::NothingThere);
         }
         None
-    }
-}
-
-/// What the memory has just answered.
-fn answered(home: &Home, block: BlockNo) -> Reply
-    ensures { result ≡ memory_reply (outward_in home.now block) }
-{
-    match home.outward(block) {
-        Some(Outward::Data(bytes)) => Reply::AccessAckData(bytes.copied()),
-        _ => Reply::AccessAck,
     }
 }

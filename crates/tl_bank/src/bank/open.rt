@@ -74,7 +74,7 @@ impl Bank {
         ensures permitted { OnOk result (first_of (evict_cases self.old block) ≡ None) }
         ensures evicts { OnOk result (Evicts self.old self.new block) }
     {
-        let way = self.settle_evict(block)?;
+        let way = self.check_evict(block)?;
         self.registers.open_evict(block, way);
         Ok(())
     }
@@ -110,7 +110,7 @@ impl Bank {
     }
 
     /// Where the block lies that is sent away.
-    fn settle_evict(&self, block: BlockNo) -> Result<WayOfSet, Refusal>
+    fn check_evict(&self, block: BlockNo) -> Result<WayOfSet, Refusal>
         ensures refused { IfErr result (λ r. first_of (evict_cases self.now block) ≡ Some r) }
         ensures permitted { OnOk result (first_of (evict_cases self.now block) ≡ None) }
         ensures set { IfOk result (λ way. way.set ≡ set_of self.now.geometry block) }

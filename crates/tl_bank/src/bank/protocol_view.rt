@@ -1,16 +1,16 @@
 //! What a register looks at: the protocol's state, read off the bank's layers.
-ghost use Rattle.tl_bank_spec.specs.View.{block_at, shape_of};
+ghost use Rattle.tl_bank_spec.specs.View.{end_at, shape_of};
 
 use crate::bank::Bank;
 use tl_links::Wanted;
-use tl_registers::Protocol;
+use tl_registers::RegisterView;
 use tl_types::{BlockNo, Channel};
 use tl_ways::Entry;
 
-impl Protocol for Bank {
+impl RegisterView for Bank {
     ghost shape = { λ v. shape_of v.geometry };
 
-    ghost state = { λ v. block_at v };
+    ghost state = { λ v. end_at v };
 
     fn clients(&self) -> u32 {
         self.geometry.clients()

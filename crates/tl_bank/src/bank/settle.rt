@@ -20,13 +20,13 @@ use crate::share::Share;
 use tl_bank_spec::Refusal;
 use tl_protocol::CachedCopy;
 use tl_types::{
-    AccessBytes, BlockNo, Body, Channel, ClientId, Grow, Message, Perm, ProbeAnswer, ProbeCap,
-    Prune, Surrender, Ticket, Wait,
+    AccessBytes, Awaited, BlockNo, Body, Channel, ClientId, Grow, Message, Perm, ProbeAnswer,
+    ProbeCap, Prune, Surrender, Ticket,
 };
 
 /// What a client gives up by a Release, what it is left with, and what it had.
 #[derive(Drop)]
-pub(super) struct GivenUp {
+pub(super) struct PlannedRelease {
     pub(super) before: Perm,
     pub(super) copy: CachedCopy,
     pub(super) given: Surrender,
@@ -34,17 +34,17 @@ pub(super) struct GivenUp {
 
 /// What a client answers to a Probe of a block, what it is left with, what it waits for, and what it had.
 #[derive(Drop)]
-pub(super) struct Probed {
+pub(super) struct PlannedAnswer {
     pub(super) block: BlockNo,
     pub(super) before: Perm,
     pub(super) copy: CachedCopy,
-    pub(super) wait: Wait,
+    pub(super) wait: Awaited,
     pub(super) answer: ProbeAnswer,
 }
 
 /// What a Grant of a block makes of a client's copy, and what it had.
 #[derive(Drop)]
-pub(super) struct Granted {
+pub(super) struct PlannedGrant {
     pub(super) block: BlockNo,
     pub(super) before: Perm,
     pub(super) copy: CachedCopy,
@@ -52,7 +52,7 @@ pub(super) struct Granted {
 
 impl Bank {
     /// The bytes of a load.
-    pub(super) fn settle_load(
+    pub(super) fn check_load(
         &self,
         client: ClientId,
         address: u32,
@@ -85,7 +85,7 @@ impl Bank {
     }
 
     /// Where the copy is that a store writes.
-    pub(super) fn settle_store(
+    pub(super) fn check_store(
         &self,
         client: ClientId,
         address: u32,
@@ -113,7 +113,7 @@ impl Bank {
     }
 
     /// Why a client may not ask for more of a block. Want of memory is asked after this.
-    pub(super) fn settle_acquire(
+    pub(super) fn check_acquire(
         &self,
         client: ClientId,
         block: BlockNo,
@@ -145,13 +145,13 @@ impl Bank {
     }
 
     /// What a Release gives up.
-    pub(super) fn settle_release(
+    pub(super) fn check_release(
         &self,
         client: ClientId,
         block: BlockNo,
         prune: Prune,
         share: &Share,
-    ) -> Result<GivenUp, Refusal>
+    ) -> Result<PlannedRelease, Refusal>
         ensures refused { IfErr result (λ r. first_of (release_cases self.now client block prune share.now) ≡ Some r) }
         ensures permitted { OnOk result (first_of (release_cases self.now client block prune share.now) ≡ None) }
         ensures before { IfOk result (λ g. g.before ≡ perm_at self.now client block) }
@@ -175,7 +175,7 @@ impl Bank {
         if self.is_link_full(client, Channel::C) {
             return Err(Refusal::LinkFull);
         }
-        Ok(GivenUp {
+        Ok(PlannedRelease {
             before,
             copy: entry::reduced_in(held, prune.to()),
             given: Surrender::of(prune, entry::dirty_in(held)),
@@ -183,7 +183,7 @@ impl Bank {
     }
 
     /// The block that a ReleaseAck is of.
-    pub(super) fn settle_release_ack(&self, ticket: &Ticket) -> Result<BlockNo, Refusal>
+    pub(super) fn check_release_ack(&self, ticket: &Ticket) -> Result<BlockNo, Refusal>
         ensures refused { IfErr result (λ r. first_of (take_release_ack_cases self.now ticket.now) ≡ Some r) }
         ensures permitted { OnOk result (first_of (take_release_ack_cases self.now ticket.now) ≡ None) }
         ensures block { IfOk result (λ block. block ≡ block_named self.now ticket.now Channel.D) }
@@ -196,7 +196,11 @@ impl Bank {
     }
 
     /// The answer to a Probe.
-    pub(super) fn settle_answer(&self, ticket: &Ticket, share: &Share) -> Result<Probed, Refusal>
+    pub(super) fn check_answer(
+        &self,
+        ticket: &Ticket,
+        share: &Share,
+    ) -> Result<PlannedAnswer, Refusal>
         ensures refused { IfErr result (λ r. first_of (answer_probe_cases self.now ticket.now share.now) ≡ Some r) }
         ensures permitted { OnOk result (first_of (answer_probe_cases self.now ticket.now share.now) ≡ None) }
         ensures finds { IfOk result (λ p. FindsProbe self.now ticket.now.client p.block p.copy p.wait p.before p.answer) }
@@ -204,7 +208,7 @@ impl Bank {
         let message = self.shared_message(ticket, share, Channel::B)?;
         let held = self.entry(ticket.client, message.block);
         let wait = entry::wait_in(held);
-        if wait == Wait::ForReleaseAck {
+        if wait == Awaited::ForReleaseAck {
             return Err(Refusal::ReleasePending);
         }
         if self.is_link_full(ticket.client, Channel::C) {
@@ -212,7 +216,7 @@ impl Bank {
         }
         let cap = self.probe_cap(ticket.client, message);
         let before = entry::perm_in(held);
-        Ok(Probed {
+        Ok(PlannedAnswer {
             block: message.block,
             before,
             copy: entry::reduced_in(held, cap.perm()),
@@ -235,7 +239,11 @@ impl Bank {
     }
 
     /// What a Grant makes of a client's copy.
-    pub(super) fn settle_grant(&self, ticket: &Ticket, share: &Share) -> Result<Granted, Refusal>
+    pub(super) fn check_grant(
+        &self,
+        ticket: &Ticket,
+        share: &Share,
+    ) -> Result<PlannedGrant, Refusal>
         ensures refused { IfErr result (λ r. first_of (take_grant_cases self.now ticket.now share.now) ≡ Some r) }
         ensures permitted { OnOk result (first_of (take_grant_cases self.now ticket.now share.now) ≡ None) }
         ensures finds { IfOk result (λ g. FindsGrant self.now ticket.now.client g.block g.before g.copy) }
@@ -248,7 +256,7 @@ impl Bank {
             return Err(Refusal::LinkFull);
         }
         let held = self.entry(ticket.client, message.block);
-        Ok(Granted {
+        Ok(PlannedGrant {
             block: message.block,
             before: entry::perm_in(held),
             copy: entry::granted_in(held, cap, bytes),

@@ -8,7 +8,7 @@ ghost use Rattle.tl_map.specs.Places.{block_of_address};
 ghost use Rattle.tl_protocol.specs.Coherent.{last};
 ghost use Rattle.tl_protocol.specs.Ledger.{count_clients, has_copy, is_recorded, is_under_way};
 ghost use Rattle.tl_bank_spec.specs.Kept.{LiesAlone, ServesByRegisters};
-ghost use Rattle.tl_bank_spec.specs.View.{block_at, perm_at};
+ghost use Rattle.tl_bank_spec.specs.View.{end_at, perm_at};
 ghost use Rattle.tl_bank_spec.specs.Own.{IsOwn};
 ghost use Rattle.tl_bank_spec.specs.Views.{not_own, no_part, recorded_at, byte_at, peeked, HasCopy, MayRead, MayWrite, in_flight_at, dirty_at, outward_at, own_blocks, is_at_home, blocks_at_home, HasNoMessage, AwaitsNothing, IsQuiet, pairs_at, copies_below};
 ghost use Rattle.tl_bank_spec.specs.Ways.{slot_at};
@@ -230,7 +230,7 @@ impl Bank {
         ensures { result ≡ byte_at self.now client address }
     {
         let offset = self.geometry.offset(address) as usize;
-        let copy = self.copy(client, self.geometry.block_at(address));
+        let copy = self.copy_of(client, self.geometry.block_at(address));
         copy.into_bytes().as_slice().get(offset).copied()
     }
 
@@ -268,7 +268,7 @@ impl Bank {
     /// For how many clients home has recorded a permission of a block of this bank above None.
     fn sharers(&self, block: BlockNo) -> u32
         requires { IsOwn self.now.geometry self.now.number block }
-        ensures value { result ≡ count_clients is_recorded self.now.geometry.clients (block_at self.now block).client }
+        ensures value { result ≡ count_clients is_recorded self.now.geometry.clients (end_at self.now block).client }
         ensures few { result ≤ CLIENTS }
     {
         let mut count = 0;

@@ -3,7 +3,7 @@ use Rattle.std.proofs.Common.{false, Global, List, Option, Some, None, Result, S
 use Rattle.std.proofs.lemmas.Result.{err_from_is_err_and}
 use Rattle.tl_script.specs.Script.{read_of, ScriptValue, value_of}
 use Rattle.tl_runner.specs.declared.asked.Job.{Job}
-use Rattle.tl_runner.specs.declared.asked.JobError.{JobError}
+use Rattle.tl_streams.specs.declared.command_line.WordsError.{WordsError as JobError}
 use Rattle.tl_runner.specs.Answer.{IsAnswerTo}
 use Rattle.std.specs.Option.{option_map}
 use Rattle.tl_runner_report.specs.RunError.{TellsTurns}

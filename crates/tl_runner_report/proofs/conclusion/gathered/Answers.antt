@@ -3,7 +3,7 @@ use Rattle.std.specs.declared.alloc.Global.{Global}
 use Rattle.std.proofs.lemmas.Bool.{false≢true}
 use Rattle.std.proofs.lemmas.Option.{slice_get_within}
 use Rattle.tl_protocol.specs.Ledger.{has_copy}
-use Rattle.tl_bank_spec.specs.Share.{Holding}
+use Rattle.tl_bank_spec.specs.Share.{ShareView}
 use Rattle.tl_bank_spec.specs.View.{View}
 use Rattle.tl_bank_spec.specs.Views.{pairs_at}
 use Rattle.tl_tickets.specs.Shares.{AreShares}
@@ -13,7 +13,7 @@ use Rattle.tl_runner_report.proofs.Zipped.{zip_from, zip_long, zip_at, slice_at,
 use Rattle.tl_runner_report.proofs.conclusion.gathered.Goals as goal
 use Rattle.tl_runner_report.proofs.conclusion.gathered.Goals.{then-place-lt-BANKS, else-place-lt-BANKS}
 
-abbrev Given : View → Vec Holding Global → Type 0
+abbrev Given : View → Vec ShareView Global → Type 0
 Given v list = AreShares v list.items
 
 pub returns-then-banks-shares-clause-some : goal.returns-then-banks-shares-clause-some
@@ -31,7 +31,7 @@ returns-in_default-clause-some c =
     let list = slice_at c.args.shares.now i c.index-shares-place.result (omega (arith, lt, long)) c.index-shares-place.is in (
       λ f. absurd (false≢true f),
       λ all. c.in_default.ensures.exact.1
-          (subst (λ (hs : List Holding). AreShares c.index-banks-place.result hs) (sym c.as_slice.ensures.value)
+          (subst (λ (hs : List ShareView). AreShares c.index-banks-place.result hs) (sym c.as_slice.ensures.value)
           (zip_at Given c.args.banks.now c.args.shares.now i c.index-banks-place.result c.index-shares-place.result all bank list)),
     )
 
@@ -41,12 +41,12 @@ loop-place-preserved c =
     let lt = c.loop-place-test.true in
     let own = c.in-Ok.ensures.exact.0 refl in (
       one_more
-          (λ (k : ℕ). (v : View) (list : Vec Holding Global) → slice_get c.args.banks.now k ≡ Some v → slice_get c.args.shares.now k ≡ Some list → AreShares v list.items)
+          (λ (k : ℕ). (v : View) (list : Vec ShareView Global) → slice_get c.args.banks.now k ≡ Some v → slice_get c.args.shares.now k ≡ Some list → AreShares v list.items)
           i c.loop-place.invariant.0
           (λ v list bank shares.
           subst (λ (u : View). AreShares u list.items) (read_at c.args.banks.now i c.index-banks-place.result v c.index-banks-place.is bank)
-          (subst (λ (hs : List Holding). AreShares c.index-banks-place.result hs)
-          (c.as_slice.ensures.value ∙ ap (λ (l : Vec Holding Global). l.items) (read_at c.args.shares.now i c.index-shares-place.result list c.index-shares-place.is shares))
+          (subst (λ (hs : List ShareView). AreShares c.index-banks-place.result hs)
+          (c.as_slice.ensures.value ∙ ap (λ (l : Vec ShareView Global). l.items) (read_at c.args.shares.now i c.index-shares-place.result list c.index-shares-place.is shares))
           own)),
       elim c.if-place-lt-BANKS.branch [
         | then-place-lt-BANKS w ↦

@@ -4,4 +4,4 @@ use Rattle.tl_runner_threads.proofs.runner.client_workers.Given as goal
 
 -- each list of shares that is left has its mail and its commands
 abbrev pub invariant-loop-own : goal.invariant-loop-own
-invariant-loop-own g l = (vec_len l.posts ≡ into_iter_len l.own-iterator) × (l.number + into_iter_len l.own-iterator ≡ length l.fn.commands)
+invariant-loop-own l = (vec_len l.posts ≡ into_iter_len l.own-iterator) × (l.number + into_iter_len l.own-iterator ≡ length l.fn.commands)

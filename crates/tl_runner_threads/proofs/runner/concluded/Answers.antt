@@ -1,5 +1,5 @@
 use Rattle.std.proofs.Common.{◌≡◌, ◌≢◌, ℕ, List, Vec, Global, Result, Ok, Err, IfErr, IfOk}
-use Rattle.tl_bank_spec.specs.Share.{Holding}
+use Rattle.tl_bank_spec.specs.Share.{ShareView}
 use Rattle.tl_bank_spec.specs.View.{View}
 use Rattle.tl_runner_report.specs.Conclusion.{IsConclusion, IsRunReport}
 use Rattle.tl_runner_report.specs.RunError.{TellsTurns}
@@ -11,7 +11,7 @@ use Rattle.tl_runner_threads.proofs.runner.concluded.Goals as goal
 
 -- a conclusion from some banks and shares is the report of a run
 of_run :
-    (script : Script) (banks : List View) (shares : List (Vec Holding Global)) (result : Result Report RunError)
+    (script : Script) (banks : List View) (shares : List (Vec ShareView Global)) (result : Result Report RunError)
     → IfOk result (IsConclusion script banks shares) → IfOk result (IsRunReport script)
 of_run script banks shares (Ok report) concludes = (banks, shares, concludes)
 of_run script banks shares (Err e) concludes = tt

@@ -4,4 +4,4 @@ use Rattle.tl_runner_threads.proofs.runner.home_workers.Given as goal
 
 -- there are at most eight homes
 abbrev pub invariant-loop-post : goal.invariant-loop-post
-invariant-loop-post g l = l.number + into_iter_len l.post-iterator ≤ 8
+invariant-loop-post l = l.number + into_iter_len l.post-iterator ≤ 8

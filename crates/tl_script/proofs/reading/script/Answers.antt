@@ -7,6 +7,7 @@ use Rattle.tl_script.proofs.reading.script.Goals as goal
 
 pub invariant_of-result : goal.invariant_of-result
 invariant_of-result c = record {
+  made = c.in_ok-geometry.ensures;
   inside = inside_of c.in_ok-geometry.geometry _ c.in_ok-image.image.items c.in_ok-image.ensures;
   each_client = each_client c.in_ok-geometry.geometry _ _ c.in_ok-commands.commands.items c.in_ok-commands.ensures;
   placed = all_fit_of c.in_ok-geometry.geometry _ _ (commands c.in_ok-commands.commands.items) c.in_ok-commands.ensures;

@@ -17,7 +17,7 @@ send-ticket-requires c =
     let h = layers c.self.inside in
     let permitted : first_of (acquire_cases v c.args.client c.args.block c.args.grow) ≡ None =
     subst (λ (w : View). first_of (acquire_cases w c.args.client c.args.block c.args.grow) ≡ None)
-    (sym (c.self.view_is ∙ c.make_room.ensures.same)) c.in_ok-settle_acquire.ensures.permitted in
+    (sym (c.self.view_is ∙ c.make_room.ensures.same)) c.in_ok-check_acquire.ensures.permitted in
     let few = all-false (acquire_cases v c.args.client c.args.block c.args.grow) permitted in
     channel-room v h c.args.client A c.self.invariant
     (acquire-allowed v c.args.client c.args.block c.args.grow permitted).client few.1.1.1.1.1.0
@@ -29,7 +29,7 @@ wait_for-requires-clause-client c =
     let h = layers c.self.inside in
     let permitted : first_of (acquire_cases v c.args.client c.args.block c.args.grow) ≡ None =
     subst (λ (w : View). first_of (acquire_cases w c.args.client c.args.block c.args.grow) ≡ None)
-    (sym (c.self.view_is ∙ c.make_room.ensures.same)) c.in_ok-settle_acquire.ensures.permitted in
+    (sym (c.self.view_is ∙ c.make_room.ensures.same)) c.in_ok-check_acquire.ensures.permitted in
     (acquire-room v h c.args.client c.args.block c.args.grow c.self.invariant permitted).client
 
 pub wait_for-requires-clause-block : goal.wait_for-requires-clause-block
@@ -38,7 +38,7 @@ wait_for-requires-clause-block c =
     let h = layers c.self.inside in
     let permitted : first_of (acquire_cases v c.args.client c.args.block c.args.grow) ≡ None =
     subst (λ (w : View). first_of (acquire_cases w c.args.client c.args.block c.args.grow) ≡ None)
-    (sym (c.self.view_is ∙ c.make_room.ensures.same)) c.in_ok-settle_acquire.ensures.permitted in
+    (sym (c.self.view_is ∙ c.make_room.ensures.same)) c.in_ok-check_acquire.ensures.permitted in
     (acquire-room v h c.args.client c.args.block c.args.grow c.self.invariant permitted).inside
 
 pub wait_for-requires-clause-room : goal.wait_for-requires-clause-room
@@ -47,7 +47,7 @@ wait_for-requires-clause-room c = λ none.
     let h = layers c.self.inside in
     let permitted : first_of (acquire_cases v c.args.client c.args.block c.args.grow) ≡ None =
     subst (λ (w : View). first_of (acquire_cases w c.args.client c.args.block c.args.grow) ≡ None)
-    (sym (c.self.view_is ∙ c.make_room.ensures.same)) c.in_ok-settle_acquire.ensures.permitted in
+    (sym (c.self.view_is ∙ c.make_room.ensures.same)) c.in_ok-check_acquire.ensures.permitted in
     (acquire-room v h c.args.client c.args.block c.args.grow c.self.invariant permitted).room refl none
 
 pub invariant_of-self : goal.invariant_of-self
@@ -56,7 +56,7 @@ invariant_of-self c =
     let h = layers c.self.inside in
     let permitted : first_of (acquire_cases v c.args.client c.args.block c.args.grow) ≡ None =
     subst (λ (w : View). first_of (acquire_cases w c.args.client c.args.block c.args.grow) ≡ None)
-    (sym (c.self.view_is ∙ c.make_room.ensures.same)) c.in_ok-settle_acquire.ensures.permitted in
+    (sym (c.self.view_is ∙ c.make_room.ensures.same)) c.in_ok-check_acquire.ensures.permitted in
     rw (c.append.ensures.events, c.append.ensures.forgotten)
     (acquire-keeps v h c.args.client c.args.block c.args.grow (client_at v c.args.client c.args.block).held
     c.append.new.self.room c.send-ticket.new.links c.wait_for.new.self c.self.invariant

@@ -1,5 +1,5 @@
 use Rattle.std.proofs.Common.{rules, ◌<◌, ◌^◌, ◌-◌, ◌∙◌, length, sym, subst, ap}
-use Rattle.tl_bank_spec.specs.Share.{Holding, recount, recounted}
+use Rattle.tl_bank_spec.specs.Share.{ShareView, recount, recounted}
 use Rattle.tl_bank_spec.specs.View.{View, perm_at}
 use Rattle.tl_bank_spec.proofs.Counted.{others-keep}
 use Rattle.tl_bank_spec.proofs.Logged.{extends-appends}
@@ -69,7 +69,7 @@ returns-clause-counted c =
     let answers = answers-with-room _ c.args.self.now c.args.ticket c.args.share.now c.make_room.new.self.room _ _ _ _ _
     (c.self.view_is ∙ c.make_room.ensures.same) found.permitted found.finds in
     rw c.append.ensures.events
-    (ap (λ (s : Holding). s.count) c.recount.ensures
+    (ap (λ (s : ShareView). s.count) c.recount.ensures
     ∙ ap (λ p. recount c.in_ok-found.found.before p c.args.share.now.count) c.perm-later.ensures
     ∙ probe-count _ _ _ _ _ _ _ _ _ c.append.new.self.room c.self.invariant answers)
 

@@ -10,5 +10,5 @@ returns c =
     let lt : c.args.client < (shown c.self.inside).geometry.clients = rw (← c.self.view_is) at c.requires.client in
     let lb : c.args.block < (shown c.self.inside).geometry.memory_blocks = rw (← c.self.view_is) at c.requires.block in
     subst (λ (v : View). c.perm_in.result ≡ perm_at v c.args.client c.args.block) c.self.view_is
-    (c.perm_in.ensures ∙ ap perm_in c.of.ensures
+    (c.perm_in.ensures ∙ ap perm_in c.held.ensures
     ∙ perm-is (shown c.self.inside) (layers c.self.inside) c.args.client c.args.block c.self.invariant lt lb)

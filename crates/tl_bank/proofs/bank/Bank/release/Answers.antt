@@ -4,7 +4,7 @@ use Rattle.tl_types.specs.declared.channel.Channel.TheVariants.{C}
 use Rattle.tl_protocol.specs.Protocol.{is_none}
 use Rattle.tl_bank_spec.specs.Calls.{release_cases}
 use Rattle.tl_bank_spec.specs.Refusal.{first_of}
-use Rattle.tl_bank_spec.specs.Share.{Holding, recount, recounted}
+use Rattle.tl_bank_spec.specs.Share.{ShareView, recount, recounted}
 use Rattle.tl_bank_spec.specs.View.{View, perm_at}
 use Rattle.tl_bank_spec.proofs.Counted.{others-keep}
 use Rattle.tl_bank_spec.proofs.Logged.{extends-appends}
@@ -106,7 +106,7 @@ returns-clause-counted c =
     let before : Before v =
     subst Before (sym (c.self.view_is ∙ c.make_room.ensures.same)) (c.in_ok-found.ensures.before) in
     rw c.append.ensures.events
-    (ap (λ (s : Holding). s.count) c.recount.ensures
+    (ap (λ (s : ShareView). s.count) c.recount.ensures
     ∙ ap (λ p. recount c.in_ok-found.found.before p c.args.share.now.count) c.perm-later.ensures
     ∙ release-count v c.args.client c.args.block c.args.prune c.args.share.now c.in_ok-found.found.copy c.in_ok-found.found.given
     c.append.new.self.room c.in_ok-found.found.before gives before)

@@ -2,14 +2,15 @@ use Rattle.std.proofs.Common.{◌≢◌, ℕ, ◌∙◌, ◌<◌, ◌^◌, ◌-�
 use Rattle.std.specs.Prelude.{slice_index_or}
 use Rattle.tl_types.specs.declared.channel.Channel.TheVariants.{D}
 use Rattle.tl_types.specs.declared.ticket.Ticket.{Ticket}
+use Rattle.tl_map.specs.Numbers.{Numbers}
 use Rattle.tl_protocol.specs.Client.{grant_bytes}
 use Rattle.tl_bank_home.specs.Homes.{way_in}
 use Rattle.tl_registers.specs.declared.due.Due.TheVariants.{Grant}
-use Rattle.tl_bank_spec.specs.View.{View, block_at, client_at}
+use Rattle.tl_bank_spec.specs.View.{View, end_at, client_at}
 use Rattle.tl_bank_spec.specs.Own.{ways_below}
 use Rattle.tl_bank_spec.specs.declared.action.Action.TheVariants.{Grant as did_Grant}
 use Rattle.tl_bank.specs.Shown.{shown, layers}
-use Rattle.tl_bank_laws.proofs.Dues.{acts-at, advances-at, client-few, grant-free, ticket-is}
+use Rattle.tl_bank_laws.proofs.Dues.{acts-at, advances-at, grant-free, ticket-is}
 use Rattle.tl_bank_laws.proofs.SendGrant.{Gives, grant-branch, grant-held, grant-keeps, grant-tip, home-has}
 use Rattle.tl_bank_laws.proofs.SendProbe.{channel-room}
 use Rattle.tl_bank_laws.proofs.Slots.{below-at, below-same}
@@ -21,7 +22,7 @@ home_line-entry-requires-clause-held c =
     let h = layers c.self.inside in
     let acts = acts-at v c.args.self.now h c.args.own (Grant c.args.client) c.self.invariant c.self.view_is c.requires.permitted
     c.requires.due in
-    subst (λ (w : View). (block_at w c.args.own).home ≢ None) c.self.view_is (home-has v c.args.own c.args.client acts)
+    subst (λ (w : View). (end_at w c.args.own).home ≢ None) c.self.view_is (home-has v c.args.own c.args.client acts)
 
 pub send-ticket-requires : goal.send-ticket-requires
 send-ticket-requires c =
@@ -47,7 +48,7 @@ grant-requires-clause-known c =
     let h = layers c.self.inside in
     let acts = acts-at v c.args.self.now h c.args.own (Grant c.args.client) c.self.invariant c.self.view_is c.requires.permitted
     c.requires.due in
-    client-few v h c.args.client c.self.invariant acts.may.1.0
+    subst (λ (g : Numbers). c.args.client < g.clients) (sym c.self.invariant.home_geometry) acts.may.1.0
 
 pub grant-requires-clause-tip : goal.grant-requires-clause-tip
 grant-requires-clause-tip c = λ tip other ne.

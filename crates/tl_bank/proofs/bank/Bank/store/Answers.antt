@@ -1,7 +1,7 @@
 use Rattle.std.proofs.Common.{◌≡◌, ℕ, ◌+◌, ◌/◌, ◌%◌, List, length, Option, None, if◌then◌else◌, refl, ◌∙◌, sym, subst, ap}
 use Rattle.std.specs.Option.{option_map}
 use Rattle.tl_types.specs.declared.permission.Perm.TheVariants.{Tip}
-use Rattle.tl_types.specs.declared.wait.Wait.{Wait}
+use Rattle.tl_types.specs.declared.wait.Awaited.{Awaited}
 use Rattle.tl_protocol.specs.Copy.{perm_of, stored_in}
 use Rattle.tl_protocol.specs.declared.client.Client.{Client}
 use Rattle.tl_protocol.specs.declared.copy.CachedCopy.{CachedCopy}
@@ -20,7 +20,7 @@ use Rattle.tl_bank_laws.proofs.Stores.{Writes, store-keeps}
 use Rattle.tl_bank.proofs.bank.Bank.store.Goals as goal
 
 -- the entry of a copy that may be written, after a store into it, is that of the copy which the store leaves
-stored-entry : (copy : CachedCopy) (wait : Wait) (offset : ℕ) (bytes : List ℕ) → perm_of copy ≡ Tip
+stored-entry : (copy : CachedCopy) (wait : Awaited) (offset : ℕ) (bytes : List ℕ) → perm_of copy ≡ Tip
     → option_map (λ (h : Held). stored offset bytes h) (entry_with copy wait) ≡ entry_with (stored_in offset bytes copy) wait
 stored-entry Absent wait offset bytes h = cc
 stored-entry (Readable own) wait offset bytes h = cc

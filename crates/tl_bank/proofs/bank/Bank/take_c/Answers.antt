@@ -24,7 +24,7 @@ receive-requires-clause-block c =
     let v : View = shown c.self.inside in
     let none : first_of (take_c_cases v c.args.ticket) ≡ None =
     subst (λ (w : View). first_of (take_c_cases w c.args.ticket) ≡ None) (sym (c.self.view_is ∙ c.make_room.ensures.same))
-    (c.in_ok-settle_c.ensures.permitted) in
+    (c.in_ok-check_c.ensures.permitted) in
     let comes : Comes v c.args.ticket c.take-message.result =
     take_c-comes v (layers c.self.inside) c.args.ticket c.take-message.result c.take-message.ensures.message.0 c.self.invariant none
     c.take-message.ensures.message.1 in
@@ -35,18 +35,29 @@ receive-requires-clause-held c =
     let v : View = shown c.self.inside in
     let none : first_of (take_c_cases v c.args.ticket) ≡ None =
     subst (λ (w : View). first_of (take_c_cases w c.args.ticket) ≡ None) (sym (c.self.view_is ∙ c.make_room.ensures.same))
-    (c.in_ok-settle_c.ensures.permitted) in
+    (c.in_ok-check_c.ensures.permitted) in
     let comes : Comes v c.args.ticket c.take-message.result =
     take_c-comes v (layers c.self.inside) c.args.ticket c.take-message.result c.take-message.ensures.message.0 c.self.invariant none
     c.take-message.ensures.message.1 in
     take_c-held v (layers c.self.inside) c.args.ticket c.take-message.result c.self.invariant comes
+
+pub receive-requires-clause-known : goal.receive-requires-clause-known
+receive-requires-clause-known c =
+    let v : View = shown c.self.inside in
+    let none : first_of (take_c_cases v c.args.ticket) ≡ None =
+    subst (λ (w : View). first_of (take_c_cases w c.args.ticket) ≡ None) (sym (c.self.view_is ∙ c.make_room.ensures.same))
+    (c.in_ok-check_c.ensures.permitted) in
+    let comes : Comes v c.args.ticket c.take-message.result =
+    take_c-comes v (layers c.self.inside) c.args.ticket c.take-message.result c.take-message.ensures.message.0 c.self.invariant none
+    c.take-message.ensures.message.1 in
+    subst (λ (g : Numbers). c.args.ticket.client < g.clients) (sym c.self.invariant.home_geometry) comes.client
 
 pub receive-requires-clause-branch : goal.receive-requires-clause-branch
 receive-requires-clause-branch c =
     let v : View = shown c.self.inside in
     let none : first_of (take_c_cases v c.args.ticket) ≡ None =
     subst (λ (w : View). first_of (take_c_cases w c.args.ticket) ≡ None) (sym (c.self.view_is ∙ c.make_room.ensures.same))
-    (c.in_ok-settle_c.ensures.permitted) in
+    (c.in_ok-check_c.ensures.permitted) in
     let comes : Comes v c.args.ticket c.take-message.result =
     take_c-comes v (layers c.self.inside) c.args.ticket c.take-message.result c.take-message.ensures.message.0 c.self.invariant none
     c.take-message.ensures.message.1 in
@@ -58,7 +69,7 @@ invariant_of-self c =
     let v : View = shown c.self.inside in
     let none : first_of (take_c_cases v c.args.ticket) ≡ None =
     subst (λ (w : View). first_of (take_c_cases w c.args.ticket) ≡ None) (sym (c.self.view_is ∙ c.make_room.ensures.same))
-    (c.in_ok-settle_c.ensures.permitted) in
+    (c.in_ok-check_c.ensures.permitted) in
     let comes : Comes v c.args.ticket c.take-message.result =
     take_c-comes v (layers c.self.inside) c.args.ticket c.take-message.result c.take-message.ensures.message.0 c.self.invariant none
     c.take-message.ensures.message.1 in
@@ -97,7 +108,7 @@ returns-clause-serves c =
     let old : View = c.args.self.now in
     let made : v ≡ record old { room = c.make_room.new.self.room } = c.self.view_is ∙ c.make_room.ensures.same in
     let none : first_of (take_c_cases v c.args.ticket) ≡ None =
-    subst (λ (w : View). first_of (take_c_cases w c.args.ticket) ≡ None) (sym made) (c.in_ok-settle_c.ensures.permitted) in
+    subst (λ (w : View). first_of (take_c_cases w c.args.ticket) ≡ None) (sym made) (c.in_ok-check_c.ensures.permitted) in
     let comes : Comes v c.args.ticket c.take-message.result =
     take_c-comes v (layers c.self.inside) c.args.ticket c.take-message.result c.take-message.ensures.message.0 c.self.invariant none
     c.take-message.ensures.message.1 in

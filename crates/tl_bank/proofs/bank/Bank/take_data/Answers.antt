@@ -5,7 +5,7 @@ use Rattle.tl_bank_home.specs.Homes.{HomeState, way_in}
 use Rattle.tl_registers.specs.declared.register.Register.{Register}
 use Rattle.tl_bank_spec.specs.HomeCalls.{take_memory_cases}
 use Rattle.tl_bank_spec.specs.Refusal.{first_of}
-use Rattle.tl_bank_spec.specs.View.{View, block_at}
+use Rattle.tl_bank_spec.specs.View.{View, end_at}
 use Rattle.tl_bank_spec.specs.Own.{way_at}
 use Rattle.tl_bank.specs.Shown.{shown, layers}
 use Rattle.tl_bank_laws.specs.Memory.{RegisterHolds}
@@ -18,7 +18,7 @@ use Rattle.tl_bank.proofs.bank.Bank.take_data.Goals as goal
 -- what taking the bytes of a block into a way shows of the bank before it
 record Takes (v : View) (block way : ℕ) : Type 0 where
   pub permitted : first_of (take_memory_cases v block) ≡ None
-  pub came : IsData (block_at v block).outward
+  pub came : IsData (end_at v block).outward
   pub held : RegisterHolds v block way
 
 pub take_data-requires-clause-away : goal.take_data-requires-clause-away

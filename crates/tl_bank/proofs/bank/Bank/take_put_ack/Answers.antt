@@ -5,7 +5,7 @@ use Rattle.tl_bank_home.specs.Homes.{way_in}
 use Rattle.tl_registers.specs.Registers.{ended}
 use Rattle.tl_bank_spec.specs.HomeCalls.{take_memory_cases}
 use Rattle.tl_bank_spec.specs.Refusal.{first_of}
-use Rattle.tl_bank_spec.specs.View.{View, block_at}
+use Rattle.tl_bank_spec.specs.View.{View, end_at}
 use Rattle.tl_bank_spec.specs.Own.{way_at, ways_below}
 use Rattle.tl_bank.specs.Shown.{shown, layers}
 use Rattle.tl_bank_laws.proofs.Serves.{serves-next}
@@ -19,8 +19,8 @@ invariant_of-self c =
     let none : first_of (take_memory_cases v c.args.block) ≡ None =
     subst (λ (w : View). first_of (take_memory_cases w c.args.block) ≡ None) (sym (c.self.view_is ∙ c.make_room.ensures.same))
     c.requires.permitted in
-    let waits : (block_at v c.args.block).outward ≡ PutAck =
-    subst (λ (w : View). (block_at w c.args.block).outward ≡ PutAck) (sym (c.self.view_is ∙ c.make_room.ensures.same)) c.requires.put_ack in
+    let waits : (end_at v c.args.block).outward ≡ PutAck =
+    subst (λ (w : View). (end_at w c.args.block).outward ≡ PutAck) (sym (c.self.view_is ∙ c.make_room.ensures.same)) c.requires.put_ack in
     rw (c.append.ensures.events, c.append.ensures.forgotten, c.end_victim.ensures)
     (put_ack-keeps v (layers c.self.inside) c.take_put_ack.new.self c.args.block c.append.new.self.room c.self.invariant none waits
     (record {

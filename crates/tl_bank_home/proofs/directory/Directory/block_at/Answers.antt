@@ -1,7 +1,7 @@
 use Rattle.std.proofs.Common.{◌≡◌, ◌∙◌, ℕ, Some, ap, sym}
 use Rattle.std.specs.Prelude.{is_none}
 use Rattle.tl_map.specs.declared.place.Place.{Place}
-use Rattle.tl_ways.specs.Tables.{line_at}
+use Rattle.tl_ways.specs.Tables.{entry_at}
 use Rattle.tl_bank_home.proofs.DirectoryLaws.{block_found, block_lies, free-is, on_some}
 use Rattle.tl_bank_home.proofs.directory.Directory.block_at.Goals as goal
 
@@ -24,7 +24,7 @@ returns-clause-way c = on_some c.block_of.result
 
 pub returns-clause-free : goal.returns-clause-free
 returns-clause-free c =
-    let line : line_at c.self.inside.ways c.args.set c.args.way ≡ Some c.in_ok-entry.entry = sym c.entry.ensures ∙ c.in_ok-entry.was in
+    let line : entry_at c.self.inside.ways c.args.set c.args.way ≡ Some c.in_ok-entry.entry = sym c.entry.ensures ∙ c.in_ok-entry.was in
     block_found c.self.inside.geometry c.self.inside.bank c.args.set c.in_ok-entry.entry.tag c.block_of.result
     (c.self.invariant.placed c.args.set c.args.way c.in_ok-entry.entry line) (rw (← c.tag.ensures) c.block_of.ensures.none)
     ∙ sym (free-is c.args.self.now c.self.inside.geometry c.self.inside.bank c.self.inside.ways c.self.inside.store c.args.set c.args.way c.self.view_is ∙ ap is_none line)

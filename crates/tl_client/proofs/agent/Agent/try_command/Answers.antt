@@ -2,7 +2,7 @@
 use Rattle.std.proofs.Common.{◌≡◌, [], ℕ, ◌<◌, length, List, ◌∷◌, ◌++◌, slice_index_or, arith, ap, sym, ◌∙◌}
 use Rattle.std.proofs.lemmas.List.{length_push}
 use Rattle.tl_text.specs.declared.report.Answered.{Answered}
-use Rattle.tl_client.specs.Answers.{Told, answered_of}
+use Rattle.tl_client.specs.Answers.{AgentView, answered_of}
 use Rattle.tl_client.proofs.AnswerLaws.{answered-push, beginning-push, gains-one, length-answered}
 use Rattle.tl_client.proofs.agent.Agent.try_command.Goals as goal
 
@@ -30,16 +30,16 @@ returns-in-Ok-clause-gains g c =
     let i : c.index-script-index.result ≡ slice_index_or c.self.inside.script.now (length c.self.inside.bytes.items) c.index-script-index.result =
     c.index-script-index.is ∙ ap (λ k. slice_index_or c.self.inside.script.now k c.index-script-index.result) l in
     let short : length c.self.inside.bytes.items < length c.self.inside.script.now = omega (arith, l, c.if-index-self.false) in
-    let answers : answered_of c.self.inside.bytes.items c.self.inside.script.now ≡ c.args.self.now.answered = ap (λ (t : Told). t.answered) v in
+    let answers : answered_of c.self.inside.bytes.items c.self.inside.script.now ≡ c.args.self.now.answered = ap (λ (t : AgentView). t.answered) v in
     let a : Answered = record { command = c.index-script-index.result; bytes = c.in-Ok.done.bytes } in
     let gained =
     gains-one c.args.self.now c.self.inside.client c.self.inside.clock c.len-index.result c.in-Ok.done.clock c.index-script-index.result c.in-Ok.done.bytes
     (g.P.Port.successes c.args.port.now) (g.P.Port.successes c.carry_out.new.port)
-    (sym (ap (λ (t : Told). t.client) v)) (sym (ap (λ (t : Told). t.clock) v))
+    (sym (ap (λ (t : AgentView). t.client) v)) (sym (ap (λ (t : AgentView). t.clock) v))
     (ap (λ (xs : List Answered). length xs) (sym answers) ∙ length-answered c.self.inside.bytes.items c.self.inside.script.now n.1 ∙ sym l)
     c.in-Ok.ensures.0 c.in-Ok.ensures.1 in (
-      ap (λ (t : Told). t.client) v,
-      ap (λ (t : Told). t.script) v,
+      ap (λ (t : AgentView). t.client) v,
+      ap (λ (t : AgentView). t.script) v,
       (
         a ∷ [],
         omega arith,

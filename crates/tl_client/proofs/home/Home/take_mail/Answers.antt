@@ -1,6 +1,6 @@
 use Rattle.std.proofs.Common.{◌≡◌, [], ◌++◌, List, ◌∙◌, ap, subst}
 use Rattle.std.specs.List.{filter}
-use Rattle.tl_types.specs.Channel.{place_of}
+use Rattle.tl_types.specs.Channel.{channel_index}
 use Rattle.tl_types.specs.declared.channel.Channel.TheVariants.{A, C, E}
 use Rattle.tl_types.specs.declared.ticket.Ticket.{Ticket}
 use Rattle.tl_client_mail.specs.Inbox.{Took}
@@ -41,15 +41,15 @@ returns g c =
             (subst (λ (b : List Ticket). Took (OfBank c.self.inside.bank c.args.clients) c.args.mail.now.inbox b c.take_tickets.new.self.inbox taken)
             (c.reserve.ensures.items ∙ c.clear.ensures.items) c.take_tickets.ensures.taken),
         laid old c.push_all.new.self c.push_all-2.new.self c.push_all-3.new.self
-            (filter (λ (t : Ticket). is_on (place_of E) t) taken) (filter (λ (t : Ticket). is_on (place_of C) t) taken)
-            (filter (λ (t : Ticket). is_on (place_of A) t) taken)
+            (filter (λ (t : Ticket). is_on (channel_index E) t) taken) (filter (λ (t : Ticket). is_on (channel_index C) t) taken)
+            (filter (λ (t : Ticket). is_on (channel_index A) t) taken)
             (c.push_all.ensures.kept ∙ kept)
-            (c.push_all.ensures.rest ∙ ap (λ (r : List Ticket). r ++ filter (λ (t : Ticket). is_on (place_of E) t) c.deref.result.now) rest
-            ∙ ap (λ (ts : List Ticket). old.rest ++ filter (λ (t : Ticket). is_on (place_of E) t) ts) one)
+            (c.push_all.ensures.rest ∙ ap (λ (r : List Ticket). r ++ filter (λ (t : Ticket). is_on (channel_index E) t) c.deref.result.now) rest
+            ∙ ap (λ (ts : List Ticket). old.rest ++ filter (λ (t : Ticket). is_on (channel_index E) t) ts) one)
             c.push_all-2.ensures.kept
-            (c.push_all-2.ensures.rest ∙ ap (λ (ts : List Ticket). c.push_all.new.self.rest ++ filter (λ (t : Ticket). is_on (place_of C) t) ts) two)
+            (c.push_all-2.ensures.rest ∙ ap (λ (ts : List Ticket). c.push_all.new.self.rest ++ filter (λ (t : Ticket). is_on (channel_index C) t) ts) two)
             c.push_all-3.ensures.kept
-            (c.push_all-3.ensures.rest ∙ ap (λ (ts : List Ticket). c.push_all-2.new.self.rest ++ filter (λ (t : Ticket). is_on (place_of A) t) ts) three)
+            (c.push_all-3.ensures.rest ∙ ap (λ (ts : List Ticket). c.push_all-2.new.self.rest ++ filter (λ (t : Ticket). is_on (channel_index A) t) ts) three)
             ∙ ap (λ (v : Waits). all_of v.waiting ++ in_order taken) c.self.view_is,
       ),
     )

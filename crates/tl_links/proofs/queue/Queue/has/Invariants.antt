@@ -10,5 +10,5 @@ abbrev pub invariant-loop-key : goal.invariant-loop-key
 invariant-loop-key l =
     (goal.iterator-loop-key).can_next l.key-iterator ×
     (goal.iterator-loop-key).is_finite l.key-iterator ×
-    (list_any (is_wanted l.wanted) (bodies_of l.block (in_order l.messages l.self.keys))
-    ≡ list_any (is_wanted l.wanted) (bodies_of l.block (in_order l.messages (deque_iter_rest l.key-iterator))))
+    (list_any (is_wanted l.wanted) (bodies_of l.block (in_order l.self-inside.messages l.self-inside.order.items))
+    ≡ list_any (is_wanted l.wanted) (bodies_of l.block (in_order l.self-inside.messages (deque_iter_rest l.key-iterator))))

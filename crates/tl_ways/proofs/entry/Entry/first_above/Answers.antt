@@ -1,7 +1,7 @@
 use Rattle.std.proofs.Common.{◌≡◌, rules}
 use Rattle.std.specs.Prelude.{None, Some}
 use Rattle.tl_types.specs.declared.permission.Perm.TheVariants.{None as NoAccess, Tip}
-use Rattle.tl_ways.proofs.LineLaws.{above-owner, above-branches, above-nothing}
+use Rattle.tl_ways.proofs.EntryLaws.{above-owner, above-branches, above-nothing}
 use Rattle.tl_ways.proofs.entry.Entry.first_above.Goals as goal
 
 pub returns-in-Some-default : goal.returns-in-Some-default

@@ -1,5 +1,5 @@
 use Rattle.std.proofs.Common.{◌≡◌, rules}
-use Rattle.tl_ways.proofs.LineLaws.{first-bit}
+use Rattle.tl_ways.proofs.EntryLaws.{first-bit}
 use Rattle.tl_ways.proofs.entry.Entry.first_branch.Goals as goal
 
 pub returns : goal.returns

@@ -1,8 +1,8 @@
 use Rattle.std.proofs.Common.{◌≡◌, rules, sym, ap, ◌∙◌, ◌≤◌, false, arith}
 use Rattle.std.specs.Prelude.{Some}
 use Rattle.std.specs.Int.{bit_at}
-use Rattle.tl_ways.specs.Lines.{perm_by}
-use Rattle.tl_ways.proofs.LineLaws.{perm_of-owner, perm_of-beside, perm_of-bit, perm_of-past, bit_set, bit_clear}
+use Rattle.tl_ways.specs.Entries.{perm_by}
+use Rattle.tl_ways.proofs.EntryLaws.{perm_of-owner, perm_of-beside, perm_of-bit, perm_of-past, bit_set, bit_clear}
 use Rattle.tl_ways.proofs.entry.Entry.perm.Goals as goal
 
 pub returns-then-eq-clause-is : goal.returns-then-eq-clause-is

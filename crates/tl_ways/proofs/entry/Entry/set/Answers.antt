@@ -1,6 +1,6 @@
 use Rattle.std.proofs.Common.{◌≡◌, rules}
 use Rattle.std.specs.Prelude.{Some}
-use Rattle.tl_ways.proofs.LineLaws.{perm_of-tip, perm_of-branch, perm_of-ended, perm_of-cleared}
+use Rattle.tl_ways.proofs.EntryLaws.{perm_of-tip, perm_of-branch, perm_of-ended, perm_of-cleared}
 use Rattle.tl_ways.proofs.entry.Entry.set.Goals as goal
 use Rattle.tl_ways.proofs.entry.Entry.set.Goals.{then-eq, else-eq}
 

@@ -1,4 +1,4 @@
-use Rattle.tl_ways.proofs.LineLaws.{perm_of-dirty}
+use Rattle.tl_ways.proofs.EntryLaws.{perm_of-dirty}
 use Rattle.tl_ways.proofs.entry.Entry.set_dirty.Goals as goal
 
 pub returns-clause-perms : goal.returns-clause-perms

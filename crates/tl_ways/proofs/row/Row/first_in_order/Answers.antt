@@ -25,6 +25,6 @@ returns-clause-none c = λ way inside.
     c.as_slice-way-items.ensures.value ∙ ap (λ (r : Row). r.order) c.self.view_is in
     let whole = take-all c.as_slice-way-items.result.now c.loop-way.way-index c.loop-way-test.false in
     let none : find (λ way. not (is_busy c.args.busy.now way)) c.as_slice-way-items.result.now ≡ None = rw whole at c.loop-way.invariant in
-    let inside' : way < length c.self.inside.entries.items = subst (λ (r : Row). way < length r.lines) (sym c.self.view_is) inside in
+    let inside' : way < length c.self.inside.entries.items = subst (λ (r : Row). way < length r.entries) (sym c.self.view_is) inside in
     let there : IsAmong way c.as_slice-way-items.result.now = rw c.as_slice-way-items.ensures.value (c.self.invariant.all way inside') in
     not-false _ (none-found _ _ way none there)

@@ -7,4 +7,4 @@ pub invariant_of-result : goal.invariant_of-result
 invariant_of-result c =
     let all : c.loop-number.number ≡ c.args.ways = omega (arith, c.loop-number-test.false) in
     let kept = c.loop-number.invariant in
-    IsRow-empty c.args.ways _ c.requires (record { lines = kept.entries ∙ all; free = kept.free }) (kept.order ∙ ap rising all)
+    IsRow-empty c.args.ways _ c.requires (record { entries = kept.entries ∙ all; free = kept.free }) (kept.order ∙ ap rising all)

@@ -32,7 +32,7 @@ push-requires-2 c =
     let others : c.loop-other.order.items ≡ without_way c.args.way c.self.inside.order.items =
     rw (whole, c.as_slice-other-items.ensures.value) at c.loop-other.invariant.so_far in
     let inside : c.args.way < length c.self.inside.entries.items =
-    subst (λ (r : Row). c.args.way < length r.lines) (sym c.self.view_is) c.requires in
+    subst (λ (r : Row). c.args.way < length r.entries) (sym c.self.view_is) c.requires in
     let less = length-without-among c.args.way c.self.inside.order.items (c.self.invariant.all c.args.way inside) in
     let short : length c.loop-other.order.items < 8 = rw others (omega (arith, less, c.self.invariant.short)) in
     (lit< tt, short)
@@ -43,6 +43,6 @@ invariant_of-self c =
     let others : c.loop-other.order.items ≡ without_way c.args.way c.self.inside.order.items =
     rw (whole, c.as_slice-other-items.ensures.value) at c.loop-other.invariant.so_far in
     let inside : c.args.way < length c.self.inside.entries.items =
-    subst (λ (r : Row). c.args.way < length r.lines) (sym c.self.view_is) c.requires in
+    subst (λ (r : Row). c.args.way < length r.entries) (sym c.self.view_is) c.requires in
     rw (c.push-2.ensures.items, others)
-    (IsRow-touched (record { lines = c.self.inside.entries.items; order = c.self.inside.order.items }) c.args.way c.self.invariant inside)
+    (IsRow-touched (record { entries = c.self.inside.entries.items; order = c.self.inside.order.items }) c.args.way c.self.invariant inside)

@@ -18,6 +18,6 @@ returns-clause-none c =
     subst (λ (t : WayTable). c.args.set < set_count t) (sym c.self.view_is) c.requires in
     let row : c.index-row.result.now ≡ get_or c.self.inside.rows.items c.args.set no_row =
     rw c.index.ensures at c.index-row.ensures ∙ row_there c.self.inside.rows.items c.args.set _ no_row set_in in
-    let same : length c.index-row.result.now.lines ≡ c.args.self.now.ways =
-    ap (λ (r : Row). length r.lines) row ∙ c.self.invariant.same c.args.set set_in ∙ ap (λ (t : WayTable). t.ways) c.self.view_is in
+    let same : length c.index-row.result.now.entries ≡ c.args.self.now.ways =
+    ap (λ (r : Row). length r.entries) row ∙ c.self.invariant.same c.args.set set_in ∙ ap (λ (t : WayTable). t.ways) c.self.view_is in
     subst (λ (ways : ℕ). IfNone c.choose.result ((way : ℕ) → way < ways → IsTrue (is_busy c.args.busy.now way))) same c.choose.ensures.none

@@ -1,0 +1,241 @@
+//! A ticket of an agent that was refused bars the later ones of its bank and channel, and is asked again before them.
+use crate::mails::{first_mail, open_two};
+use crate::turns::agent_turn;
+use std::alloc::Global;
+use std::marker::Model;
+use std::sync::Wait;
+use std::time::Clock;
+use tl_bank::{Bank, Loaded, Refusal, Share, When};
+use tl_client::{Agent, Free, Port, Turn};
+use tl_client_mail::Mail;
+use tl_client_ports::Success;
+use tl_map::{Geometry, GeometryNumbers};
+use tl_tickets::{Ringer, Sender};
+use tl_types::{BankNo, BlockNo, Channel, ClientId, Grow, Perm, Prune, Ticket};
+
+/// One client, and one bank with one block.
+const NUMBERS: GeometryNumbers = GeometryNumbers {
+    version: 1,
+    clients: 1,
+    banks: 1,
+    block_bytes: 8,
+    sets: 1,
+    ways: 1,
+    registers: 1,
+    copies: 1,
+    memory_blocks: 1,
+};
+
+/// A port to no bank: it keeps the serials of the Grants and Probes that it is asked, and refuses them as long as it is told to.
+#[derive(Drop)]
+struct Recorder {
+    asked: Vec<u64>,
+    refuses: bool,
+}
+
+impl Recorder {
+    /// Keeps a ticket's serial, and answers a ticket on a channel, or refuses.
+    fn note(&mut self, ticket: Ticket, channel: Channel) -> Result<Ticket, Refusal> {
+        let _ = self.asked.push(ticket.serial);
+        if self.refuses {
+            return Err(Refusal::NotYet);
+        }
+        Ok(Ticket {
+            bank: ticket.bank,
+            client: ticket.client,
+            channel,
+            serial: ticket.serial,
+        })
+    }
+}
+
+impl Port for Recorder {
+    ghost use Rattle.std.specs.Prelude.{[]};
+
+    ghost successes = { λ p. [] };
+
+    fn successes(&self) -> &[Success] {
+        &[]
+    }
+
+    fn load(
+        &mut self,
+        _client: ClientId,
+        _address: u32,
+        _len: usize,
+        _when: When,
+    ) -> Result<Loaded, Refusal> {
+        Err(Refusal::NoPermission)
+    }
+
+    fn store(
+        &mut self,
+        _client: ClientId,
+        _address: u32,
+        _bytes: &[u8],
+        _when: When,
+    ) -> Result<u64, Refusal> {
+        Err(Refusal::NoPermission)
+    }
+
+    fn acquire(
+        &mut self,
+        _client: ClientId,
+        _block: BlockNo,
+        _grow: Grow,
+    ) -> Result<Ticket, Refusal> {
+        Err(Refusal::NotYet)
+    }
+
+    fn release(
+        &mut self,
+        _client: ClientId,
+        _block: BlockNo,
+        _prune: Prune,
+        _share: &mut Share,
+    ) -> Result<Ticket, Refusal> {
+        Err(Refusal::NotYet)
+    }
+
+    fn answer_probe(&mut self, ticket: Ticket, _share: &mut Share) -> Result<Ticket, Refusal> {
+        self.note(ticket, Channel::C)
+    }
+
+    fn take_grant(&mut self, ticket: Ticket, _share: &mut Share) -> Result<Ticket, Refusal> {
+        self.note(ticket, Channel::E)
+    }
+
+    fn take_release_ack(&mut self, _ticket: Ticket) -> Result<(), Refusal> {
+        Err(Refusal::NotHead)
+    }
+
+    fn perm(&self, _client: ClientId, _block: BlockNo) -> Perm {
+        Perm::None
+    }
+
+    fn oldest_copy(&self, _client: ClientId, _bank: BankNo) -> Option<BlockNo> {
+        None
+    }
+}
+
+/// An agent with no commands, with its port and its mail, and the ends of the one who sends to it. Its model says nothing, so that
+/// its turns have their answers alone to carry along.
+#[derive(Drop)]
+struct Scene<'a> {
+    agent: Agent<'a>,
+    port: Recorder,
+    mail: Mail<'a>,
+    put: Sender<'a>,
+    bell: Ringer<'a>,
+}
+
+impl<'a> Model for Scene<'a> {
+    ghost Value = { Unit {0} };
+
+    ghost view = { λ _. tt };
+}
+
+impl Scene<'_> {
+    /// Puts two Grants and two Probes, and then rings. Whether there was room.
+    fn send<R: Wait>(&mut self, rt: &R) -> bool {
+        for (channel, serial) in [
+            (Channel::B, 0),
+            (Channel::B, 1),
+            (Channel::D, 5),
+            (Channel::D, 6),
+        ] {
+            let sent = Ticket {
+                bank: BankNo::new(0),
+                client: ClientId::new(0),
+                channel,
+                serial,
+            };
+            if self.put.put(rt, sent).is_err() {
+                return false;
+            }
+        }
+        self.bell.ring()
+    }
+
+    /// Whether a turn worked, and asked just the tickets with these serials, in order. There are two clients, of which one is never done.
+    fn asks<R: Wait + Clock>(&mut self, rt: &R, serials: &[u64]) -> bool {
+        self.port.asked.clear();
+        let turn = agent_turn(
+            rt,
+            &mut self.agent,
+            &mut self.port,
+            &Free,
+            2,
+            &mut self.mail,
+        );
+        turn == Turn::Worked && self.port.asked.as_slice() == serials
+    }
+
+    /// Whether the first ticket of each channel alone is asked while it is refused, and then all of them.
+    fn plays<R: Wait + Clock>(&mut self, rt: &R) -> bool {
+        if !self.send(rt) || !self.asks(rt, &[5, 0]) || !self.asks(rt, &[5, 0]) {
+            return false;
+        }
+        self.port.refuses = false;
+        self.asks(rt, &[5, 6, 0, 1])
+    }
+}
+
+/// The share of the one client in the one bank.
+fn shares(alloc: Global, geometry: Geometry) -> Option<Vec<Share>> {
+    let (_bank, mut given) = Bank::new(alloc, geometry, BankNo::new(0), &[]).ok()?;
+    Vec::from_array(alloc, [given.pop()?]).ok()
+}
+
+/// The scene of an agent with this mail. `None` where a request for memory was refused.
+fn scene_of<'a>(
+    alloc: Global,
+    agent: Option<Agent<'a>>,
+    mail: Option<Mail<'a>>,
+    to: (Sender<'a>, Ringer<'a>),
+) -> Option<Scene<'a>> {
+    let (agent, mail) = agent.zip(mail)?;
+    let (put, bell) = to;
+    let asked = Vec::new(alloc);
+    let port = Recorder {
+        asked,
+        refuses: true,
+    };
+    Some(Scene {
+        agent,
+        port,
+        mail,
+        put,
+        bell,
+    })
+}
+
+/// Whether it goes so, where there is a scene.
+fn played<R: Wait + Clock>(rt: &R, scene: Option<Scene<'_>>) -> Option<bool> {
+    let mut scene = scene?;
+    Some(scene.plays(rt))
+}
+
+/// The same over inboxes and bells of their own.
+fn played_by_mail<R: Wait + Clock>(
+    rt: &R,
+    alloc: Global,
+    agent: Option<Agent<'_>>,
+) -> Option<bool> {
+    let (rooms, keys) = open_two(alloc)?;
+    let (mail, to, _done) = first_mail(alloc, &rooms, keys);
+    played(rt, scene_of(alloc, agent, mail, to))
+}
+
+/// The same with the client's share.
+fn played_with_shares<R: Wait + Clock>(rt: &R, alloc: Global) -> Option<bool> {
+    let geometry = Geometry::new(NUMBERS).ok()?;
+    let shares = shares(alloc, geometry)?;
+    let agent = Agent::new(alloc, ClientId::new(0), geometry, &[], shares).ok();
+    played_by_mail(rt, alloc, agent)
+}
+
+#[test]
+fn a_refused_ticket_bars_the_later_ones(rt: HostRuntime) {
+    assert_eq!(rt; played_with_shares(&rt, rt.alloc()), Some(true));
+}

@@ -1,0 +1,9 @@
+use Rattle.std.proofs.Common.{◌≡◌, ℕ, length, slice_index_or}
+use Rattle.tl_types.specs.Lane.{empty_lane}
+use Rattle.tl_links.proofs.links.Links.new.Given as goal
+
+abbrev pub invariant-loop : goal.invariant-loop
+invariant-loop l = record {
+  len : length l.queues.items ≡ l.counter;
+  empty : (i : ℕ) → slice_index_or l.queues.items i empty_lane ≡ empty_lane;
+}
