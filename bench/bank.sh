@@ -6,7 +6,7 @@
 set -eu
 here=$(cd "$(dirname "$(readlink -f "${BASH_SOURCE[0]}")")" && pwd)
 if [ $# -eq 0 ]; then
-    (cd "$here/../crates/bench_bank" && rt run) >/dev/null
+    "$here/../prove" bench_bank
     set -- "$here/../crates/bench_bank/out/bench_bank"
 fi
 exec python3 -B "$here/bank.py" "$@"

@@ -1,12 +1,12 @@
 #!/usr/bin/env bash
 # bench/run.sh [PROGRAM [PROGRAM]]: a table of accesses a second for hits, readers, contention, one block, a mix and streams, over clients and banks.
-# With no word it measures the program of this repository. With two programs (for instance a copy of an earlier build of
+# With no word it measures the program of this repository, proved and built first. With two programs (for instance a copy of an earlier build of
 # crates/tlcache/out/tlcache) it runs them in turn on the same scripts, so that both meet the same load of the machine, and prints their ratio.
 # KINDS="hits streams" and SHAPES="1x1 4x4" (clients x banks) choose a part; REPEATS (5) says how often each script is run.
 set -eu
 here=$(cd "$(dirname "$(readlink -f "${BASH_SOURCE[0]}")")" && pwd)
 if [ $# -eq 0 ]; then
-    "$here/../tlcache" run "$here/../examples/two-bytes.toml" >/dev/null
+    "$here/../prove" tlcache
     set -- "$here/../crates/tlcache/out/tlcache"
 fi
 exec python3 -B "$here/measure.py" "$@"

@@ -1,0 +1,171 @@
+"""The banks of a Jinavoke cache from Python, by ctypes; `jinavoke.h` says what each call, field and number means.
+
+    import jinavoke as jv
+    cache = jv.Cache(clients=2, banks=1, block_bytes=8, sets=1, ways=2, registers=2, copies=2, memory_blocks=4)
+    asked = cache.ticket("acquire", client=0, place=0, param=jv.JV_NTOT)
+    cache.step("accept", **asked)
+
+Each JV_ name of the header is a name of this module. To import it opens no file: the header is read where a number is first
+needed, and the shared library is loaded by the first cache. Both are those that were installed with this file, or, in a checkout,
+the repository's header. JINAVOKE_HEADER and JINAVOKE_LIBRARY name others.
+"""
+import ctypes as c
+import functools
+import os
+import pathlib
+import re
+
+NUMBERS = "version clients banks block_bytes sets ways registers copies memory_blocks".split()
+ASKED = "call index client place param bank channel len".split()
+TOLD = "status what bank client channel opcode param place address size index len".split()
+# What a ticket is made of.
+TICKET = "bank client channel serial".split()
+
+
+class Numbers(c.Structure):
+    """The numbers of a cache (jv_numbers)."""
+    _fields_ = [(name, c.c_int64) for name in NUMBERS]
+
+
+class Request(c.Structure):
+    """A call or a view with what it is asked for (jv_request)."""
+    _fields_ = [(name, c.c_uint32) for name in ASKED] + [("serial", c.c_uint64), ("bytes", c.c_uint8 * 8)]
+
+
+class Answer(c.Structure):
+    """What a call or a view tells (jv_answer)."""
+    _fields_ = [(name, c.c_uint32) for name in TOLD] + [("serial", c.c_uint64), ("bytes", c.c_uint8 * 64)]
+
+    @property
+    def data(self):
+        """The bytes that it tells."""
+        return bytes(self.bytes[:self.len])
+
+
+class Refused(Exception):
+    """A step was refused, or a cache was not opened: `status` is the number, as in jv_status."""
+
+    def __init__(self, what, status):
+        super().__init__(f"{what}: {name_of('JV_', status, 'jv_status') or status}")
+        self.status = status
+
+
+def header_file():
+    """The header: JINAVOKE_HEADER, or the installed one, or that of a checkout."""
+    here = pathlib.Path(__file__).resolve()
+    found = [here.parents[at] / "include" / "jinavoke.h" for at in (3, 2)]
+    return pathlib.Path(os.environ.get("JINAVOKE_HEADER") or next((it for it in found if it.is_file()), found[0]))
+
+
+def library_file():
+    """The shared library: JINAVOKE_LIBRARY, or the installed one."""
+    return os.environ.get("JINAVOKE_LIBRARY") or str(pathlib.Path(__file__).resolve().parents[2] / "libjinavoke.so")
+
+
+@functools.lru_cache(maxsize=None)
+def enums():
+    """Each enum of the header: its name, and the number of each of its enumerators."""
+    text = re.sub(r"/\*.*?\*/", "", header_file().read_text(encoding="utf-8"), flags=re.S)
+    found = {}
+    for name, body in re.findall(r"enum (\w+) \{(.*?)\}", text, flags=re.S):
+        number, found[name] = 0, {}
+        for word, given in re.findall(r"(\w+)\s*(?:=\s*(\d+))?\s*(?:,|$)", body.strip()):
+            number = int(given) if given else number
+            found[name][word] = number
+            number += 1
+    version = re.search(r"#define JV_VERSION (\d+)", text)
+    found["version"] = {"JV_VERSION": int(version[1])}
+    return found
+
+
+def __getattr__(name):
+    """A number of the header, by its name there."""
+    if name.startswith("JV_"):
+        for words in enums().values():
+            if name in words:
+                return words[name]
+    raise AttributeError(f"module {__name__!r} has no attribute {name!r}")
+
+
+def name_of(prefix, number, enum):
+    """The name of a number in an enum of the header, or None."""
+    return next((word for word, it in enums()[enum].items() if it == number and word.startswith(prefix)), None)
+
+
+@functools.lru_cache(maxsize=None)
+def library(path):
+    """The shared library, once the layout of its structs is seen to be this file's."""
+    lib = c.CDLL(path)
+    lib.jv_version.restype = c.c_uint32
+    lib.jv_size.restype = lib.jv_align.restype = c.c_size_t
+    lib.jv_echo.argtypes, lib.jv_echo.restype = [c.POINTER(Request)], Answer
+    lib.jv_open.argtypes, lib.jv_open.restype = [c.POINTER(Numbers), c.c_char_p, c.c_size_t, c.c_void_p], None
+    lib.jv_call.argtypes, lib.jv_call.restype = [c.c_void_p, c.POINTER(Request)], Answer
+    back = lib.jv_echo(Request(101, 102, 103, 104, 105, 106, 107, 108, 109))
+    told = [back.what, back.index, back.client, back.place, back.param, back.bank, back.channel, back.opcode, back.serial]
+    if told != [*range(101, 110)] or lib.jv_version() != enums()["version"]["JV_VERSION"]:
+        raise OSError(f"{path}: the library is of another version than {header_file()}")
+    return lib
+
+
+class Cache:
+    """A cache at reset over an image. Its numbers are those of jv_numbers; the version is 2 where none is given."""
+
+    def __init__(self, image=b"", path=None, **numbers):
+        self.at = None
+        self.lib = library(path or library_file())
+        self.room = c.create_string_buffer(self.lib.jv_size() + self.lib.jv_align())
+        begin = c.addressof(self.room)
+        self.at = c.c_void_p(begin + -begin % self.lib.jv_align())
+        self.lib.jv_open(Numbers(**{"version": 2, **numbers}), bytes(image), len(image), self.at)
+        why = self.ask("room")
+        if why.status == enums()["jv_status"]["JV_CLOSED"]:
+            raise Refused("the cache is not opened", why.serial)
+
+    def ask(self, call, bytes=b"", **words):
+        """The answer of a call or a view, named as in the header (JV_CALL_.., JV_VIEW_..) in small letters, refused or not."""
+        numbers = enums()["jv_call_number"]
+        number = next((numbers[it + call.upper()] for it in ("JV_CALL_", "JV_VIEW_") if it + call.upper() in numbers), None)
+        if number is None:
+            raise ValueError(f"there is no call or view {call!r}")
+        words.setdefault("len", len(bytes))
+        return self.lib.jv_call(self.at, Request(call=number, bytes=(c.c_uint8 * 8)(*bytes[:8]), **words))
+
+    def step(self, call, **words):
+        """The answer of a call that is done; Refused where it is not."""
+        answer = self.ask(call, **words)
+        if answer.status:
+            raise Refused(call, answer.status)
+        return answer
+
+    def ticket(self, call, **words):
+        """The ticket of the message that a call sends; Refused where it is not done, ValueError where it sends none."""
+        answer = self.step(call, **words)
+        if answer.what != enums()["jv_what"]["JV_TELLS_MESSAGE"]:
+            raise ValueError(f"{call} sent no message")
+        return {name: getattr(answer, name) for name in TICKET}
+
+    def events(self, bank=0):
+        """The events of a bank's log that are not forgotten, oldest first."""
+        place = self.step("forgotten", bank=bank).serial
+        while True:
+            event = self.ask("event", bank=bank, serial=place)
+            if event.status:
+                return
+            yield event
+            place += 1
+
+    def close(self):
+        """Gives all that the cache holds back; a closed one is closed again without harm."""
+        if self.at:
+            self.ask("close")
+            self.at = None
+
+    def __enter__(self):
+        return self
+
+    def __exit__(self, *_):
+        self.close()
+
+    def __del__(self):
+        self.close()
