@@ -10,7 +10,7 @@
  *   jv_call            the named step of the banks, and no other: the first of its refusals whose case holds is the status,
  *                      and nothing changed; or it is done, and the answer tells what it did, all fields (`Calls`). Status 14
  *                      is told only where the log had no room, and nothing changed. A view changes nothing.
- *   jv_echo            the request again (`echoed`); jv_version the number 2.
+ *   jv_echo            the request again (`echoed`); jv_version the number 3.
  * The functions that are `static inline` are C: they fill in a request and call jv_call, and are tested (examples/c), not
  * proved. After any sequence of calls of an opened cache, each of which met its contract, each bank's log is a run of the protocol
  * over the image, in which every load got the bytes last stored before it; what the bank shows is what that log leaves; and the
@@ -85,6 +85,10 @@ enum jv_status { /* the status of an answer, and why a cache is closed */
     JV_FORGOTTEN = 19        /* the event at that place is forgotten */
                              /* 20 to 28: a number that is not lawful */
 };
+
+/* What a status means to a bench: the model is asked again later; the device did what no client may; a limit of this cache, or of the
+   memory; another message goes first, or the message is not there; the bench itself is wrong. */
+enum jv_status_class_number { JV_CLASS_DONE, JV_CLASS_WAIT, JV_CLASS_DEVICE, JV_CLASS_LIMIT, JV_CLASS_ORDER, JV_CLASS_CALLER };
 
 enum jv_call_number {
     JV_CALL_CLOSE = 0, JV_CALL_LOAD, JV_CALL_STORE, JV_CALL_ACQUIRE, JV_CALL_RELEASE, JV_CALL_ANSWER_PROBE, JV_CALL_TAKE_GRANT,
@@ -184,6 +188,26 @@ size_t jv_align(void);                          /* what the room's address divid
 jv_answer jv_echo(const jv_request *request);   /* each field of the request in one of the answer, for jv_fits */
 void jv_open(const jv_numbers *numbers, const uint8_t *image, size_t image_len, void *room);
 jv_answer jv_call(jv_cache *cache, const jv_request *request);
+
+/* ---- a status in words */
+
+static inline const char *jv_status_name(uint32_t status) {
+    static const char *const names[] = {
+        "ok", "no permission", "waiting", "wrong from", "nothing there", "not head", "release pending", "no register", "block busy",
+        "not yet", "out of range", "wrong bank", "copies full", "link full", "no memory", "clock full", "no call", "bad argument", "closed",
+        "forgotten", "clients", "banks", "block bytes", "sets", "ways", "registers", "copies", "memory blocks", "version"};
+    return status < sizeof names / sizeof *names ? names[status] : "no such status";
+}
+static inline enum jv_status_class_number jv_status_class(uint32_t status) {
+    switch (status) {
+    case JV_OK: return JV_CLASS_DONE;
+    case JV_NO_REGISTER: case JV_BLOCK_BUSY: case JV_NOT_YET: case JV_LINK_FULL: return JV_CLASS_WAIT;
+    case JV_NO_PERMISSION: case JV_WAITING: case JV_WRONG_FROM: case JV_RELEASE_PENDING: return JV_CLASS_DEVICE;
+    case JV_COPIES_FULL: case JV_NO_MEMORY: case JV_CLOCK_FULL: return JV_CLASS_LIMIT;
+    case JV_NOTHING_THERE: case JV_NOT_HEAD: return JV_CLASS_ORDER;
+    default: return JV_CLASS_CALLER;
+    }
+}
 
 /* ---- making and closing */
 
