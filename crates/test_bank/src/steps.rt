@@ -116,7 +116,7 @@ fn numbers_of(ticket: Ticket) -> Numbers {
     )
 }
 
-fn did(action: Action) -> Did {
+fn did_of(action: Action) -> Did {
     match action {
         Action::Probe(ticket) => Did::Probe(numbers_of(ticket)),
         Action::Grant(ticket) => Did::Grant(numbers_of(ticket)),
@@ -129,7 +129,7 @@ fn did(action: Action) -> Did {
 impl Session {
     /// What home does when it advances a block.
     fn advanced(&mut self, block: u32) -> Result<Did, Refusal> {
-        Ok(did(self.advance(BlockNo::new(block))?))
+        Ok(did_of(self.advance(BlockNo::new(block))?))
     }
 
     fn serve_some(&mut self, block: u32) -> Answer {

@@ -106,7 +106,7 @@ impl HomePort for Recorder {
     fn serve_memory(&mut self, _block: BlockNo) -> Result<Reply, Refusal> {
         self.count();
         let _ = self.memory.push(MemoryCall::Serve);
-        Ok(Reply::AccessAck)
+        Ok(Reply::AccessAck { size: 3 })
     }
 
     fn take_memory(&mut self, _block: BlockNo) -> Result<(), Refusal> {
