@@ -1,5 +1,5 @@
 //! A run of a script over banks and threads.
-ghost use Rattle.std.specs.Prelude.{◌≡◌, ◌<◌, ◌≤◌, ◌||◌, ◌&&◌, true, Err, IfErr, IfOk, OnOk, length, vec_len};
+ghost use Rattle.std.specs.Prelude.{◌≡◌, ◌<◌, ◌≤◌, ◌||◌, true, Err, IfErr, IfOk, OnOk, length, vec_len};
 ghost use Rattle.std.specs.List.{list_all, list_any};
 ghost use Rattle.tl_runner_report.specs.Conclusion.{IsRunReport};
 ghost use Rattle.tl_runner_report.specs.RunError.{TellsTurns};
@@ -221,24 +221,32 @@ fn home_workers<'x>(alloc: Global, posts: Vec<Post<'x>>) -> Result<Vec<HomeWorke
     Ok(workers)
 }
 
-/// Whether a request for memory was refused in a thread.
-fn lacks_memory(joined: &Joined<ClientWorker<'_, '_>, HomeWorker<'_>>) -> bool
-    ensures { result ≡ (list_any (λ w. lacks_memory w.end) joined.now.clients.items || list_any (λ w. lacks_memory w.end) joined.now.homes.items) }
+/// Whether a request for memory was refused in a client's thread.
+fn clients_lack_memory(workers: &[ClientWorker<'_, '_>]) -> bool
+    ensures { result ≡ list_any (λ w. lacks_memory w.end) workers.now }
 {
-    let clients = joined.clients.as_slice();
-    let homes = joined.homes.as_slice();
-    clients.iter().any(|worker| worker.end.lacks_memory())
-        || homes.iter().any(|worker| worker.end.lacks_memory())
+    workers.iter().any(|worker| worker.end.lacks_memory())
 }
 
-/// Whether each thread finished.
-fn are_finished(joined: &Joined<ClientWorker<'_, '_>, HomeWorker<'_>>) -> bool
-    ensures { result ≡ (list_all (λ w. is_finished w.end) joined.now.clients.items && list_all (λ w. is_finished w.end) joined.now.homes.items) }
+/// Whether a request for memory was refused in a home's thread.
+fn homes_lack_memory(workers: &[HomeWorker<'_>]) -> bool
+    ensures { result ≡ list_any (λ w. lacks_memory w.end) workers.now }
 {
-    let clients = joined.clients.as_slice();
-    let homes = joined.homes.as_slice();
-    clients.iter().all(|worker| worker.end.is_finished())
-        && homes.iter().all(|worker| worker.end.is_finished())
+    workers.iter().any(|worker| worker.end.lacks_memory())
+}
+
+/// Whether each client's thread finished.
+fn clients_finished(workers: &[ClientWorker<'_, '_>]) -> bool
+    ensures { result ≡ list_all (λ w. is_finished w.end) workers.now }
+{
+    workers.iter().all(|worker| worker.end.is_finished())
+}
+
+/// Whether each home's thread finished.
+fn homes_finished(workers: &[HomeWorker<'_>]) -> bool
+    ensures { result ≡ list_all (λ w. is_finished w.end) workers.now }
+{
+    workers.iter().all(|worker| worker.end.is_finished())
 }
 
 /// Whether all threads finished. Want of memory goes before a stall; a thread that was stopped says nothing of why.
@@ -249,10 +257,14 @@ fn end_of(joined: &Joined<ClientWorker<'_, '_>, HomeWorker<'_>>, turns: u32) -> 
         × (list_all (λ w. is_finished w.end) joined.now.homes.items ≡ true)) }
     ensures stalled { IfErr result (TellsTurns turns) }
 {
-    if lacks_memory(joined) {
+    let clients_lack = clients_lack_memory(joined.clients.as_slice());
+    let homes_lack = homes_lack_memory(joined.homes.as_slice());
+    if clients_lack || homes_lack {
         return Err(RunError::Memory);
     }
-    if are_finished(joined) {
+    let clients_finished = clients_finished(joined.clients.as_slice());
+    let homes_finished = homes_finished(joined.homes.as_slice());
+    if clients_finished && homes_finished {
         Ok(())
     } else {
         Err(RunError::Stalled(turns))

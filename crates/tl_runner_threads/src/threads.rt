@@ -107,7 +107,7 @@ pub(crate) fn run_threads<
         rt,
         move |scope| -> Result<Joined<C, H>, AllocError>
             requires { IsSync R.row × IsSync S.row × IsSend C.row × IsSend H.row }
-            ensures { IfOk result (λ joined. (vec_len joined.clients ≡ vec_len clients.entry) × (vec_len joined.homes ≡ vec_len homes.entry)) }
+            ensures { IfOk result (λ joined. (vec_len joined.clients ≡ vec_len clients) × (vec_len joined.homes ≡ vec_len homes)) }
         {
             let Places {
                 mut client_threads,
