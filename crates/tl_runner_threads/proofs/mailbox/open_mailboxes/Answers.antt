@@ -9,6 +9,6 @@ loop-preserved c = (
   rw (c.in_ok-push.ensures.items, c.in_ok-push-2.ensures.items) (fit_more c.args.senders c.loop.mailboxes.items c.loop.rows.items c.in_ok-mailbox.mailbox c.in_ok-mailbox.keys c.loop.invariant.0 c.in_ok-mailbox.ensures.fits),
   omega (arith, c.in_ok-push-2.ensures.len, c.loop.invariant.1),
   rw (c.in_ok-push.ensures.items)
-      (All-append (λ (m : Mailbox). m.inbox.capacity ≡ c.args.capacity) c.loop.mailboxes.items (c.in_ok-mailbox.mailbox ∷ []) c.loop.invariant.2 
+      (All-append (λ (m : Mailbox). m.inbox.capacity ≡ c.args.capacity) c.loop.mailboxes.items (c.in_ok-mailbox.mailbox ∷ []) c.loop.invariant.2
       (All-cons (λ (m : Mailbox). m.inbox.capacity ≡ c.args.capacity) c.in_ok-mailbox.mailbox [] c.in_ok-mailbox.ensures.room (λ k d h. absurd (omega arith)))),
 )
