@@ -183,7 +183,7 @@ pub fn mail_of<'a>(
     ways: Option<(Vec<Sending<'a>>, Parker)>,
     done: Ringer<'a>,
 ) -> Option<Mail<'a>>
-    ensures { IfSome result (λ mail. mail.inbox.inbox ≡ own.0.inbox) }
+    ensures { IfSome result (λ mail. mail.inbox.inbox ≡ own.entry.0.inbox) }
 {
     let (ways, parker) = ways?;
     Some(Mail::new(own.0, own.1, ways, done, parker))
@@ -197,7 +197,7 @@ pub fn mail<'a>(
     to: (Sender<'a>, Ringer<'a>),
     done: Ringer<'a>,
 ) -> Option<Mail<'a>>
-    ensures { IfSome result (λ mail. mail.inbox.inbox ≡ own.0.inbox) }
+    ensures { IfSome result (λ mail. mail.inbox.inbox ≡ own.entry.0.inbox) }
 {
     mail_of(own, only_way_and_rest(alloc, to), done)
 }
