@@ -89,7 +89,7 @@ pub returns-in_err-bytes-clause-fault : goal.returns-in_err-bytes-clause-fault
 returns-in_err-bytes-clause-fault g c =
     let (fault, was, is) = err_from_is_err_and c.from_residual-in_err-bytes.result c.from_residual-in_err-bytes.ensures.1 in
     caused c.args.job c.in_ok-job.job _ _ _ _ _ c.in_ok-job.was refl (ap (option_map g.R.Read.remaining) c.in_ok-reader.ensures.ok_part)
-    (was ∙ ap (λ (f : Fault). Err f) is) (by_reading _ _ c.in_err-bytes.field-0.0)
+    (was ∙ ap (λ (f : Fault). Err f) is) (by_reading c.in_ok-job.job.traces (g.R.Read.remaining c.in_ok-reader.reader) c.in_err-bytes.field-0.0)
 
 pub returns-in_err-script-clause-fault : goal.returns-in_err-script-clause-fault
 returns-in_err-script-clause-fault g c =
