@@ -10,8 +10,10 @@
  *   jv_call            the named step of the banks, and no other: the first of its refusals whose case holds is the status,
  *                      and nothing changed; or it is done, and the answer tells what it did, all fields (`Calls`). Status 14
  *                      is told only where the log had no room, and nothing changed. A view changes nothing.
+ *   jv_access          what jv_call does of a load or a store, and what it answers, without what these never tell (`Accesses`).
+ *   jv_look            what jv_call answers of a view of a number, likewise (`Looks`).
  *   jv_echo            the request again (`echoed`); jv_version the number 3.
- * The functions that are `static inline` are C: they fill in a request and call jv_call, and are tested (examples/c), not
+ * The functions that are `static inline` are C: they fill in a request and call one of these, and are tested (examples/c), not
  * proved. After any sequence of calls of an opened cache, each of which met its contract, each bank's log is a run of the protocol
  * over the image, in which every load got the bytes last stored before it; what the bank shows is what that log leaves; and the
  * log begins with what it was at any moment before (`EveryHistory`). No more is claimed of sequences: not that there is memory, and
@@ -161,6 +163,20 @@ typedef struct { /* what is not told is 0 */
     uint8_t bytes[64];
 } jv_answer;
 
+typedef struct { /* what a load or a store answers: a jv_answer without what these never tell */
+    uint32_t status;
+    uint32_t what;    /* JV_TELLS_LOADED or JV_TELLS_NOTHING */
+    uint64_t serial;  /* of status 18: why */
+    uint8_t bytes[8]; /* of a load, the first `len`, and 0 past them */
+    uint32_t len;
+} jv_accessed;
+
+typedef struct { /* what a view of a number answers: a jv_answer without what it never tells */
+    uint32_t status;
+    uint32_t what;    /* JV_TELLS_NUMBER or JV_TELLS_NOTHING */
+    uint64_t serial;  /* the number; of status 18: why */
+} jv_number;
+
 #if defined(__cplusplus) && __cplusplus >= 201103L
 #define JV_ASSERT_(holds, name) static_assert(holds, #name)
 #elif defined(__STDC_VERSION__) && __STDC_VERSION__ >= 201112L
@@ -176,6 +192,10 @@ JV_AT_(jv_answer, status, 0); JV_AT_(jv_answer, what, 4); JV_AT_(jv_answer, bank
 JV_AT_(jv_answer, channel, 16); JV_AT_(jv_answer, opcode, 20); JV_AT_(jv_answer, param, 24); JV_AT_(jv_answer, place, 28);
 JV_AT_(jv_answer, address, 32); JV_AT_(jv_answer, size, 36); JV_AT_(jv_answer, index, 40); JV_AT_(jv_answer, len, 44);
 JV_AT_(jv_answer, serial, 48); JV_AT_(jv_answer, bytes, 56); JV_ASSERT_(sizeof(jv_answer) == 120, whole_answer);
+JV_AT_(jv_accessed, status, 0); JV_AT_(jv_accessed, what, 4); JV_AT_(jv_accessed, serial, 8); JV_AT_(jv_accessed, bytes, 16);
+JV_AT_(jv_accessed, len, 24); JV_ASSERT_(sizeof(jv_accessed) == 32, whole_accessed);
+JV_AT_(jv_number, status, 0); JV_AT_(jv_number, what, 4); JV_AT_(jv_number, serial, 8);
+JV_ASSERT_(sizeof(jv_number) == 16, whole_number);
 JV_AT_(jv_numbers, version, 0); JV_AT_(jv_numbers, clients, 8); JV_AT_(jv_numbers, banks, 16);
 JV_AT_(jv_numbers, block_bytes, 24); JV_AT_(jv_numbers, sets, 32); JV_AT_(jv_numbers, ways, 40);
 JV_AT_(jv_numbers, registers, 48); JV_AT_(jv_numbers, copies, 56); JV_AT_(jv_numbers, memory_blocks, 64);
@@ -187,7 +207,9 @@ size_t jv_size(void);                           /* how many bytes of room a cach
 size_t jv_align(void);                          /* what the room's address divides by */
 jv_answer jv_echo(const jv_request *request);   /* each field of the request in one of the answer, for jv_fits */
 void jv_open(const jv_numbers *numbers, const uint8_t *image, size_t image_len, void *room);
-jv_answer jv_call(jv_cache *cache, const jv_request *request);
+jv_answer jv_call(jv_cache *cache, const jv_request *request);      /* any call and any view */
+jv_accessed jv_access(jv_cache *cache, const jv_request *request);  /* JV_CALL_LOAD and JV_CALL_STORE alone; 16 of another */
+jv_number jv_look(jv_cache *cache, const jv_request *request);      /* a view of a number alone; 16 of another */
 
 /* ---- a status in words */
 
@@ -227,7 +249,7 @@ static inline int jv_fits(void) {
 /* A request of zeros with a call's number. */
 static inline jv_request jv_asks_(uint32_t call) { jv_request r; memset(&r, 0, sizeof r); r.call = call; return r; }
 /* A view: it leaves the cache as it was, so it takes a const one. */
-static inline jv_answer jv_look_(const jv_cache *c, const jv_request *r) { return jv_call((jv_cache *)c, r); }
+static inline jv_answer jv_view_(const jv_cache *c, const jv_request *r) { return jv_call((jv_cache *)c, r); }
 
 /* Puts a cache into room of jv_size() bytes at an address that jv_align() divides: at reset over the image (0 past it), or closed.
    An image of length 0 may be NULL. */
@@ -238,7 +260,7 @@ static inline jv_cache *jv_place(const jv_numbers *numbers, const uint8_t *image
 /* Why the cache is closed: 20 to 28, JV_OUT_OF_RANGE (the image is longer than the memory), JV_NO_MEMORY, JV_CLOSED (by its
    caller); 0 where it is open. */
 static inline uint32_t jv_why_closed(const jv_cache *c) {
-    jv_request r = jv_asks_(JV_VIEW_ROOM); jv_answer a = jv_look_(c, &r); return a.status == JV_CLOSED ? (uint32_t)a.serial : 0;
+    jv_request r = jv_asks_(JV_VIEW_ROOM); jv_answer a = jv_view_(c, &r); return a.status == JV_CLOSED ? (uint32_t)a.serial : 0;
 }
 /* Gives all that the cache holds back; the room is the caller's again. */
 static inline void jv_close(jv_cache *c) { if (c) { jv_request r = jv_asks_(JV_CALL_CLOSE); (void)jv_call(c, &r); } }
@@ -278,14 +300,19 @@ static inline jv_answer jv_by_block_(jv_cache *c, uint32_t call, uint32_t block)
 /* ---- the calls of clients. The bank is that of the block, the address or the ticket. */
 
 /* Reads 1 to 8 bytes of one block of the client's copy (bytes, len). `index` is the event's in the log. 1, 10, 15 */
-static inline jv_answer jv_load(jv_cache *c, uint32_t client, uint32_t address, uint32_t len, uint32_t index) {
-    jv_request r = jv_asks_(JV_CALL_LOAD); r.client = client; r.place = address; r.len = len; r.index = index; return jv_call(c, &r);
+static inline jv_accessed jv_load(jv_cache *c, uint32_t client, uint32_t address, uint32_t len, uint32_t index) {
+    jv_request r = jv_asks_(JV_CALL_LOAD); r.client = client; r.place = address; r.len = len; r.index = index; return jv_access(c, &r);
 }
 /* Writes 1 to 8 bytes of one block of the client's copy, which must be Tip. 1, 10, 15 */
-static inline jv_answer jv_store(jv_cache *c, uint32_t client, uint32_t address, const uint8_t *bytes, uint32_t len, uint32_t index) {
+static inline jv_accessed jv_store(jv_cache *c, uint32_t client, uint32_t address, const uint8_t *bytes, uint32_t len, uint32_t index) {
     jv_request r = jv_asks_(JV_CALL_STORE); r.client = client; r.place = address; r.len = len; r.index = index;
-    if (len) memcpy(r.bytes, bytes, len <= 8 ? len : 8);
-    return jv_call(c, &r);
+    if (len == 8) memcpy(r.bytes, bytes, 8); else if (len) memcpy(r.bytes, bytes, len < 8 ? len : 8);
+    return jv_access(c, &r);
+}
+/* The answer to an access as jv_call gives it. */
+static inline jv_answer jv_accessed_wide(const jv_accessed *a) {
+    jv_answer w; memset(&w, 0, sizeof w);
+    w.status = a->status; w.what = a->what; w.serial = a->serial; w.len = a->len; memcpy(w.bytes, a->bytes, sizeof a->bytes); return w;
 }
 /* Sends an AcquireBlock on A. 2, 3, 10, 12, 13 */
 static inline jv_answer jv_acquire(jv_cache *c, uint32_t client, uint32_t block, enum jv_grow grow) {
@@ -346,20 +373,28 @@ static inline jv_answer jv_forget(jv_cache *c, uint32_t bank) {
    nanoseconds, and jv_recorded and jv_is_quiet as the bank has ways and copies; none as the memory has blocks. */
 
 static inline jv_answer jv_of_block_(const jv_cache *c, uint32_t call, uint32_t client, uint32_t place) {
-    jv_request r = jv_asks_(call); r.client = client; r.place = place; return jv_look_(c, &r);
+    jv_request r = jv_asks_(call); r.client = client; r.place = place; return jv_view_(c, &r);
+}
+static inline jv_number jv_number_of_block_(const jv_cache *c, uint32_t call, uint32_t client, uint32_t place) {
+    jv_request r = jv_asks_(call); r.client = client; r.place = place; return jv_look((jv_cache *)c, &r);
+}
+static inline jv_number jv_number_of_bank_(const jv_cache *c, uint32_t call, uint32_t bank, uint32_t client) {
+    jv_request r = jv_asks_(call); r.bank = bank; r.client = client; return jv_look((jv_cache *)c, &r);
 }
 static inline jv_answer jv_of_bank_(const jv_cache *c, uint32_t call, uint32_t bank, uint32_t client, uint64_t serial) {
-    jv_request r = jv_asks_(call); r.bank = bank; r.client = client; r.serial = serial; return jv_look_(c, &r);
+    jv_request r = jv_asks_(call); r.bank = bank; r.client = client; r.serial = serial; return jv_view_(c, &r);
 }
 /* What the client may do with the block: jv_perm_number. */
-static inline jv_answer jv_perm(const jv_cache *c, uint32_t client, uint32_t block) { return jv_of_block_(c, JV_VIEW_PERM, client, block); }
+static inline jv_number jv_perm(const jv_cache *c, uint32_t client, uint32_t block) {
+    return jv_number_of_block_(c, JV_VIEW_PERM, client, block);
+}
 /* What home records of it: jv_perm_number. */
-static inline jv_answer jv_directory(const jv_cache *c, uint32_t client, uint32_t block) {
-    return jv_of_block_(c, JV_VIEW_DIRECTORY, client, block);
+static inline jv_number jv_directory(const jv_cache *c, uint32_t client, uint32_t block) {
+    return jv_number_of_block_(c, JV_VIEW_DIRECTORY, client, block);
 }
 /* The byte at an address of the client's copy; status 1 where it may not read it. */
-static inline jv_answer jv_peek(const jv_cache *c, uint32_t client, uint32_t address) {
-    return jv_of_block_(c, JV_VIEW_PEEK, client, address);
+static inline jv_number jv_peek(const jv_cache *c, uint32_t client, uint32_t address) {
+    return jv_number_of_block_(c, JV_VIEW_PEEK, client, address);
 }
 /* Home's copy of the block: jv_home, and its bytes where there is one. */
 static inline jv_answer jv_home_copy(const jv_cache *c, uint32_t block) { return jv_of_block_(c, JV_VIEW_HOME, 0, block); }
@@ -368,13 +403,13 @@ static inline jv_answer jv_outward_of(const jv_cache *c, uint32_t block) { retur
 /* The memory's bytes of the block (JV_TELLS_BYTES). */
 static inline jv_answer jv_memory_block(const jv_cache *c, uint32_t block) { return jv_of_block_(c, JV_VIEW_MEMORY, 0, block); }
 /* How many copies the clients have in the bank. */
-static inline jv_answer jv_held(const jv_cache *c, uint32_t bank) { return jv_of_bank_(c, JV_VIEW_HELD, bank, 0, 0); }
+static inline jv_number jv_held(const jv_cache *c, uint32_t bank) { return jv_number_of_bank_(c, JV_VIEW_HELD, bank, 0); }
 /* For how many pairs of client and block home of the bank records a permission. */
-static inline jv_answer jv_recorded(const jv_cache *c, uint32_t bank) { return jv_of_bank_(c, JV_VIEW_RECORDED, bank, 0, 0); }
+static inline jv_number jv_recorded(const jv_cache *c, uint32_t bank) { return jv_number_of_bank_(c, JV_VIEW_RECORDED, bank, 0); }
 /* How many events the bank's log has, with those that are forgotten. It grows by one event with each step of the bank that is done
    (evict: none), 40 bytes, until jv_forget. Where there is no room it asks for room for as many events again, so a call may copy the whole
    log, and for that moment there are two. jv_reserve asks ahead. */
-static inline jv_answer jv_events(const jv_cache *c, uint32_t bank) { return jv_of_bank_(c, JV_VIEW_EVENTS, bank, 0, 0); }
+static inline jv_number jv_events(const jv_cache *c, uint32_t bank) { return jv_number_of_bank_(c, JV_VIEW_EVENTS, bank, 0); }
 /* The whole event at a place of the bank's log, from 0 (JV_TELLS_EVENT): its kind (opcode), its block (place), its client where it
    has one; of an Acquire, a Release or a Probe the param; of an access also the address, the bytes and len, the index and the stamp
    (serial). Status 4 past the last, 19 where it is forgotten. */
@@ -389,12 +424,12 @@ static inline size_t jv_read_events(const jv_cache *c, uint32_t bank, uint64_t *
     return n;
 }
 /* How many of the bank's first events are forgotten. */
-static inline jv_answer jv_forgotten(const jv_cache *c, uint32_t bank) { return jv_of_bank_(c, JV_VIEW_FORGOTTEN, bank, 0, 0); }
+static inline jv_number jv_forgotten(const jv_cache *c, uint32_t bank) { return jv_number_of_bank_(c, JV_VIEW_FORGOTTEN, bank, 0); }
 /* How many more events of the bank need no memory. */
-static inline jv_answer jv_room(const jv_cache *c, uint32_t bank) { return jv_of_bank_(c, JV_VIEW_ROOM, bank, 0, 0); }
+static inline jv_number jv_room(const jv_cache *c, uint32_t bank) { return jv_number_of_bank_(c, JV_VIEW_ROOM, bank, 0); }
 /* How many copies the client has in the bank. */
-static inline jv_answer jv_copies(const jv_cache *c, uint32_t bank, uint32_t client) {
-    return jv_of_bank_(c, JV_VIEW_COPIES, bank, client, 0);
+static inline jv_number jv_copies(const jv_cache *c, uint32_t bank, uint32_t client) {
+    return jv_number_of_bank_(c, JV_VIEW_COPIES, bank, client);
 }
 /* 1 where no register of the bank is open, no message waits, no client waits for an answer and nothing passes to the memory. */
 static inline jv_answer jv_is_quiet(const jv_cache *c, uint32_t bank) { return jv_of_bank_(c, JV_VIEW_IS_QUIET, bank, 0, 0); }
@@ -406,13 +441,13 @@ static inline jv_answer jv_open_block(const jv_cache *c, uint32_t bank, uint64_t
    first is the one that may be taken. Status 4 past the last, 17 where there is no such channel. */
 static inline jv_answer jv_waiting(const jv_cache *c, uint32_t bank, uint32_t client, uint32_t channel, uint64_t place) {
     jv_request r = jv_asks_(JV_VIEW_WAITING); r.bank = bank; r.client = client; r.channel = channel; r.serial = place;
-    return jv_look_(c, &r);
+    return jv_view_(c, &r);
 }
 /* The message that a ticket names, told as when it was sent; status 4 where it is taken or not yet sent. The serials of a channel
    count its messages from 0, and they are taken in that order. */
 static inline jv_answer jv_message(const jv_cache *c, jv_ticket t) {
     jv_request r = jv_asks_(JV_VIEW_MESSAGE); r.bank = t.bank; r.client = t.client; r.channel = t.channel; r.serial = t.serial;
-    return jv_look_(c, &r);
+    return jv_view_(c, &r);
 }
 #ifdef __cplusplus
 }

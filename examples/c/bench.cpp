@@ -19,7 +19,7 @@ struct Board { // what was stored last, by address
     std::map<uint32_t, long> refused;
 };
 
-static void count(Board &board, const jv_answer &a) { if (a.status) board.refused[a.status]++; else board.done++; }
+template <class Answer> static void count(Board &board, const Answer &a) { if (a.status) board.refused[a.status]++; else board.done++; }
 
 // Takes the first message that waits on a channel, if one does.
 static bool take(jv_cache *c, Board &board, uint32_t bank, uint32_t client, uint32_t channel) {
@@ -45,7 +45,7 @@ static void compare(const jv_cache *c, Board &board) {
             tips += perm == JV_TIP; branches += perm == JV_BRANCH;
             if (perm > jv_directory(c, k, b).serial) board.wrong++;
             for (uint32_t i = 0; i < block_bytes; i++) {
-                jv_answer a = jv_peek(c, k, b * block_bytes + i);
+                jv_number a = jv_peek(c, k, b * block_bytes + i);
                 if ((a.status == 0) != (perm != JV_NONE)) board.wrong++;
                 if (a.status == 0 && a.serial != board.bytes[b * block_bytes + i]) board.wrong++;
             }
@@ -58,19 +58,20 @@ static void step(jv_cache *c, Board &board, std::mt19937 &rng, uint32_t index) {
     uint32_t client = r(clients), block = r(blocks), address = r(blocks * block_bytes), len = 1 + r(8 - address % 8);
     uint8_t bytes[8];
     jv_answer a;
+    jv_accessed x;
     switch (r(10)) {
     case 0: count(board, jv_acquire(c, client, block, jv_grow(r(3)))); return;
     case 1: if (r(4) == 0) count(board, jv_release(c, client, block, jv_prune(r(3)))); return;
     case 2:
-        a = jv_load(c, client, address, len, index);
-        count(board, a);
-        if (a.status == 0) { board.loads++; board.wrong += a.len != len || memcmp(a.bytes, &board.bytes[address], len) != 0; }
+        x = jv_load(c, client, address, len, index);
+        count(board, x);
+        if (x.status == 0) { board.loads++; board.wrong += x.len != len || memcmp(x.bytes, &board.bytes[address], len) != 0; }
         return;
     case 3:
-        for (auto &x : bytes) x = uint8_t(rng());
-        a = jv_store(c, client, address, bytes, len, index);
-        count(board, a);
-        if (a.status == 0) memcpy(&board.bytes[address], bytes, len);
+        for (auto &byte : bytes) byte = uint8_t(rng());
+        x = jv_store(c, client, address, bytes, len, index);
+        count(board, x);
+        if (x.status == 0) memcpy(&board.bytes[address], bytes, len);
         return;
     case 4: if (r(16) == 0) count(board, jv_evict(c, block)); return;
     case 5: if (jv_outward_of(c, block).serial % 2) count(board, jv_serve_memory(c, block)); else if (jv_outward_of(c, block).serial) count(board, jv_take_memory(c, block)); return;
@@ -193,6 +194,7 @@ static int time_calls(long rounds) { // client 0 and client 1 take block 0 from 
     jv_cache *c = fresh({});
     long calls = 0, refused = 0;
     uint8_t byte = 1;
+    auto hit = [&](const jv_accessed &a) { calls++; refused += a.status != 0; };
     auto ask = [&](jv_answer a) { calls++; refused += a.status != 0; return jv_sent(&a); };
     auto from = Clock::now();
     for (long i = 0; i < rounds; i++) {
@@ -201,13 +203,13 @@ static int time_calls(long rounds) { // client 0 and client 1 take block 0 from 
         if (i == 0) { ask(jv_advance(c, 0)); ask(jv_serve_memory(c, 0)); ask(jv_take_memory(c, 0)); }
         else ask(jv_take_c(c, ask(jv_answer_probe(c, ask(jv_advance(c, 0))))));
         ask(jv_take_grant_ack(c, ask(jv_take_grant(c, ask(jv_advance(c, 0))))));
-        ask(jv_store(c, me, 0, &byte, 1, uint32_t(i)));
-        ask(jv_load(c, me, 0, 8, uint32_t(i)));
+        hit(jv_store(c, me, 0, &byte, 1, uint32_t(i)));
+        hit(jv_load(c, me, 0, 8, uint32_t(i)));
     }
     std::printf("steps: %ld calls, %ld refused, %.1f ns a call\n", calls, refused, ns_since(from, double(calls)));
     uint32_t me = uint32_t((rounds - 1) & 1);
     from = Clock::now();
-    for (long i = 0; i < rounds; i++) ask(jv_load(c, me, 0, 8, uint32_t(i)));
+    for (long i = 0; i < rounds; i++) hit(jv_load(c, me, 0, 8, uint32_t(i)));
     std::printf("load: %.1f ns\n", ns_since(from, double(rounds)));
     from = Clock::now();
     for (long i = 0; i < rounds; i++) ask(jv_advance(c, 0));

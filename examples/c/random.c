@@ -1,6 +1,6 @@
 /* Requests of random numbers, and numbers and images at the edges of what opens: each answer has a status of the table, tells
- * nothing where it is refused, and a view or a refused call leaves the counts of the banks as they were. Status 1 where one does
- * not. */
+ * nothing where it is refused, and a view or a refused call leaves the counts of the banks as they were. A second cache is asked the
+ * same by the calls that tell less (jv_access, jv_look), and answers the same. Status 1 where one does not. */
 #include "jinavoke.h"
 #include <stdio.h>
 
@@ -39,11 +39,27 @@ static void judge(const jv_request *r, const jv_answer *a, uint64_t before, uint
     if (!ok && ++wrong < 10) printf("call %u: status %u what %u, %llu events, then %llu\n", r->call, a->status, a->what,
         (unsigned long long)before, (unsigned long long)after);
 }
-static void feed(jv_cache *c, long steps) {
+/* The same request by the call that tells least, as jv_call tells it. The others of these calls know no such request. */
+static jv_answer short_call(jv_cache *c, const jv_request *r) {
+    static const uint32_t numbers[] = {JV_VIEW_PERM, JV_VIEW_DIRECTORY, JV_VIEW_PEEK, JV_VIEW_HELD, JV_VIEW_RECORDED, JV_VIEW_EVENTS,
+        JV_VIEW_ROOM, JV_VIEW_COPIES, JV_VIEW_FORGOTTEN};
+    int is_access = r->call == JV_CALL_LOAD || r->call == JV_CALL_STORE, is_number = 0;
+    size_t i; jv_answer a; jv_accessed x; jv_number n;
+    for (i = 0; i < sizeof numbers / sizeof *numbers; i++) is_number |= r->call == numbers[i];
+    x = jv_access(c, r);
+    n = jv_look(c, r);
+    if (!is_access && (x.status != JV_NO_CALL || x.what || x.serial || x.len)) wrong++;
+    if (!is_number && (n.status != JV_NO_CALL || n.what || n.serial)) wrong++;
+    if (is_access) return jv_accessed_wide(&x);
+    if (!is_number) return jv_call(c, r);
+    memset(&a, 0, sizeof a); a.status = n.status; a.what = n.what; a.serial = n.serial;
+    return a;
+}
+static void feed(jv_cache *c, jv_cache *twin, long steps) {
     jv_ticket last = {0, 0, 5, 0};
     long i; int k;
     for (i = 0; i < steps; i++) {
-        jv_request r; jv_answer a; uint64_t before = events(c);
+        jv_request r; jv_answer a, b; uint64_t before = events(c);
         r.call = 1 + (uint32_t)some(37); r.index = (uint32_t)some(9); r.client = (uint32_t)some(4); r.place = (uint32_t)some(64);
         r.param = (uint32_t)some(3); r.bank = (uint32_t)some(2); r.channel = (uint32_t)some(5); r.len = (uint32_t)some(9);
         r.serial = some(8);
@@ -53,6 +69,8 @@ static void feed(jv_cache *c, long steps) {
         if (next() % 2) { r.bank = last.bank; r.client = last.client; r.channel = last.channel; r.serial = last.serial; }
         a = jv_call(c, &r);
         judge(&r, &a, before, events(c));
+        b = short_call(twin, &r);
+        if (memcmp(&a, &b, sizeof a) && ++wrong < 10) printf("call %u: status %u, and %u told shortly\n", r.call, a.status, b.status);
         if (a.status == 0 && a.what == JV_TELLS_MESSAGE) last = jv_sent(&a);
     }
 }
@@ -77,18 +95,21 @@ static void edges(void) { /* numbers and images that do not open */
 }
 int main(int argc, char **argv) {
     const jv_numbers n = {1, 4, 2, 8, 1, 2, 2, 4, 8};
-    uint32_t why; jv_cache *c; jv_request r; jv_answer a; jv_ticket t; int i;
+    uint32_t why; jv_cache *c, *twin; jv_request r; jv_answer a; jv_ticket t; int i;
     state = argc > 1 ? (uint64_t)atol(argv[1]) * 2654435761u + 1 : 1;
     if (!jv_fits()) { printf("the header is not the archive's\n"); return 1; }
     edges();
     c = jv_new(&n, NULL, 0, &why);
-    if (!c) { printf("jv_new: %u\n", why); return 1; }
-    feed(c, argc > 2 ? atol(argv[2]) : 100000);
+    twin = jv_new(&n, NULL, 0, &why);
+    if (!c || !twin) { printf("jv_new: %u\n", why); return 1; }
+    feed(c, twin, argc > 2 ? atol(argv[2]) : 100000);
+    jv_free(twin);
     memset(&a, 0, sizeof a); a.status = 3; t = jv_sent(&a);
     if (jv_accept(c, t).status != JV_BAD_ARGUMENT || jv_store(c, 0, 0, NULL, 0, 0).status != JV_OUT_OF_RANGE) { printf("a bad ticket is taken\n"); wrong++; }
     jv_close(c); jv_close(c);
     for (r = jv_asks_(0); r.call < 40; r.call++) {
         a = jv_call(c, &r);
+        if (r.call == JV_CALL_LOAD || r.call == JV_VIEW_PERM) { jv_answer b = short_call(c, &r); if (memcmp(&a, &b, sizeof a)) wrong++; }
         if (a.status != JV_CLOSED || a.serial != JV_CLOSED || !is_zero(&a)) { printf("call %u of a closed cache: %u\n", r.call, a.status); wrong++; }
     }
     jv_free(c); jv_free(NULL); jv_close(NULL);

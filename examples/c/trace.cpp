@@ -68,11 +68,13 @@ static jv_ticket ticket(const std::string &word) { // BANK.CLIENT.CHANNEL.SERIAL
 static jv_answer play(jv_cache *c, uint32_t index, const std::vector<std::string> &w) {
     const std::string &verb = w.at(0);
     auto n = [&](size_t i) { return number(w.at(i)); };
-    if (verb == "load") return jv_load(c, n(1), n(2), n(3), index);
+    jv_accessed accessed;
+    if (verb == "load") { accessed = jv_load(c, n(1), n(2), n(3), index); return jv_accessed_wide(&accessed); }
     if (verb == "store") {
         std::vector<uint8_t> bytes;
         for (size_t i = 0; i + 1 < w.at(3).size(); i += 2) bytes.push_back(uint8_t(std::stoul(w[3].substr(i, 2), nullptr, 16)));
-        return jv_store(c, n(1), n(2), bytes.data(), uint32_t(bytes.size()), index);
+        accessed = jv_store(c, n(1), n(2), bytes.data(), uint32_t(bytes.size()), index);
+        return jv_accessed_wide(&accessed);
     }
     if (verb == "acquire") return jv_acquire(c, n(1), n(2), jv_grow(place_in(w.at(3), {"NtoB", "NtoT", "BtoT"})));
     if (verb == "release") return jv_release(c, n(1), n(2), jv_prune(place_in(w.at(3), {"TtoB", "TtoN", "BtoN"})));

@@ -5,7 +5,7 @@ use std::marker::Model;
 use tl_bank::{Action, Bank, Share, When};
 use tl_map::Geometry;
 use tl_protocol::Event;
-use tl_types::{BankNo, BlockNo, ClientId, Grow, Prune, Ticket};
+use tl_types::{BankNo, BlockNo, ClientId, Grow, Perm, Prune, Ticket};
 
 /// A bank with its shares and the clocks of its clients. Its model says nothing, so that a cycle of many calls has their answers
 /// alone to carry along.
@@ -71,6 +71,22 @@ impl Driven {
     /// Home goes on with a block.
     fn advance(&mut self, block: BlockNo) -> Option<Action> {
         self.bank.advance(block).ok()
+    }
+
+    /// Home is asked to go on with a block that no register has.
+    pub(crate) fn refuse(&mut self, block: BlockNo) -> Option<()> {
+        match self.advance(block) {
+            None => Some(()),
+            Some(_) => None,
+        }
+    }
+
+    /// What a client may do with a block, of which it has a copy.
+    pub(crate) fn view(&self, client: ClientId, block: BlockNo) -> Option<()> {
+        match self.bank.perm(client, block) {
+            Perm::Tip => Some(()),
+            _ => None,
+        }
     }
 
     /// The memory answers.

@@ -23,8 +23,14 @@ enum Work {
     Forgetting,
     /// Loads of copies that are held.
     Loads,
+    /// Stores to copies that are held.
+    Stores,
     /// Loads and stores in turn.
     Mixed,
+    /// Calls that are refused: home has nothing to do.
+    Refused,
+    /// Views of a client's permission.
+    Views,
     /// Clean blocks that come, are read, and leave.
     Stream,
     /// One client after the other takes a block and stores.
@@ -40,7 +46,10 @@ fn work_of(word: &str) -> Option<Work> {
         "misses" => Some(Work::Misses),
         "forgetting" => Some(Work::Forgetting),
         "loads" => Some(Work::Loads),
+        "stores" => Some(Work::Stores),
         "mixed" => Some(Work::Mixed),
+        "refused" => Some(Work::Refused),
+        "views" => Some(Work::Views),
         "stream" => Some(Work::Stream),
         "ping-pong" => Some(Work::PingPong),
         "share" => Some(Work::Share),
@@ -114,12 +123,12 @@ fn share_all(driven: &mut Driven, plan: &Plan, i: u32) -> Option<()> {
     driven.give_up(ClientId::new(0), block, Prune::TtoN)
 }
 
-/// Client 0 loads, or loads and stores, in one of its copies after the other.
+/// Client 0 loads or stores in one of its copies after the other.
 fn hit(driven: &mut Driven, plan: &Plan, i: u32, stores: bool) -> Option<()> {
     let client = ClientId::new(0);
     let number = i.checked_rem(plan.held)?;
     let address = number.checked_mul(plan.block_bytes)?;
-    if stores && i & 1 == 1 {
+    if stores {
         driven.store(client, address, i, i)
     } else {
         driven.load(client, address, i)
@@ -135,7 +144,10 @@ fn one(driven: &mut Driven, plan: &Plan, i: u32) -> Option<()> {
             cycle(driven, plan, i)
         }
         Work::Loads => hit(driven, plan, i, false),
-        Work::Mixed => hit(driven, plan, i, true),
+        Work::Stores => hit(driven, plan, i, true),
+        Work::Mixed => hit(driven, plan, i, i & 1 == 1),
+        Work::Refused => driven.refuse(BlockNo::new(0)),
+        Work::Views => driven.view(ClientId::new(0), BlockNo::new(i.checked_rem(plan.held)?)),
         Work::Stream => stream(driven, plan, i),
         Work::PingPong => ping_pong(driven, plan, i),
         Work::Share => share_all(driven, plan, i),
@@ -183,7 +195,10 @@ fn sum(events: &[Event]) -> u64 {
 
 /// Gives a bank what the plan wants before it is driven: copies that are held, and room for the events.
 fn prepare(driven: &mut Driven, plan: &Plan) -> Option<()> {
-    if matches!(plan.work, Work::Loads | Work::Mixed) {
+    if matches!(
+        plan.work,
+        Work::Loads | Work::Stores | Work::Mixed | Work::Views
+    ) {
         for number in 0..plan.held {
             driven.fetch(ClientId::new(0), BlockNo::new(number), Grow::NtoT)?;
         }
@@ -269,7 +284,7 @@ fn main(rt: HostRuntime) -> io::Result<()> {
     }
     let Some(plan) = plan_of(&words) else {
         return println!(rt;
-            "usage: bench_bank growing|misses|loads|mixed|stream|ping-pong|share CYCLES CLIENTS COPIES WAYS SETS REGISTERS BLOCK_BYTES MEMORY_BLOCKS HELD ROUNDS"
+            "usage: bench_bank growing|misses|forgetting|loads|stores|mixed|refused|views|stream|ping-pong|share CYCLES CLIENTS COPIES WAYS SETS REGISTERS BLOCK_BYTES MEMORY_BLOCKS HELD ROUNDS"
         );
     };
     for _ in 0..plan.rounds.max(1) {

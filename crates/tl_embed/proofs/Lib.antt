@@ -1,2 +1,3 @@
 mod Histories
 mod Later
+pub mod Widths

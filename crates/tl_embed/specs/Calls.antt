@@ -1,5 +1,5 @@
 -- What one call does to a cache, and what it answers.
-use Rattle.std.specs.Prelude.{◌≡◌, ◌≢◌, ◌⊎◌, ℕ, Option, Some, None}
+use Rattle.std.specs.Prelude.{◌≡◌, ◌≢◌, ◌⊎◌, ℕ, ◌==◌, Bool, true, false, Option, Some, None, if◌then◌else◌}
 use Rattle.tl_script_words.specs.declared.step.Step.{Step}
 use Rattle.tl_text.specs.declared.answer.Answer.{Answer as Shown}
 use Rattle.tl_trace.specs.NetworkSteps.{IsNetworkStep, IsStarvedNetwork}
@@ -7,9 +7,11 @@ use Rattle.tl_trace.specs.NetworkState.{NetworkState}
 use Rattle.tl_embed.specs.Asked.{asked}
 use Rattle.tl_embed.specs.Events.{Forgets, Reserves}
 use Rattle.tl_embed.specs.Opens.{closed}
-use Rattle.tl_embed.specs.Told.{only, step_told}
+use Rattle.tl_embed.specs.Told.{number_wide, only, step_told, wide}
 use Rattle.tl_embed.specs.Views.{Views}
+use Rattle.tl_embed.specs.declared.answer.Accessed.{Accessed}
 use Rattle.tl_embed.specs.declared.answer.Answer.{Answer}
+use Rattle.tl_embed.specs.declared.answer.Number.{Number}
 use Rattle.tl_embed.specs.declared.cache.Cache.{Cache}
 use Rattle.tl_embed.specs.declared.request.Asked.{Asked}
 use Rattle.tl_embed.specs.declared.request.Asked.TheVariants as a
@@ -53,3 +55,28 @@ CallsOn (Some network) old r new told =
 -- what a call does to a cache
 abbrev pub Calls : Cache → Request → Cache → Answer → Type 0
 Calls old r new told = CallsOn old.network old r new told
+
+-- What a load or a store does, told in fewer bytes; another call is none of these, and does nothing.
+pub record Accesses (old : Cache) (r : Request) (new : Cache) (told : Accessed) : Type 0 where
+  pub load : r.call ≡ 1 → Calls old r new (wide told)
+  pub store : r.call ≡ 2 → Calls old r new (wide told)
+  pub other : r.call ≢ 1 → r.call ≢ 2 → (new ≡ old) × (wide told ≡ only 16)
+
+-- the views that tell a number, each in a few steps of the processor
+abbrev pub tells_number : ℕ → Bool
+tells_number call =
+    if call == 20 then true
+    else if call == 21 then true
+    else if call == 22 then true
+    else if call == 25 then true
+    else if call == 26 then true
+    else if call == 27 then true
+    else if call == 29 then true
+    else if call == 30 then true
+    else call == 36
+
+-- What such a view shows, told in fewer bytes; another call is none of these. Nothing changes.
+pub record Looks (old : Cache) (r : Request) (new : Cache) (told : Number) : Type 0 where
+  pub same : new ≡ old
+  pub number : tells_number r.call ≡ true → Calls old r new (number_wide told)
+  pub other : tells_number r.call ≡ false → number_wide told ≡ only 16

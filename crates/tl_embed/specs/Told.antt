@@ -19,7 +19,9 @@ use Rattle.tl_text.specs.declared.answer.Answer.TheVariants.{Sent, Memory, Dropp
 use Rattle.tl_text.specs.declared.memory.BlockSize.{BlockSize}
 use Rattle.tl_text.specs.declared.memory.MemoryMessage.{MemoryMessage}
 use Rattle.tl_text.specs.declared.memory.MemoryMessage.TheVariants as memory
+use Rattle.tl_embed.specs.declared.answer.Accessed.{Accessed}
 use Rattle.tl_embed.specs.declared.answer.Answer.{Answer}
+use Rattle.tl_embed.specs.declared.answer.Number.{Number}
 use Rattle.tl_embed.specs.declared.request.Request.{Request}
 
 -- nothing is told but a status
@@ -68,6 +70,16 @@ echoed r =
 -- a number is told
 abbrev pub number_told : ℕ → Answer
 number_told n = record (only 0) { what = 5; serial = n }
+
+-- what a view of a number tells, as an answer
+abbrev pub number_wide : Number → Answer
+number_wide n = record (only n.status) { what = n.what; serial = n.serial }
+
+-- ## Accesses
+
+-- what a load or a store tells, as an answer
+abbrev pub wide : Accessed → Answer
+wide a = record (only a.status) { what = a.what; serial = a.serial; len = a.len; bytes = a.bytes ++ replicate 56 0 }
 
 -- ## Messages
 

@@ -1,6 +1,9 @@
 //! What a call answers, in plain numbers.
-ghost use Rattle.std.specs.Prelude.{◌≡◌, ◌≤◌, length};
-ghost use Rattle.tl_embed.specs.Told.{only, with_bytes};
+ghost use Rattle.std.specs.Prelude.{◌≡◌, ◌≤◌, ◌-◌, ◌++◌, length, replicate};
+ghost use Rattle.tl_text.specs.declared.answer.Answer.TheVariants.{Loaded};
+ghost use Rattle.tl_embed.specs.Told.{number_told, number_wide, only, step_told, wide, with_bytes};
+
+use tl_types::AccessBytes;
 
 /// What a call answers. What is not told is 0.
 #[repr(C)]
@@ -71,6 +74,108 @@ impl Answer {
             len: bytes.len() as u32,
             bytes: all,
             ..self
+        }
+    }
+}
+
+/// What a load or a store answers: an `Answer` without what they do not tell.
+#[repr(C)]
+#[derive(Clone, Copy, Drop)]
+pub struct Accessed {
+    /// As that of an `Answer`.
+    pub status: u32,
+    /// 4 where the bytes of a load are told, else 0.
+    pub what: u32,
+    /// Why the cache is closed, where the status is 18.
+    pub serial: u64,
+    /// The bytes of a load, and 0 past them.
+    pub bytes: [u8; 8],
+    /// How many bytes there are.
+    pub len: u32,
+}
+
+impl Accessed {
+    /// Nothing is told but a status.
+    pub fn only(status: u32) -> Accessed
+        ensures { wide result ≡ only status }
+    {
+        Accessed {
+            status,
+            what: 0,
+            serial: 0,
+            bytes: [0; 8],
+            len: 0,
+        }
+    }
+
+    /// The bytes of a load.
+    pub fn loaded(bytes: &AccessBytes) -> Accessed
+        ensures { wide result ≡ step_told (Loaded bytes.now) }
+    {
+        let bytes = bytes.as_slice();
+        Accessed {
+            status: 0,
+            what: 4,
+            serial: 0,
+            bytes: padded(bytes),
+            len: bytes.len() as u32,
+        }
+    }
+}
+
+/// At most eight bytes, and 0 past them.
+pub fn padded(bytes: &[u8]) -> [u8; 8]
+    requires { length bytes.now ≤ 8 }
+    ensures { result ≡ bytes.now ++ replicate (8 - length bytes.now) 0 }
+{
+    let mut all = [0; 8];
+    all[..bytes.len()].copy_from_slice(bytes);
+    all
+}
+
+/// What a view of a number answers: an `Answer` without what it does not tell.
+#[repr(C)]
+#[derive(Clone, Copy, Drop)]
+pub struct Number {
+    /// As that of an `Answer`.
+    pub status: u32,
+    /// 5 where a number is told, else 0.
+    pub what: u32,
+    /// The number; or why the cache is closed, where the status is 18.
+    pub serial: u64,
+}
+
+impl Number {
+    /// Nothing is told but a status.
+    pub fn only(status: u32) -> Number
+        ensures { number_wide result ≡ only status }
+    {
+        Number {
+            status,
+            what: 0,
+            serial: 0,
+        }
+    }
+
+    /// A number.
+    pub fn told(number: u64) -> Number
+        ensures { number_wide result ≡ number_told number }
+    {
+        Number {
+            status: 0,
+            what: 5,
+            serial: number,
+        }
+    }
+
+    /// The same as an answer.
+    pub fn wide(self) -> Answer
+        ensures { result ≡ number_wide self }
+    {
+        Answer {
+            what: self.what,
+            serial: self.serial,
+            ..Answer::only(self.status)
         }
     }
 }

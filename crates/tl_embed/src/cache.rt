@@ -109,10 +109,13 @@ fn ask(network: &mut Network, request: &Request) -> Answer
     ensures { AsksFor (asked request.now) network.old request.now network.new result }
 {
     match request.asked() {
-        Asked::Step(step) => match network.step(request.index, &step) {
-            Ok(shown) => step_told(&shown),
-            Err(_) => Answer::only(14),
-        },
+        Asked::Step(step) => {
+            let shown = network.step(request.index, &step);
+            match &shown {
+                Ok(shown) => step_told(shown),
+                Err(_) => Answer::only(14),
+            }
+        }
         Asked::BadArgument => Answer::only(17),
         Asked::Forget => forget(network, BankNo::new(request.bank)),
         Asked::Reserve => reserve(network, BankNo::new(request.bank), request.serial),

@@ -4,15 +4,17 @@ ghost use Rattle.std.specs.Align.{type_align};
 ghost use Rattle.std.specs.Borrow.{full_share, sem};
 ghost use Rattle.std.specs.Mem.{type_size};
 ghost use Rattle.std.specs.Ptr.{lies_at, room_at};
-ghost use Rattle.tl_embed.specs.Calls.{Calls};
+ghost use Rattle.tl_embed.specs.Calls.{Accesses, Calls, Looks};
 ghost use Rattle.tl_embed.specs.Opens.{Opens};
 ghost use Rattle.tl_embed.specs.Told.{echoed};
 ghost use Rattle.tl_embed.specs.contracts.cache.Cache.{the_row};
 ghost use Rattle.tl_embed.specs.declared.cache.Cache.{Cache};
 
-use crate::answer::Answer;
+use crate::access::access;
+use crate::answer::{Accessed, Answer, Number};
 use crate::cache::{Cache, Numbers, call, opened};
 use crate::request::Request;
+use crate::views::look;
 use std::alloc::Global;
 
 /// Which interface this is: it rises with each change of a struct, a number or a meaning.
@@ -68,4 +70,24 @@ pub unsafe extern "C" fn jv_call(cache: *mut u8, request: &Request) -> Answer
     ensures* { ∃ₛ (λ (after : Cache). sem 𝓛 (lies_at the_row full_share cache after) ∗ ⌜ Calls before request.now after result ⌝) }
 {
     call(unsafe { &mut *(cache as *mut Cache) }, request)
+}
+
+/// Carries out a load or a store of the cache at a pointer where `jv_open` put one.
+#[unsafe(no_mangle)]
+pub unsafe extern "C" fn jv_access(cache: *mut u8, request: &Request) -> Accessed
+    ghost before: { Cache }
+    requires* { sem 𝓛 (lies_at the_row full_share cache before) }
+    ensures* { ∃ₛ (λ (after : Cache). sem 𝓛 (lies_at the_row full_share cache after) ∗ ⌜ Accesses before request.now after result ⌝) }
+{
+    access(unsafe { &mut *(cache as *mut Cache) }, request)
+}
+
+/// Shows a number of the cache at a pointer where `jv_open` put one.
+#[unsafe(no_mangle)]
+pub unsafe extern "C" fn jv_look(cache: *mut u8, request: &Request) -> Number
+    ghost before: { Cache }
+    requires* { sem 𝓛 (lies_at the_row full_share cache before) }
+    ensures* { ∃ₛ (λ (after : Cache). sem 𝓛 (lies_at the_row full_share cache after) ∗ ⌜ Looks before request.now after result ⌝) }
+{
+    look(unsafe { &mut *(cache as *mut Cache) }, request)
 }

@@ -1,6 +1,7 @@
 //! The banks of a cache for callers in C: an opaque cache in room that C gives, and one function that asks a step or a view of it.
 #![tactic(auto)]
 
+mod access;
 mod answer;
 mod cache;
 mod events;

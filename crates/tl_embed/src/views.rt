@@ -1,12 +1,14 @@
 //! What a cache shows.
-ghost use Rattle.std.specs.Prelude.{◌≡◌};
+ghost use Rattle.std.specs.Prelude.{◌≡◌, ◌≤◌, true};
 ghost use Rattle.std.specs.Option.{option_map};
 ghost use Rattle.tl_types.specs.Permission.{rank};
 ghost use Rattle.tl_embed.specs.Asked.{channel_at, ticket_named};
-ghost use Rattle.tl_embed.specs.Told.{message_told, number_told};
+ghost use Rattle.tl_embed.specs.Calls.{Looks, tells_number};
+ghost use Rattle.tl_embed.specs.Told.{message_told, number_told, number_wide};
 ghost use Rattle.tl_embed.specs.Views.{BankTells, OpenTold, QuietTold, Views, bank_for, bank_told, block_told, byte_told, dirty_number, home_of, home_told, memory_told, ticket_told, waiting_told};
 
-use crate::answer::Answer;
+use crate::answer::{Answer, Number};
+use crate::cache::Cache;
 use crate::events::event_told;
 use crate::request::{Request, channel_at};
 use crate::tell::{message_of, message_told, number_told, outward_told};
@@ -32,25 +34,43 @@ pub fn view(network: &Network, request: &Request) -> Answer
     }
 }
 
+/// A view of a number, as `call` shows it; 16 where the call is none of them (20 to 22, 25 to 27, 29, 30, 36).
+pub fn look(cache: &mut Cache, request: &Request) -> Number
+    ensures { Looks cache.old request.now cache.new result }
+{
+    if !matches!(request.call, 20..=22 | 25..=27 | 29 | 30 | 36) {
+        return Number::only(16);
+    }
+    match &cache.network {
+        None => Number {
+            serial: u64::from(cache.status),
+            ..Number::only(18)
+        },
+        Some(network) => number_view(network, request),
+    }
+}
+
+/// The same of an open cache.
+fn number_view(network: &Network, request: &Request) -> Number
+    requires { tells_number request.now.call ≡ true }
+    ensures { Views network.now request.now (number_wide result) }
+{
+    if request.call <= 22 {
+        return number_of_block(network, request);
+    }
+    match network.bank(BankNo::new(request.bank)) {
+        Some(bank) => number_of_bank(bank, request),
+        None => Number::only(10),
+    }
+}
+
 /// Of a block, at the bank where it lies.
 fn of_block(network: &Network, request: &Request) -> Answer
     ensures { result ≡ block_told network.now request.now }
 {
-    let client = ClientId::new(request.client);
     let block = BlockNo::new(request.place);
     match request.call {
-        20 => match bank_for(network, client, block) {
-            Some(bank) => perm_told(bank.perm(client, block)),
-            None => Answer::only(10),
-        },
-        21 => match bank_for(network, client, block) {
-            Some(bank) => perm_told(bank.directory(client, block)),
-            None => Answer::only(10),
-        },
-        22 => match bank_for(network, client, network.geometry().block_at(request.place)) {
-            Some(bank) => byte_told(bank.peek(client, request.place)),
-            None => Answer::only(10),
-        },
+        20..=22 => number_of_block(network, request).wide(),
         23 => match home_of(network, block) {
             Some(bank) => home_told(bank.line(block)),
             None => Answer::only(10),
@@ -62,6 +82,29 @@ fn of_block(network: &Network, request: &Request) -> Answer
         _ => match home_of(network, block) {
             Some(bank) => memory_told(bank.memory(block)),
             None => Answer::only(10),
+        },
+    }
+}
+
+/// Of a block and a client: what is a number.
+fn number_of_block(network: &Network, request: &Request) -> Number
+    requires { (20 ≤ request.now.call) × (request.now.call ≤ 22) }
+    ensures { number_wide result ≡ block_told network.now request.now }
+{
+    let client = ClientId::new(request.client);
+    let block = BlockNo::new(request.place);
+    match request.call {
+        20 => match bank_for(network, client, block) {
+            Some(bank) => perm_told(bank.perm(client, block)),
+            None => Number::only(10),
+        },
+        21 => match bank_for(network, client, block) {
+            Some(bank) => perm_told(bank.directory(client, block)),
+            None => Number::only(10),
+        },
+        _ => match bank_for(network, client, network.geometry().block_at(request.place)) {
+            Some(bank) => byte_told(bank.peek(client, request.place)),
+            None => Number::only(10),
         },
     }
 }
@@ -87,22 +130,22 @@ fn bank_for(network: &Network, client: ClientId, block: BlockNo) -> Option<&Bank
 }
 
 /// A permission: 0 None, 1 Branch, 2 Tip.
-fn perm_told(perm: Perm) -> Answer
-    ensures { result ≡ number_told (rank perm) }
+fn perm_told(perm: Perm) -> Number
+    ensures { number_wide result ≡ number_told (rank perm) }
 {
     match perm {
-        Perm::None => number_told(0),
-        Perm::Branch => number_told(1),
-        Perm::Tip => number_told(2),
+        Perm::None => Number::told(0),
+        Perm::Branch => Number::told(1),
+        Perm::Tip => Number::told(2),
     }
 }
 
-fn byte_told(byte: Option<u8>) -> Answer
-    ensures { result ≡ byte_told byte }
+fn byte_told(byte: Option<u8>) -> Number
+    ensures { number_wide result ≡ byte_told byte }
 {
     match byte {
-        Some(byte) => number_told(u64::from(byte)),
-        None => Answer::only(1),
+        Some(byte) => Number::told(u64::from(byte)),
+        None => Number::only(1),
     }
 }
 
@@ -145,23 +188,23 @@ fn of_bank(bank: &Bank, request: &Request) -> Answer
         31 => quiet_told(bank),
         32 => open_told(bank, request.serial),
         34 => waiting_told(bank, request),
-        _ => number_of(bank, request),
+        _ => number_of_bank(bank, request).wide(),
     }
 }
 
-/// Of a bank: what follows from it alone.
-fn number_of(bank: &Bank, request: &Request) -> Answer
-    ensures { result ≡ bank_told bank.now request.now }
+/// Of a bank: what is a number, and follows from the bank alone.
+fn number_of_bank(bank: &Bank, request: &Request) -> Number
+    ensures { number_wide result ≡ bank_told bank.now request.now }
 {
     match request.call {
-        25 => number_told(bank.held()),
-        26 => number_told(bank.outstanding()),
-        27 => number_told(bank.events() as u64),
-        29 => number_told(bank.room() as u64),
-        36 => number_told(bank.forgotten() as u64),
+        25 => Number::told(bank.held()),
+        26 => Number::told(bank.outstanding()),
+        27 => Number::told(bank.events() as u64),
+        29 => Number::told(bank.room() as u64),
+        36 => Number::told(bank.forgotten() as u64),
         _ => match bank.copies_of(ClientId::new(request.client)) {
-            Some(copies) => number_told(copies),
-            None => Answer::only(10),
+            Some(copies) => Number::told(copies),
+            None => Number::only(10),
         },
     }
 }

@@ -1,3 +1,4 @@
+pub mod Accesses
 pub mod Answered
 pub mod Chain
 pub mod ClosingLemmas

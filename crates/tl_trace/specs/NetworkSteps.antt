@@ -1,9 +1,12 @@
 -- The steps of a script, one after another, over all banks (this project's own).
-use Rattle.std.specs.Prelude.{◌≡◌, ℕ, suc, List, [], ◌∷◌, slice_get, slice_index, slice_set, Some}
+use Rattle.std.specs.Prelude.{◌≡◌, ◌≢◌, ℕ, suc, List, [], ◌∷◌, slice_get, slice_index, slice_set, Some}
 use Rattle.tl_map.specs.Numbers.{Numbers}
 use Rattle.tl_script_words.specs.declared.step.Step.{Step}
 use Rattle.tl_bank_spec.specs.Share.{ShareView}
+use Rattle.tl_bank_spec.specs.declared.refusal.Refusal.{Refusal}
+use Rattle.tl_bank_spec.specs.declared.refusal.Refusal.TheVariants.{Memory}
 use Rattle.tl_text.specs.declared.answer.Answer.{Answer}
+use Rattle.tl_text.specs.declared.answer.Answer.TheVariants.{Refused}
 use Rattle.tl_text.specs.declared.trace.Trace.{Trace}
 use Rattle.tl_trace.specs.Steps.{IsStep}
 use Rattle.tl_trace.specs.Closing.{Close}
@@ -48,6 +51,18 @@ pub record IsStarvedNetwork (step : Step) (old new : NetworkState) : Type 0 wher
   pub shared_bank : SharedBankState
   pub is_site : slice_get old.shared_banks (bank_asked old.geometry step) ≡ Some shared_bank
   pub room : shared_bank.bank.room ≡ 0
+
+-- ## One step whose refusals are errors
+
+-- A step was refused: it found no memory, or it is a step that answers the refusal.
+pub record IsRefusedAt (index : ℕ) (step : Step) (old new : SharedBankState) (before after : ℕ) (refusal : Refusal) : Type 0 where
+  pub starved : refusal ≡ Memory → IsStarvedAt old new before after
+  pub refused : refusal ≢ Memory → IsStepAt index step old new before after (Refused refusal)
+
+-- The same, of all banks.
+pub record IsRefusedNetwork (index : ℕ) (step : Step) (old new : NetworkState) (refusal : Refusal) : Type 0 where
+  pub starved : refusal ≡ Memory → IsStarvedNetwork step old new
+  pub refused : refusal ≢ Memory → IsNetworkStep index step old new (Refused refusal)
 
 -- ## All steps
 

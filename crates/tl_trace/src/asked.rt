@@ -39,7 +39,7 @@ pub fn bank_asked(geometry: Geometry, step: &Step) -> usize
 }
 
 /// The bank of a block; bank 0 for a block that is not there.
-fn bank_of_block(geometry: Geometry, block: BlockNo) -> usize
+pub(crate) fn bank_of_block(geometry: Geometry, block: BlockNo) -> usize
     ensures is { result ≡ bank_of_block geometry block }
     ensures inside { result < geometry.banks }
 {

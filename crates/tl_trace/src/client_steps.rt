@@ -1,17 +1,17 @@
 //! The steps that are calls of clients.
-ghost use Rattle.std.specs.Prelude.{◌≡◌, IfOk, OnErr, length};
+ghost use Rattle.std.specs.Prelude.{◌≡◌, None, IfErr, IfOk, OnErr, OnOk, length};
 ghost use Rattle.tl_types.specs.declared.channel.Channel.{Channel};
 ghost use Rattle.tl_protocol.specs.declared.event.Event.{Event};
 ghost use Rattle.tl_bank_spec.specs.Calls.{load_cases, store_cases, acquire_cases, release_cases, answer_probe_cases, take_grant_cases, take_release_ack_cases};
 ghost use Rattle.tl_bank_spec.specs.Cases.{block_named};
-ghost use Rattle.tl_bank_spec.specs.Refusal.{first_of};
+ghost use Rattle.tl_bank_spec.specs.Refusal.{IsRefused, first_of};
 ghost use Rattle.tl_bank_spec.specs.Channels.{next_ticket};
 ghost use Rattle.tl_trace.specs.Answers.{Answers, IsStarved};
 ghost use Rattle.tl_trace.specs.Steps.{Loads, Logs, Posts, Recounts, Stores};
 
 use crate::answers::{refused, sent};
 use std::alloc::AllocError;
-use tl_bank::{Bank, Share, When};
+use tl_bank::{Bank, Refusal, Share, When};
 use tl_text::Answer;
 use tl_types::{AccessBytes, BlockNo, ClientId, Grow, Prune, Ticket};
 
@@ -32,17 +32,34 @@ pub(crate) fn load(
         ((bank.new ≡ bank.old) × (clock.new ≡ clock.old))
         (Loads index bank.old bank.new clock.old clock.new client address len answer) answer) }
 {
+    match load_bytes(bank, clock, index, client, address, len) {
+        Ok(bytes) => Ok(Answer::Loaded(bytes)),
+        Err(refusal) => refused(refusal),
+    }
+}
+
+/// The same, whose refusals are errors.
+pub(crate) fn load_bytes(
+    bank: &mut Bank,
+    clock: &mut u64,
+    index: u32,
+    client: ClientId,
+    address: u32,
+    len: u8,
+) -> Result<AccessBytes, Refusal>
+    ensures refused { IfErr result (IsRefused (first_of (load_cases bank.old client address len clock.old)) bank.old.room) }
+    ensures unchanged { OnErr result ((bank.new ≡ bank.old) × (clock.new ≡ clock.old)) }
+    ensures permitted { OnOk result (first_of (load_cases bank.old client address len clock.old) ≡ None) }
+    ensures does { IfOk result
+        (λ bytes. Loads index bank.old bank.new clock.old clock.new client address len (Answer.Loaded bytes)) }
+{
     let when = When {
         clock: *clock,
         index,
     };
-    match bank.load(client, address, usize::from(len), when) {
-        Ok(loaded) => {
-            *clock = loaded.stamp;
-            Ok(Answer::Loaded(loaded.bytes))
-        }
-        Err(refusal) => refused(refusal),
-    }
+    let loaded = bank.load(client, address, usize::from(len), when)?;
+    *clock = loaded.stamp;
+    Ok(loaded.bytes)
 }
 
 /// A client writes. Its clock becomes the stamp of the access.
@@ -62,17 +79,34 @@ pub(crate) fn store(
         ((bank.new ≡ bank.old) × (clock.new ≡ clock.old))
         (Stores index bank.old bank.new clock.old clock.new client address bytes.now answer) answer) }
 {
+    match store_bytes(bank, clock, index, client, address, bytes.as_slice()) {
+        Ok(()) => Ok(Answer::Done),
+        Err(refusal) => refused(refusal),
+    }
+}
+
+/// The same, whose refusals are errors.
+pub(crate) fn store_bytes(
+    bank: &mut Bank,
+    clock: &mut u64,
+    index: u32,
+    client: ClientId,
+    address: u32,
+    bytes: &[u8],
+) -> Result<(), Refusal>
+    ensures refused { IfErr result
+        (IsRefused (first_of (store_cases bank.old client address (length bytes.now) clock.old)) bank.old.room) }
+    ensures unchanged { OnErr result ((bank.new ≡ bank.old) × (clock.new ≡ clock.old)) }
+    ensures permitted { OnOk result (first_of (store_cases bank.old client address (length bytes.now) clock.old) ≡ None) }
+    ensures does { IfOk result
+        (λ _. Stores index bank.old bank.new clock.old clock.new client address bytes.now Answer.Done) }
+{
     let when = When {
         clock: *clock,
         index,
     };
-    match bank.store(client, address, bytes.as_slice(), when) {
-        Ok(stamp) => {
-            *clock = stamp;
-            Ok(Answer::Done)
-        }
-        Err(refusal) => refused(refusal),
-    }
+    *clock = bank.store(client, address, bytes, when)?;
+    Ok(())
 }
 
 /// A client asks home for a copy.

@@ -1,11 +1,11 @@
 //! All banks, and the steps that are asked of them.
-ghost use Rattle.std.specs.Prelude.{◌≡◌, ◌<◌, ◌≤◌, ◌*◌, IfOk, OnErr, OnOk, length, slice_index, slice_set};
+ghost use Rattle.std.specs.Prelude.{◌≡◌, ◌<◌, ◌≤◌, ◌*◌, IfErr, IfOk, OnErr, OnOk, length, slice_index, slice_set};
 ghost use Rattle.tl_trace.specs.Closing.{Close};
-ghost use Rattle.tl_trace.specs.NetworkSteps.{AreNetworkSteps, IsNetworkStep, IsStarvedNetwork};
+ghost use Rattle.tl_trace.specs.NetworkSteps.{AreNetworkSteps, IsNetworkStep, IsRefusedNetwork, IsStarvedNetwork};
 ghost use Rattle.std.specs.Option.{option_map};
 ghost use Rattle.tl_trace.specs.NetworkState.{AreCoherent, AreFresh, IsForgotten, IsReset, IsReserved, IsShort, bank_at};
 
-use crate::asked::{bank_asked, client_named};
+use crate::asked::{bank_asked, bank_of_block, client_named};
 use crate::closing::closing;
 use crate::shared_bank::SharedBank;
 use std::alloc::{AllocError, Global};
@@ -14,7 +14,7 @@ use tl_bank::{Bank, Refusal};
 use tl_map::Geometry;
 use tl_script_words::{STEPS, Step};
 use tl_text::{Answer, BankClosing};
-use tl_types::{BankNo, ClientId};
+use tl_types::{AccessBytes, BankNo, ClientId};
 
 /// Every bank with its clients' shares, by number, and the clock of each client: all that steps are asked of.
 #[derive(Drop)]
@@ -57,10 +57,47 @@ impl Network {
         let place = bank_asked(self.geometry, step);
         let client = client_named(step);
         let mut clock = self.clock(client);
-        let shared_bank = &mut self.shared_banks[place];
-        let answer = shared_bank.ask(&mut clock, index, step)?;
+        let answer = self.shared_banks[place].ask(&mut clock, index, step);
         self.set_clock(client, clock);
-        Ok(answer)
+        answer
+    }
+
+    /// A load, as `step` of one. Its refusals are errors here, want of memory too.
+    pub fn load(
+        &mut self,
+        index: u32,
+        client: ClientId,
+        address: u32,
+        len: u8,
+    ) -> Result<AccessBytes, Refusal>
+        ensures refused { IfErr result (IsRefusedNetwork index (Step.Load client address len) self.old self.new) }
+        ensures done { IfOk result
+            (λ bytes. IsNetworkStep index (Step.Load client address len) self.old self.new (Answer.Loaded bytes)) }
+    {
+        let place = bank_of_block(self.geometry, self.geometry.block_at(address));
+        let mut clock = self.clock(client);
+        let loaded = self.shared_banks[place].load(&mut clock, index, client, address, len);
+        self.set_clock(client, clock);
+        loaded
+    }
+
+    /// A store, as `step` of one. Its refusals are errors here, want of memory too.
+    pub fn store(
+        &mut self,
+        index: u32,
+        client: ClientId,
+        address: u32,
+        bytes: &[u8],
+    ) -> Result<(), Refusal>
+        ensures refused { IfErr result (IsRefusedNetwork index (Step.Store client address bytes.now) self.old self.new) }
+        ensures done { IfOk result
+            (λ _. IsNetworkStep index (Step.Store client address bytes.now) self.old self.new Answer.Done) }
+    {
+        let place = bank_of_block(self.geometry, self.geometry.block_at(address));
+        let mut clock = self.clock(client);
+        let stored = self.shared_banks[place].store(&mut clock, index, client, address, bytes);
+        self.set_clock(client, clock);
+        stored
     }
 
     /// The geometry of all banks.

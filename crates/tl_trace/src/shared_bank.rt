@@ -1,11 +1,12 @@
 //! A bank with its clients' shares.
-ghost use Rattle.std.specs.Prelude.{◌≡◌, ◌<◌, ◌≤◌, ◌*◌, IfOk, OnErr, OnOk, length};
+ghost use Rattle.std.specs.Prelude.{◌≡◌, ◌<◌, ◌≤◌, ◌*◌, IfErr, IfOk, OnErr, OnOk, length};
 ghost use Rattle.tl_bank_spec.specs.Steps.{Forgets};
-ghost use Rattle.tl_trace.specs.NetworkSteps.{IsStarvedAt, IsStepAt};
+ghost use Rattle.tl_trace.specs.NetworkSteps.{IsRefusedAt, IsStarvedAt, IsStepAt};
 ghost use Rattle.tl_trace.specs.NetworkState.{HasRoom, IsFresh, share_place};
 
 use crate::act::act;
 use crate::asked::client_named;
+use crate::client_steps::{load_bytes, store_bytes};
 use arrayvec::ArrayVec;
 use std::alloc::{AllocError, Global};
 use std::marker::Model;
@@ -13,7 +14,7 @@ use tl_bank::{Bank, Refusal, Share};
 use tl_map::Geometry;
 use tl_script_words::Step;
 use tl_text::Answer;
-use tl_types::{BankNo, ClientId};
+use tl_types::{AccessBytes, BankNo, ClientId};
 
 /// A bank, and the share of each client in it.
 #[derive(Drop)]
@@ -71,6 +72,44 @@ impl SharedBank {
         let place = self.share_place(client_named(step));
         let share = &mut self.shares[place];
         act(&mut self.bank, share, clock, index, step)
+    }
+
+    /// A load, asked of the bank with the clock of the client, which becomes the stamp of the access.
+    pub(crate) fn load(
+        &mut self,
+        clock: &mut u64,
+        index: u32,
+        client: ClientId,
+        address: u32,
+        len: u8,
+    ) -> Result<AccessBytes, Refusal>
+        ensures refused { IfErr result
+            (IsRefusedAt index (Step.Load client address len) self.old self.new clock.old clock.new) }
+        ensures done { IfOk result
+            (λ bytes. IsStepAt index (Step.Load client address len) self.old self.new clock.old clock.new (Answer.Loaded bytes)) }
+    {
+        // For the prover: the client has a share here, which an access leaves as it is.
+        let _place = self.share_place(client);
+        load_bytes(&mut self.bank, clock, index, client, address, len)
+    }
+
+    /// A store, asked likewise.
+    pub(crate) fn store(
+        &mut self,
+        clock: &mut u64,
+        index: u32,
+        client: ClientId,
+        address: u32,
+        bytes: &[u8],
+    ) -> Result<(), Refusal>
+        ensures refused { IfErr result
+            (IsRefusedAt index (Step.Store client address bytes.now) self.old self.new clock.old clock.new) }
+        ensures done { IfOk result
+            (λ _. IsStepAt index (Step.Store client address bytes.now) self.old self.new clock.old clock.new Answer.Done) }
+    {
+        // For the prover: the client has a share here, which an access leaves as it is.
+        let _place = self.share_place(client);
+        store_bytes(&mut self.bank, clock, index, client, address, bytes)
     }
 
     /// Makes room in the bank's log for `count` more events. It is refused only for want of memory, and then nothing changed.

@@ -1,0 +1,32 @@
+use Rattle.std.proofs.Common.{◌≡◌, ◌<◌, IfErr, IfOk, length, sym, subst}
+use Rattle.tl_script_words.specs.declared.step.Step.{Step}
+use Rattle.tl_script_words.specs.declared.step.Step.TheVariants as step
+use Rattle.tl_text.specs.declared.answer.Answer.TheVariants.{Loaded}
+use Rattle.tl_trace.specs.NetworkSteps.{IsRefusedAt, IsStepAt}
+use Rattle.tl_trace.specs.NetworkState.{SharedBankState, share_place}
+use Rattle.tl_trace.proofs.Accesses.{load-kept}
+use Rattle.tl_trace.proofs.shared_bank.SharedBank.load.Goals as goal
+
+-- the share is as it was
+pub returns : goal.returns
+returns c =
+    let asked : Step = step.Load c.args.client c.args.address c.args.len in
+    let old : SharedBankState = record { bank = c.self.inside.bank; shares = c.self.inside.shares.items } in
+    let view : old ≡ c.args.self.now = c.self.view_is in
+    let place = c.share_place-place.result in
+    let at : place ≡ share_place old.shares c.args.client =
+    subst (λ (s : SharedBankState). place ≡ share_place s.shares c.args.client) (sym view) c.share_place-place.ensures.is in
+    let inside : place < length old.shares =
+    subst (λ (s : SharedBankState). place < length s.shares) (sym view) c.share_place-place.ensures.inside in
+    let new : SharedBankState = record { bank = c.load_bytes.new.bank; shares = old.shares } in
+    let both = load-kept c.load_bytes.result c.args.index c.args.client c.args.address c.args.len old c.load_bytes.new.bank c.args.clock.now c.load_bytes.new.clock place at inside c.load_bytes.ensures.refused
+    c.load_bytes.ensures.unchanged c.load_bytes.ensures.permitted c.load_bytes.ensures.does in
+    record {
+      refused =
+          subst (λ (s : SharedBankState). IfErr c.load_bytes.result (IsRefusedAt c.args.index asked s new c.args.clock.now c.load_bytes.new.clock))
+          view both.0;
+      done =
+          subst
+          (λ (s : SharedBankState). IfOk c.load_bytes.result
+          (λ bytes. IsStepAt c.args.index asked s new c.args.clock.now c.load_bytes.new.clock (Loaded bytes))) view both.1;
+    }
