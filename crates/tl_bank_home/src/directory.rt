@@ -138,7 +138,7 @@ impl Directory {
     }
 
     /// The block that lies in a way of a set.
-    pub fn block_at(&self, set: Set, way: Way) -> Option<BlockNo>
+    pub fn occupant(&self, set: Set, way: Way) -> Option<BlockNo>
         requires { set < self.now.geometry.sets }
         ensures inside { IfSome result (λ block. block < self.now.geometry.memory_blocks) }
         ensures set { IfSome result (λ block. set_of self.now.geometry block ≡ set) }

@@ -211,14 +211,14 @@ impl Home {
     }
 
     /// The block that lies in a way of a set.
-    pub fn block_at(&self, set: Set, way: Way) -> Option<BlockNo>
+    pub fn occupant(&self, set: Set, way: Way) -> Option<BlockNo>
         requires { set < (geometry_in self.now).sets }
         ensures inside { IfSome result (λ block. block < (geometry_in self.now).memory_blocks) }
         ensures set { IfSome result (λ block. set_of (geometry_in self.now) block ≡ set) }
         ensures way { IfSome result (λ block. way_in self.now block ≡ Some way) }
         ensures free { is_none result ≡ free_at self.now set way }
     {
-        self.directory.block_at(set, way)
+        self.directory.occupant(set, way)
     }
 
     /// Home takes what a client gives up of a block that home holds: what is recorded then, and the bytes where they were

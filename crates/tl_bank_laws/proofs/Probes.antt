@@ -3,7 +3,6 @@ use Rattle.std.proofs.Common.{◌≡◌, ◌≢◌, ℕ, ◌<◌, ◌≤◌, ◌
 use Rattle.std.proofs.lemmas.Bool.Decides.{nat_tests}
 use Rattle.std.proofs.lemmas.Bool.{or_parts}
 use Rattle.tl_types.specs.Lane.{IsFirst, Lane, sent, is_here, with_message, without_first, bodies_of}
-use Rattle.tl_types.specs.Message.{probe_answer}
 use Rattle.tl_types.specs.Permission.{probe_perm}
 use Rattle.tl_types.specs.declared.channel.Channel.{Channel}
 use Rattle.tl_types.specs.declared.channel.Channel.TheVariants.{B, C}
@@ -19,7 +18,7 @@ use Rattle.tl_types.specs.declared.ticket.Ticket.{Ticket}
 use Rattle.tl_types.specs.declared.wait.Awaited.{Awaited}
 use Rattle.tl_types.specs.declared.wait.Awaited.TheVariants.{Nothing, ForGrant, ForReleaseAck}
 use Rattle.tl_protocol.specs.Client.{answered}
-use Rattle.tl_protocol.specs.Copy.{dirty_bytes, perm_of, reduced}
+use Rattle.tl_protocol.specs.Copy.{perm_of, reduced}
 use Rattle.tl_protocol.specs.Protocol.{is_none}
 use Rattle.tl_protocol.specs.declared.client.Client.{Client}
 use Rattle.tl_protocol.specs.declared.copy.CachedCopy.{CachedCopy}
