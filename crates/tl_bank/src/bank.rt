@@ -40,6 +40,7 @@ mod protocol_view;
 mod settle;
 mod tickets;
 mod views;
+mod would;
 
 /// A bank can't be made for want of memory alone.
 pub type BankError = AllocError;
