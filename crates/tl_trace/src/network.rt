@@ -16,7 +16,7 @@ use tl_bank::{Bank, Refusal};
 use tl_map::Geometry;
 use tl_script_words::{STEPS, Step};
 use tl_text::{Answer, BankClosing};
-use tl_types::{AccessBytes, BankNo, BlockNo, ClientId, Prune, Ticket, Upward};
+use tl_types::{AccessBytes, BankNo, BlockNo, ClientId, Message, Prune, Ticket};
 
 /// Every bank with its clients' shares, by number, and the clock of each client: all that steps are asked of.
 #[derive(Drop)]
@@ -108,7 +108,7 @@ impl Network {
         client: ClientId,
         block: BlockNo,
         prune: Prune,
-    ) -> Result<Upward, Refusal>
+    ) -> Result<Message, Refusal>
         ensures { WouldComeTo self.now (Step.Release client block prune) result }
     {
         let place = bank_of_block(self.geometry, block);
@@ -116,7 +116,7 @@ impl Network {
     }
 
     /// What the answer to a Probe would send, likewise.
-    pub fn would_answer(&self, ticket: Ticket) -> Result<Upward, Refusal>
+    pub fn would_answer(&self, ticket: Ticket) -> Result<Message, Refusal>
         ensures { WouldComeTo self.now (Step.Ticket TicketCall.AnswerProbe ticket) result }
     {
         let place = bank_or_first(self.geometry, ticket.bank);

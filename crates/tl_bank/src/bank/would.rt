@@ -38,24 +38,28 @@ impl Bank {
         Ok(given)
     }
 
-    /// What `answer_probe` would answer, or why it would be refused, but for want of memory.
-    pub fn would_answer(&self, ticket: Ticket, share: &Share) -> Result<ProbeAnswer, Refusal>
+    /// What `answer_probe` would answer, and of which block, or why it would be refused, but for want of memory.
+    pub fn would_answer(
+        &self,
+        ticket: Ticket,
+        share: &Share,
+    ) -> Result<(BlockNo, ProbeAnswer), Refusal>
         ensures refused { IfErr result (λ r. first_of (answer_probe_cases self.now ticket share.now) ≡ Some r) }
         ensures permitted { OnOk result (first_of (answer_probe_cases self.now ticket share.now) ≡ None) }
+        ensures block { IfOk result (λ answer. answer.0 ≡ block_named self.now ticket Channel.B) }
         ensures sends { IfOk result
-            (λ answer. WouldSend self.now (Event.AnswerProbe ticket.client (block_named self.now ticket Channel.B))
-            (Body.Upward (Upward.ProbeAck answer))) }
+            (λ answer. WouldSend self.now (Event.AnswerProbe ticket.client answer.0) (Body.Upward (Upward.ProbeAck answer.1))) }
     {
         // For the prover: the log is a run, in which the messages of a channel wait in the order of sending.
         let _log = self.log();
         let PlannedAnswer {
-            block: _,
+            block,
             before: _,
             copy: _,
             wait: _,
             answer,
         } = self.check_answer(&ticket, share)?;
-        Ok(answer)
+        Ok((block, answer))
     }
 
     /// The clock that the next access of a client with a clock goes on from.
