@@ -14,8 +14,6 @@
  *   jv_look            what jv_call answers of a view of a number, likewise (`Looks`).
  *   jv_saw             the client's call that sends a message which was seen, done only where it sends just that one; or what the
  *                      client would send, and nothing changed (`Saws`).
- *   jv_calls           what jv_call does of each of many requests, up to the first that is refused (`CallsMany`).
- *   jv_read            what jv_call shows of many events of a bank's log (`Reads`).
  *   jv_echo            the request again (`echoed`); jv_echo_seen likewise (`seen_echoed`); jv_version the number 4.
  * The functions that are `static inline` are C: they fill in a request and call one of these, and are tested (examples/c), not
  * proved. After any sequence of calls of an opened cache, each of which met its contract, each bank's log is a run of the protocol
@@ -142,9 +140,6 @@ enum jv_outward { JV_QUIET, JV_GET, JV_DATA, JV_PUT, JV_PUT_ACK };     /* what p
 enum jv_home { JV_HOME_NONE, JV_HOME_CLEAN, JV_HOME_DIRTY };
 enum jv_copy_kind { JV_COPY_NONE, JV_COPY_BRANCH, JV_COPY_CLEAN_TIP, JV_COPY_DIRTY_TIP };
 enum jv_awaited { JV_WAITS_FOR_NOTHING, JV_WAITS_FOR_GRANT, JV_WAITS_FOR_RELEASE_ACK };
-enum jv_seen_options {
-    JV_STORES = 1 /* nobody tells the client's stores: those that lead to the bytes of a ProbeAckData or ReleaseData are made first */
-};
 
 typedef struct { /* what a call does not use it takes no notice of */
     uint32_t call;    /* jv_call_number */
@@ -171,7 +166,7 @@ typedef struct { /* what is not told is 0 */
     uint32_t size;    /* of a message between home and the memory: the base-2 logarithm of a block's bytes */
     uint32_t index;   /* of an access: the one that its call was given */
     uint32_t len;     /* how many bytes there are */
-    uint32_t stores;  /* of jv_saw: how many stores were made before the message */
+    uint32_t stores;  /* 0 in this version */
     uint64_t serial;  /* of a ticket; a view's number; the stamp of an access, which rises over all of a bank's log */
     uint8_t bytes[64];
 } jv_answer;
@@ -183,8 +178,8 @@ typedef struct { /* a message that was seen on a client's link: what a device se
     uint32_t client;
     uint32_t block;   /* of an E: that of the Grant whose sink it names */
     uint32_t len;     /* how many bytes it carries: those of a block with ProbeAckData and ReleaseData, else 0 */
-    uint32_t options; /* 0 or JV_STORES */
-    uint32_t index;   /* the events of the stores that are made for it have this index */
+    uint32_t options; /* 0 */
+    uint32_t index;   /* no notice is taken of it */
     uint8_t bytes[64];
 } jv_seen;
 
@@ -253,9 +248,9 @@ jv_number jv_look(jv_cache *cache, const jv_request *request);      /* a view of
 
    B and D are those of the bank where the block lies. What is answered, the first that holds:
      JV_CLOSED, as of any call
-     JV_BAD_ARGUMENT    another channel; `len` is neither 0 nor the bytes of a block, or another than the opcode carries; an option
-                        that there is not
+     JV_BAD_ARGUMENT    another channel, or an option that there is not
      JV_OUTSIDE         the profile has no such opcode or param there, as AcquirePerm, or a Release TtoT
+     JV_BAD_ARGUMENT    `len` is another than the opcode carries: the bytes of a block with ProbeAckData and ReleaseData, else 0
      JV_OUT_OF_RANGE    there is no such client or block
      JV_NOTHING_THERE   no Probe or Grant of the block waits for an E or an answer on C
      JV_NOT_HEAD        one waits behind a message of another block: see that answered first, then ask again
@@ -264,22 +259,8 @@ jv_number jv_look(jv_cache *cache, const jv_request *request);      /* a view of
                         opcode, param, place, bytes, len), without a serial: it has no ticket
      JV_NO_MEMORY       the log has no room for the events
      JV_OK              the call is done, and answered as it answers: with the ticket, by which home takes the message.
-   Nothing is changed unless it is JV_OK.
-
-   JV_STORES: a bench that cannot tell each store of its device (jv_store) asks so. Where the client's copy is Tip, and the message that was
-   seen carries other bytes than the copy's, or carries bytes while the copy is clean, which TileLink allows, the stores that lead to it are
-   made first: one of each eight bytes, from a multiple of eight on, that differ, and of the first eight where none differ. `stores` is
-   how many. Room for all of their events is got before any is made, and JV_CLOCK_FULL is told, before JV_NO_MEMORY, where the clocks end
-   too early for them. */
+   Nothing is changed unless it is JV_OK. */
 jv_answer jv_saw(jv_cache *cache, const jv_seen *seen);
-
-/* Many calls, one after another: answers[i] is what jv_call answers of requests[i]. They end with the first whose status is not 0, or
-   where either array ends. How many were asked, with that one: it is the last of the answers. */
-size_t jv_calls(jv_cache *cache, const jv_request *requests, size_t requests_len, jv_answer *answers, size_t answers_len);
-
-/* The events of a bank's log from a place on, one in each answer as jv_event tells it, until the log or the array ends; none where the
-   cache is closed, there is no such bank, or the event at that place is forgotten. How many. */
-size_t jv_read(jv_cache *cache, uint32_t bank, uint64_t place, jv_answer *events, size_t events_len);
 
 /* ---- a status in words */
 
@@ -502,10 +483,10 @@ static inline jv_answer jv_event(const jv_cache *c, uint32_t bank, uint64_t plac
     return jv_of_bank_(c, JV_VIEW_EVENT, bank, 0, place);
 }
 /* The events from the place *cursor on, at most `most` of them, into `out`; *cursor is then the place behind the last. How many
-   there were: fewer than `most` where the log ends. */
+   there were: fewer than `most` where the log ends. A place of `out` behind them may be written over. */
 static inline size_t jv_read_events(const jv_cache *c, uint32_t bank, uint64_t *cursor, jv_answer *out, size_t most) {
-    size_t n = jv_read((jv_cache *)c, bank, *cursor, out, most);
-    *cursor += n;
+    size_t n = 0;
+    while (n < most && (out[n] = jv_event(c, bank, *cursor)).status == JV_OK) { n++; ++*cursor; }
     return n;
 }
 /* How many of the bank's first events are forgotten. */

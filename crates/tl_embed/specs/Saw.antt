@@ -1,11 +1,10 @@
 -- What is done for a message that was seen.
 use Rattle.std.specs.Prelude.{◌≡◌, ◌⊎◌, ℕ, Option, Some, None, Result, Ok, Err}
-use Rattle.tl_types.specs.Bodies.{upward_kind}
-use Rattle.tl_types.specs.Message.{upward_bytes}
+use Rattle.tl_types.specs.Bodies.{body_bytes, body_kind}
 use Rattle.tl_types.specs.declared.channel.Channel.TheVariants.{C}
 use Rattle.tl_types.specs.declared.kind.Kind.{Kind}
-use Rattle.tl_types.specs.declared.message.Body.TheVariants.{Upward as b_Upward}
-use Rattle.tl_types.specs.declared.message.Upward.{Upward}
+use Rattle.tl_types.specs.declared.message.Body.{Body}
+use Rattle.tl_types.specs.declared.message.Message.{Message}
 use Rattle.tl_bank_spec.specs.Refusal.{refusal_number}
 use Rattle.tl_bank_spec.specs.View.{View}
 use Rattle.tl_bank_spec.specs.declared.refusal.Refusal.{Refusal}
@@ -24,9 +23,9 @@ use Rattle.tl_embed.specs.declared.seen.Seen.{Seen}
 use Rattle.tl_embed.specs.declared.seen.SeenAsks.{SeenAsks}
 use Rattle.tl_embed.specs.declared.seen.SeenAsks.TheVariants.{Tells, Plays, Releases, Answers}
 
--- A message is the one that was seen: of its kind, which is its opcode and param, and with its bytes.
-abbrev pub IsAsSeen : Kind → Seen → Upward → Type 0
-IsAsSeen kind s message = (upward_kind message ≡ kind) × (bytes_or_none (upward_bytes message) ≡ bytes_seen s)
+-- A message says what was seen: it is of its kind, which is its opcode and param, and has its bytes.
+abbrev pub IsAsSeen : Kind → Seen → Body → Type 0
+IsAsSeen kind s body = (body_kind body ≡ kind) × (bytes_or_none (body_bytes body) ≡ bytes_seen s)
 
 -- the number of a bank, 0 where there is none
 abbrev pub number_of : Option View → ℕ
@@ -34,22 +33,22 @@ number_of None = 0
 number_of (Some v) = v.number
 
 -- another message on C than the one that was seen is told, with no serial: 29
-abbrev pub differs : NetworkState → Seen → Upward → Answer
+abbrev pub differs : NetworkState → Seen → Message → Answer
 differs network s message =
-    record (message_told (record { bank = number_of (home_of network s.block); client = s.client; channel = C; serial = 0 })
-    (b_Upward message) s.block) { status = 29 }
+    record (message_told (record { bank = number_of (home_of network message.block); client = s.client; channel = C; serial = 0 })
+    message.body message.block) { status = 29 }
 
 -- What is done where a step would send this message on C, or be refused: it is made where that is the message that was seen; else
 -- nothing changes, and the refusal or the other message is told.
-abbrev pub AsCompared : Result Upward Refusal → Kind → Seen → Step → NetworkState → NetworkState → Answer → Type 0
+abbrev pub AsCompared : Result Message Refusal → Kind → Seen → Step → NetworkState → NetworkState → Answer → Type 0
 AsCompared (Err refusal) kind s step old new told = (new ≡ old) × (told ≡ only (refusal_number refusal))
 AsCompared (Ok message) kind s step old new told =
-    (IsAsSeen kind s message → IsPlayed 0 step old new told ⊎ IsStarved step old new told)
-    × ((IsAsSeen kind s message → ⊥) → (new ≡ old) × (told ≡ differs old s message))
+    (IsAsSeen kind s message.body × (IsPlayed 0 step old new told ⊎ IsStarved step old new told))
+    ⊎ ((IsAsSeen kind s message.body → ⊥) × (new ≡ old) × (told ≡ differs old s message))
 
 -- What the step would come to is compared with what was seen, before anything changes.
 pub record Compared (kind : Kind) (s : Seen) (step : Step) (old new : NetworkState) (told : Answer) : Type 0 where
-  pub outcome : Result Upward Refusal
+  pub outcome : Result Message Refusal
   pub would : WouldComeTo old step outcome
   pub does : AsCompared outcome kind s step old new told
 

@@ -91,10 +91,10 @@ block_told network r =
     shown_by (bank_for network r.client (block_of_address network.geometry r.place)) (λ v. byte_told (peeked v r.client r.place))
     else if r.call == 23 then shown_by (home_of network r.place) (λ v. home_told (line_at v r.place))
     else if r.call == 24 then shown_by (home_of network r.place) (λ v. outward_told (outward_at v r.place))
-    else if r.call == 35 then shown_by (home_of network r.place) (λ v. memory_told (memory_at v r.place))
     else if r.call == 37 then shown_by (bank_for network r.client r.place) (λ v. copy_or_none (copy_at v r.client r.place))
     else if r.call == 38 then shown_by (bank_for network r.client r.place) (λ v. awaited_told (wait_at v r.client r.place))
-    else shown_by (home_of network r.place) (λ v. number_told v.number)
+    else if r.call == 39 then shown_by (home_of network r.place) (λ v. number_told v.number)
+    else shown_by (home_of network r.place) (λ v. memory_told (memory_at v r.place))
 
 -- ## Of a bank
 

@@ -15,7 +15,7 @@ use crate::views::home_of;
 use tl_bank::Refusal;
 use tl_script_words::{Step, TicketCall};
 use tl_trace::Network;
-use tl_types::{BankNo, BlockNo, Body, Channel, ClientId, Kind, Prune, Ticket, Upward};
+use tl_types::{BankNo, BlockNo, Body, Channel, ClientId, Kind, Message, Prune, Ticket};
 
 /// Carries out what a message that was seen asks.
 pub fn saw(cache: &mut Cache, seen: &Seen) -> Answer
@@ -73,17 +73,17 @@ fn compare(
     seen: &Seen,
     kind: Kind,
     step: &Step,
-    would: Result<Upward, Refusal>,
+    would: Result<Message, Refusal>,
 ) -> Answer
     requires { WouldComeTo network.old step.now would }
     ensures { Compared kind seen.now step.now network.old network.new result }
 {
     match would {
         Ok(message) => {
-            if is_as_seen(kind, seen, &message) {
+            if is_as_seen(kind, seen, &message.body) {
                 played(network, 0, step)
             } else {
-                differs(network, seen, message)
+                differs(network, seen, &message)
             }
         }
         Err(refusal) => Answer::only(u32::from(refusal.number())),
@@ -91,31 +91,31 @@ fn compare(
 }
 
 /// Whether a message is of a kind that was seen, with the bytes that were seen.
-fn is_as_seen(kind: Kind, seen: &Seen, message: &Upward) -> bool
-    ensures { IsTrue result ↔ IsAsSeen kind seen.now message.now }
+fn is_as_seen(kind: Kind, seen: &Seen, body: &Body) -> bool
+    ensures { IsTrue result ↔ IsAsSeen kind seen.now body.now }
 {
-    if message.kind() != kind {
+    if body.kind() != kind {
         return false;
     }
-    match message.bytes() {
+    match body.bytes() {
         Some(bytes) => bytes.as_slice() == seen.bytes(),
         None => seen.bytes().is_empty(),
     }
 }
 
 /// The message that the client would send in place of the one that was seen.
-fn differs(network: &Network, seen: &Seen, message: Upward) -> Answer
-    ensures { result ≡ differs network.now seen.now message }
+fn differs(network: &Network, seen: &Seen, message: &Message) -> Answer
+    ensures { result ≡ differs network.now seen.now message.now }
 {
     let ticket = Ticket {
-        bank: bank_of(network, BlockNo::new(seen.block)),
+        bank: bank_of(network, message.block),
         client: ClientId::new(seen.client),
         channel: Channel::C,
         serial: 0,
     };
     Answer {
         status: 29,
-        ..message_told(ticket, &Body::Upward(message), seen.block)
+        ..message_told(ticket, &message.body, message.block.number())
     }
 }
 

@@ -1,7 +1,7 @@
 //! A message that was seen on a client's link, and what it asks.
 ghost use Rattle.std.specs.Prelude.{◌≡◌, ◌<◌, Some};
 ghost use Rattle.tl_types.specs.Decoding.{dirty_at, kind_on_c, kind_on_e, report_at};
-ghost use Rattle.tl_embed.specs.Seen.{bytes_seen, carries_bytes, first_in, first_of_block, is_of_client, kind_asks, kind_seen, message_asks, seen_asks, waits_there};
+ghost use Rattle.tl_embed.specs.Seen.{bytes_seen, carries_bytes, first_in, first_of_block, first_or_not, is_of_client, kind_asks, kind_seen, message_asks, seen_asks, waits_there};
 ghost use Rattle.tl_embed.specs.Told.{seen_echoed};
 
 use crate::answer::Answer;
@@ -10,7 +10,7 @@ use crate::views::bank_for;
 use tl_bank::Bank;
 use tl_script_words::{Step, TicketCall};
 use tl_trace::Network;
-use tl_types::{BlockNo, Channel, ClientId, DirtyPrune, Kind, MESSAGES, ProbeReport, Prune, Ticket};
+use tl_types::{BlockNo, Channel, ClientId, DirtyPrune, Kind, MESSAGES, Message, ProbeReport, Prune, Ticket};
 
 /// A message that a device sent.
 #[repr(C)]
@@ -125,17 +125,33 @@ impl Seen {
     fn first_or_not(&self, bank: &Bank, channel: Channel) -> Result<Ticket, u32>
         ensures { result ≡ first_in (Some bank.now) self.now channel }
     {
-        match bank.waiting(ClientId::new(self.client), channel, 0) {
+        let client = ClientId::new(self.client);
+        if client.number() >= bank.geometry().clients() {
+            return Err(4);
+        }
+        match bank.waiting(client, channel, 0) {
             None => Err(4),
-            Some(first) => {
-                if first.1.block.number() == self.block {
-                    Ok(first.0)
-                } else if self.waits_there(bank, channel) {
-                    Err(5)
-                } else {
-                    Err(4)
-                }
-            }
+            Some(first) => self.ticket_or_not(bank, channel, first.0, &first.1),
+        }
+    }
+
+    /// The ticket of the first message that waits on a channel, if that is of the block.
+    fn ticket_or_not(
+        &self,
+        bank: &Bank,
+        channel: Channel,
+        ticket: Ticket,
+        first: &Message,
+    ) -> Result<Ticket, u32>
+        requires { self.now.client < bank.now.geometry.clients }
+        ensures { result ≡ first_or_not bank.now self.now channel (Some (ticket, first.now)) }
+    {
+        if first.block.number() == self.block {
+            Ok(ticket)
+        } else if self.waits_there(bank, channel) {
+            Err(5)
+        } else {
+            Err(4)
         }
     }
 

@@ -125,6 +125,8 @@ fn last_block(bank: &Bank) -> u32
     ensures is { result ≡ last_block bank.now }
     ensures inside { result < bank.now.geometry.memory_blocks }
 {
+    // For the prover: the memory has a block.
+    let _blocks = bank.geometry().memory_blocks();
     let events = bank.log();
     match events.get(events.len().saturating_sub(1)) {
         Some(event) => event.block(shape_of(bank.geometry())),
