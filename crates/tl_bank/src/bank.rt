@@ -35,6 +35,7 @@ mod contents;
 mod home_calls;
 mod look;
 mod memory_calls;
+mod misses;
 mod open;
 mod protocol_view;
 mod settle;

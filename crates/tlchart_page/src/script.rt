@@ -1,0 +1,2 @@
+//! The page's script.
+pub(crate) const SCRIPT: &str = "x\n";

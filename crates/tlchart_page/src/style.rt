@@ -1,0 +1,2 @@
+//! The page's style.
+pub(crate) const STYLE: &str = "body {}\n";
