@@ -1,5 +1,5 @@
 -- The states that a page shows, told as changes (this project's own).
-use Rattle.std.specs.Prelude.{◌≡◌, ◌≢◌, ℕ, suc, List, [], ◌∷◌, ◌++◌, map, slice_set, string_bytes, Option, Some, None, String, Vec}
+use Rattle.std.specs.Prelude.{◌≡◌, ◌≢◌, ℕ, suc, List, [], ◌∷◌, ◌++◌, map, slice_set, string_bytes, vec_items, Option, Some, None}
 use Rattle.tl_map.specs.Numbers.{Numbers}
 use Rattle.tl_script_words.specs.declared.step.Step.{Step}
 use Rattle.tl_text.specs.declared.answer.Answer.{Answer}
@@ -22,25 +22,25 @@ IsChange place before text None = before ≡ text
 IsChange place before text (Some change) = (change.place ≡ place) × (string_bytes change.text ≡ text) × (before ≢ text)
 
 -- A step's frame: its answer, and the changes that make of the state that was shown before it the one that is shown after it.
-pub record IsFrame (cells : List Cell) (index : ℕ) (step : Step) (old new : NetworkState) (state : List String) (frame : Frame) : Type 0 where
+pub record IsFrame (cells : List Cell) (index : ℕ) (step : Step) (old new : NetworkState) (state : List (List ℕ)) (frame : Frame) : Type 0 where
   pub answers : IsNetworkStep index step old new frame.answer
   pub changes : changed (state_shown old cells) frame.changes.items ≡ state_shown new cells
-  pub state : map string_bytes state ≡ state_shown new cells
+  pub state : state ≡ state_shown new cells
 
 -- a film has one more frame at its end
 pub record IsLonger (old : Film) (frame : Frame) (new : Film) : Type 0 where
   pub start : new.start ≡ old.start
   pub answers : new.answers.items ≡ old.answers.items ++ frame.answer ∷ []
-  pub changes : new.changes.items ≡ old.changes.items ++ frame.changes ∷ []
+  pub changes : map vec_items new.changes.items ≡ map vec_items old.changes.items ++ frame.changes.items ∷ []
 
 -- From a state of all banks on, each step gives its answer, and its changes make of the state that was shown before the step the one
 -- that the banks' views show after it.
-abbrev pub AreFrames : List Cell → ℕ → List Step → NetworkState → List Answer → List (Vec Change) → NetworkState → Type 0
+abbrev pub AreFrames : List Cell → ℕ → List Step → NetworkState → List Answer → List (List Change) → NetworkState → Type 0
 AreFrames cells index [] old [] [] new = new ≡ old
 AreFrames cells index (step ∷ steps) old (answer ∷ answers) (changes ∷ rest) new =
     (next : NetworkState)
     × IsNetworkStep index step old next answer
-    × (changed (state_shown old cells) changes.items ≡ state_shown next cells)
+    × (changed (state_shown old cells) changes ≡ state_shown next cells)
     × AreFrames cells (suc index) steps next answers rest new
 AreFrames cells index steps old answers changes new = ⊥
 
@@ -51,4 +51,4 @@ pub record IsFilm (g : Numbers) (image : List ℕ) (steps : List Step) (cells : 
   pub last : NetworkState
   pub reset : IsReset g image first
   pub start : map string_bytes film.start.items ≡ state_shown first cells
-  pub frames : AreFrames cells 0 steps first film.answers.items film.changes.items last
+  pub frames : AreFrames cells 0 steps first film.answers.items (map vec_items film.changes.items) last

@@ -1,5 +1,5 @@
 //! The states of a trace, told as changes.
-ghost use Rattle.std.specs.Prelude.{◌≡◌, ◌≤◌, ◌*◌, [], IfOk, OnOk, length, map, string_bytes};
+ghost use Rattle.std.specs.Prelude.{◌≡◌, ◌≤◌, ◌*◌, ◌++◌, [], IfOk, OnOk, length, map, option_to_list, string_bytes, vec_items};
 ghost use Rattle.tlchart_page.specs.Film.{AreFrames, IsChange, IsFilm, IsFrame, IsLonger, changed};
 ghost use Rattle.tlchart_page.specs.Parts.{cell_text, state_shown};
 
@@ -68,6 +68,16 @@ fn change_at(
     Ok(Some(Change { place, text }))
 }
 
+/// A change, where there is one, at the end of some.
+fn push_change(changes: &mut Vec<Change>, change: Option<Change>) -> Result<(), AllocError>
+    ensures { OnOk result (changes.new.items ≡ changes.old.items ++ option_to_list change) }
+{
+    match change {
+        Some(change) => Ok(changes.push(change)?),
+        None => Ok(()),
+    }
+}
+
 /// The changes that make one state of another.
 fn changes_between(
     alloc: Global,
@@ -79,9 +89,8 @@ fn changes_between(
 {
     let mut changes = Vec::new(alloc);
     for (place, text) in after.iter().enumerate() {
-        if let Some(change) = change_at(alloc, place, before[place].as_str(), text.as_str())? {
-            changes.push(change)?;
-        }
+        let change = change_at(alloc, place, before[place].as_str(), text.as_str())?;
+        push_change(&mut changes, change)?;
     }
     Ok(changes)
 }
@@ -96,7 +105,7 @@ fn frame_of(
     state: &mut Vec<String>,
 ) -> Result<Frame, AllocError>
     requires { map string_bytes state.old.items ≡ state_shown network.old cells.now }
-    ensures { IfOk result (λ frame. IsFrame cells.now index step.now network.old network.new state.new.items frame) }
+    ensures { IfOk result (λ frame. IsFrame cells.now index step.now network.old network.new (map string_bytes state.new.items) frame) }
 {
     let answer = network.step(index, step)?;
     let after = state_of(alloc, network, cells)?;
@@ -128,7 +137,7 @@ fn film_steps(
     requires start { map string_bytes film.old.start.items ≡ state_shown network.old cells.now }
     ensures start { film.new.start ≡ film.old.start }
     ensures frames { OnOk result
-        (AreFrames cells.now 0 steps.now network.old film.new.answers.items film.new.changes.items network.new) }
+        (AreFrames cells.now 0 steps.now network.old film.new.answers.items (map vec_items film.new.changes.items) network.new) }
 {
     let mut state = state_of(alloc, network, cells)?;
     for (index, step) in steps.iter().enumerate() {
