@@ -320,10 +320,10 @@ function homeTable() {
     const h = home(state[it.home]);
     const o = home(old[0]);
     const passes = (x) => x.words + (x.data ? " " + x.data : "");
-    rows.push(make("tr", { "data-home": it.block }, ...heads(`bank ${it.bank}`, `b${it.block}`), cell(h.dirty || "none", o.dirty || "none"),
+    rows.push(make("tr", { "data-home": it.block }, ...heads(String(it.bank), `b${it.block}`), cell(h.dirty || "none", o.dirty || "none"),
       cell(h.bytes, o.bytes), cell(passes(h), passes(o)), cell(state[it.memory], old[1])));
   }
-  return table("Home and the memory", ["bank", "block", "home's copy", "bytes", "to and from the memory", "memory's bytes"], rows,
+  return table("Home and the memory", ["bank", "block", "home's copy", "bytes", "to or from memory", "memory's bytes"], rows,
     "Home has no copy, and nothing passes to the memory.");
 }
 function registersTable() {
@@ -333,8 +333,8 @@ function registersTable() {
     for (const r of openRegisters(state[place])) {
       if (!wantsBlock(r.own) && !(r.victim !== null && wantsBlock(r.victim))) continue;
       const serves = r.grow === "evict" ? "eviction" : `client ${r.client} ${r.grow}`;
-      const row = make("tr", { "data-register": r.own }, ...heads(`bank ${bank}`, `b${r.own}`, serves, r.victim === null ? "none" : `b${r.victim}`,
-        `set ${r.set} way ${r.way}`, r.probed.length ? r.probed.join(", ") : "nobody", nextWords(r)));
+      const row = make("tr", { "data-register": r.own }, ...heads(String(bank), `b${r.own}`, serves, r.victim === null ? "none" : `b${r.victim}`,
+        `${r.way} of set ${r.set}`, r.probed.length ? r.probed.join(", ") : "nobody", nextWords(r)));
       const was = openRegisters(textBefore(place)).find((one) => one.own === r.own);
       if (!old.includes(r.own) || JSON.stringify(was) !== JSON.stringify(r)) row.lastChild.className = "changed";
       rows.push(row);
@@ -349,7 +349,7 @@ function waysTable() {
     const old = split(textBefore(it.place), ",");
     if (ways.every((way) => way === "-") && old.join() === ways.join()) continue;
     const words = (list) => list.map((block, way) => `way ${way}: ${block === "-" ? "free" : "b" + block}`).join(", ");
-    rows.push(make("tr", {}, ...heads(`bank ${it.bank}`, `set ${it.set}`), cell(words(ways), words(old))));
+    rows.push(make("tr", {}, ...heads(String(it.bank), String(it.set)), cell(words(ways), words(old))));
   }
   return table("Ways", ["bank", "set", "what lies in its ways"], rows, "Every way is free.");
 }
@@ -407,10 +407,10 @@ function drawState() {
 
 // ---- The chart
 
-const FIRST = 262, GAP = 168, TOP = 50, ROW = 28, ASIDE = 8, REACH = 6, BESIDE = 14;
+const FIRST = 244, GAP = 146, TOP = 50, ROW = 28, ASIDE = 8, REACH = 6, BESIDE = 14;
 const lifelines = clientNumbers.map((who) => "client " + who).concat(Array.from({ length: g.banks }, (_, bank) => "home " + bank), "memory");
 const x = (name) => FIRST + GAP * lifelines.indexOf(name);
-const width = x("memory") + 80;
+const width = x("memory") + 70;
 const rowsWanted = () => data.rows.map((_, index) => index).filter((index) => {
   const it = about(index);
   const blockIs = chosen.block === "" || it.block === Number(chosen.block);

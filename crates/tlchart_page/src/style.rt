@@ -10,6 +10,7 @@ pub(crate) const STYLE: &str = r##":root { color-scheme: light dark;
   --bad: #ff8078; --link: #79bcff; --A: #79bcff; --B: #ffad66; --C: #d7b0ff; --D: #5fd876; --E: #b4bec9;
   --branch: #2563b8; --tip: #a06a00; } }
 * { box-sizing: border-box; }
+[hidden] { display: none !important; }
 body { margin: 0; background: var(--paper); color: var(--ink); font: 14px/1.45 system-ui, 'DejaVu Sans', sans-serif; }
 header { position: sticky; top: 0; z-index: 1; background: var(--paper); border-bottom: 1px solid var(--line); padding: 8px 16px; }
 h1 { font-size: 18px; margin: 0 16px 0 0; display: inline-block; }
@@ -30,6 +31,7 @@ code, td, .code { font-size: 12px; }
 table { border-collapse: collapse; width: 100%; }
 caption { text-align: left; font-weight: bold; padding: 12px 0 2px; }
 th { text-align: left; font-weight: normal; color: var(--quiet); font-size: 12px; padding: 1px 8px 1px 0; vertical-align: bottom; }
+td:first-child, td:nth-child(2) { white-space: nowrap; }
 td { padding: 1px 8px 1px 0; border-top: 1px solid var(--line); vertical-align: top; overflow-wrap: anywhere; }
 ul { margin: 2px 0; padding-left: 18px; }
 p { margin: 4px 0; }
