@@ -195,6 +195,35 @@ async function schemes(browser, shots) {
   check("light and dark", colours[0] === "rgb(255, 255, 255)rgb(31, 35, 40)" && colours[1] === "rgb(13, 17, 23)rgb(230, 237, 243)", colours.join(" "));
 }
 
+// A page of 4,096 steps, whose rows, messages and changes are those of a race again and again: it opens soon, page by page.
+async function large(browser) {
+  const html = fs.readFileSync(path.join(golden, "release-crosses-probe.html"), "utf8");
+  const [, head, json, tail] = /^([^]*id="data">)([^]*?)(<\/script>[^]*)$/.exec(html);
+  const data = JSON.parse(json);
+  const steps = data.rows.length;
+  const [rows, arrows, changes] = [data.rows, data.arrows, data.changes];
+  [data.rows, data.arrows, data.changes] = [[], [], []];
+  for (let first = 0; first + steps <= 4096; first += steps) {
+    data.rows.push(...rows);
+    data.changes.push(...changes);
+    data.arrows.push(...arrows.map(([sent, taken, ...rest]) => [first + sent, first + taken, ...rest]));
+  }
+  const file = path.join(browser.folder, "large.html");
+  fs.writeFileSync(file, head + JSON.stringify(data) + tail);
+  const last = data.rows.length - 1;
+  await browser.go("file://" + file + "#step=" + last);
+  const took = await browser.ask("performance.getEntriesByType('navigation')[0].loadEventEnd");
+  check("4,096 steps open in two seconds", took < 2000, took);
+  check("the last page", await browser.ask("document.getElementById('pageName').textContent") === "page 21 of 21");
+  check("a page has 200 steps at most", await browser.ask("document.querySelectorAll('.row').length") <= 200);
+  await browser.ask(BY_ID("pageBack"));
+  check("the page before", await browser.ask(STEP) === "3800" && await browser.ask("document.querySelectorAll('.row').length") === 200);
+  await browser.ask(BY_ID("back"));
+  check("a step back is a page back", await browser.ask("document.getElementById('pageName').textContent") === "page 19 of 21");
+  await browser.key("Home");
+  check("the first page", await browser.ask("document.getElementById('pageName').textContent") === "page 1 of 21");
+}
+
 // What the page says is permitted is what tlcache does: each such step succeeds, and each other one is refused.
 function answers(tlcache, script, steps) {
   const text = script.replace(/steps = \[[^]*\]/, () => "steps = [" + steps.map((step) => `"${step}"`).join(", ") + "]");
@@ -215,7 +244,7 @@ function candidates(clients, blocks, blockBytes, tickets) {
   return found;
 }
 const PERMITTED = `(() => { const one = document.getElementById("block"); const found = [];
-  for (const { value } of [...one.options]) { one.value = value; one.dispatchEvent(new Event("change"));
+  for (const { value } of [...one.options].reverse()) { one.value = value; one.dispatchEvent(new Event("change"));
     document.querySelectorAll("[data-step]").forEach((step) => found.push(step.dataset.step)); }
   return found; })()`;
 async function permits(browser, name, tlcache) {
@@ -228,7 +257,6 @@ async function permits(browser, name, tlcache) {
   const all = candidates(data.geometry.clients, blocks, data.geometry.blockBytes, tickets);
   const wrong = [];
   for (let step = -1; step < steps.length; step += 1) {
-    await browser.go(url(name, "#step=" + (step < 0 ? "start" : step)));
     const permitted = new Set(await browser.ask(PERMITTED));
     const past = steps.slice(0, step + 1);
     for (const one of permitted) {
@@ -238,6 +266,7 @@ async function permits(browser, name, tlcache) {
     answers(tlcache, script, [...past, ...others]).slice(past.length).forEach((answer, place) => {
       if (!/^refused/.test(answer)) wrong.push(`after ${step}: ${others[place]} is not refused`);
     });
+    await browser.key("ArrowRight");
   }
   check(`${name}: permitted steps`, wrong.length === 0, wrong.slice(0, 5).join("; "));
 }
@@ -252,6 +281,7 @@ async function main() {
     await shows(browser);
     await tries(browser);
     await schemes(browser, option("--shots"));
+    await large(browser);
     if (option("--tlcache")) for (const name of PAGES) await permits(browser, name, option("--tlcache"));
   } catch (fault) {
     check("the browser", false, fault.stack);

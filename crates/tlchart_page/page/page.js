@@ -556,6 +556,19 @@ function stepAsked() {
 const KEYS = { ArrowRight: next, ArrowDown: next, ArrowLeft: back, ArrowUp: back, Home: () => go(-1), End: () => go(last),
   PageDown: () => go(at + 20), PageUp: () => go(at - 20) };
 
+// What a reader who is new to the protocol needs.
+function reading() {
+  const items = ["A row is a step: click it, or use the arrow keys. The state beside it is that after the step.",
+    "An arrow is a message, from the step that sent it to the step that took it; thick while it is in flight, dashed if never taken.",
+    "Channels: A asks (Acquire, and home's Get and Put), B probes, C gives back (ProbeAck, Release), D answers (Grant, ReleaseAck), "
+      + "E acknowledges (GrantAck).",
+    "A copy of a block is at None, Branch (may be read) or Tip (may be written). A band on a client is its copy of the block that is "
+      + "chosen, or of the first message's.",
+    "Marks: a filled circle is a store, an open one a load, a cross a refusal, a square a drop or an eviction. b0 is block 0; the "
+      + "ticket 0.1.C.3 is bank 0, client 1, channel C, its message 3."];
+  return [make("details", {}, make("summary", {}, "How to read this page"), make("ul", {}, ...items.map((item) => make("li", {}, item))))];
+}
+
 function build() {
   const button = (id, label, word, onclick) => make("button", { id, type: "button", "aria-label": label, title: label, onclick }, word);
   const picker = (id, label, values, word) => make("label", {}, label + " ", make("select", { id, onchange: (event) => choose(id, event.target.value) },
@@ -571,7 +584,7 @@ function build() {
         make("span", { id: "pageName" }), button("pageNext", "Next page", "▶", () => go(wanted[(page + 1) * PAGE] ?? at)))),
     make("p", { id: "told", class: "sr", "aria-live": "polite" })),
     make("main", {},
-      make("section", { id: "chart", "aria-label": "Sequence chart" },
+      make("section", { id: "chart", "aria-label": "Sequence chart" }, ...reading(),
         make("div", { id: "rows", role: "listbox", tabindex: 0, "aria-label": "Steps: arrow keys go forward and back" })),
       make("section", { id: "state", tabindex: 0, "aria-label": "State after the step" })));
   const fit = () => document.documentElement.style.setProperty("--top", document.querySelector("header").offsetHeight + "px");

@@ -70,9 +70,13 @@ abbrev pub words_text : ℕ → Kind → Option (List ℕ) → List ℕ
 words_text block kind bytes = decimal block ++ codes "," ++ kind_text kind ++ codes "," ++ bytes_text bytes ++ codes ";"
 
 -- a message that waits: its serial, its block, what it is, its bytes
+abbrev pub waiting_text : Ticket × Message → List ℕ
+waiting_text x = decimal x.0.serial ++ codes "," ++ words_text x.1.block (body_kind x.1.body) (body_bytes x.1.body)
+
+-- the same, where there is one
 abbrev pub message_text : Option (Ticket × Message) → List ℕ
 message_text None = []
-message_text (Some x) = decimal x.0.serial ++ codes "," ++ words_text x.1.block (body_kind x.1.body) (body_bytes x.1.body)
+message_text (Some x) = waiting_text x
 
 -- ## Registers
 

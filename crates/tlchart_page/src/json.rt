@@ -87,14 +87,14 @@ fn push_row(text: &mut String, step: &Step, turn: &Turn, answer: &Answer) -> Res
 }
 
 /// The row of a step, where the chart has one.
-fn push_row_at(text: &mut String, sheet: Sheet<'_>, row: usize, step: &Step) -> Result<(), AllocError> {
+fn push_row_at(text: &mut String, sheet: &Sheet<'_>, row: usize, step: &Step) -> Result<(), AllocError> {
     match (sheet.chart.turns.get(row), sheet.answers.get(row)) {
         (Some(turn), Some(answer)) => push_row(text, step, turn, answer),
         _ => text.push_str("[]"),
     }
 }
 
-fn push_rows(text: &mut String, sheet: Sheet<'_>) -> Result<(), AllocError> {
+fn push_rows(text: &mut String, sheet: &Sheet<'_>) -> Result<(), AllocError> {
     for (row, step) in sheet.steps.iter().enumerate() {
         push_comma(text, row)?;
         push_row_at(text, sheet, row, step)?;
@@ -160,7 +160,7 @@ fn push_changes(text: &mut String, changes: &[Vec<Change>]) -> Result<(), AllocE
 }
 
 /// All of it.
-pub(crate) fn push_data(text: &mut String, sheet: Sheet<'_>) -> Result<(), AllocError> {
+pub(crate) fn push_data(text: &mut String, sheet: &Sheet<'_>) -> Result<(), AllocError> {
     text.push_str("{\"title\":\"")?;
     push_title(text, sheet.title)?;
     text.push_str("\",\n")?;

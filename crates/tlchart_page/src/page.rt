@@ -15,7 +15,7 @@ use tlchart_draw::{DrawError, push_title};
 use tlchart_model::chart_of;
 
 /// The document around the style, the data and the script.
-fn push_page(text: &mut String, sheet: Sheet<'_>) -> Result<(), AllocError> {
+fn push_page(text: &mut String, sheet: &Sheet<'_>) -> Result<(), AllocError> {
     text.push_str(
         "<!DOCTYPE html>\n<html lang=\"en\">\n<head>\n<meta charset=\"utf-8\">\n<meta name=\"viewport\" content=\"width=device-width\">\n<title>",
     )?;
@@ -53,7 +53,7 @@ fn paged(alloc: Global, script: &Script, title: &str) -> Result<String, AllocErr
         changes: &film.changes,
         chart: &chart,
     };
-    push_page(&mut text, sheet)?;
+    push_page(&mut text, &sheet)?;
     Ok(text)
 }
 

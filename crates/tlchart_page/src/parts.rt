@@ -91,9 +91,10 @@ fn push_message(
     ensures { OnOk result (string_bytes text.new
         ≡ string_bytes text.old ++ message_text (message_waiting bank.now client channel place)) }
 {
-    let waiting = bank.waiting(client, channel, place);
-    write!(text, "{}", Waiting(waiting.as_ref()))?;
-    Ok(())
+    match bank.waiting(client, channel, place) {
+        Some(waiting) => Ok(write!(text, "{}", Waiting(&waiting))?),
+        None => Ok(()),
+    }
 }
 
 /// The messages at the places of a channel.

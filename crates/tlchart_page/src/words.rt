@@ -2,7 +2,7 @@
 ghost use Rattle.std.specs.Prelude.{Some};
 ghost use Rattle.std.specs.Option.{option_map};
 ghost use Rattle.tl_text.specs.Closing.{perm_letter};
-ghost use Rattle.tlchart_page.specs.Words.{bytes_text, copy_text, due_text, line_text, message_text, outward_text, slot_text, task_text, tip_letter, line_letter, wait_text, words_text};
+ghost use Rattle.tlchart_page.specs.Words.{bytes_text, copy_text, due_text, line_text, outward_text, slot_text, task_text, tip_letter, line_letter, wait_text, waiting_text, words_text};
 
 use std::fmt;
 use tl_protocol::{CachedCopy, Line, Outward};
@@ -150,26 +150,22 @@ impl fmt::Display for Words<'_> {
     }
 }
 
-/// A message that waits, where there is one.
+/// A message that waits.
 #[derive(Clone, Copy)]
-pub(crate) struct Waiting<'a>(pub(crate) Option<&'a (Ticket, Message)>);
+pub(crate) struct Waiting<'a>(pub(crate) &'a (Ticket, Message));
 
 impl fmt::Display for Waiting<'_> {
-    ghost output = { λ x. Some (message_text (option_map (λ m. m.now) x.0)) };
+    ghost output = { λ x. Some (waiting_text x.0.now) };
 
     fn fmt<W: fmt::Write>(&self, f: &mut fmt::Formatter<W>) -> fmt::Result {
-        match self.0 {
-            Some((ticket, message)) => {
-                let serial = ticket.serial;
-                let words = Words {
-                    block: message.block,
-                    kind: message.body.kind(),
-                    bytes: message.body.bytes(),
-                };
-                write!(f, "{serial},{words}")
-            }
-            None => Ok(()),
-        }
+        let (ticket, message) = self.0;
+        let serial = ticket.serial;
+        let words = Words {
+            block: message.block,
+            kind: message.body.kind(),
+            bytes: message.body.bytes(),
+        };
+        write!(f, "{serial},{words}")
     }
 }
 
