@@ -592,7 +592,9 @@ function build() {
   addEventListener("hashchange", () => go(stepAsked()));
   document.addEventListener("keydown", (event) => {
     const isField = ["INPUT", "SELECT"].includes(event.target.tagName);
-    if (isField || event.ctrlKey || event.altKey || event.metaKey || !KEYS[event.key]) return;
+    // Beside the chart these keys scroll.
+    const scrolls = event.target.closest("#state") && !["ArrowLeft", "ArrowRight"].includes(event.key);
+    if (isField || scrolls || event.ctrlKey || event.altKey || event.metaKey || !KEYS[event.key]) return;
     event.preventDefault();
     KEYS[event.key]();
   });

@@ -25,7 +25,7 @@ IsChange place before text (Some change) = (change.place ≡ place) × (string_b
 pub record IsFrame (cells : List Cell) (index : ℕ) (step : Step) (old new : NetworkState) (state : List (List ℕ)) (frame : Frame) : Type 0 where
   pub answers : IsNetworkStep index step old new frame.answer
   pub changes : changed (state_shown old cells) frame.changes.items ≡ state_shown new cells
-  pub state : state ≡ state_shown new cells
+  pub shown : state ≡ state_shown new cells
 
 -- a film has one more frame at its end
 pub record IsLonger (old : Film) (frame : Frame) (new : Film) : Type 0 where

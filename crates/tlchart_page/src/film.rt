@@ -18,7 +18,7 @@ pub struct Change {
 }
 
 /// What a step leaves: its answer, and which cells show another text after it.
-#[derive(Debug, Drop)]
+#[derive(Drop)]
 pub(crate) struct Frame {
     pub(crate) answer: Answer,
     pub(crate) changes: Vec<Change>,

@@ -11,7 +11,7 @@ use tlchart_draw::{push_lifeline, push_mark, push_step, push_title};
 use tlchart_model::{Arrow, Chart, Turn};
 
 /// What a page is made from.
-#[derive(Clone, Copy, Debug)]
+#[derive(Clone, Copy)]
 pub(crate) struct Sheet<'a> {
     pub(crate) title: &'a str,
     pub(crate) geometry: Geometry,

@@ -97,7 +97,8 @@ fn push_message(
     }
 }
 
-/// The messages at the places of a channel.
+/// The messages at the first places of a channel.
+#[tactic(auto, unfolding(crate::specs::Parts::waiting_below))]
 fn push_channel(
     text: &mut String,
     bank: &Bank,
@@ -130,8 +131,9 @@ fn push_members(text: &mut String, members: &ClientSet, clients: u32) -> Result<
     ensures { OnOk result (string_bytes text.new ≡ string_bytes text.old ++ members_below members.now clients) }
 {
     for number in 0..clients {
-        if members.contains(ClientId::new(number)) {
-            write!(text, " {number}")?;
+        let client = ClientId::new(number);
+        if members.contains(client) {
+            write!(text, " {client}")?;
         }
     }
     Ok(())
