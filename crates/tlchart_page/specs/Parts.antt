@@ -29,11 +29,17 @@ waiting_below v client channel zero = []
 waiting_below v client channel (suc n) =
     waiting_below v client channel n ++ message_text (message_waiting v client channel n)
 
+-- a register's block, its way, and what it is open for
+unfoldable pub head_text : Register → List ℕ
+head_text r = decimal r.own ++ codes "," ++ decimal r.way.set ++ codes "," ++ decimal r.way.way ++ codes "," ++ task_text r.task ++ codes ","
+
+-- what a register does next
+unfoldable pub tail_text : View → ℕ → List ℕ
+tail_text v own = codes "," ++ due_text (next_at v own) ++ codes ";"
+
 -- a register: its block, its way, what it is open for, whom it has probed, and what it does next
 abbrev pub register_text : View → Register → List ℕ
-register_text v r =
-    decimal r.own ++ codes "," ++ decimal r.way.set ++ codes "," ++ decimal r.way.way ++ codes "," ++ task_text r.task ++ codes ","
-    ++ members_below r.probed v.geometry.clients ++ codes "," ++ due_text (next_at v r.own) ++ codes ";"
+register_text v r = head_text r ++ members_below r.probed v.geometry.clients ++ tail_text v r.own
 
 -- what lies in the first ways of a set
 abbrev pub ways_below : View → ℕ → ℕ → List ℕ

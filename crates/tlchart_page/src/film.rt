@@ -135,7 +135,7 @@ fn film_steps(
     requires answers { film.old.answers.items ≡ [] }
     requires changes { film.old.changes.items ≡ [] }
     requires start { map string_bytes film.old.start.items ≡ state_shown network.old cells.now }
-    ensures start { film.new.start ≡ film.old.start }
+    ensures start { OnOk result (film.new.start ≡ film.old.start) }
     ensures frames { OnOk result
         (AreFrames cells.now 0 steps.now network.old film.new.answers.items (map vec_items film.new.changes.items) network.new) }
 {

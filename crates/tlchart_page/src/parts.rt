@@ -3,7 +3,7 @@ ghost use Rattle.std.specs.Prelude.{◌≡◌, ◌++◌, ◌≤◌, OnOk, string
 ghost use Rattle.std.specs.List.{flat_map};
 ghost use Rattle.tl_bank.specs.Contents.{message_waiting};
 ghost use Rattle.tlchart_page.specs.Words.{members_below, message_text};
-ghost use Rattle.tlchart_page.specs.Parts.{cell_text, client_text, home_text, part_text, register_text, waiting_below, ways_below};
+ghost use Rattle.tlchart_page.specs.Parts.{cell_text, client_text, head_text, home_text, part_text, register_text, tail_text, waiting_below, ways_below};
 
 use crate::words::{AtHome, Bytes, Held, Letter, Next, Passing, Slot, Waiting, Waits, Work};
 use std::alloc::AllocError;
@@ -139,16 +139,33 @@ fn push_members(text: &mut String, members: &ClientSet, clients: u32) -> Result<
     Ok(())
 }
 
-/// A register.
-fn push_register(text: &mut String, bank: &Bank, register: &Register) -> Result<(), AllocError>
-    ensures { OnOk result (string_bytes text.new ≡ string_bytes text.old ++ register_text bank.now register.now) }
+/// A register's block, its way, and what it is open for.
+#[tactic(auto, unfolding(crate::specs::Parts::head_text))]
+fn push_head(text: &mut String, register: &Register) -> Result<(), AllocError>
+    ensures { OnOk result (string_bytes text.new ≡ string_bytes text.old ++ head_text register.now) }
 {
     let own = register.own;
     let (set, way) = (register.way.set, register.way.way);
     write!(text, "{own},{set},{way},{},", Work(&register.task))?;
-    push_members(text, &register.probed, bank.geometry().clients())?;
+    Ok(())
+}
+
+/// What the register of a block does next.
+#[tactic(auto, unfolding(crate::specs::Parts::tail_text))]
+fn push_tail(text: &mut String, bank: &Bank, own: BlockNo) -> Result<(), AllocError>
+    ensures { OnOk result (string_bytes text.new ≡ string_bytes text.old ++ tail_text bank.now own) }
+{
     write!(text, ",{};", Next(bank.next_of(own)))?;
     Ok(())
+}
+
+/// A register.
+fn push_register(text: &mut String, bank: &Bank, register: &Register) -> Result<(), AllocError>
+    ensures { OnOk result (string_bytes text.new ≡ string_bytes text.old ++ register_text bank.now register.now) }
+{
+    push_head(text, register)?;
+    push_members(text, &register.probed, bank.geometry().clients())?;
+    push_tail(text, bank, register.own)
 }
 
 /// The open registers.
