@@ -109,11 +109,7 @@ fn push_clients(
 }
 
 /// The cells of a block.
-fn push_block(
-    cells: &mut Vec<Cell>,
-    geometry: Geometry,
-    block: BlockNo,
-) -> Result<(), AllocError>
+fn push_block(cells: &mut Vec<Cell>, geometry: Geometry, block: BlockNo) -> Result<(), AllocError>
     ensures { OnOk result (cells.new.items ≡ cells.old.items ++ block_cells geometry block) }
 {
     let bank = geometry.bank(block);
@@ -137,11 +133,7 @@ fn push_blocks(
 }
 
 /// The five channels of a client.
-fn push_channels_of(
-    cells: &mut Vec<Cell>,
-    bank: BankNo,
-    client: ClientId,
-) -> Result<(), AllocError>
+fn push_channels_of(cells: &mut Vec<Cell>, bank: BankNo, client: ClientId) -> Result<(), AllocError>
     ensures { OnOk result (cells.new.items ≡ cells.old.items ++ channel_cells bank client) }
 {
     push_cell(cells, bank, Part::Channel(client, Channel::A))?;

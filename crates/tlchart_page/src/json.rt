@@ -25,7 +25,11 @@ pub(crate) struct Sheet<'a> {
 
 /// A comma before each element but the first.
 fn push_comma(text: &mut String, place: usize) -> Result<(), AllocError> {
-    if place > 0 { text.push_str(",\n") } else { Ok(()) }
+    if place > 0 {
+        text.push_str(",\n")
+    } else {
+        Ok(())
+    }
 }
 
 /// The numbers that banks are made from.
@@ -76,7 +80,12 @@ fn push_mark_of(text: &mut String, turn: &Turn) -> Result<(), AllocError> {
 }
 
 /// A step: its words, its answer, who made it, its mark.
-fn push_row(text: &mut String, step: &Step, turn: &Turn, answer: &Answer) -> Result<(), AllocError> {
+fn push_row(
+    text: &mut String,
+    step: &Step,
+    turn: &Turn,
+    answer: &Answer,
+) -> Result<(), AllocError> {
     text.push_str("[\"")?;
     push_step(text, step)?;
     write!(text, "\",\"{answer}\",\"")?;
@@ -87,7 +96,12 @@ fn push_row(text: &mut String, step: &Step, turn: &Turn, answer: &Answer) -> Res
 }
 
 /// The row of a step, where the chart has one.
-fn push_row_at(text: &mut String, sheet: &Sheet<'_>, row: usize, step: &Step) -> Result<(), AllocError> {
+fn push_row_at(
+    text: &mut String,
+    sheet: &Sheet<'_>,
+    row: usize,
+    step: &Step,
+) -> Result<(), AllocError> {
     match (sheet.chart.turns.get(row), sheet.answers.get(row)) {
         (Some(turn), Some(answer)) => push_row(text, step, turn, answer),
         _ => text.push_str("[]"),
@@ -115,7 +129,11 @@ fn push_arrow(text: &mut String, arrow: &Arrow) -> Result<(), AllocError> {
     text.push_str("\",\"")?;
     push_lifeline(text, message.to)?;
     let channel = message.kind.channel();
-    write!(text, "\",\"{channel}\",{},\"{}\",\"", message.block, message.kind)?;
+    write!(
+        text,
+        "\",\"{channel}\",{},\"{}\",\"",
+        message.block, message.kind
+    )?;
     if let Some(bytes) = &message.bytes {
         write!(text, "{}", Hex(bytes.as_slice()))?;
     }

@@ -22,7 +22,9 @@ fn push_page(text: &mut String, sheet: &Sheet<'_>) -> Result<(), AllocError> {
     push_title(text, sheet.title)?;
     text.push_str("</title>\n<style>\n")?;
     text.push_str(STYLE)?;
-    text.push_str("</style>\n</head>\n<body>\n<noscript>This page needs its own script.</noscript>\n<script type=\"application/json\" id=\"data\">\n")?;
+    text.push_str(
+        "</style>\n</head>\n<body>\n<noscript>This page needs its own script.</noscript>\n<script type=\"application/json\" id=\"data\">\n",
+    )?;
     push_data(text, sheet)?;
     text.push_str("</script>\n<script>\n")?;
     text.push_str(SCRIPT)?;

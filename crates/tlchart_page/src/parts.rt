@@ -67,7 +67,12 @@ fn push_home(text: &mut String, bank: &Bank, block: BlockNo) -> Result<(), Alloc
 {
     let line = bank.line(block);
     let outward = bank.outward(block);
-    write!(text, "{} {}", AtHome(line.as_ref()), Passing(outward.as_ref()))?;
+    write!(
+        text,
+        "{} {}",
+        AtHome(line.as_ref()),
+        Passing(outward.as_ref())
+    )?;
     Ok(())
 }
 
@@ -193,11 +198,7 @@ fn push_part(text: &mut String, bank: &Bank, part: Part) -> Result<(), AllocErro
 }
 
 /// What a cell shows; nothing where its bank is not there.
-pub(crate) fn push_cell(
-    text: &mut String,
-    network: &Network,
-    cell: &Cell,
-) -> Result<(), AllocError>
+pub(crate) fn push_cell(text: &mut String, network: &Network, cell: &Cell) -> Result<(), AllocError>
     ensures { OnOk result (string_bytes text.new ≡ string_bytes text.old ++ cell_text network.now cell.now) }
 {
     match network.bank(cell.bank) {
