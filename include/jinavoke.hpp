@@ -442,7 +442,8 @@ class Home {
             uint64_t has = jv_perm(cache_, k, block).serial, recorded = jv_directory(cache_, k, block).serial;
             if (k != client && has == JV_NONE && recorded == JV_NONE) continue;
             std::string s = "client " + words::number(k) + " has " + words::perm(has);
-            if (has != JV_NONE) s += std::string(it.dirty.count(block) ? " dirty" : "") + " " + copy_of(k, block);
+            if (has == JV_TIP && it.dirty.count(block)) s += " dirty";
+            if (has != JV_NONE) s += " " + copy_of(k, block);
             s += std::string(", home records ") + words::perm(recorded);
             for (const Probe &p : it.probes) if (p.block == block) s += p.is_taken ? ", a Probe to answer" : ", a Probe on its way";
             for (const Held &h : it.held) if (!h.access && block_of(h.m.address) == block) s += ", " + h.m.kind() + " held back";
@@ -592,11 +593,12 @@ class Home {
         h.why = a.status;
         if (a.status == JV_LINK_FULL) return false;
         note(JV_EVENT_ANSWER_PROBE, h.m.bank, me.number, block, h.m.param, &h.m);
-        if (!went(h.m, a)) return true;
-        me.probes.erase(me.probes.begin() + (p - &me.probes.front()));
-        if (a.param == JV_REPORT_BTON) me.probed[block] = cycle_;
+        std::optional<jv_answer> own = sent(h.m, a, &p->ticket);
+        if (!own) return true;
+        me.probes.erase(std::find_if(me.probes.begin(), me.probes.end(), [&](const Probe &it) { return &it == p; }));
+        if (own->param == JV_REPORT_BTON) me.probed[block] = cycle_;
         me.dirty.erase(block);
-        me.to_c[a.bank].ups.push_back({jv_sent(&a), block, h.m.source});
+        me.to_c[own->bank].ups.push_back({jv_sent(&*own), block, h.m.source});
         return true;
     }
     bool make_release(Client &me, Held &h) {
@@ -605,16 +607,19 @@ class Home {
         h.why = a.status;
         if (a.status == JV_LINK_FULL) return false;
         note(JV_EVENT_SEND_RELEASE, h.m.bank, me.number, block, h.m.param, &h.m);
-        if (!went(h.m, a)) return true;
+        std::optional<jv_answer> own = sent(h.m, a, nullptr);
+        if (!own) return true;
         me.dirty.erase(block);
-        me.to_c[a.bank].ups.push_back({jv_sent(&a), block, h.m.source});
+        me.to_c[own->bank].ups.push_back({jv_sent(&*own), block, h.m.source});
         return true;
     }
-    // Whether the model's client has sent its message; where that is not what was seen, the fault is told, and the run goes on with it.
-    bool went(const Message &m, const jv_answer &a) {
-        if (a.status) { refused(m, m.kind(), a.status); return false; }
+    // What the model's client has sent; none where it was refused. Where that is not what was seen the fault is told, and the run goes
+    // on with the model's.
+    std::optional<jv_answer> sent(const Message &m, jv_answer a, const jv_ticket *probe) {
+        if (a.status != JV_OK && a.status != JV_DIFFERS) { refused(m, m.kind(), a.status); return std::nullopt; }
         Message own = m;
         own.opcode = a.opcode; own.param = a.param; own.len = a.len;
+        own.bytes.fill(0);
         std::copy(a.bytes, a.bytes + a.len, own.bytes.begin());
         if (own.opcode != m.opcode || own.param != m.param || own.len != m.len)
             fault(Cause::Differs, m, m.shown() + "; the model sends " + own.shown());
@@ -623,14 +628,14 @@ class Home {
             fault(Cause::Differs, m, m.kind() + " with other bytes than the model from byte " + words::number(at) + " on: "
                 + words::hex(m.bytes.data(), m.len) + ", where the model sends " + words::hex(own.bytes.data(), own.len));
         }
-        return true;
+        return a.status == JV_DIFFERS ? own_call(m, probe) : a;
     }
 
     // ---- the model's client
 
 #if JV_VERSION >= 4
-    // The answer of the model's client, which has then sent a message, that which was seen or another; or the refusal, and nothing changed.
-    jv_answer saw(Client &me, const Message &m, const jv_ticket *probe) {
+    // The answer of the model's client: it has sent what was seen; or nothing changed, and JV_DIFFERS tells what it would send.
+    jv_answer saw(Client &me, const Message &m, const jv_ticket *) {
         jv_seen s;
         std::memset(&s, 0, sizeof s);
         s.channel = m.channel; s.opcode = m.opcode; s.param = m.param; s.client = m.client; s.block = block_of(m.address); s.len = m.len;
@@ -641,7 +646,6 @@ class Home {
             s.options = JV_STORES; // data of a clean copy, which TileLink allows
             a = jv_saw(cache_, &s);
         }
-        if (a.status == JV_DIFFERS) return own_call(m, probe);
         for (uint32_t i = 0, left = a.status ? 0 : a.stores; left; i++) {
             bool other = std::memcmp(copy.bytes + 8 * i, s.bytes + 8 * i, 8) != 0;
             if (other || (i == 0 && std::memcmp(copy.bytes, s.bytes, m.len) == 0)) { inferred(me, m, i); left--; }
@@ -650,7 +654,9 @@ class Home {
     }
     uint32_t dropped(const jv_answer &a, uint32_t) const { return a.place; }
 #else
-    // Likewise; the stores are made by themselves, and the message is compared when it is sent.
+    // Before JV_VERSION 4 the archive has no jv_saw. The stores are made by themselves, and the client sends its own message, which is
+    // compared then.
+    enum : uint32_t { JV_DIFFERS = 29 };
     jv_answer saw(Client &me, const Message &m, const jv_ticket *probe) {
         uint32_t block = block_of(m.address), any = 0;
         if (m.len && jv_perm(cache_, m.client, block).serial == JV_TIP) {
