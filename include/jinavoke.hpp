@@ -1,14 +1,16 @@
-// jinavoke.hpp: a home for the TL-C links of an RTL design, over the proved banks of jinavoke.h. C++17, header only, tested and not
-// proved. docs/RTL.md leads through it.
+// jinavoke.hpp: a home for the TL-C links of an RTL design, over the proved banks of jinavoke.h. C++17, header only,
+// tested and not proved. docs/RTL.md leads through it.
 //
-//   jinavoke::Options options;                     // how many clients, how large a cache, the base of the memory, the bus
+//   jinavoke::Options options;                  // how many clients, how large a cache, the base of the memory, the bus
 //   jinavoke::Home home(options, image);
-//   for each clock edge, in this order: what fired on D and B (home.d_taken, home.b_taken), on C (home.c), what the cores did
-//   (home.load, home.store), what fired on A and E (home.a, home.e); then home.tick(), and home.b, home.d are to be driven.
+//   at each clock edge what fired is told, in this order: D and B (home.d_taken, home.b_taken), C (home.c), what the
+//   cores did (home.load, home.store), A and E (home.a, home.e); then home.tick(), and home.b and home.d are to be
+//   driven.
 //
-// Each message that a client sends is asked of the model, the client that the banks have in its place: it is done where the model
-// would send the same, kind and bytes, and is a fault else. Home's own messages are those of the banks. Channels may overtake one
-// another on the way: a message waits until those that justify it have come, at most `patience` cycles.
+// Each message that a client sends is asked of the model, the client that the banks have in its place: it is done where
+// the model would send the same, kind and bytes, and is a fault else. Home's own messages are those of the banks.
+// Channels may overtake one another on the way: a message waits until those that justify it have come, at most
+// `patience` cycles.
 #ifndef JINAVOKE_HPP
 #define JINAVOKE_HPP
 #include "jinavoke.h"
@@ -35,26 +37,37 @@ namespace jinavoke {
 using Bytes = std::array<uint8_t, JV_MOST_BLOCK_BYTES>;
 
 namespace words {
-inline const char *at(std::initializer_list<const char *> names, uint32_t n) { return n < names.size() ? names.begin()[n] : "?"; }
+inline const char *at(std::initializer_list<const char *> names, uint32_t n) {
+    return n < names.size() ? names.begin()[n] : "?";
+}
 inline const char *grow(uint32_t n) { return at({"NtoB", "NtoT", "BtoT"}, n); }
 inline const char *report(uint32_t n) { return at({"TtoB", "TtoN", "BtoN", "TtoT", "BtoB", "NtoN"}, n); }
 inline const char *cap(uint32_t n) { return at({"toT", "toB", "toN"}, n); }
 inline const char *perm(uint64_t n) { return at({"None", "Branch", "Tip"}, uint32_t(n)); }
 inline const char *opcode(uint32_t channel, uint32_t n) {
     switch (channel) {
-    case JV_A: return at({"PutFullData", "PutPartialData", "ArithmeticData", "LogicalData", "Get", "Intent", "AcquireBlock", "AcquirePerm"}, n);
+    case JV_A:
+        return at({"PutFullData", "PutPartialData", "ArithmeticData", "LogicalData", "Get", "Intent", "AcquireBlock",
+                   "AcquirePerm"}, n);
     case JV_B: return at({"?", "?", "?", "?", "?", "?", "ProbeBlock", "ProbePerm"}, n);
-    case JV_C: return at({"AccessAck", "AccessAckData", "HintAck", "?", "ProbeAck", "ProbeAckData", "Release", "ReleaseData"}, n);
+    case JV_C:
+        return at({"AccessAck", "AccessAckData", "HintAck", "?", "ProbeAck", "ProbeAckData", "Release",
+                   "ReleaseData"}, n);
     case JV_D: return at({"AccessAck", "AccessAckData", "HintAck", "?", "Grant", "GrantData", "ReleaseAck", "?"}, n);
     default: return "GrantAck";
     }
 }
 inline const char *event(uint32_t n) {
-    return at({"load", "store", "acquire", "release", "answer_probe", "take_grant", "take_release_ack", "accept", "probe", "take_c", "grant",
-        "take_grant_ack", "get", "serve", "take_data", "drop", "put", "take_put_ack"}, n);
+    return at({"load", "store", "acquire", "release", "answer_probe", "take_grant", "take_release_ack", "accept",
+               "probe", "take_c", "grant", "take_grant_ack", "get", "serve", "take_data", "drop", "put",
+               "take_put_ack"}, n);
 }
 inline std::string number(uint64_t n) { return std::to_string(n); }
-inline std::string address(uint64_t n) { char t[24]; std::snprintf(t, sizeof t, "0x%08llx", (unsigned long long)n); return t; }
+inline std::string address(uint64_t n) {
+    char text[24];
+    std::snprintf(text, sizeof text, "0x%08llx", static_cast<unsigned long long>(n));
+    return text;
+}
 inline std::string hex(const uint8_t *bytes, size_t len) {
     static const char digits[] = "0123456789abcdef";
     std::string s(2 * len, '0');
@@ -79,13 +92,16 @@ struct Message { // its beats joined
     Bytes bytes{};
 
     std::string kind() const { // as in a trace
-        std::string s = words::opcode(channel, opcode);
-        if (channel == JV_A && opcode >= 6) s += std::string(" ") + words::grow(param);
-        if (channel == JV_C && opcode >= 4) s += std::string(" ") + words::report(param);
-        if (channel == JV_B || (channel == JV_D && (opcode == JV_OP_GRANT || opcode == JV_OP_GRANT_DATA))) s += std::string(" ") + words::cap(param);
+        std::string s = words::opcode(channel, opcode), blank = " ";
+        if (channel == JV_A && opcode >= 6) s += blank + words::grow(param);
+        if (channel == JV_C && opcode >= 4) s += blank + words::report(param);
+        if (channel == JV_B || is_grant()) s += blank + words::cap(param);
         return s;
     }
     std::string shown() const { return len ? kind() + " " + words::hex(bytes.data(), len) : kind(); }
+    bool is_grant() const { return channel == JV_D && (opcode == JV_OP_GRANT || opcode == JV_OP_GRANT_DATA); }
+    bool is_release() const { return channel == JV_C && (opcode == JV_OP_RELEASE || opcode == JV_OP_RELEASE_DATA); }
+    bool is_answer() const { return channel == JV_C && (opcode == JV_OP_PROBE_ACK || opcode == JV_OP_PROBE_ACK_DATA); }
 };
 inline bool has_data(uint32_t channel, uint32_t opcode) {
     return channel == JV_A || channel == JV_B ? opcode < 4 : channel != JV_E && opcode % 2 == 1;
@@ -95,7 +111,9 @@ struct Bus { // how a block lies on the wires: block and beat bytes, each 8 to 6
     uint32_t block_bytes = 64, beat_bytes = 8;
     uint32_t beats(bool has_data) const { return has_data && block_bytes > beat_bytes ? block_bytes / beat_bytes : 1; }
     uint32_t len() const { return std::min(block_bytes, beat_bytes); }
-    uint32_t lane(uint64_t address) const { return block_bytes < beat_bytes ? uint32_t(address % beat_bytes) / block_bytes * block_bytes : 0; }
+    uint32_t lane(uint64_t address) const { // where the block begins on a bus that is wider
+        return block_bytes < beat_bytes ? uint32_t(address % beat_bytes) / block_bytes * block_bytes : 0;
+    }
     Beat part(const Message &m, uint32_t at) const { // the beat of a message at a place
         Beat b;
         b.opcode = m.opcode; b.param = m.param; b.source = m.source; b.sink = m.sink; b.address = m.address;
@@ -114,7 +132,8 @@ class Joiner { // joins the beats of one channel of one link
         torn_.reset();
         if (at_ > 0 && !is_of(b)) { torn_ = now_; at_ = 0; }
         if (at_ == 0) {
-            now_.opcode = b.opcode; now_.param = b.param; now_.source = b.source; now_.sink = b.sink; now_.address = b.address;
+            now_.opcode = b.opcode; now_.param = b.param; now_.source = b.source; now_.sink = b.sink;
+            now_.address = b.address;
             now_.len = data ? bus_.block_bytes : 0;
             now_.bytes.fill(0);
         }
@@ -150,7 +169,11 @@ struct Event { // a step of the model: jv_event_kind
     const Message *seen = nullptr;
     const Access *access = nullptr;
 };
-struct MemoryMessage { uint64_t cycle = 0; uint32_t bank = 0, block = 0, channel = JV_A, opcode = 0, len = 0; Bytes bytes{}; };
+struct MemoryMessage { // between home and the memory
+    uint64_t cycle = 0;
+    uint32_t bank = 0, block = 0, channel = JV_A, opcode = 0, len = 0;
+    Bytes bytes{};
+};
 struct Watch { // is told all that Home sees and does; a fault's own message comes before the fault
     virtual ~Watch() = default;
     virtual void message(const Message &) {}
@@ -161,8 +184,8 @@ struct Watch { // is told all that Home sees and does; a fault's own message com
 
 enum class Cause { Refused, Differs, Load, Beats, Codes, Address, Source, Sink, Unasked, Late };
 inline const char *cause_name(Cause c) {
-    static const char *const names[] = {"refused", "differs", "load", "beats", "codes", "address", "source", "sink", "unasked", "late"};
-    return names[int(c)];
+    return words::at({"refused", "differs", "load", "beats", "codes", "address", "source", "sink", "unasked", "late"},
+                     uint32_t(c));
 }
 struct Fault { // what a client may not do; or, of class limit, what this cache has no room for
     uint64_t cycle = 0;
@@ -210,13 +233,6 @@ struct Options {
     size_t last = 12;            // so many messages are told with a fault
 };
 
-// The bank of a block: the number's groups of bits, of the width of a bank's number, folded by exclusive or.
-inline uint32_t bank_of(const jv_numbers &n, uint32_t block) {
-    uint32_t bank = 0;
-    if (n.banks > 1) for (uint32_t rest = block; rest; rest /= uint32_t(n.banks)) bank ^= rest % uint32_t(n.banks);
-    return bank;
-}
-
 // ---- the home
 
 class Home {
@@ -242,7 +258,10 @@ class Home {
     void d_taken(uint32_t k) { // a beat of what d() offers
         Client &me = clients_.at(k);
         Down &down = me.d.front();
-        if (Grant *g = me.d_beat == 0 ? grant_of(me, down) : nullptr) { g->is_begun = true; me.acquires.erase(down.m.source); }
+        if (Grant *g = me.d_beat == 0 ? grant_of(me, down) : nullptr) {
+            g->is_begun = true;
+            me.acquires.erase(down.m.source);
+        }
         if (++me.d_beat < bus_.beats(down.m.len != 0)) return;
         Down whole = std::move(down);
         me.d_beat = 0;
@@ -265,17 +284,18 @@ class Home {
         if (const auto &torn = me.c.torn())
             fault(Cause::Beats, *torn, torn->kind() + " is broken off: a later beat has other fields");
         if (!m || !is_sound(*m, beat)) return;
-        bool releases = m->opcode == JV_OP_RELEASE || m->opcode == JV_OP_RELEASE_DATA;
-        if (releases && !me.releases.insert(m->source).second)
-            fault(Cause::Source, *m, m->kind() + ": a Release with source " + words::number(m->source) + " is not answered");
+        if (m->is_release() && !me.releases.insert(m->source).second)
+            fault(Cause::Source, *m, m->kind() + ": source " + words::number(m->source)
+                + " has a Release that is not answered");
         take(me, Held{*m, std::nullopt, cycle_, cycle_, JV_OK});
     }
-    // `raised`: the cycle in which valid rose for this beat, where it is known. A BtoT that waited since before its copy was probed away
-    // is lawful: the client is granted what it has none of.
+    // `raised`: the cycle in which valid rose for this beat, where it is known. A BtoT that waited since before its
+    // copy was probed away is lawful: it is granted with data.
     void a(uint32_t k, const Beat &beat, std::optional<uint64_t> raised = std::nullopt) {
         Client &me = clients_.at(k);
         Message m;
-        m.client = k; m.channel = JV_A; m.opcode = beat.opcode; m.param = beat.param; m.source = beat.source; m.address = beat.address;
+        m.client = k; m.channel = JV_A; m.opcode = beat.opcode; m.param = beat.param; m.source = beat.source;
+        m.address = beat.address;
         if (!is_sound(m, beat)) return;
         if (m.source >= options_.sources || !me.acquires.insert(m.source).second)
             fault(Cause::Source, m, m.kind() + ": source " + words::number(m.source)
@@ -294,8 +314,12 @@ class Home {
         tell(m);
         fault(Cause::Sink, m, "GrantAck of sink " + words::number(sink) + ", which no Grant that came has", false);
     }
-    void load(uint32_t k, uint64_t address, const uint8_t *bytes, uint32_t len) { access(k, false, address, bytes, len); }
-    void store(uint32_t k, uint64_t address, const uint8_t *bytes, uint32_t len) { access(k, true, address, bytes, len); }
+    void load(uint32_t k, uint64_t address, const uint8_t *bytes, uint32_t len) {
+        access(k, false, address, bytes, len);
+    }
+    void store(uint32_t k, uint64_t address, const uint8_t *bytes, uint32_t len) {
+        access(k, true, address, bytes, len);
+    }
 
     // ---- what home offers
 
@@ -305,7 +329,8 @@ class Home {
     }
     std::optional<Beat> d(uint32_t k) const {
         const Client &me = clients_.at(k);
-        return me.d.empty() || !me.d.front().has_sink ? std::nullopt : std::optional<Beat>(bus_.part(me.d.front().m, me.d_beat));
+        if (me.d.empty() || !me.d.front().has_sink) return std::nullopt;
+        return bus_.part(me.d.front().m, me.d_beat);
     }
     // The cycle's end: what waits is tried again, and home and the memory make their own steps.
     void tick() {
@@ -319,7 +344,8 @@ class Home {
         if (options_.evict_every && rng_() % options_.evict_every == 0) evict();
         for (Client &me : clients_) give_sink(me);
         if (cycle_ % 64 == 0) for (Client &me : clients_) look_for_late(me);
-        if (!options_.keeps_log && cycle_ % 4096 == 0) for (uint32_t bank = 0; bank < banks(); bank++) jv_forget(cache_, bank);
+        if (options_.keeps_log || cycle_ % 4096) return;
+        for (uint32_t bank = 0; bank < banks(); bank++) jv_forget(cache_, bank);
     }
 
     // ---- views
@@ -335,7 +361,8 @@ class Home {
     uint32_t block_of(uint64_t address) const { return uint32_t((address - options_.base) / bus_.block_bytes); }
     uint64_t address_of(uint32_t block) const { return options_.base + uint64_t(block) * bus_.block_bytes; }
     bool is_quiet() const {
-        for (const Client &me : clients_) if (!me.held.empty() || !me.grants.empty() || !me.d.empty() || !me.b.empty()) return false;
+        for (const Client &me : clients_)
+            if (!me.held.empty() || !me.grants.empty() || !me.d.empty() || !me.b.empty()) return false;
         for (uint32_t bank = 0; bank < banks(); bank++) if (jv_is_quiet(cache_, bank).serial != 1) return false;
         return true;
     }
@@ -348,8 +375,8 @@ class Home {
         std::copy(from.bytes, from.bytes + from.len, bytes.begin());
         return bytes;
     }
-    // What has come of a block since home last had no copy of it, as a script for `tlcache trace` and `tlchart`; empty where that is
-    // more than a chart has room for.
+    // What has come of a block since home last had no copy of it, as a script for `tlcache trace` and `tlchart`; empty
+    // where that is more than a chart has room for.
     std::string script(uint32_t block) const {
         return pasts_.at(block).is_cut ? "" : Script(*this, block).of(pasts_[block].steps);
     }
@@ -359,8 +386,18 @@ class Home {
     struct Lane { std::deque<Up> ups; uint64_t stuck = ~uint64_t(0); };
     struct Probe { uint32_t block; jv_ticket ticket; uint64_t since; bool is_taken; };
     struct Down { Message m; jv_ticket ticket; bool has_sink; };
-    struct Grant { uint32_t bank, block, sink; uint64_t since; bool is_begun, is_taken, is_acknowledged; jv_ticket ack; };
-    struct Held { Message m; std::optional<Access> access; uint64_t since, raised; uint32_t why; }; // seen, and not yet the model's
+    struct Grant {
+        uint32_t bank, block, sink;
+        uint64_t since;
+        bool is_begun, is_taken, is_acknowledged; // its first beat and its last; its GrantAck
+        jv_ticket ack;
+    };
+    struct Held { // seen, and not yet the model's
+        Message m;
+        std::optional<Access> access;
+        uint64_t since, raised;
+        uint32_t why; // the refusal for which it waits
+    };
     struct Client {
         Client(Bus bus, uint32_t k, uint32_t banks) : number(k), c(bus, k, JV_C), to_a(banks), to_c(banks) {}
         uint32_t number;
@@ -386,19 +423,18 @@ class Home {
 
     void tell(Message &m) {
         m.cycle = cycle_;
-        if (m.channel != JV_E && m.channel != JV_D) m.bank = bank_of(options_.numbers, block_of(m.address));
+        if (m.channel != JV_E && m.channel != JV_D) m.bank = bank_of(block_of(m.address));
         if (recent_.size() < 1024) recent_.push_back(m); else recent_[told_ % 1024] = m;
         told_++;
         for (Watch *w : watches_) w->message(m);
     }
-    void note(uint32_t kind, uint32_t bank, uint32_t client, uint32_t block, uint32_t param, const Message *seen = nullptr,
-              const Access *access = nullptr) {
+    void note(uint32_t kind, uint32_t bank, uint32_t client, uint32_t block, uint32_t param = 0,
+              const Message *seen = nullptr, const Access *access = nullptr) {
         remember(kind, client, block, param, access);
         if (kind == JV_EVENT_ACCEPT_ACQUIRE) serving_[block] = client;
         if (kind == JV_EVENT_TAKE_GRANT_ACK) serving_.erase(block);
         if (watches_.empty()) return;
-        Event e;
-        e.kind = kind; e.bank = bank; e.client = client; e.block = block; e.param = param; e.seen = seen; e.access = access;
+        Event e = {kind, bank, client, block, param, seen, access};
         for (Watch *w : watches_) w->event(e);
     }
     void remember(uint32_t kind, uint32_t client, uint32_t block, uint32_t param, const Access *access) {
@@ -407,7 +443,11 @@ class Home {
         if (past.is_cut) return;
         if (past.steps.size() >= 180) { past.steps.clear(); past.is_cut = true; return; }
         Past p = {uint8_t(kind), uint8_t(client), uint8_t(param), 0, 0, {}};
-        if (access) { p.len = uint8_t(access->len); p.offset = uint32_t((access->address - options_.base) % bus_.block_bytes); p.bytes = access->bytes; }
+        if (access) {
+            p.len = uint8_t(access->len);
+            p.offset = uint32_t((access->address - options_.base) % bus_.block_bytes);
+            p.bytes = access->bytes;
+        }
         past.steps.push_back(p);
     }
     void fault(Cause cause, const Message &m, const std::string &said, bool has_block = true, uint32_t status = JV_OK) {
@@ -445,24 +485,18 @@ class Home {
             if (has == JV_TIP && it.dirty.count(block)) s += " dirty";
             if (has != JV_NONE) s += " " + copy_of(k, block);
             s += std::string(", home records ") + words::perm(recorded);
-            for (const Probe &p : it.probes) if (p.block == block) s += p.is_taken ? ", a Probe to answer" : ", a Probe on its way";
-            for (const Held &h : it.held) if (!h.access && block_of(h.m.address) == block) s += ", " + h.m.kind() + " held back";
+            for (const Probe &p : it.probes)
+                if (p.block == block) s += p.is_taken ? ", a Probe to answer" : ", a Probe on its way";
+            for (const Held &h : it.held)
+                if (!h.access && block_of(h.m.address) == block) s += ", " + h.m.kind() + " held back";
             lines.push_back(s);
         }
         jv_answer home = jv_home_copy(cache_, block);
-        std::string s = home.serial == JV_HOME_NONE ? "home has no copy" : home.serial == JV_HOME_DIRTY ? "home has dirty " : "home has clean ";
+        std::string s = std::string("home has ") + words::at({"no copy", "clean ", "dirty "}, uint32_t(home.serial));
         if (home.len) s += words::hex(home.bytes, home.len);
         if (auto it = serving_.find(block); it != serving_.end()) s += ", serves client " + words::number(it->second);
         lines.push_back(s);
         return lines;
-    }
-    std::string copy_of(uint32_t k, uint32_t block) const {
-        std::string s;
-        for (uint32_t i = 0; i < bus_.block_bytes; i++) {
-            uint8_t byte = uint8_t(jv_peek(cache_, k, block * bus_.block_bytes + i).serial);
-            s += words::hex(&byte, 1);
-        }
-        return s;
     }
     std::vector<std::string> last_of(uint32_t block) const {
         std::deque<std::string> lines;
@@ -470,7 +504,8 @@ class Home {
         for (size_t i = 0; i < n && lines.size() < options_.last; i++) {
             const Message &m = recent_[(told_ - 1 - i) % n];
             if (m.address != address_of(block)) continue;
-            lines.push_front("cycle " + words::number(m.cycle) + " client " + words::number(m.client) + " " + "ABCDE"[m.channel] + " " + m.shown());
+            lines.push_front("cycle " + words::number(m.cycle) + " client " + words::number(m.client) + " "
+                + "ABCDE"[m.channel] + " " + m.shown());
         }
         return {lines.begin(), lines.end()};
     }
@@ -479,18 +514,21 @@ class Home {
 
     // Whether a message is one of the profile and of one block of the memory; else the fault is told.
     bool is_sound(Message &m, const Beat &beat) {
-        bool in_memory = m.address >= options_.base && (m.address - options_.base) / bus_.block_bytes < uint64_t(options_.numbers.memory_blocks);
-        bool aligned = (m.address - options_.base) % bus_.block_bytes == 0;
+        uint64_t at = m.address - options_.base;
+        bool in_memory = m.address >= options_.base && at / bus_.block_bytes < uint64_t(options_.numbers.memory_blocks);
+        bool aligned = at % bus_.block_bytes == 0;
         m.cycle = cycle_;
         if (in_memory && aligned) tell(m);
-        if (!is_in_profile(m)) fault(Cause::Codes, m, codes(m) + " is no message of the profile", in_memory);
-        else if (beat.size && *beat.size != bus_.size()) fault(Cause::Codes, m, m.kind() + " is of another size than a block", in_memory);
-        else if (!in_memory || !aligned)
-            fault(Cause::Address, m, m.kind() + " of " + words::address(m.address) + (in_memory ? ", where no block begins" : ", outside the memory"), in_memory);
-        else return true;
-        return false;
+        auto wrong = [&](Cause cause, const std::string &what) {
+            std::string codes = " (opcode " + words::number(m.opcode) + ", param " + words::number(m.param) + ")";
+            fault(cause, m, m.kind() + codes + what, in_memory);
+            return false;
+        };
+        if (!is_in_profile(m)) return wrong(Cause::Codes, " is no message of the profile");
+        if (beat.size && *beat.size != bus_.size()) return wrong(Cause::Codes, " is of another size than a block");
+        if (!in_memory) return wrong(Cause::Address, " of " + words::address(m.address) + ", outside the memory");
+        return aligned || wrong(Cause::Address, " of " + words::address(m.address) + ", where no block begins");
     }
-    static std::string codes(const Message &m) { return m.kind() + " (opcode " + words::number(m.opcode) + ", param " + words::number(m.param) + ")"; }
     static bool is_in_profile(const Message &m) {
         if (m.channel == JV_A) return m.opcode == JV_OP_ACQUIRE_BLOCK && m.param <= JV_BTOT;
         switch (m.opcode) {
@@ -502,16 +540,15 @@ class Home {
     }
     void access(uint32_t k, bool is_store, uint64_t address, const uint8_t *bytes, uint32_t len) {
         for (uint32_t at = 0; at < len;) {
-            Held h = {{}, Access(), cycle_, cycle_, JV_OK};
+            uint32_t block = block_of(address + at);
             uint32_t room = bus_.block_bytes - uint32_t((address + at - options_.base) % bus_.block_bytes);
-            h.access->cycle = cycle_; h.access->client = k; h.access->is_store = is_store; h.access->address = address + at;
-            h.access->len = std::min({len - at, room, 8u});
-            h.access->bank = bank_of(options_.numbers, block_of(address + at));
-            std::copy(bytes + at, bytes + at + h.access->len, h.access->bytes.begin());
-            h.m.client = k; h.m.address = address_of(block_of(address + at));
-            at += h.access->len;
-            for (Watch *w : watches_) w->access(*h.access);
-            take(clients_.at(k), std::move(h));
+            Access x = {cycle_, bank_of(block), k, is_store, address + at, std::min({len - at, room, 8u}), {}};
+            std::copy(bytes + at, bytes + at + x.len, x.bytes.begin());
+            for (Watch *w : watches_) w->access(x);
+            Message m;
+            m.client = k; m.address = address_of(block);
+            take(clients_.at(k), Held{m, x, cycle_, cycle_, JV_OK});
+            at += x.len;
         }
     }
     // Makes it the model's at once, or holds it back.
@@ -528,36 +565,43 @@ class Home {
             i = 0;
         }
     }
-    // Acquires are made in their order; all else of one block in its order, but that it does not wait for an Acquire, which may have
-    // overtaken it.
+    // Acquires are made in their order; all else of one block in its order, but that it does not wait for an Acquire,
+    // which may have overtaken it.
     static bool is_behind(const std::deque<Held> &held, size_t i) {
         auto asks = [](const Held &h) { return !h.access && h.m.channel == JV_A; };
-        for (size_t j = 0; j < i; j++) {
-            if (asks(held[j]) ? asks(held[i]) : held[j].m.address == held[i].m.address) return true;
-        }
-        return false;
+        return std::any_of(held.begin(), held.begin() + long(i), [&](const Held &h) {
+            return asks(h) ? asks(held[i]) : h.m.address == held[i].m.address;
+        });
     }
     // Whether it is done with, by the model or by a fault; else it has to wait, and why.
     bool make(Client &me, Held &h) {
         if (h.access) return make_access(me, h);
         if (h.m.channel == JV_A) return make_acquire(me, h);
-        return h.m.opcode == JV_OP_PROBE_ACK || h.m.opcode == JV_OP_PROBE_ACK_DATA ? make_answer(me, h) : make_release(me, h);
+        return h.m.is_answer() ? make_answer(me, h) : make_release(me, h);
     }
     bool make_access(Client &me, Held &h) {
         const Access &x = *h.access;
-        uint32_t block = block_of(x.address), at = uint32_t(x.address - options_.base);
-        jv_accessed got = x.is_store ? jv_store(cache_, x.client, at, x.bytes.data(), x.len, index_++) : jv_load(cache_, x.client, at, x.len, index_++);
-        if (got.status == JV_NO_PERMISSION && is_coming(me, block)) { h.why = got.status; return false; }
+        uint32_t block = block_of(x.address), at = uint32_t(x.address - options_.base), index = index_++;
+        jv_accessed got = x.is_store ? jv_store(cache_, x.client, at, x.bytes.data(), x.len, index)
+                                     : jv_load(cache_, x.client, at, x.len, index);
+        h.why = got.status;
+        if (got.status == JV_NO_PERMISSION && is_coming(me, block)) return false;
         note(x.is_store ? JV_EVENT_STORE : JV_EVENT_LOAD, x.bank, x.client, block, 0, nullptr, &x);
-        std::string what = std::string(x.is_store ? "store" : "load") + " of " + words::hex(x.bytes.data(), x.len) + " at " + words::address(x.address);
-        if (got.status) refused(h.m, what, got.status);
-        else if (!x.is_store && std::memcmp(got.bytes, x.bytes.data(), x.len)) fault(Cause::Load, h.m, what + ", where the model has " + words::hex(got.bytes, x.len));
-        if (x.is_store && !got.status) me.dirty.insert(block);
+        std::string what = x.is_store ? "store" : "load";
+        auto says = [&] {
+            return what + " of " + words::hex(x.bytes.data(), x.len) + " at " + words::address(x.address);
+        };
+        if (got.status) refused(h.m, says(), got.status);
+        else if (x.is_store) me.dirty.insert(block);
+        else if (std::memcmp(got.bytes, x.bytes.data(), x.len))
+            fault(Cause::Load, h.m, says() + ", where the model has " + words::hex(got.bytes, x.len));
         return true;
     }
     // Whether a Grant of the block has begun to come: a core may go on before its last beat.
     static bool is_coming(const Client &me, uint32_t block) {
-        return std::any_of(me.grants.begin(), me.grants.end(), [&](const Grant &g) { return g.block == block && g.is_begun && !g.is_taken; });
+        return std::any_of(me.grants.begin(), me.grants.end(), [&](const Grant &g) {
+            return g.block == block && g.is_begun && !g.is_taken;
+        });
     }
     static const Probe *probe_of(const Client &me, uint32_t block) {
         for (const Probe &p : me.probes) if (p.block == block && p.is_taken) return &p;
@@ -567,11 +611,13 @@ class Home {
         uint32_t block = block_of(h.m.address);
         jv_answer a = saw(me, h.m, nullptr);
         h.why = a.status;
-        bool waits = a.status == JV_COPIES_FULL || a.status == JV_LINK_FULL || (a.status == JV_WRONG_FROM && probe_of(me, block));
+        bool is_full = a.status == JV_COPIES_FULL || a.status == JV_LINK_FULL, is_wrong = a.status == JV_WRONG_FROM;
+        bool waits = is_full || (is_wrong && probe_of(me, block)); // for a Release, or for an answer to a Probe
         if (waits && cycle_ - h.since < options_.patience) return false;
-        bool is_late = a.status == JV_WRONG_FROM && h.m.param == JV_BTOT && was_probed_since(me, block, h.raised);
+        bool is_late = is_wrong && h.m.param == JV_BTOT && was_probed_since(me, block, h.raised);
+        uint32_t param = is_late ? uint32_t(JV_NTOT) : h.m.param;
         if (is_late) a = jv_acquire(cache_, me.number, block, JV_NTOT);
-        note(JV_EVENT_SEND_ACQUIRE, h.m.bank, me.number, block, is_late ? uint32_t(JV_NTOT) : h.m.param, is_late ? nullptr : &h.m);
+        note(JV_EVENT_SEND_ACQUIRE, h.m.bank, me.number, block, param, is_late ? nullptr : &h.m);
         if (a.status) { refused(h.m, h.m.kind(), a.status); return true; }
         me.source_of[block] = h.m.source;
         me.to_a[a.bank].ups.push_back({jv_sent(&a), block, h.m.source});
@@ -579,7 +625,8 @@ class Home {
     }
     bool was_probed_since(const Client &me, uint32_t block, uint64_t raised) const {
         auto it = me.probed.find(block);
-        return it != me.probed.end() && raised <= it->second + options_.slack && jv_perm(cache_, me.number, block).serial == JV_NONE;
+        bool is_since = it != me.probed.end() && raised <= it->second + options_.slack;
+        return is_since && jv_perm(cache_, me.number, block).serial == JV_NONE;
     }
     bool make_answer(Client &me, Held &h) {
         uint32_t block = block_of(h.m.address);
@@ -613,64 +660,91 @@ class Home {
         me.to_c[own->bank].ups.push_back({jv_sent(&*own), block, h.m.source});
         return true;
     }
-    // What the model's client has sent; none where it was refused. Where that is not what was seen the fault is told, and the run goes
-    // on with the model's.
+    // What the model's client has sent; none where it was refused. Where that is not what was seen the fault is told,
+    // and the run goes on with the model's.
     std::optional<jv_answer> sent(const Message &m, jv_answer a, const jv_ticket *probe) {
-        if (a.status != JV_OK && a.status != JV_DIFFERS) { refused(m, m.kind(), a.status); return std::nullopt; }
+        if (a.status != JV_OK && a.status != JV_DIFFERS) {
+            refused(m, m.kind(), a.status);
+            return std::nullopt;
+        }
         Message own = m;
         own.opcode = a.opcode; own.param = a.param; own.len = a.len;
         own.bytes.fill(0);
         std::copy(a.bytes, a.bytes + a.len, own.bytes.begin());
         if (own.opcode != m.opcode || own.param != m.param || own.len != m.len)
-            fault(Cause::Differs, m, m.shown() + "; the model sends " + own.shown());
-        else if (own.bytes != m.bytes) {
-            size_t at = size_t(std::mismatch(own.bytes.begin(), own.bytes.end(), m.bytes.begin()).first - own.bytes.begin());
-            fault(Cause::Differs, m, m.kind() + " with other bytes than the model from byte " + words::number(at) + " on: "
-                + words::hex(m.bytes.data(), m.len) + ", where the model sends " + words::hex(own.bytes.data(), own.len));
-        }
+            fault(Cause::Differs, m, m.kind() + "; the model sends " + own.kind());
+        else if (own.bytes != m.bytes) fault(Cause::Differs, m, m.kind() + other_bytes(m.bytes, own.bytes));
         return a.status == JV_DIFFERS ? own_call(m, probe) : a;
+    }
+    static std::string other_bytes(const Bytes &seen, const Bytes &own) {
+        auto at = size_t(std::mismatch(seen.begin(), seen.end(), own.begin()).first - seen.begin()) / 8 * 8;
+        return " with bytes " + words::number(at) + " to " + words::number(at + 7) + " " + words::hex(&seen[at], 8)
+            + ", where the model has " + words::hex(&own[at], 8);
     }
 
     // ---- the model's client
 
 #if JV_VERSION >= 4
-    // The answer of the model's client: it has sent what was seen; or nothing changed, and JV_DIFFERS tells what it would send.
+    // The answer of the model's client: it has sent what was seen; or nothing changed, and JV_DIFFERS tells what it
+    // would send.
     jv_answer saw(Client &me, const Message &m, const jv_ticket *) {
         jv_seen s;
         std::memset(&s, 0, sizeof s);
-        s.channel = m.channel; s.opcode = m.opcode; s.param = m.param; s.client = m.client; s.block = block_of(m.address); s.len = m.len;
-        s.options = options_.has_taps ? 0 : JV_STORES; s.index = index_++;
+        s.channel = m.channel; s.opcode = m.opcode; s.param = m.param; s.client = m.client;
+        s.block = block_of(m.address); s.len = m.len; s.index = index_++;
+        s.options = options_.has_taps ? 0 : JV_STORES;
         std::copy(m.bytes.begin(), m.bytes.end(), s.bytes);
+        if (!m.len) return jv_saw(cache_, &s);
         jv_answer copy = jv_copy(cache_, m.client, s.block), a = jv_saw(cache_, &s);
-        if (a.status == JV_DIFFERS && m.len && copy.serial == JV_COPY_CLEAN_TIP && !std::memcmp(copy.bytes, s.bytes, m.len)) {
+        bool same = copy.len == m.len && std::memcmp(copy.bytes, s.bytes, m.len) == 0;
+        if (a.status == JV_DIFFERS && copy.serial == JV_COPY_CLEAN_TIP && same) {
             s.options = JV_STORES; // data of a clean copy, which TileLink allows
             a = jv_saw(cache_, &s);
         }
-        for (uint32_t i = 0, left = a.status ? 0 : a.stores; left; i++) {
-            bool other = std::memcmp(copy.bytes + 8 * i, s.bytes + 8 * i, 8) != 0;
-            if (other || (i == 0 && std::memcmp(copy.bytes, s.bytes, m.len) == 0)) { inferred(me, m, i); left--; }
+        for (uint32_t i = 0, left = a.status ? 0 : a.stores; left && i < m.len / 8; i++) {
+            if (!same && std::memcmp(copy.bytes + 8 * i, s.bytes + 8 * i, 8) == 0) continue;
+            inferred(me, m, i);
+            left--;
         }
         return a;
     }
+    uint32_t bank_of(uint32_t block) const { return uint32_t(jv_bank_of(cache_, block).serial); }
+    std::string copy_of(uint32_t k, uint32_t block) const {
+        jv_answer copy = jv_copy(cache_, k, block);
+        return words::hex(copy.bytes, copy.len);
+    }
     uint32_t dropped(const jv_answer &a, uint32_t) const { return a.place; }
 #else
-    // Before JV_VERSION 4 the archive has no jv_saw. The stores are made by themselves, and the client sends its own message, which is
-    // compared then.
+    // Before JV_VERSION 4 the archive has no jv_saw. The stores are made by themselves, and the client sends its own
+    // message, which is compared then.
     enum : uint32_t { JV_DIFFERS = 29 };
     jv_answer saw(Client &me, const Message &m, const jv_ticket *probe) {
-        uint32_t block = block_of(m.address), any = 0;
+        uint32_t block = block_of(m.address);
         if (m.len && jv_perm(cache_, m.client, block).serial == JV_TIP) {
-            for (uint32_t i = 0; i < m.len / 8; i++) for (uint32_t j = 8 * i; j < 8 * i + 8; j++) {
-                if (jv_peek(cache_, m.client, block * bus_.block_bytes + j).serial != m.bytes[j]) any |= 1u << i;
-            }
-            if (any && options_.has_taps) any = 0;
-            else if (!any && !me.dirty.count(block)) any = 1; // data of a clean copy, which TileLink allows
-            for (uint32_t i = 0; i < m.len / 8; i++) if (any >> i & 1) {
-                jv_accessed x = jv_store(cache_, m.client, block * bus_.block_bytes + 8 * i, &m.bytes[8 * i], 8, index_++);
-                if (!x.status) inferred(me, m, i);
+            uint32_t other = 0; // a bit for each eight bytes that differ
+            for (uint32_t i = 0; i < m.len; i++) if (byte_of(m.client, block, i) != m.bytes[i]) other |= 1u << i / 8;
+            if (other && options_.has_taps) other = 0;
+            else if (!other && !me.dirty.count(block)) other = 1; // data of a clean copy, which TileLink allows
+            for (uint32_t i = 0; i < m.len / 8; i++) if (other >> i & 1) {
+                uint32_t at = block * bus_.block_bytes + 8 * i;
+                if (!jv_store(cache_, m.client, at, &m.bytes[8 * i], 8, index_++).status) inferred(me, m, i);
             }
         }
         return own_call(m, probe);
+    }
+    uint8_t byte_of(uint32_t k, uint32_t block, uint32_t at) const {
+        return uint8_t(jv_peek(cache_, k, block * bus_.block_bytes + at).serial);
+    }
+    std::string copy_of(uint32_t k, uint32_t block) const {
+        Bytes bytes{};
+        for (uint32_t i = 0; i < bus_.block_bytes; i++) bytes[i] = byte_of(k, block, i);
+        return words::hex(bytes.data(), bus_.block_bytes);
+    }
+    // The number's groups of bits, as wide as a bank's number, folded by exclusive or.
+    uint32_t bank_of(uint32_t block) const {
+        uint32_t bank = 0;
+        if (banks() > 1) for (uint32_t rest = block; rest; rest /= banks()) bank ^= rest % banks();
+        return bank;
     }
     uint32_t dropped(const jv_answer &, uint32_t bank) const {
         return jv_event(cache_, bank, jv_events(cache_, bank).serial - 1).place;
@@ -682,8 +756,7 @@ class Home {
         return probe ? jv_answer_probe(cache_, *probe) : jv_release(cache_, m.client, block, jv_prune(m.param));
     }
     void inferred(Client &me, const Message &m, uint32_t eight) {
-        Access x;
-        x.cycle = cycle_; x.bank = m.bank; x.client = m.client; x.is_store = true; x.address = m.address + 8 * eight; x.len = 8;
+        Access x = {cycle_, m.bank, m.client, true, m.address + 8 * eight, 8, {}};
         std::copy_n(m.bytes.begin() + 8 * eight, 8, x.bytes.begin());
         for (Watch *w : watches_) w->access(x);
         me.dirty.insert(block_of(m.address));
@@ -700,7 +773,7 @@ class Home {
     void take_grant(Client &me, const Down &down) {
         Grant &g = *grant_of(me, down);
         jv_answer a = jv_take_grant(cache_, down.ticket);
-        note(JV_EVENT_TAKE_GRANT, g.bank, me.number, g.block, 0);
+        note(JV_EVENT_TAKE_GRANT, g.bank, me.number, g.block);
         if (a.status) refused(down.m, down.m.kind(), a.status);
         g.is_taken = true;
         g.since = cycle_;
@@ -710,7 +783,7 @@ class Home {
     }
     void take_release_ack(Client &me, const Down &down) {
         jv_answer a = jv_take_release_ack(cache_, down.ticket);
-        note(JV_EVENT_TAKE_RELEASE_ACK, down.m.bank, me.number, block_of(down.m.address), 0);
+        note(JV_EVENT_TAKE_RELEASE_ACK, down.m.bank, me.number, block_of(down.m.address));
         if (a.status) refused(down.m, down.m.kind(), a.status);
         me.releases.erase(down.m.source);
     }
@@ -726,7 +799,7 @@ class Home {
         if (a.status == JV_LINK_FULL) return;
         lane.ups.pop_front();
         changes_[bank]++;
-        note(JV_EVENT_TAKE_C, bank, me.number, up.block, 0);
+        note(JV_EVENT_TAKE_C, bank, me.number, up.block);
         if (a.what != JV_TELLS_MESSAGE) return;
         me.d.push_back({down(a, up.block, up.source), jv_sent(&a), true});
     }
@@ -738,7 +811,7 @@ class Home {
         uint32_t block = lane.ups.front().block;
         lane.ups.pop_front();
         changes_[bank]++;
-        note(JV_EVENT_ACCEPT_ACQUIRE, bank, me.number, block, 0);
+        note(JV_EVENT_ACCEPT_ACQUIRE, bank, me.number, block);
         open_.push_back({block, bank, false, ~uint64_t(0)});
     }
     // A bank takes the GrantAcks of a link in the order of the Grants, so one that came early waits.
@@ -746,7 +819,7 @@ class Home {
         auto g = std::find_if(me.grants.begin(), me.grants.end(), [&](const Grant &it) { return it.bank == bank; });
         if (g == me.grants.end() || !g->is_taken || !g->is_acknowledged || !chance()) return;
         jv_take_grant_ack(cache_, g->ack);
-        note(JV_EVENT_TAKE_GRANT_ACK, bank, me.number, g->block, 0);
+        note(JV_EVENT_TAKE_GRANT_ACK, bank, me.number, g->block);
         changes_[bank]++;
         me.grants.erase(g);
     }
@@ -763,12 +836,13 @@ class Home {
     bool acts(const Open &o, const jv_answer &a) {
         switch (a.what) {
         case JV_TELLS_DROPPED:
-            note(JV_EVENT_DROP, o.bank, 0, dropped(a, o.bank), 0);
+            note(JV_EVENT_DROP, o.bank, 0, dropped(a, o.bank));
             return o.is_eviction;
         case JV_TELLS_MEMORY: {
-            Outward out = {a.address / bus_.block_bytes, o.bank, cycle_ + options_.memory_cycles, a.opcode == JV_OP_PUT_FULL_DATA, false};
+            bool is_put = a.opcode == JV_OP_PUT_FULL_DATA;
+            Outward out = {a.address / bus_.block_bytes, o.bank, cycle_ + options_.memory_cycles, is_put, false};
             outward_.push_back(out);
-            note(out.is_put ? JV_EVENT_SEND_PUT : JV_EVENT_SEND_GET, o.bank, 0, out.block, 0);
+            note(out.is_put ? JV_EVENT_SEND_PUT : JV_EVENT_SEND_GET, o.bank, 0, out.block);
             to_memory(out, a, JV_A);
             return o.is_eviction;
         }
@@ -790,14 +864,13 @@ class Home {
     }
     Message down(const jv_answer &a, uint32_t block, uint32_t source) const {
         Message m;
-        m.bank = a.bank; m.client = a.client; m.channel = a.channel; m.opcode = a.opcode; m.param = a.param; m.source = source;
-        m.address = address_of(block); m.len = a.len;
+        m.bank = a.bank; m.client = a.client; m.channel = a.channel; m.opcode = a.opcode; m.param = a.param;
+        m.source = source; m.address = address_of(block); m.len = a.len;
         std::copy(a.bytes, a.bytes + a.len, m.bytes.begin());
         return m;
     }
     void to_memory(const Outward &out, const jv_answer &a, uint32_t channel) {
-        MemoryMessage m;
-        m.cycle = cycle_; m.bank = out.bank; m.block = out.block; m.channel = channel; m.opcode = a.opcode; m.len = a.len;
+        MemoryMessage m = {cycle_, out.bank, out.block, channel, a.opcode, a.len, {}};
         std::copy(a.bytes, a.bytes + a.len, m.bytes.begin());
         for (Watch *w : watches_) w->memory(m);
     }
@@ -808,13 +881,13 @@ class Home {
             if (!out.is_served) {
                 jv_answer a = jv_serve_memory(cache_, out.block);
                 out.is_served = true;
-                note(JV_EVENT_SERVE, out.bank, 0, out.block, 0);
+                note(JV_EVENT_SERVE, out.bank, 0, out.block);
                 to_memory(out, a, JV_D);
                 i++;
                 continue;
             }
             jv_take_memory(cache_, out.block);
-            note(out.is_put ? JV_EVENT_TAKE_PUT_ACK : JV_EVENT_TAKE_DATA, out.bank, 0, out.block, 0);
+            note(out.is_put ? JV_EVENT_TAKE_PUT_ACK : JV_EVENT_TAKE_DATA, out.bank, 0, out.block);
             changes_[out.bank]++;
             out = outward_.back();
             outward_.pop_back();
@@ -824,7 +897,7 @@ class Home {
         if (recent_.empty()) return;
         uint32_t block = block_of(recent_[rng_() % recent_.size()].address);
         if (jv_evict(cache_, block).status) return;
-        uint32_t bank = bank_of(options_.numbers, block);
+        uint32_t bank = bank_of(block);
         changes_[bank]++;
         open_.push_back({block, bank, true, ~uint64_t(0)});
     }
@@ -833,8 +906,8 @@ class Home {
         if (me.d.empty() || me.d.front().has_sink) return;
         Grant &g = *grant_of(me, me.d.front());
         for (uint32_t sink = 0; sink < options_.sinks; sink++) {
-            bool is_free = std::none_of(me.grants.begin(), me.grants.end(), [&](const Grant &it) { return it.sink == sink && !it.is_acknowledged; });
-            if (!is_free) continue;
+            auto uses = [&](const Grant &it) { return it.sink == sink && !it.is_acknowledged; };
+            if (std::any_of(me.grants.begin(), me.grants.end(), uses)) continue;
             g.sink = me.d.front().m.sink = sink;
             me.d.front().has_sink = true;
             return;
@@ -842,7 +915,11 @@ class Home {
     }
     // What did not come in time: an answer to a Probe, a GrantAck, or what a message waits for.
     void look_for_late(Client &me) {
-        auto is_late = [&](uint64_t &since) { bool late = cycle_ - since >= options_.patience; if (late) since = cycle_; return late; };
+        auto is_late = [&](uint64_t &since) {
+            bool late = cycle_ - since >= options_.patience;
+            if (late) since = cycle_;
+            return late;
+        };
         Message m;
         m.client = me.number;
         for (Probe &p : me.probes) if (p.is_taken && is_late(p.since)) {
@@ -856,7 +933,8 @@ class Home {
         for (size_t i = 0; i < me.held.size(); i++) if (is_late(me.held[i].since)) {
             Held h = me.held[i];
             me.held.erase(me.held.begin() + long(i--));
-            fault(Cause::Late, h.m, (h.access ? "an access" : h.m.kind()) + " waits, and what it waits for does not come", true, h.why);
+            std::string what = h.access ? "an access" : h.m.kind();
+            fault(Cause::Late, h.m, what + " waits, and what it waits for does not come", true, h.why);
         }
     }
 
@@ -867,16 +945,18 @@ class Home {
         std::string of(const std::vector<Past> &steps) {
             for (const Past &p : steps) add(p);
             const jv_answer memory = jv_memory_block(home_.cache_, block_);
-            std::string s = "# block " + words::number(block_) + " at " + words::address(home_.address_of(block_)) + "\n";
-            s += "version = 2\nclients = " + words::number(home_.clients()) + "\nbanks = 1\nblock_bytes = " + words::number(home_.bus_.block_bytes);
-            s += "\nsets = 1\nways = 1\nregisters = 1\ncopies = 1\nmemory_blocks = 1\nturns = 1\nimage = \"";
-            return s + words::hex(memory.bytes, memory.len) + "\"\nsteps = [\n" + lines_ + "]\n";
+            return "# block " + words::number(block_) + " at " + words::address(home_.address_of(block_))
+                + "\nversion = 2\nclients = " + words::number(home_.clients()) + "\nbanks = 1\nblock_bytes = "
+                + words::number(home_.bus_.block_bytes) + "\nsets = 1\nways = 1\nregisters = 1\ncopies = 1\n"
+                + "memory_blocks = 1\nturns = 1\nimage = \"" + words::hex(memory.bytes, memory.len) + "\"\nsteps = [\n"
+                + lines_ + "]\n";
         }
 
       private:
         void line(const std::string &words) { lines_ += "    \"" + words + "\",\n"; }
         std::string ticket(uint32_t client, uint32_t channel) { // of the next message that is taken
-            return "0." + words::number(client) + "." + "ABCDE"[channel] + "." + words::number(taken_[{client, channel}]++);
+            uint64_t serial = taken_[{client, channel}]++;
+            return "0." + words::number(client) + "." + "ABCDE"[channel] + "." + words::number(serial);
         }
         void advance() { // by the block's own register, or by that of a block whose victim it is
             if (!is_open_) line("evict 0");
@@ -887,7 +967,9 @@ class Home {
             std::string name = words::event(p.kind), k = words::number(p.client);
             switch (p.kind) {
             case JV_EVENT_LOAD: line("load " + k + " " + words::address(p.offset) + " " + words::number(p.len)); break;
-            case JV_EVENT_STORE: line("store " + k + " " + words::address(p.offset) + " " + words::hex(p.bytes.data(), p.len)); break;
+            case JV_EVENT_STORE:
+                line("store " + k + " " + words::address(p.offset) + " " + words::hex(p.bytes.data(), p.len));
+                break;
             case JV_EVENT_SEND_ACQUIRE: line("acquire " + k + " 0 " + words::grow(p.param)); break;
             case JV_EVENT_SEND_RELEASE: line("release " + k + " 0 " + words::report(p.param)); break;
             case JV_EVENT_ANSWER_PROBE: line("answer_probe " + ticket(p.client, JV_B)); break;
@@ -925,15 +1007,16 @@ class Home {
 
 // ---- records
 
-// What was seen on the links, for `tlwire` (docs/WIRE.md): one bank's. A line waits where the record's order wants another before it:
-// a GrantAck for its Grant, and a source that is used again for the answer that frees it.
+// What was seen on the links, for `tlwire` (docs/WIRE.md): one bank's. A line waits where the record's order wants
+// another before it: a GrantAck for its Grant, and a source that is used again for the answer that frees it.
 class WireRecord : public Watch {
   public:
     WireRecord(std::ostream &out, const Options &o, const std::vector<uint8_t> &image = {}, uint32_t bank = 0)
         : out_(out), options_(o), bank_(bank), size_(Bus{uint32_t(o.numbers.block_bytes), o.beat_bytes}.size()) {
         out_ << "jvwire 1\nshape clients=" << o.numbers.clients << " block=" << o.numbers.block_bytes << " blocks="
              << o.numbers.memory_blocks << " base=" << words::address(o.base) << "\n";
-        for (int64_t k = 0; k < o.numbers.clients; k++) out_ << "source client=" << k << " from=0 to=" << o.sources - 1 << "\n";
+        for (int64_t k = 0; k < o.numbers.clients; k++)
+            out_ << "source client=" << k << " from=0 to=" << o.sources - 1 << "\n";
         if (!image.empty()) out_ << "image " << words::hex(image.data(), image.size()) << "\n";
     }
     void message(const Message &m) override {
@@ -957,27 +1040,26 @@ class WireRecord : public Watch {
     void memory(const MemoryMessage &m) override {
         if (m.bank != bank_) return;
         out_ << m.cycle << " m " << "ABCDE"[m.channel] << " " << m.opcode << " size=" << size_ << " source=" << m.block;
-        if (m.channel == JV_A) out_ << " address=" << words::address(options_.base + uint64_t(m.block) * uint64_t(options_.numbers.block_bytes));
+        uint64_t address = options_.base + uint64_t(m.block) * uint64_t(options_.numbers.block_bytes);
+        if (m.channel == JV_A) out_ << " address=" << words::address(address);
         if (m.len) out_ << " data=" << words::hex(m.bytes.data(), m.len);
         out_ << "\n";
     }
 
   private:
     using Key = std::pair<uint32_t, uint32_t>; // of a link and a source or a sink
-    static bool grants(const Message &m) { return m.channel == JV_D && m.opcode != JV_OP_RELEASE_ACK; }
-    static bool releases(const Message &m) { return m.channel == JV_C && m.opcode >= JV_OP_RELEASE; }
     bool must_wait(const Message &m) const {
         if (m.channel == JV_E) return !sinks_.count({m.client, m.sink});
         return m.channel == JV_A && requests_.count({m.client, m.source}) != 0;
     }
     void write(const Message &m) {
         if (m.channel == JV_A) requests_.insert({m.client, m.source});
-        if (grants(m)) { requests_.erase({m.client, m.source}); sinks_.insert({m.client, m.sink}); }
+        if (m.is_grant()) { requests_.erase({m.client, m.source}); sinks_.insert({m.client, m.sink}); }
         if (m.channel == JV_E) sinks_.erase({m.client, m.sink});
         out_ << m.cycle << " c" << m.client << " " << "ABCDE"[m.channel] << " " << m.opcode;
         if (m.channel != JV_E) out_ << " param=" << m.param << " size=" << size_;
-        if (m.channel == JV_A || m.channel == JV_D || releases(m)) out_ << " source=" << m.source;
-        if (m.channel == JV_E || grants(m)) out_ << " sink=" << m.sink;
+        if (m.channel == JV_A || m.channel == JV_D || m.is_release()) out_ << " source=" << m.source;
+        if (m.channel == JV_E || m.is_grant()) out_ << " sink=" << m.sink;
         if (m.channel != JV_D && m.channel != JV_E) out_ << " address=" << words::address(m.address);
         if (m.len) out_ << " data=" << words::hex(m.bytes.data(), m.len);
         out_ << "\n";
@@ -992,16 +1074,18 @@ class WireRecord : public Watch {
 // The model's steps with the messages that were seen, for `tlcheck` (docs/RECORD.md): one bank's.
 class EventRecord : public Watch {
   public:
-    EventRecord(std::ostream &out, const Options &o, const std::vector<uint8_t> &image = {}, uint32_t bank = 0) : out_(out), bank_(bank) {
-        out_ << "clients " << o.numbers.clients << " block_bytes " << o.numbers.block_bytes << " memory_blocks " << o.numbers.memory_blocks << "\n";
+    EventRecord(std::ostream &out, const Options &o, const std::vector<uint8_t> &image = {}, uint32_t bank = 0)
+        : out_(out), bank_(bank), base_(o.base) {
+        out_ << "clients " << o.numbers.clients << " block_bytes " << o.numbers.block_bytes << " memory_blocks "
+             << o.numbers.memory_blocks << "\n";
         if (!image.empty()) out_ << "image " << words::hex(image.data(), image.size()) << "\n";
-        base_ = o.base;
     }
     void event(const Event &e) override {
         if (e.bank != bank_) return;
         out_ << words::event(e.kind);
-        if (e.access) {
-            out_ << " " << e.client << " " << words::address(e.access->address - base_) << " " << words::hex(e.access->bytes.data(), e.access->len) << "\n";
+        if (const Access *x = e.access) {
+            out_ << " " << x->client << " " << words::address(x->address - base_) << " "
+                 << words::hex(x->bytes.data(), x->len) << "\n";
             return;
         }
         if (e.kind < JV_EVENT_SEND_GET) out_ << " " << e.client;
@@ -1016,7 +1100,7 @@ class EventRecord : public Watch {
   private:
     std::ostream &out_;
     uint32_t bank_;
-    uint64_t base_ = 0;
+    uint64_t base_;
 };
 
 } // namespace jinavoke

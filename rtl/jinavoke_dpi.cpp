@@ -1,5 +1,6 @@
-// What jinavoke_pkg.sv imports, and the Python module loads: the calls of jinavoke.h, and a home of jinavoke.hpp, with words and
-// pointers alone, since DPI takes no struct by value. A bit vector of SystemVerilog is its words of 32 bits, the lowest first.
+// What jinavoke_pkg.sv imports, and the Python module loads: the calls of jinavoke.h, and a home of jinavoke.hpp, with
+// words and pointers alone, since DPI takes no struct by value. A bit vector of SystemVerilog is its words of 32 bits,
+// the lowest first.
 #include "jinavoke.hpp"
 #include <memory>
 
@@ -12,7 +13,6 @@ std::vector<uint8_t> bytes_of(const char *hex) {
     }
     return bytes;
 }
-void to_vector(const jinavoke::Bytes &bytes, uint32_t *words) { std::memcpy(words, bytes.data(), bytes.size()); }
 
 struct Links { // a home with its records, and the texts of the faults that were not yet told
     Links(const jinavoke::Options &o, const std::vector<uint8_t> &image) : home(o, image) {
@@ -30,14 +30,21 @@ struct Links { // a home with its records, and the texts of the faults that were
     std::vector<std::unique_ptr<jinavoke::Watch>> records;
 };
 jinavoke::Home &home_of(void *at) { return static_cast<Links *>(at)->home; }
+jinavoke::Beat beat_of(int opcode, int param, int size, int source, long long address) {
+    jinavoke::Beat beat;
+    beat.opcode = uint32_t(opcode); beat.param = uint32_t(param); beat.source = uint32_t(source);
+    beat.size = uint32_t(size);
+    beat.address = uint64_t(address);
+    return beat;
+}
 } // namespace
 
 extern "C" {
 
 // ---- one cache
 
-void *jvd_new(int clients, int banks, int block_bytes, int sets, int ways, int registers, int copies, int blocks, const char *image,
-              int *status) {
+void *jvd_new(int clients, int banks, int block_bytes, int sets, int ways, int registers, int copies, int blocks,
+              const char *image, int *status) {
     jv_numbers n = {2, clients, banks, block_bytes, sets, ways, registers, copies, blocks};
     std::vector<uint8_t> bytes = bytes_of(image);
     uint32_t why = JV_OK;
@@ -46,13 +53,15 @@ void *jvd_new(int clients, int banks, int block_bytes, int sets, int ways, int r
     return cache;
 }
 void jvd_free(void *cache) { jv_free(static_cast<jv_cache *>(cache)); }
-void jvd_call(void *cache, int call, int index, int client, int place, int param, int bank, int channel, int len, long long serial,
-              long long bytes, int *status, int *what, uint32_t *told, long long *told_serial, uint32_t *data) {
+void jvd_call(void *cache, int call, int index, int client, int place, int param, int bank, int channel, int len,
+              long long serial, long long bytes, int *status, int *what, uint32_t *told, long long *told_serial,
+              uint32_t *data) {
     jv_request r = {uint32_t(call), uint32_t(index), uint32_t(client), uint32_t(place), uint32_t(param), uint32_t(bank),
         uint32_t(channel), uint32_t(len), uint64_t(serial), {}};
     std::memcpy(r.bytes, &bytes, sizeof r.bytes);
     jv_answer a = jv_call(static_cast<jv_cache *>(cache), &r);
-    const uint32_t words[] = {a.bank, a.client, a.channel, a.opcode, a.param, a.place, a.address, a.size, a.index, a.len};
+    const uint32_t words[] = {a.bank, a.client, a.channel, a.opcode, a.param, a.place, a.address, a.size, a.index,
+                              a.len};
     std::copy(std::begin(words), std::end(words), told);
     *status = int(a.status);
     *what = int(a.what);
@@ -63,14 +72,17 @@ const char *jvd_status_name(int status) { return jv_status_name(uint32_t(status)
 
 // ---- a home of links
 
-void *jvh_new(int clients, int banks, int block_bytes, int sets, int ways, int registers, int copies, int blocks, long long base,
-              int beat_bytes, int sources, int sinks, int has_taps, int pace, int memory_cycles, int evict_every, int patience, int slack,
-              int seed, const char *image, const char *wire_file, const char *events_file) {
+void *jvh_new(int clients, int banks, int block_bytes, int sets, int ways, int registers, int copies, int blocks,
+              long long base, int beat_bytes, int sources, int sinks, int has_taps, int pace, int memory_cycles,
+              int evict_every, int patience, int slack, int seed, const char *image, const char *wire_file,
+              const char *events_file) {
     jinavoke::Options o;
     o.numbers = {2, clients, banks, block_bytes, sets, ways, registers, copies, blocks};
-    o.base = uint64_t(base); o.beat_bytes = uint32_t(beat_bytes); o.sources = uint32_t(sources); o.sinks = uint32_t(sinks);
+    o.base = uint64_t(base); o.beat_bytes = uint32_t(beat_bytes);
+    o.sources = uint32_t(sources); o.sinks = uint32_t(sinks);
     o.has_taps = has_taps != 0; o.pace = uint32_t(pace); o.memory_cycles = uint32_t(memory_cycles);
-    o.evict_every = uint32_t(evict_every); o.patience = uint64_t(patience); o.slack = uint64_t(slack); o.seed = uint32_t(seed);
+    o.evict_every = uint32_t(evict_every); o.patience = uint64_t(patience); o.slack = uint64_t(slack);
+    o.seed = uint32_t(seed);
     std::vector<uint8_t> bytes = bytes_of(image);
     try {
         auto links = std::make_unique<Links>(o, bytes);
@@ -84,15 +96,11 @@ void *jvh_new(int clients, int banks, int block_bytes, int sets, int ways, int r
 }
 void jvh_free(void *home) { delete static_cast<Links *>(home); }
 void jvh_a(void *home, int client, int opcode, int param, int size, int source, long long address, long long raised) {
-    jinavoke::Beat beat;
-    beat.opcode = uint32_t(opcode); beat.param = uint32_t(param); beat.size = uint32_t(size); beat.source = uint32_t(source);
-    beat.address = uint64_t(address);
-    home_of(home).a(uint32_t(client), beat, uint64_t(raised));
+    home_of(home).a(uint32_t(client), beat_of(opcode, param, size, source, address), uint64_t(raised));
 }
-void jvh_c(void *home, int client, int opcode, int param, int size, int source, long long address, const uint32_t *data) {
-    jinavoke::Beat beat;
-    beat.opcode = uint32_t(opcode); beat.param = uint32_t(param); beat.size = uint32_t(size); beat.source = uint32_t(source);
-    beat.address = uint64_t(address);
+void jvh_c(void *home, int client, int opcode, int param, int size, int source, long long address,
+           const uint32_t *data) {
+    jinavoke::Beat beat = beat_of(opcode, param, size, source, address);
     std::memcpy(beat.data.data(), data, beat.data.size());
     home_of(home).c(uint32_t(client), beat);
 }
@@ -117,7 +125,7 @@ int jvh_d(void *home, int client, int *opcode, int *param, int *source, int *sin
     auto beat = home_of(home).d(uint32_t(client));
     if (!beat) return 0;
     *opcode = int(beat->opcode); *param = int(beat->param); *source = int(beat->source); *sink = int(beat->sink);
-    to_vector(beat->data, data);
+    std::memcpy(data, beat->data.data(), beat->data.size());
     return 1;
 }
 long long jvh_cycle(void *home) { return static_cast<long long>(home_of(home).cycle()); }

@@ -1,17 +1,19 @@
-// bench [KEY=VALUE ..]: four L1s (l1.sv) under Verilator with Jinavoke as their home, and random cores. Beside it a scoreboard,
-// which knows the bytes that were stored last, and nothing of the protocol. Prints each fault; status 1 where there was one.
+// bench [KEY=VALUE ..]: four L1s (l1.sv) under Verilator with Jinavoke as their home, and random cores. Beside it a
+// scoreboard, which knows the bytes that were stored last, and nothing of the protocol. Prints each fault; status 1
+// where there was one.
 //
-//   seed=1 cycles=100000    of the cores' accesses; then the links are drained
-//   plant=NAME              what is planted into one L1 (plants.sv), in small letters with minus signs
+//   seed=1 cycles=100000    for so many cycles the cores ask; then the links are drained
+//   plant=NAME              what is planted into L1 1 (plants.sv), in small letters with minus signs
 //   at=0 for=0              from which cycle on, and for how many; 0: to the end
-//   damage=NAME             what happens once to a message of that L1 on the wires, from cycle `at` on: see damage_t
-//   taps=1 banks=1 pace=3   whether the loads and stores are told; banks and choices of the home
+//   damage=NAME             what befalls one message of L1 1 on the wires, from cycle `at` on: flip-c, flip-d (a bit of
+//                           its data), param-c, drop-b, drop-c, drop-d, drop-e (it is lost)
+//   taps=1 banks=1 sets=16 pace=3 evict=500   whether the loads and stores are told; the home's numbers and choices
 //   spots=24 stall=4        how many blocks; a beat is stalled in one of so many cycles (0: never)
 //   most=1                  the run ends after so many faults (0: never)
 //   plain=0                 1: a home without a model in Jinavoke's place
 //   wire=FILE events=FILE   records for tlwire and tlcheck
 //   chart=FILE              the first fault's block as a script for tlchart
-//   quiet=0                 1: no text of faults, one line alone
+//   quiet=0                 1: of each fault its first line alone
 #include "Vtop.h"
 #include "jinavoke.hpp"
 #include "plain_home.hpp"
@@ -34,8 +36,14 @@ struct Settings {
             words[word.substr(0, at)] = word.substr(at + 1);
         }
     }
-    std::string text(const char *key) const { auto it = words.find(key); return it == words.end() ? "" : it->second; }
-    uint64_t number(const char *key, uint64_t other) const { auto it = words.find(key); return it == words.end() ? other : std::stoull(it->second, nullptr, 0); }
+    std::string text(const char *key) const {
+        auto it = words.find(key);
+        return it == words.end() ? "" : it->second;
+    }
+    uint64_t number(const char *key, uint64_t other) const {
+        auto it = words.find(key);
+        return it == words.end() ? other : std::stoull(it->second, nullptr, 0);
+    }
 };
 
 static uint32_t place_of(const std::string &word, std::initializer_list<const char *> names, const char *what) {
@@ -45,13 +53,16 @@ static uint32_t place_of(const std::string &word, std::initializer_list<const ch
     std::exit(2);
 }
 static uint32_t plant_of(const std::string &word) { // the numbers of plants.sv
-    return word.empty() ? 0 : place_of(word, {"nothing", "lost-data", "lost-writeback", "silent-upgrade", "kept-copy", "early-answer",
-        "early-acquire", "wrong-report", "torn-refill", "shifted-burst", "second-grant-ack", "lost-probe", "early-grant-ack", "clean-data",
-        "late-btot"}, "plant");
+    if (word.empty()) return 0;
+    return place_of(word, {"nothing", "lost-data", "lost-writeback", "silent-upgrade", "kept-copy", "early-answer",
+        "early-acquire", "wrong-report", "torn-refill", "shifted-burst", "second-grant-ack", "lost-probe",
+        "early-grant-ack", "clean-data", "late-btot"}, "plant");
 }
 enum damage_t { kNone, kFlipC, kFlipD, kParamC, kDropB, kDropC, kDropD, kDropE };
 static damage_t damage_of(const std::string &word) {
-    return word.empty() ? kNone : damage_t(place_of(word, {"nothing", "flip-c", "flip-d", "param-c", "drop-b", "drop-c", "drop-d", "drop-e"}, "damage"));
+    if (word.empty()) return kNone;
+    return damage_t(place_of(word, {"nothing", "flip-c", "flip-d", "param-c", "drop-b", "drop-c", "drop-d", "drop-e"},
+        "damage"));
 }
 
 // What was stored last.
@@ -70,8 +81,8 @@ template <class Home> class Bench {
   public:
     Bench(const Settings &s, Home &home, Board &board)
         : home_(home), board_(board), rng_(uint32_t(s.number("seed", 1))), stall_(uint32_t(s.number("stall", 4))),
-          spots_(uint32_t(s.number("spots", 24))), plant_(plant_of(s.text("plant"))), at_(s.number("at", 0)), for_(s.number("for", 0)),
-          damage_(damage_of(s.text("damage"))) {
+          spots_(uint32_t(s.number("spots", 24))), plant_(plant_of(s.text("plant"))), at_(s.number("at", 0)),
+          for_(s.number("for", 0)), damage_(damage_of(s.text("damage"))) {
         context_.randReset(2);
         context_.randSeed(int(s.number("seed", 1)));
         top_ = std::make_unique<Vtop>(&context_);
@@ -80,7 +91,8 @@ template <class Home> class Bench {
         top_->rst = 0;
     }
     uint64_t accesses = 0, acquires = 0, probes = 0, releases = 0;
-    std::function<void(uint32_t, const std::string &)> wrong = [](uint32_t, const std::string &) {}; // what the scoreboard says
+    // what the scoreboard says of a client
+    std::function<void(uint32_t, const std::string &)> wrong = [](uint32_t, const std::string &) {};
 
     void cycle(bool has_work) {
         now_ = home_.cycle();
@@ -119,7 +131,8 @@ template <class Home> class Bench {
             if (auto beat = chance(stall_) ? home_.b(k) : std::nullopt) {
                 hidden_b_[k] = damages(k, kDropB);
                 b |= bit(k, !hidden_b_[k]);
-                top_->b_param[k] = beat->param; top_->b_source[k] = beat->source; top_->b_address[k] = uint32_t(beat->address);
+                top_->b_param[k] = beat->param; top_->b_source[k] = beat->source;
+                top_->b_address[k] = uint32_t(beat->address);
             }
             if (auto beat = chance(stall_) ? home_.d(k) : std::nullopt) {
                 hidden_d_[k] = drops(k, d_[k], kDropD);
@@ -131,7 +144,8 @@ template <class Home> class Bench {
         top_->a_ready = a; top_->c_ready = c; top_->e_ready = e; top_->b_valid = b; top_->d_valid = d;
     }
     void offer_d(uint32_t k, const Beat &beat) {
-        top_->d_opcode[k] = beat.opcode; top_->d_param[k] = beat.param; top_->d_source[k] = beat.source; top_->d_sink[k] = beat.sink;
+        top_->d_opcode[k] = beat.opcode; top_->d_param[k] = beat.param;
+        top_->d_source[k] = beat.source; top_->d_sink[k] = beat.sink;
         std::memcpy(&top_->d_data[k], beat.data.data(), 8);
         d_[k].has_data = beat.opcode == JV_OP_GRANT_DATA;
         if (d_[k].has_data && damages(k, kFlipD)) top_->d_data[k] ^= 1ull << rng_() % 64;
@@ -152,10 +166,13 @@ template <class Home> class Bench {
         f.c = both(top_->c_valid, top_->c_ready); f.d = both(top_->d_valid, top_->d_ready);
         f.e = both(top_->e_valid, top_->e_ready); f.core = both(top_->core_valid, top_->core_ready);
         f.tap = both(top_->tap_valid, ~0u); f.is_store = both(top_->tap_store, ~0u);
-        f.on_a.opcode = top_->a_opcode[k]; f.on_a.param = top_->a_param[k]; f.on_a.source = top_->a_source[k]; f.on_a.address = top_->a_address[k];
-        f.on_c.opcode = top_->c_opcode[k]; f.on_c.param = top_->c_param[k]; f.on_c.source = top_->c_source[k]; f.on_c.address = top_->c_address[k];
+        f.on_a.opcode = top_->a_opcode[k]; f.on_a.param = top_->a_param[k];
+        f.on_a.source = top_->a_source[k]; f.on_a.address = top_->a_address[k];
+        f.on_c.opcode = top_->c_opcode[k]; f.on_c.param = top_->c_param[k];
+        f.on_c.source = top_->c_source[k]; f.on_c.address = top_->c_address[k];
         std::memcpy(f.on_c.data.data(), &top_->c_data[k], 8);
-        f.sink = top_->e_sink[k]; f.len = 1u << top_->tap_size[k]; f.address = top_->tap_addr[k]; f.data = top_->tap_data[k];
+        f.sink = top_->e_sink[k];
+        f.len = 1u << top_->tap_size[k]; f.address = top_->tap_addr[k]; f.data = top_->tap_data[k];
         bool offers = (top_->a_valid >> k & 1) != 0; // the cycle in which valid rose
         if (offers && !offered_[k]) raised_[k] = now_;
         offered_[k] = offers && !f.a;
@@ -187,7 +204,8 @@ template <class Home> class Bench {
         const uint8_t *data = reinterpret_cast<const uint8_t *>(&f.data);
         accesses++;
         if (f.is_store) home_.store(k, f.address, data, f.len); else home_.load(k, f.address, data, f.len);
-        if (!board_.did(f.is_store, f.address, data, f.len)) wrong(k, "a load of " + jinavoke::words::address(f.address) + " got old bytes");
+        if (!board_.did(f.is_store, f.address, data, f.len))
+            wrong(k, "a load of " + jinavoke::words::address(f.address) + " got old bytes");
     }
 
     // ---- damages: once, to a message of the planted L1, after `at`
@@ -211,7 +229,8 @@ template <class Home> class Bench {
     VerilatedContext context_;
     std::unique_ptr<Vtop> top_;
     uint64_t now_ = 0;
-    std::array<bool, kClients> pending_{}, offered_{}, hidden_b_{}, hidden_d_{}; // hidden: taken, and not shown to the L1
+    std::array<bool, kClients> pending_{}, offered_{};
+    std::array<bool, kClients> hidden_b_{}, hidden_d_{}; // home sees a beat taken that the L1 does not
     std::array<Burst, kClients> c_, d_;
     std::array<uint64_t, kClients> asked_{}, raised_{};
 };
@@ -222,27 +241,47 @@ struct Outcome {
     uint64_t first_fault = 0, first_wrong = 0;  // their cycles
 };
 
-template <class Home> static Outcome run(const Settings &s, Home &home, Board &board, std::function<void(std::function<void()>)> hears) {
+template <class Home>
+static void print(const Outcome &out, const Home &home, const Bench<Home> &bench, double seconds) {
+    std::cout << home.cycle() << " cycles, " << bench.accesses << " accesses, " << bench.acquires << " Acquires, "
+              << bench.releases << " Releases, " << bench.probes << " Probes; " << out.faults << " faults";
+    if (out.faults) std::cout << ", the first at " << out.first_fault;
+    std::cout << "; " << out.wrong << " by the scoreboard";
+    if (out.wrong) std::cout << ", the first at " << out.first_wrong;
+    std::cout << "; " << uint64_t(double(home.cycle()) / seconds) << " cycles a second\n";
+}
+using Hears = std::function<void(std::function<void()>)>; // has a function called at each fault of the home
+template <class Home> static Outcome run(const Settings &s, Home &home, Board &board, const Hears &hears) {
     Outcome out;
-    const uint64_t cycles = s.number("cycles", 100000), most = s.number("most", 1), begin = s.number("quiet", 0) ? 0 : 1;
+    const uint64_t cycles = s.number("cycles", 100000), most = s.number("most", 1);
     Bench<Home> bench(s, home, board);
     hears([&] { if (!out.faults++) out.first_fault = home.cycle(); });
     bench.wrong = [&](uint32_t k, const std::string &what) {
         if (!out.wrong++) out.first_wrong = home.cycle();
-        if (begin) std::cout << "cycle " << home.cycle() << ": client " << k << ": scoreboard: " << what << "\n";
+        std::cout << "cycle " << home.cycle() << ": client " << k << ": scoreboard: " << what << "\n";
     };
     auto from = std::chrono::steady_clock::now();
     auto goes_on = [&] { return most == 0 || out.faults + out.wrong < most; };
     while (goes_on() && home.cycle() < cycles) bench.cycle(true);
     for (uint64_t i = 0; goes_on() && i < 30000 && (i < 200 || !home.is_quiet()); i++) bench.cycle(false);
-    double seconds = std::chrono::duration<double>(std::chrono::steady_clock::now() - from).count();
-    std::cout << home.cycle() << " cycles, " << bench.accesses << " accesses, " << bench.acquires << " Acquires, " << bench.releases
-              << " Releases, " << bench.probes << " Probes; " << out.faults << " faults";
-    if (out.faults) std::cout << ", the first at " << out.first_fault;
-    std::cout << "; " << out.wrong << " by the scoreboard";
-    if (out.wrong) std::cout << ", the first at " << out.first_wrong;
-    std::cout << "; " << uint64_t(double(home.cycle()) / seconds) << " cycles a second\n";
+    print(out, home, bench, std::chrono::duration<double>(std::chrono::steady_clock::now() - from).count());
     return out;
+}
+
+// A run with Jinavoke: records where they are asked for, each fault's text, the first one's chart.
+static Outcome judge(const Settings &s, const jinavoke::Options &o, const std::vector<uint8_t> &image, Board &board) {
+    jinavoke::Home home(o, image);
+    std::ofstream wire(s.text("wire")), events(s.text("events"));
+    std::unique_ptr<jinavoke::Watch> wire_record, event_record;
+    if (wire.is_open()) home.watch((wire_record = std::make_unique<jinavoke::WireRecord>(wire, o, image)).get());
+    if (events.is_open()) home.watch((event_record = std::make_unique<jinavoke::EventRecord>(events, o, image)).get());
+    return run(s, home, board, [&](std::function<void()> hear) {
+        home.on_fault = [&s, &home, hear](const jinavoke::Fault &f) {
+            hear();
+            std::cout << (s.number("quiet", 0) ? f.line() + "\n" : f.text());
+            if (home.faults() == 1 && !s.text("chart").empty()) std::ofstream(s.text("chart")) << f.script;
+        };
+    });
 }
 
 int main(int argc, char **argv) {
@@ -258,24 +297,10 @@ int main(int argc, char **argv) {
     std::vector<uint8_t> image(s.number("spots", 24) * kBlock);
     for (uint8_t &byte : image) byte = uint8_t(rng());
     Board board = {o.base, image};
-    if (s.number("plain", 0)) {
-        PlainHome home(o, image);
-        return run(s, home, board, [](std::function<void()>) {}).wrong != 0;
+    if (!s.number("plain", 0)) {
+        Outcome out = judge(s, o, image, board);
+        return out.faults + out.wrong != 0;
     }
-    jinavoke::Home home(o, image);
-    std::vector<std::unique_ptr<std::ofstream>> files;
-    std::vector<std::unique_ptr<jinavoke::Watch>> records;
-    auto file = [&](const char *key) -> std::ostream & { files.push_back(std::make_unique<std::ofstream>(s.text(key))); return *files.back(); };
-    if (!s.text("wire").empty()) records.push_back(std::make_unique<jinavoke::WireRecord>(file("wire"), o, image));
-    if (!s.text("events").empty()) records.push_back(std::make_unique<jinavoke::EventRecord>(file("events"), o, image));
-    for (auto &record : records) home.watch(record.get());
-    Outcome out = run(s, home, board, [&](std::function<void()> hear) {
-        home.on_fault = [&, hear](const jinavoke::Fault &f) {
-            hear();
-            if (home.faults() > 1 && !s.number("most", 1)) return;
-            std::cout << (s.number("quiet", 0) ? f.line() + "\n" : f.text());
-            if (!s.text("chart").empty()) file("chart") << f.script;
-        };
-    });
-    return out.faults + out.wrong != 0;
+    PlainHome home(o, image);
+    return run(s, home, board, [](std::function<void()>) {}).wrong != 0;
 }

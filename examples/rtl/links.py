@@ -1,8 +1,8 @@
 #!/usr/bin/env python3
 """Two small caches in plain Python on the links of a home, as a cocotb bench would drive them: links.py [LIBRARY].
 
-Without a plant no fault is told; with each one the fault of that name is, or none where what is planted is lawful. LIBRARY is
-libjinavoke_dpi.so, where it is not installed with the module. Ends with status 1 where one is told otherwise.
+Without a plant no fault is told; with each one a fault of that client is, or none where what is planted is lawful.
+LIBRARY is libjinavoke_dpi.so, where it is not installed with the module. Status 1 where one is told otherwise.
 """
 import pathlib
 import random
@@ -24,7 +24,7 @@ class Line:
 
 
 class Client:
-    """A cache of all blocks, with one Acquire and one Release at a time; `plant` is what it does wrong, or only seems to."""
+    """A cache of all blocks, with one Acquire and one Release at a time; `plant` is what it does wrong, or seems to."""
 
     def __init__(self, link, rng, plant=""):
         self.link, self.rng, self.plant = link, rng, plant
@@ -91,7 +91,8 @@ class Client:
         elif self.acquires is None and block != self.releases and not self.beats:
             self.acquires = block
             param = (2 if line.perm else 1) if stores else 0
-            self.offers = dict(opcode=ACQUIRE_BLOCK, param=param, source=1, address=address - at, raised=self.link.home.cycle)
+            self.offers = dict(opcode=ACQUIRE_BLOCK, param=param, source=1, address=address - at,
+                               raised=self.link.home.cycle)
 
 
 def faults_of(path, plant, cycles=3000, **numbers):

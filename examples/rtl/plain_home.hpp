@@ -1,11 +1,13 @@
-// A home with a directory and no model: it answers, and finds nothing wrong. What a scoreboard alone would be run against.
+// A home with a directory and no model: it answers, and finds nothing wrong. What a scoreboard alone would be run
+// against.
 #pragma once
 #include "jinavoke.hpp"
 
 class PlainHome {
   public:
     PlainHome(const jinavoke::Options &o, const std::vector<uint8_t> &image)
-        : options_(o), bus_{uint32_t(o.numbers.block_bytes), o.beat_bytes}, rng_(o.seed), clients_(size_t(o.numbers.clients)) {
+        : options_(o), bus_{uint32_t(o.numbers.block_bytes), o.beat_bytes}, rng_(o.seed),
+          clients_(size_t(o.numbers.clients)) {
         for (size_t i = 0; i < image.size(); i++) at(o.base + i).bytes[i % bus_.block_bytes] = image[i];
     }
     void d_taken(uint32_t k) {
@@ -108,8 +110,8 @@ class PlainHome {
         for (uint32_t j = 0; j < clients_.size(); j++) alone = alone && (j == k || block.perm[j] == JV_NONE);
         uint32_t cap = block.asked.param != JV_NTOB || alone ? JV_TO_T : JV_TO_B;
         block.perm[k] = cap == JV_TO_T ? JV_TIP : JV_BRANCH;
-        me.d.push_back({0, 0, k, JV_D, uint32_t(data ? JV_OP_GRANT_DATA : JV_OP_GRANT), cap, block.asked.source, sink, address,
-            data ? bus_.block_bytes : 0, block.bytes});
+        uint32_t opcode = data ? JV_OP_GRANT_DATA : JV_OP_GRANT, len = data ? bus_.block_bytes : 0;
+        me.d.push_back({0, 0, k, JV_D, opcode, cap, block.asked.source, sink, address, len, block.bytes});
         return true;
     }
     jinavoke::Options options_;

@@ -17,8 +17,9 @@ import pathlib
 import typing
 
 # The numbers of a home in the order in which the library takes them, each with what it is where nobody says it.
-NUMBERS = dict(clients=2, banks=1, block_bytes=64, sets=16, ways=4, registers=8, copies=64, blocks=4096, base=0, beat_bytes=8,
-               sources=16, sinks=16, has_taps=1, pace=3, memory_cycles=20, evict_every=0, patience=20000, slack=0, seed=1)
+NUMBERS = dict(clients=2, banks=1, block_bytes=64, sets=16, ways=4, registers=8, copies=64, blocks=4096, base=0,
+               beat_bytes=8, sources=16, sinks=16, has_taps=1, pace=3, memory_cycles=20, evict_every=0, patience=20000,
+               slack=0, seed=1)
 B, D = 1, 3
 
 
@@ -39,7 +40,8 @@ def library(path):
     lib.jvh_new.argtypes, lib.jvh_new.restype = [*numbers, c.c_char_p, c.c_char_p, c.c_char_p], c.c_void_p
     at, number, wide, out = c.c_void_p, c.c_int, c.c_longlong, c.POINTER(c.c_int)
     for name, words, result in [
-            ("free", [], None), ("a", [number] * 5 + [wide, wide], None), ("c", [number] * 5 + [wide, c.c_char_p], None),
+            ("free", [], None), ("a", [number] * 5 + [wide, wide], None),
+            ("c", [number] * 5 + [wide, c.c_char_p], None),
             ("e", [number, number], None), ("taken", [number, number], None),
             ("access", [number, number, wide, number, wide], None), ("tick", [], None),
             ("b", [number, out, out, c.POINTER(wide)], number), ("d", [number, out, out, out, out, c.c_char_p], number),
@@ -159,4 +161,5 @@ class Link:
     def access(self, is_store, address, data):
         for at in range(0, len(data), 8):
             eight = bytes(data[at:at + 8])
-            self.call("access", is_store, address + at, len(eight), int.from_bytes(eight.ljust(8, b"\0"), "little", signed=True))
+            word = int.from_bytes(eight.ljust(8, b"\0"), "little", signed=True)
+            self.call("access", is_store, address + at, len(eight), word)
