@@ -82,7 +82,7 @@ template <class Home> class Bench {
     Bench(const Settings &s, Home &home, Board &board)
         : home_(home), board_(board), rng_(uint32_t(s.number("seed", 1))), stall_(uint32_t(s.number("stall", 4))),
           spots_(uint32_t(s.number("spots", 24))), plant_(plant_of(s.text("plant"))), at_(s.number("at", 0)),
-          for_(s.number("for", 0)), damage_(damage_of(s.text("damage"))) {
+          for_(s.number("for", 0)), has_taps_(s.number("taps", 1) != 0), damage_(damage_of(s.text("damage"))) {
         context_.randReset(2);
         context_.randSeed(int(s.number("seed", 1)));
         top_ = std::make_unique<Vtop>(&context_);
@@ -203,7 +203,8 @@ template <class Home> class Bench {
     void access(uint32_t k, const Fired &f) {
         const uint8_t *data = reinterpret_cast<const uint8_t *>(&f.data);
         accesses++;
-        if (f.is_store) home_.store(k, f.address, data, f.len); else home_.load(k, f.address, data, f.len);
+        if (has_taps_ && f.is_store) home_.store(k, f.address, data, f.len);
+        if (has_taps_ && !f.is_store) home_.load(k, f.address, data, f.len);
         if (!board_.did(f.is_store, f.address, data, f.len))
             wrong(k, "a load of " + jinavoke::words::address(f.address) + " got old bytes");
     }
@@ -225,6 +226,7 @@ template <class Home> class Bench {
     std::mt19937 rng_;
     uint32_t stall_, spots_, plant_;
     uint64_t at_, for_;
+    bool has_taps_;
     damage_t damage_;
     VerilatedContext context_;
     std::unique_ptr<Vtop> top_;
@@ -241,6 +243,13 @@ struct Outcome {
     uint64_t first_fault = 0, first_wrong = 0;  // their cycles
 };
 
+// The most memory that the process has taken, where the system tells it.
+static uint64_t kibibytes() {
+    std::ifstream status("/proc/self/status");
+    for (std::string line; std::getline(status, line);)
+        if (line.rfind("VmHWM:", 0) == 0) return std::stoull(line.substr(6));
+    return 0;
+}
 template <class Home>
 static void print(const Outcome &out, const Home &home, const Bench<Home> &bench, double seconds) {
     std::cout << home.cycle() << " cycles, " << bench.accesses << " accesses, " << bench.acquires << " Acquires, "
@@ -248,7 +257,7 @@ static void print(const Outcome &out, const Home &home, const Bench<Home> &bench
     if (out.faults) std::cout << ", the first at " << out.first_fault;
     std::cout << "; " << out.wrong << " by the scoreboard";
     if (out.wrong) std::cout << ", the first at " << out.first_wrong;
-    std::cout << "; " << uint64_t(double(home.cycle()) / seconds) << " cycles a second\n";
+    std::cout << "; " << uint64_t(double(home.cycle()) / seconds) << " cycles a second, " << kibibytes() << " KiB\n";
 }
 using Hears = std::function<void(std::function<void()>)>; // has a function called at each fault of the home
 template <class Home> static Outcome run(const Settings &s, Home &home, Board &board, const Hears &hears) {
