@@ -9,6 +9,7 @@ ghost use Rattle.tl_protocol.specs.Copy.{bytes_of, clean_copy, dirty_bytes, redu
 ghost use Rattle.tl_copies.specs.Copies.{clients_of, held_at, is_cell, SameSize};
 ghost use Rattle.tl_copies.specs.Held.{has_copy};
 
+use arrayvec::ArrayVec;
 use tl_copies::{Copies, Held};
 use tl_protocol::CachedCopy;
 use tl_types::{ACCESS_BYTES, AccessBytes, Awaited, BlockBytes, BlockNo, ClientId, GrantCap, Perm};
@@ -137,6 +138,13 @@ pub(crate) fn access_of(bytes: &[u8]) -> AccessBytes
     ensures { result ≡ bytes.now }
 {
     AccessBytes::from_slice(bytes).unwrap()
+}
+
+/// The bytes of an access as a load answers them.
+pub(crate) fn loaded(bytes: &AccessBytes) -> ArrayVec<u8, 8>
+    ensures { result.items ≡ bytes.now }
+{
+    ArrayVec::try_from(bytes.as_slice()).unwrap()
 }
 
 /// Whether a table has an entry for such a copy.

@@ -1,6 +1,6 @@
 -- What the directory holds of each block, before and after one of its ways changes.
 use Rattle.std.proofs.Common.{◌≡◌, ◌≢◌, ℕ, ◌<◌, ◌==◌, ◌&&◌, Bool, true, false, List, Option, None, Some, if◌then◌else◌, refl, sym, ◌∙◌, ap, arith, eq-eqb, eqb-true, inl, inr, subst}
-use Rattle.std.specs.Prelude.{IfSome, IfNone, is_none, not, ◌≤◌}
+use Rattle.std.specs.Prelude.{IfSome, IfNone, IsSome, is_none, not, ◌≤◌}
 use Rattle.std.specs.Option.{option_map}
 use Rattle.std.proofs.lemmas.Bool.{cases_eq, cases_order, and_parts, ne_eqb}
 use Rattle.tl_types.proofs.Lowest.{none-lowest, lowest-same, lowest-some, lowest-one}
@@ -501,6 +501,30 @@ held-found m g bank t s block set tag way entry view own sets tags inside tagged
       tag = same ∙ tags;
       alone = rw same alone;
     })
+
+-- a way with a tag has an entry
+tagged : (entry : Option Entry) (tag : ℕ) → tag_in_entry entry ≡ Some tag → IsSome entry
+tagged None tag is = absurd (cc)
+tagged (Some entry) tag is = refl
+
+-- where a block lies there is an entry
+pub some-entry : (m : Directory) (g : Numbers) (bank : ℕ) (t : WayTable) (s : Store) (block way : ℕ) → dir g bank t s ≡ m
+    → way_of m block ≡ Some way → IsSome (entry_at t (set_of g block) way)
+some-entry m g bank t s block way view lies =
+    let there : IsThere (dir g bank t s) block way =
+    IsThere-of (dir g bank t s) block way (subst (λ (d : Directory). way_of d block ≡ Some way) (sym view) lies) in
+    tagged (entry_at t (set_of g block) way) (tag_of g block) there.tag
+
+-- and it is the block's
+pub held-at : (m : Directory) (g : Numbers) (bank : ℕ) (t : WayTable) (s : Store) (block set way : ℕ) (entry : Entry)
+    → dir g bank t s ≡ m → IsDirectory (dir g bank t s) → way_of m block ≡ Some way → set ≡ set_of g block → set < set_count t
+    → entry_at t set way ≡ Some entry → IsHeld m block set way entry
+held-at m g bank t s block set way entry view keeps lies sets inside line =
+    let there : IsThere (dir g bank t s) block way =
+    IsThere-of (dir g bank t s) block way (subst (λ (d : Directory). way_of d block ≡ Some way) (sym view) lies) in
+    let tag_here : tag_at t set way ≡ Some (tag_of g block) = rw sets there.tag in
+    held-found m g bank t s block set (tag_of g block) way entry view there.own sets refl inside tag_here there.inside
+    (λ other is. keeps.distinct set other way (tag_of g block) is tag_here) line
 
 -- a block whose tag no way of its set has lies nowhere
 pub none-found : (m : Directory) (g : Numbers) (bank : ℕ) (t : WayTable) (s : Store) (block set tag : ℕ)

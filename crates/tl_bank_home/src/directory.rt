@@ -103,15 +103,17 @@ impl Directory {
         Some(held.entry)
     }
 
-    /// The entry and the bytes of a block, if home holds it.
-    pub fn line(&self, block: BlockNo) -> Option<(Entry, &BlockBytes)>
+    /// The entry and the bytes of a block, and the way in which it lies, if home holds it.
+    pub fn line(&self, block: BlockNo) -> Option<(Entry, &BlockBytes, Way)>
         requires { block < self.now.geometry.memory_blocks }
         ensures is { MatchOption result (line_of self.now block ≡ None)
             (λ line. line_of self.now block ≡ Some (record { bytes = line.1.now; dirty = line.0.dirty })) }
         ensures recorded { IfSome result (λ line. (client : ℕ) → recorded_of self.now client block ≡ entry_perm line.0 client) }
+        ensures way { IfSome result (λ line. way_of self.now block ≡ Some line.2) }
     {
         let held = self.find(block)?;
-        Some((held.entry, self.store.read(held.set, held.way)))
+        let bytes = self.store.read(held.set, held.way);
+        Some((held.entry, bytes, held.way))
     }
 
     /// The permission that home records for a client of a block: None where home does not hold it.
@@ -136,7 +138,7 @@ impl Directory {
     }
 
     /// The block that lies in a way of a set.
-    pub fn block_at(&self, set: Set, way: Way) -> Option<BlockNo>
+    pub fn occupant(&self, set: Set, way: Way) -> Option<BlockNo>
         requires { set < self.now.geometry.sets }
         ensures inside { IfSome result (λ block. block < self.now.geometry.memory_blocks) }
         ensures set { IfSome result (λ block. set_of self.now.geometry block ≡ set) }
@@ -151,8 +153,9 @@ impl Directory {
         })
     }
 
-    /// Records a permission for a client of a block that home holds. Beside Tip no other client may have any.
-    pub fn record(&mut self, client: ClientId, block: BlockNo, perm: Perm)
+    /// Records a permission for a client of a block that home holds, and answers the way in which it lies. Beside Tip no other client
+    /// may have any.
+    pub fn record(&mut self, client: ClientId, block: BlockNo, perm: Perm) -> Way
         requires block { block < self.old.geometry.memory_blocks }
         requires held { IsSome (line_of self.old block) }
         requires known { client < self.old.geometry.clients }
@@ -164,18 +167,20 @@ impl Directory {
         ensures recorded { (c b : ℕ) → recorded_of self.new c b ≡ (if c == client && b == block then perm else recorded_of self.old c b) }
         ensures free { (set way : ℕ) → free_in self.new set way ≡ free_in self.old set way }
         ensures orders { (set : ℕ) → order_of self.new set ≡ order_of self.old set }
+        ensures way { way_of self.old block ≡ Some result }
     {
         // For the prover: a lawful geometry has at most as many clients as an entry can record.
         let _ = self.geometry.clients();
         let mut held = self.find(block).unwrap();
         held.entry.set(client, perm);
         self.ways.place(held.set, held.way, held.entry);
+        held.way
     }
 
-    /// Writes the bytes of a block that home holds: its copy is then dirty.
-    pub fn write(&mut self, block: BlockNo, bytes: BlockBytes)
+    /// Writes the bytes of a block that lies in a way: home's copy is then dirty.
+    pub fn write(&mut self, block: BlockNo, way: Way, bytes: BlockBytes)
         requires block { block < self.old.geometry.memory_blocks }
-        requires held { IsSome (line_of self.old block) }
+        requires lies { way_of self.old block ≡ Some way }
         ensures same { SameBank self.old self.new }
         ensures ways { (b : ℕ) → way_of self.new b ≡ way_of self.old b }
         ensures lines { (b : ℕ) → line_of self.new b ≡ (if b == block then Some (record { bytes = bytes; dirty = true }) else line_of self.old b) }
@@ -183,17 +188,17 @@ impl Directory {
         ensures free { (set way : ℕ) → free_in self.new set way ≡ free_in self.old set way }
         ensures orders { (set : ℕ) → order_of self.new set ≡ order_of self.old set }
     {
-        let mut held = self.find(block).unwrap();
+        let mut held = self.at(block, way);
         held.entry.set_dirty(true);
         self.ways.place(held.set, held.way, held.entry);
         self.store.write(held.set, held.way, bytes);
     }
 
-    /// Records a permission for a client of a block that home holds, and moves the block's way last in the order of its set.
-    /// Beside Tip no other client may have any.
-    pub fn grant(&mut self, client: ClientId, block: BlockNo, perm: Perm)
+    /// Records a permission for a client of a block that lies in a way, and moves this way last in the order of its set. Beside Tip no
+    /// other client may have any.
+    pub fn grant(&mut self, client: ClientId, block: BlockNo, way: Way, perm: Perm)
         requires block { block < self.old.geometry.memory_blocks }
-        requires held { IsSome (line_of self.old block) }
+        requires lies { way_of self.old block ≡ Some way }
         requires known { client < self.old.geometry.clients }
         requires tip { perm ≡ Tip → (other : ℕ) → other ≢ client → recorded_of self.old other block ≡ NoAccess }
         requires branch { perm ≡ Branch → (other : ℕ) → other ≢ client → recorded_of self.old other block ≢ Tip }
@@ -208,7 +213,7 @@ impl Directory {
     {
         // For the prover: a lawful geometry has at most as many clients as an entry can record.
         let _ = self.geometry.clients();
-        let mut held = self.find(block).unwrap();
+        let mut held = self.at(block, way);
         held.entry.set(client, perm);
         self.ways.place(held.set, held.way, held.entry);
         self.ways.touch(held.set, held.way);
@@ -250,6 +255,17 @@ impl Directory {
         self.ways
             .place(place.set, way, Entry::new(place.tag, false));
         self.store.write(place.set, way, bytes);
+    }
+
+    /// The entry of a block that lies in a way.
+    fn at(&self, block: BlockNo, way: Way) -> Held
+        requires block { block < self.now.geometry.memory_blocks }
+        requires lies { way_of self.now block ≡ Some way }
+        ensures { IsHeld self.now block result.set result.way result.entry }
+    {
+        let set = self.geometry.place(block).set;
+        let entry = self.ways.entry(set, way).unwrap();
+        Held { set, way, entry }
     }
 
     /// Where a block lies, and its entry, if home holds it.

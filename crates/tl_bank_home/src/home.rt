@@ -128,12 +128,13 @@ impl Home {
         self.directory.entry(block)
     }
 
-    /// The entry of a block in home's directory and the bytes of home's copy, if home holds it.
-    pub fn line(&self, block: BlockNo) -> Option<(Entry, &BlockBytes)>
+    /// The entry of a block in home's directory, the bytes of home's copy, and the way in which it lies, if home holds it.
+    pub fn line(&self, block: BlockNo) -> Option<(Entry, &BlockBytes, Way)>
         requires { block < (geometry_in self.now).memory_blocks }
         ensures is { MatchOption result (line_in self.now block ≡ None)
             (λ line. line_in self.now block ≡ Some (record { bytes = line.1.now; dirty = line.0.dirty })) }
         ensures recorded { IfSome result (λ line. (client : ℕ) → recorded_in self.now client block ≡ entry_perm line.0 client) }
+        ensures way { IfSome result (λ line. way_in self.now block ≡ Some line.2) }
     {
         self.directory.line(block)
     }
@@ -210,14 +211,14 @@ impl Home {
     }
 
     /// The block that lies in a way of a set.
-    pub fn block_at(&self, set: Set, way: Way) -> Option<BlockNo>
+    pub fn occupant(&self, set: Set, way: Way) -> Option<BlockNo>
         requires { set < (geometry_in self.now).sets }
         ensures inside { IfSome result (λ block. block < (geometry_in self.now).memory_blocks) }
         ensures set { IfSome result (λ block. set_of (geometry_in self.now) block ≡ set) }
         ensures way { IfSome result (λ block. way_in self.now block ≡ Some way) }
         ensures free { is_none result ≡ free_at self.now set way }
     {
-        self.directory.block_at(set, way)
+        self.directory.occupant(set, way)
     }
 
     /// Home takes what a client gives up of a block that home holds: what is recorded then, and the bytes where they were
@@ -235,17 +236,17 @@ impl Home {
         ensures outward { SameOutward self.old self.new }
         ensures memory { SameMemory self.old self.new }
     {
-        self.directory.record(client, block, to);
+        let way = self.directory.record(client, block, to);
         if let Some(bytes) = bytes {
-            self.directory.write(block, bytes);
+            self.directory.write(block, way, bytes);
         }
     }
 
-    /// Home grants a permission of a block that it holds: it records it, and the block's way goes last in the order of its
-    /// set. Beside Tip no other client may have any permission.
-    pub fn grant(&mut self, client: ClientId, block: BlockNo, perm: Perm)
+    /// Home grants a permission of a block that lies in a way: it records it, and the way goes last in the order of its set. Beside
+    /// Tip no other client may have any permission.
+    pub fn grant(&mut self, client: ClientId, block: BlockNo, way: Way, perm: Perm)
         requires block { block < (geometry_in self.old).memory_blocks }
-        requires held { IsSome (line_in self.old block) }
+        requires lies { way_in self.old block ≡ Some way }
         requires known { client < (geometry_in self.old).clients }
         requires tip { perm ≡ Tip → (other : ℕ) → other ≢ client → recorded_in self.old other block ≡ NoAccess }
         requires branch { perm ≡ Branch → (other : ℕ) → other ≢ client → recorded_in self.old other block ≢ Tip }
@@ -261,7 +262,7 @@ impl Home {
         ensures outward { SameOutward self.old self.new }
         ensures memory { SameMemory self.old self.new }
     {
-        self.directory.grant(client, block, perm);
+        self.directory.grant(client, block, way, perm);
     }
 
     /// Home asks the memory for a block of which nothing passes.

@@ -1,25 +1,23 @@
 -- The blocks that are found way by way are those of which home has a copy.
-use Rattle.std.proofs.Common.{◌≡◌, ◌≢◌, ℕ, zero, suc, ◌+◌, ◌*◌, ◌/◌, ◌%◌, ◌<◌, ◌≤◌, ◌==◌, ◌||◌, not, Bool, true, false, if◌then◌else◌, List, [], ◌∷◌, ◌++◌, length, length-append, suc-mul, Option, Some, None, is_none, is_some, refl, sym, ◌∙◌, ap, subst, arith, eqb-true, eq-eqb, inl, inr}
+use Rattle.std.proofs.Common.{◌≡◌, ◌≢◌, ℕ, zero, suc, ◌+◌, ◌*◌, ◌/◌, ◌%◌, ◌<◌, ◌≤◌, ◌==◌, Bool, true, false, if◌then◌else◌, List, [], ◌∷◌, ◌++◌, length, length-append, suc-mul, Option, Some, None, is_none, is_some, refl, sym, ◌∙◌, ap, subst, arith, eq-eqb, inl, inr}
 use Rattle.std.specs.Prelude.{All, nat_lt, sum_by}
 use Rattle.std.specs.Option.{option_map}
 use Rattle.std.specs.List.Sorted.{IsNonDecreasing}
 use Rattle.std.proofs.lemmas.Bool.{cases_eq, cases_lt, ne_eqb, lt-ltb, le-ltb}
-use Rattle.std.proofs.lemmas.Bool.Decides.{nat_tests}
-use Rattle.std.proofs.lemmas.Nat.{div-mul-add, mod-mul-add, div-add-mod', mul-le}
+use Rattle.std.proofs.lemmas.Nat.{div-mul-add, mod-mul-add, mul-le}
 use Rattle.std.proofs.lemmas.List.Sums.{sum_by-append, sum_by-cons}
 use Rattle.std.proofs.lemmas.Option.{same_Some}
 use Rattle.tl_types.specs.declared.permission.Perm.TheVariants.{None as p_None}
-use Rattle.tl_map.specs.Places.{bank_of, set_of}
+use Rattle.tl_map.specs.Places.{set_of}
 use Rattle.tl_map.proofs.PlaceLaws.{some_sets, set_of-lt}
 use Rattle.tl_protocol.specs.Ledger.{is_recorded, one_if, count_clients, count_pairs}
-use Rattle.tl_protocol.specs.Protocol.{Block}
 use Rattle.tl_protocol.specs.declared.client.Client.{Client}
 use Rattle.tl_protocol.specs.declared.home.Line.{Line}
 use Rattle.tl_bank_home.specs.Homes.{HomeState, line_in, recorded_in}
 use Rattle.tl_bank_home.proofs.DirectoryLaws.{way_of-no_line, recorded_of-none}
-use Rattle.tl_bank_spec.specs.View.{View, shape_of, end_at, client_at}
+use Rattle.tl_bank_spec.specs.View.{View, shape_of, end_at}
 use Rattle.tl_bank_spec.specs.Own.{IsOwn, way_at}
-use Rattle.tl_bank_spec.specs.Views.{not_own, dirty_at, is_at_home, passing_below, blocks_at_home, blocks_below, pairs_below, pairs_at}
+use Rattle.tl_bank_spec.specs.Views.{not_own, is_at_home, passing_below, blocks_at_home, blocks_below, pairs_below}
 use Rattle.tl_bank_spec.specs.Ways.{slot_at}
 use Rattle.tl_bank_laws.specs.Layers.{Layers}
 use Rattle.tl_bank_laws.specs.Means.{Means}

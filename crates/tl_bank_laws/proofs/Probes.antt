@@ -3,7 +3,6 @@ use Rattle.std.proofs.Common.{◌≡◌, ◌≢◌, ℕ, ◌<◌, ◌≤◌, ◌
 use Rattle.std.proofs.lemmas.Bool.Decides.{nat_tests}
 use Rattle.std.proofs.lemmas.Bool.{or_parts}
 use Rattle.tl_types.specs.Lane.{IsFirst, Lane, sent, is_here, with_message, without_first, bodies_of}
-use Rattle.tl_types.specs.Message.{probe_answer}
 use Rattle.tl_types.specs.Permission.{probe_perm}
 use Rattle.tl_types.specs.declared.channel.Channel.{Channel}
 use Rattle.tl_types.specs.declared.channel.Channel.TheVariants.{B, C}
@@ -19,14 +18,14 @@ use Rattle.tl_types.specs.declared.ticket.Ticket.{Ticket}
 use Rattle.tl_types.specs.declared.wait.Awaited.{Awaited}
 use Rattle.tl_types.specs.declared.wait.Awaited.TheVariants.{Nothing, ForGrant, ForReleaseAck}
 use Rattle.tl_protocol.specs.Client.{answered}
-use Rattle.tl_protocol.specs.Copy.{dirty_bytes, perm_of, reduced}
+use Rattle.tl_protocol.specs.Copy.{perm_of, reduced}
 use Rattle.tl_protocol.specs.Protocol.{is_none}
 use Rattle.tl_protocol.specs.declared.client.Client.{Client}
 use Rattle.tl_protocol.specs.declared.copy.CachedCopy.{CachedCopy}
 use Rattle.tl_protocol.specs.declared.copy.CachedCopy.TheVariants.{Absent, Readable, Writable}
 use Rattle.tl_protocol.specs.declared.event.Event.TheVariants.{AnswerProbe}
 use Rattle.tl_protocol_lanes.specs.Lanes.{answer_post, sent_to}
-use Rattle.tl_protocol_lanes.proofs.Logs.{first_heads_its_list}
+use Rattle.tl_protocol_lanes.proofs.Logs.{first_heads_its_list, interleaves}
 use Rattle.tl_links.specs.Table.{LinkTable, lane_in, SameSize as SameLinks}
 use Rattle.tl_copies.specs.Copies.{Tables, held_at, is_cell, SameSize as SameCopies}
 use Rattle.tl_bank_spec.specs.Calls.{answer_probe_cases}
@@ -192,7 +191,7 @@ probe-room v h t share between m none small same took =
     from_b t.client C
     ∙ (ap (λ here. cond here (without_first (lane_in h.links t.client C)) (lane_in h.links t.client C)) elsewhere
     ∙ m.lanes t.client C ok.head.client) in
-    let counted : sent (lane_at v t.client C) ≤ length v.log = m.lawful.counted t.client C in
+    let counted : sent (lane_at v t.client C) ≤ length v.log = (interleaves (shape_of v.geometry) v.image v.log m.lawful).counted t.client C in
     record {
       client = rw (same.clients, m.links_clients) ok.head.client;
       place = rw lane ok.place;

@@ -12,6 +12,7 @@ use Rattle.tl_bank_spec.specs.View.{View, shape_of, end_at, client_at}
 use Rattle.tl_bank_spec.specs.Views.{not_own, HasNoMessage, AwaitsNothing, IsQuiet, blocks_below, pairs_at}
 use Rattle.tl_bank_laws.specs.Layers.{Layers}
 use Rattle.tl_bank_laws.specs.Means.{Means}
+use Rattle.tl_protocol_lanes.proofs.Logs.{interleaves}
 
 -- ## Quiet
 
@@ -37,8 +38,8 @@ quiet-silent v h m quiet (suc n) =
     let rest = quiet-silent v h m quiet n in
     let here : (x : ℕ) → x < v.geometry.clients → ((client_at v x n).c ≡ []) × ((client_at v x n).d ≡ []) =
     λ x lt. (
-      map-empty b_Upward (client_at v x n).c (m.lawful.ordered x n C ∙ ap (bodies_of n) (quiet.messages x lt C)),
-      map-empty b_Downward (client_at v x n).d (m.lawful.ordered x n D ∙ ap (bodies_of n) (quiet.messages x lt D)),
+      map-empty b_Upward (client_at v x n).c ((interleaves (shape_of v.geometry) v.image v.log m.lawful).ordered x n C ∙ ap (bodies_of n) (quiet.messages x lt C)),
+      map-empty b_Downward (client_at v x n).d ((interleaves (shape_of v.geometry) v.image v.log m.lawful).ordered x n D ∙ ap (bodies_of n) (quiet.messages x lt D)),
     ) in
     let split : (t : Bool) → IsSilent (shape_of v.geometry) (end_at v) (cond t (blocks_below v n) (n ∷ blocks_below v n)) =
     λ t. elim t as (λ t. IsSilent (shape_of v.geometry) (end_at v) (cond t (blocks_below v n) (n ∷ blocks_below v n))) [

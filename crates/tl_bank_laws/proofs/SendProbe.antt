@@ -28,6 +28,7 @@ use Rattle.tl_bank_laws.proofs.Dues.{Acts}
 use Rattle.tl_bank_laws.proofs.Next.{block_next, means-next, next_view, registers-next}
 use Rattle.tl_bank_laws.proofs.Pointwise.{entries-next, homes-next}
 use Rattle.tl_bank_laws.proofs.Ways.{bank-steady, noted-work, ways-stay}
+use Rattle.tl_protocol_lanes.proofs.Logs.{interleaves}
 
 -- on a channel that is not full fewer than 64 messages wait
 place-left : (n : ℕ) → nat_le 64 n ≡ false → n < 64
@@ -37,7 +38,7 @@ place-left n h = grind (arith, nat_tests)
 pub channel-room : (v : View) (h : Layers) (c : ℕ) (k : Channel) → Means v h → c < v.geometry.clients → link_full v c k ≡ false
     → length v.log < 2 ^ 64 - 1 → HasRoom h.links c k
 channel-room v h c k m l free small =
-    let counted : sent (lane_at v c k) ≤ length v.log = m.lawful.counted c k in
+    let counted : sent (lane_at v c k) ≤ length v.log = (interleaves (shape_of v.geometry) v.image v.log m.lawful).counted c k in
     let place : length (lane_at v c k).messages < 64 = place-left (length (lane_at v c k).messages) free in
     record {
       client = rw m.links_clients l;

@@ -45,6 +45,7 @@ use Rattle.tl_bank_laws.specs.Layers.{Layers}
 use Rattle.tl_bank_laws.specs.Means.{Means}
 use Rattle.tl_bank_laws.proofs.Crossed.{own-or-not}
 use Rattle.tl_bank_laws.proofs.Dues.{found-each}
+use Rattle.tl_protocol_lanes.proofs.Logs.{interleaves}
 
 -- ## The blocks of other banks
 
@@ -160,7 +161,7 @@ has h c k b wanted = list_any (is_wanted wanted) (bodies_of b (lane_in h.links c
 has-list : (v : View) (h : Layers) (c : ℕ) (k : Channel) (b : ℕ) (wanted : Wanted) → Means v h → c < v.geometry.clients
     → has h c k b wanted ≡ list_any (is_wanted wanted) (list_in (client_at v c b) k)
 has-list v h c k b wanted m l =
-    rw (m.lanes c k l) (ap (λ (bodies : List Body). list_any (is_wanted wanted) bodies) (sym (m.lawful.ordered c b k)))
+    rw (m.lanes c k l) (ap (λ (bodies : List Body). list_any (is_wanted wanted) bodies) (sym ((interleaves (shape_of v.geometry) v.image v.log m.lawful).ordered c b k)))
 
 -- a Probe of a block, or an answer
 probed-read : (v : View) (h : Layers) (c b : ℕ) → Means v h → c < v.geometry.clients

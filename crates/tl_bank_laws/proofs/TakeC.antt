@@ -1,5 +1,5 @@
 -- Home takes a client's first message on channel C, and what that leaves.
-use Rattle.std.proofs.Common.{◌≡◌, ◌≢◌, ℕ, ◌<◌, ◌≤◌, ◌==◌, ◌&&◌, Bool, true, false, cond, slice_index_or, List, [], ◌∷◌, IsSome, Option, Some, None, refl, sym, ◌∙◌, ap, subst, arith, eqb-true, eq-eqb}
+use Rattle.std.proofs.Common.{◌≡◌, ◌≢◌, ℕ, ◌-◌, ◌^◌, ◌<◌, ◌≤◌, ◌==◌, ◌&&◌, Bool, true, false, cond, slice_index_or, List, [], ◌∷◌, length, IsSome, Option, Some, None, if◌then◌else◌, refl, sym, ◌∙◌, ap, subst, arith, eqb-true, eq-eqb}
 use Rattle.std.proofs.Math.Bool.{or-true}
 use Rattle.std.specs.List.{list_any}
 use Rattle.tl_types.specs.Lane.{Lane, IsFirst, is_here, with_message, without_first, bodies_of}
@@ -35,7 +35,7 @@ use Rattle.tl_links.specs.Table.{LinkTable, lane_in, SameSize as SameLinks}
 use Rattle.tl_bank_home.specs.Homes.{HomeState, SameBank, SameMemory, SameOutward, SameWays, line_in, recorded_in, way_in}
 use Rattle.tl_registers.specs.Pending.{has_first, is_probed}
 use Rattle.tl_registers.proofs.Blocks.{first-from}
-use Rattle.tl_bank_spec.specs.Cases.{any_body, begins, block_named, first_block, is_a_release}
+use Rattle.tl_bank_spec.specs.Cases.{any_body, begins, block_named, first_block, is_a_release, link_full}
 use Rattle.tl_bank_spec.specs.HomeCalls.{take_c_cases}
 use Rattle.tl_bank_spec.specs.Refusal.{first_of}
 use Rattle.tl_bank_spec.specs.View.{View, shape_of, end_at, client_at}
@@ -44,11 +44,13 @@ use Rattle.tl_bank_spec.specs.Channels.{lane_at}
 use Rattle.tl_bank_laws.specs.Entry.{entry_of}
 use Rattle.tl_bank_laws.specs.Given.{left_by, brought_by}
 use Rattle.tl_bank_laws.specs.Layers.{Layers}
+use Rattle.tl_bank_laws.specs.Link.{HasRoom}
 use Rattle.tl_bank_laws.specs.Means.{Means, IsHomeOf}
 use Rattle.tl_bank_laws.proofs.Allowed.{AllFalse, all-false, client-is}
 use Rattle.tl_bank_laws.proofs.Heads.{HeadAllowed, head-allowed, head-first, head-list, head-own}
 use Rattle.tl_bank_laws.proofs.Next.{NextEvent, NextLayers, block_next, means-next, next_view}
 use Rattle.tl_bank_laws.proofs.Probed.{gone-is-unprobed}
+use Rattle.tl_bank_laws.proofs.SendProbe.{channel-room}
 use Rattle.tl_bank_laws.proofs.Ways.{bank-steady, fit-stays, same-work, ways-stay}
 
 -- ## The message that comes
@@ -92,6 +94,31 @@ take_c-comes v h t x rest m none there =
       body = ap (λ (y : Message). y.body) is ∙ list.2;
       list = subst (λ (b : ℕ). (client_at v t.client b).c ≡ list.0 ∷ list.1) (sym at) list.3;
     }
+
+-- whatever holds of both of two tests, and the first holds, the second fails where both together do
+second-fails : (a b : Bool) → a ≡ true → (a && b) ≡ false → b ≡ false
+second-fails true b is none = none
+second-fails false b is none = absurd (cc)
+
+-- where home takes a Release, channel D has a place for the ReleaseAck
+pub answer-room : (v : View) (h : Layers) (t : Ticket) (x : Message) (between : LinkTable) → Means v h
+    → first_of (take_c_cases v t) ≡ None → Comes v t x → SameLinks h.links between
+    → ((y : ℕ) (l : Channel) → lane_in between y l
+    ≡ (if is_here t.client t.channel y l then without_first (lane_in h.links y l) else lane_in h.links y l))
+    → length v.log < 2 ^ 64 - 1 → is_a_release x.body ≡ true → HasRoom between t.client D
+answer-room v h t x between m none comes same took small is =
+    let ok = take_c-allowed v t none in
+    let f : AllFalse (take_c_cases v t) = all-false (take_c_cases v t) none in
+    let free : link_full v t.client D ≡ false =
+    second-fails (begins is_a_release (lane_at v t.client C).messages) (link_full v t.client D) (comes.is_release ∙ is) f.1.1.1.1.1.0 in
+    let Took : Channel → Type 0 = λ k. (y : ℕ) (l : Channel) → lane_in between y l
+    ≡ (if is_here t.client k y l then without_first (lane_in h.links y l) else lane_in h.links y l) in
+    let from_c : Took C = subst Took ok.channel took in
+    let elsewhere : is_here t.client C t.client D ≡ false = rw (eq-eqb t.client t.client refl) refl in
+    let lane : lane_in between t.client D ≡ lane_in h.links t.client D =
+    from_c t.client D ∙ ap (λ here. cond here (without_first (lane_in h.links t.client D)) (lane_in h.links t.client D)) elsewhere in
+    let room : HasRoom h.links t.client D = channel-room v h t.client D m ok.client free small in
+    record { client = rw same.clients room.client; place = rw lane room.place; counted = rw lane room.counted }
 
 -- ## What home may rely on
 

@@ -28,6 +28,7 @@ use Rattle.tl_bank_spec.specs.Tables.{is_waiting}
 use Rattle.tl_bank_spec.specs.Channels.{lane_at}
 use Rattle.tl_bank_spec.specs.declared.refusal.Refusal.{Refusal}
 use Rattle.tl_bank_spec.specs.declared.refusal.Refusal.TheVariants.{NoPermission, Waiting, WrongFrom, NothingThere, ReleasePending}
+use Rattle.tl_protocol_lanes.proofs.Logs.{interleaves}
 
 -- ## No case of a refusal
 
@@ -97,7 +98,8 @@ some-wait block (m ∷ more) body rest is = refl
 -- so it is where a lawful log leaves a block's list on it
 waits : (v : View) → Lawful (shape_of v.geometry) v.image v.log → (c block : ℕ) (l : Channel) (body : Body) (rest : List Body)
     → list_in (client_at v c block) l ≡ body ∷ rest → is_empty (lane_at v c l).messages ≡ false
-waits v lawful c block l body rest is = some-wait block (lane_at v c l).messages body rest (sym (lawful.ordered c block l) ∙ is)
+waits v lawful c block l body rest is = some-wait block (lane_at v c l).messages body rest
+    (sym ((interleaves (shape_of v.geometry) v.image v.log lawful).ordered c block l) ∙ is)
 
 -- the list of marked values of a list with a first one
 first-marked : {X : Type 0} (mark : X → Body) (xs : List X) (first : HasFirst xs) → map mark xs ≡ mark first.0 ∷ map mark first.1

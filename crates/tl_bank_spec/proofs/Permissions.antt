@@ -1,7 +1,6 @@
 -- Which permissions messages lead to.
-use Rattle.std.proofs.Common.{◌≡◌, ℕ, List, Option, Bool, true, false, if◌then◌else◌, refl}
-use Rattle.tl_types.specs.Message.{answer_report, probe_answer}
-use Rattle.tl_types.specs.Parameters.{grow_to, probe_cap, report_of}
+use Rattle.std.proofs.Common.{◌≡◌, Bool, true, false, if◌then◌else◌, refl}
+use Rattle.tl_types.specs.Parameters.{grow_to}
 use Rattle.tl_types.specs.Permission.{grant_perm}
 use Rattle.tl_types.specs.declared.permission.Grow.{Grow}
 use Rattle.tl_types.specs.declared.permission.Grow.TheVariants.{NtoB, NtoT, BtoT}

@@ -19,6 +19,7 @@ use Rattle.tl_bank_spec.specs.View.{View, client_at, perm_at}
 use Rattle.tl_bank_spec.specs.Channels.{lane_at}
 use Rattle.tl_bank_spec.specs.Tables.{has_entry, entries_at, copies_at, is_waiting}
 use Rattle.tl_bank_spec.specs.Clock.{latest}
+use Rattle.tl_types.specs.declared.limits.TheConstants.{MESSAGES}
 
 -- ## Out of range, and of another bank
 
@@ -88,7 +89,7 @@ clock_full v clock = latest v clock == 2 ^ 64 - 1
 
 -- 64 messages are on the channel
 abbrev pub link_full : View → ℕ → Channel → Bool
-link_full v client channel = nat_le 64 (length (lane_at v client channel).messages)
+link_full v client channel = nat_le MESSAGES (length (lane_at v client channel).messages)
 
 -- no message waits
 abbrev pub is_empty : List Message → Bool

@@ -1,5 +1,5 @@
 -- Which blocks are a bank's, and in which ways they lie (this project's own).
-use Rattle.std.specs.Prelude.{◌≡◌, ℕ, zero, suc, ◌+◌, ◌<◌, List, [], ◌∷◌, ◌++◌, Option, None, slice_index_or}
+use Rattle.std.specs.Prelude.{◌≡◌, ℕ, zero, suc, ◌<◌, List, [], ◌∷◌, ◌++◌, Option, None, slice_index_or}
 use Rattle.tl_map.specs.Numbers.{Numbers}
 use Rattle.tl_map.specs.Places.{bank_of}
 use Rattle.tl_bank_spec.specs.View.{View}

@@ -44,7 +44,7 @@ pub(crate) fn carry_out<P: Port>(
         Command::Load { address, len } => {
             let loaded = port.load(client, *address, *len as usize, when)?;
             Ok(Done {
-                bytes: loaded.bytes,
+                bytes: loaded.access(),
                 clock: loaded.stamp,
             })
         }

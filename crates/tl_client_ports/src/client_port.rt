@@ -132,7 +132,7 @@ impl<'a, R: Wait, G: Gate> Port for ClientPort<'a, R, G> {
             client,
             address,
             len,
-            bytes: loaded.bytes.copied(),
+            bytes: loaded.access(),
             when,
             stamp: loaded.stamp,
         });

@@ -54,7 +54,7 @@ pub trait Port {
         when: When,
     ) -> Result<Loaded, Refusal>
         ensures { MatchResult result
-            (λ loaded. successes self.new ≡ successes self.old ++ WasLoaded client address len loaded.bytes when loaded.stamp ∷ [])
+            (λ loaded. successes self.new ≡ successes self.old ++ WasLoaded client address len loaded.bytes.items when loaded.stamp ∷ [])
             (λ _. successes self.new ≡ successes self.old) };
 
     fn store(

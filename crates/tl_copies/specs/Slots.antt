@@ -6,6 +6,7 @@ use Rattle.tl_copies.specs.declared.held.Held.{Held}
 use Rattle.tl_copies.specs.declared.table.Key.{Key}
 use Rattle.tl_copies.specs.Entries.{Entry}
 use Rattle.tl_copies.specs.Held.{is_copy}
+use Rattle.tl_types.specs.declared.limits.TheConstants.{COPIES}
 
 -- what a slot that is not there would hold
 abbrev pub blank : Held
@@ -27,6 +28,6 @@ uses keys free slot = count_by (λ (key : Key). key.slot == slot) keys + count_b
 pub record IsSound (keys : List Key) (slots : List Held) (free : List ℕ) (copies : ℕ) : Type 0 where
   pub once : (slot : ℕ) → uses keys free slot ≤ 1
   pub inside : (slot : ℕ) → length slots ≤ slot → uses keys free slot ≡ 0
-  pub few : length slots ≤ 64
+  pub few : length slots ≤ COPIES
   pub all : length keys + length free ≡ length slots
   pub counted : copies ≡ count_by (λ (e : Entry). is_copy e.held) (entries_of slots keys)

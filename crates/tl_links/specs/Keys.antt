@@ -3,6 +3,7 @@ use Rattle.std.specs.Prelude.{◌≡◌, ◌≢◌, ℕ, ◌+◌, ◌^◌, ◌<�
 use Rattle.std.specs.List.{filter_map, AllByRecursion}
 use Rattle.slab.specs.Slab.{Slab, get, ContainsKey, slab_len}
 use Rattle.tl_types.specs.declared.message.Message.{Message}
+use Rattle.tl_types.specs.declared.limits.TheConstants.{MESSAGES}
 
 -- the messages under these keys, in the keys' order
 abbrev pub in_order : Slab Message → List ℕ → List Message
@@ -18,7 +19,7 @@ AreKeys slab (key ∷ rest) = ContainsKey slab key × AllByRecursion (λ other. 
 pub record IsSound (taken : ℕ) (slab : Slab Message) (keys : List ℕ) (places : ℕ) : Type 0 where
   pub apart : AreKeys slab keys
   pub all : slab_len slab ≡ length keys
-  pub few : length keys ≤ 64
-  pub messages_room : 64 ≤ slab.capacity
-  pub order_room : 64 ≤ places
+  pub few : length keys ≤ MESSAGES
+  pub messages_room : MESSAGES ≤ slab.capacity
+  pub order_room : MESSAGES ≤ places
   pub counted : taken + length keys < 2 ^ 64

@@ -8,6 +8,7 @@ use Rattle.tl_links.specs.declared.ticket_error.TicketError.{TicketError}
 use Rattle.tl_links.specs.declared.ticket_error.TicketError.TheVariants.{NothingThere, NotHead}
 use Rattle.tl_links.specs.declared.wanted.Wanted.{Wanted}
 use Rattle.tl_links.specs.Wanted.{is_wanted}
+use Rattle.tl_types.specs.declared.limits.TheConstants.{CLIENTS, MESSAGES}
 
 -- the bank, how many clients it has, and their channels
 pub record LinkTable : Type 0 where
@@ -44,7 +45,7 @@ waiting_below table channel (suc n) = waiting_below table channel n + length (la
 -- that wait on it.
 pub record IsCounted (table : LinkTable) (numbers : List ℕ) : Type 0 where
   pub all : length table.lanes ≡ table.clients * 5
-  pub few : table.clients ≤ 16
-  pub most : (client : ℕ) (channel : Channel) → length (lane_in table client channel).messages ≤ 64
+  pub few : table.clients ≤ CLIENTS
+  pub most : (client : ℕ) (channel : Channel) → length (lane_in table client channel).messages ≤ MESSAGES
   pub five : length numbers ≡ 5
   pub numbered : (channel : Channel) → slice_index numbers (channel_index channel) ≡ waiting_below table channel table.clients

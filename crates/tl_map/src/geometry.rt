@@ -7,7 +7,7 @@ ghost use Rattle.tl_map.specs.Refusals.{refusal_of, numbers_of};
 use crate::numbers::{GeometryError, GeometryNumbers, one_of, within};
 use crate::place::{Place, Set, Tag};
 use std::marker::Model;
-use tl_types::{BankNo, BlockNo};
+use tl_types::{BLOCKS, BankNo, BlockNo, CLIENTS, COPIES, REGISTERS, WAYS};
 
 /// The numbers of a cache, each within its limits.
 #[derive(Clone, Debug, PartialEq, Eq)]
@@ -56,10 +56,12 @@ impl Geometry {
             GeometryError::BlockBytes,
         )?;
         let sets = one_of(numbers.sets, &[1, 2, 4, 8, 16, 32, 64]).ok_or(GeometryError::Sets)?;
-        let ways = within(numbers.ways, 1, 8).ok_or(GeometryError::Ways)?;
-        let registers = within(numbers.registers, 1, 8).ok_or(GeometryError::Registers)?;
+        let ways = within(numbers.ways, 1, WAYS as u32).ok_or(GeometryError::Ways)?;
+        let registers = within(numbers.registers, 1, REGISTERS as u32).ok_or(
+            GeometryError::Registers,
+        )?;
         let copies = within(numbers.copies, 1, most_copies(version)).ok_or(GeometryError::Copies)?;
-        let memory_blocks = within(numbers.memory_blocks, 1, 65_536).ok_or(
+        let memory_blocks = within(numbers.memory_blocks, 1, BLOCKS as u32).ok_or(
             GeometryError::MemoryBlocks,
         )?;
         Ok(Geometry {
@@ -324,12 +326,12 @@ impl Geometry {
 fn most_clients(version: u32) -> u32
     ensures { result ≡ most_clients version }
 {
-    if version == 1 { 8 } else { 16 }
+    if version == 1 { 8 } else { CLIENTS as u32 }
 }
 
 /// The most copies of a client in a bank in a version.
 fn most_copies(version: u32) -> u32
     ensures { result ≡ most_copies version }
 {
-    if version == 1 { 16 } else { 64 }
+    if version == 1 { 16 } else { COPIES as u32 }
 }

@@ -13,7 +13,7 @@ use Rattle.tl_protocol_lanes.specs.Lanes.{Post, LinkChannel, post_of, take_of, t
 use Rattle.tl_protocol_lanes.specs.Lawful.{Lawful, TakeInOrder}
 use Rattle.tl_protocol_lanes.specs.Lists.{list_in}
 use Rattle.tl_protocol_lanes.specs.Delivery.{first_as, message_sent, message_taken, sent_from, taken_along, EveryMessageIsDeliveredInOrder}
-use Rattle.tl_protocol_lanes.proofs.Logs.{FirstIf, first_if, end_of-append, lanes_grow_by_one, lawful_grows_by_one, empty_is_lawful}
+use Rattle.tl_protocol_lanes.proofs.Logs.{FirstIf, first_if, end_of-append, lanes_grow_by_one, lawful_grows_by_one, empty_is_lawful, interleaves}
 use Rattle.tl_types.proofs.Lanes.{bodies_of-first}
 
 -- ## What is taken from a lane
@@ -141,7 +141,8 @@ taken-same :
 taken-same shape image log None block x l lawful first = refl
 taken-same shape image log (Some place) block x l lawful first =
     same_if (is_here place.client place.channel x l) block (lane_of shape image log x l)
-    (list_in ((end_of shape image log block).client x) l) first (lawful.ordered x block l)
+    (list_in ((end_of shape image log block).client x) l) first
+    ((interleaves shape image log lawful).ordered x block l)
 
 -- so it is with all events after a lawful log
 all-same :

@@ -30,11 +30,11 @@ use Rattle.tl_protocol.specs.declared.shape.Shape.{Shape}
 use Rattle.tl_protocol.specs.Client.{grant_bytes}
 use Rattle.tl_protocol.specs.Copy.{perm_of, dirty_bytes}
 use Rattle.tl_protocol.specs.Protocol.{Block, block_of, after, granted, home_bytes}
-use Rattle.tl_protocol.specs.Runs.{at_reset, after_next, MayNext, end_from, end_of}
+use Rattle.tl_protocol.specs.Runs.{at_reset, after_next, MayNext, IsRunFrom, end_from, end_of}
 use Rattle.tl_protocol.proofs.Runs.{run_joined, end_joined}
 use Rattle.tl_protocol_lanes.specs.Lanes.{Post, LinkChannel, post_of, take_of, answer_post, ack_post, grant_post, taken_from, sent_to, lane_after, lane_from, lane_of}
 use Rattle.tl_protocol_lanes.specs.Lists.{list_in, shed, added, ListsFollow}
-use Rattle.tl_protocol_lanes.specs.Lawful.{IsNext, TakesFirst, TakeInOrder, Lawful, EmptyIsLawful, LawfulGrowsByOne, LanesGrowByOne, FirstHeadsItsList, MessagesFitTheirChannels}
+use Rattle.tl_protocol_lanes.specs.Lawful.{IsNext, TakesFirst, TakeInOrder, Lawful, Interleaves, EmptyIsLawful, EveryLawfulLogInterleaves, LawfulGrowsByOne, LanesGrowByOne, FirstHeadsItsList, MessagesFitTheirChannels}
 use Rattle.tl_protocol_lanes.proofs.Events.{every_event_moves_its_lists}
 
 -- ## One more event
@@ -156,11 +156,11 @@ eqb_swap x y = swapped x y (x == y) (y == x) refl refl
 
 -- each list of the block is still the channel's
 ordered-after :
-    (shape : Shape) (image : List ℕ) (log : List Event) (e : Event) → Lawful shape image log
+    (shape : Shape) (image : List ℕ) (log : List Event) (e : Event) → Interleaves shape image log
     → MayNext shape (end_of shape image log) e → TakesFirst shape image log e → (x block : ℕ) (l : Channel)
     → list_in ((end_of shape image (log ++ e ∷ []) block).client x) l
     ≡ bodies_of block (lane_of shape image (log ++ e ∷ []) x l).messages
-ordered-after shape image log e lawful may takes x block l =
+ordered-after shape image log e before may takes x block l =
     let of : ℕ = block_of shape e in
     let own : Block = end_of shape image log of in
     let s : Block = end_of shape image log block in
@@ -169,7 +169,7 @@ ordered-after shape image log e lawful may takes x block l =
     let follows : ListsFollow shape own e = every_event_moves_its_lists shape own e may in
     ap (λ (t : ℕ → Block). list_in ((t block).client x) l) (end_of-append shape image log e)
     ∙ (list-after shape own s e block x l bodies (block == of) follows
-    (λ h. ap (end_of shape image log) (eqb-true block of h)) (lawful.ordered x block l)
+    (λ h. ap (end_of shape image log) (eqb-true block of h)) (before.ordered x block l)
     ∙ (ap (λ (t : Bool). cond t (added (post_of shape own e) x l (shed (take_of e) x l bodies)) bodies) (eqb_swap block of)
     ∙ (sym (bodies-after (post_of shape own e) (take_of e) block of x l lane (first_if shape image log (take_of e) of x l takes))
     ∙ ap (λ (after : Lane). bodies_of block after.messages) (sym (lanes_grow_by_one shape image log e x l)))))
@@ -197,13 +197,13 @@ sent-sent (Some post) of x l lane =
 
 -- no more are sent than there are events
 counted-after :
-    (shape : Shape) (image : List ℕ) (log : List Event) (e : Event) → Lawful shape image log → (x : ℕ) (l : Channel)
+    (shape : Shape) (image : List ℕ) (log : List Event) (e : Event) → Interleaves shape image log → (x : ℕ) (l : Channel)
     → sent (lane_of shape image (log ++ e ∷ []) x l) ≤ length (log ++ e ∷ [])
-counted-after shape image log e lawful x l =
+counted-after shape image log e known x l =
     let own : Block = end_of shape image log (block_of shape e) in
     let lane : Lane = lane_of shape image log x l in
     let taken : Lane = taken_from (take_of e) x l lane in
-    let before : sent lane ≤ length log = lawful.counted x l in
+    let before : sent lane ≤ length log = known.counted x l in
     let same : sent taken ≡ sent lane = sent-taken (take_of e) x l lane in
     let more : Lane = sent_to (post_of shape own e) (block_of shape e) x l taken in
     let at_most : sent more ≤ sent taken + 1 = sent-sent (post_of shape own e) (block_of shape e) x l taken in
@@ -228,8 +228,6 @@ pub lawful_grows_by_one : LawfulGrowsByOne
 lawful_grows_by_one shape image log e lawful may takes = record {
   run = run_joined shape (at_reset shape image) log (e ∷ []) lawful.run (may, tt);
   takes = takes-joined shape image [] log e lawful.takes takes;
-  ordered = ordered-after shape image log e lawful may takes;
-  counted = counted-after shape image log e lawful;
 }
 
 -- at reset each list is empty
@@ -244,20 +242,39 @@ empty_list image shape x block E = refl
 -- the empty log is lawful, and nothing was sent
 pub empty_is_lawful : EmptyIsLawful
 unfolding lane_of
-empty_is_lawful shape image = (
-  record {
-    run = tt;
-    takes = tt;
-    ordered = λ x block l. empty_list image shape x block l;
-    counted = λ x l. omega arith;
-  },
-  λ x l. refl,
-)
+empty_is_lawful shape image = (record { run = tt; takes = tt }, λ x l. refl)
+
+-- nothing was sent at reset
+none_interleaves : (shape : Shape) (image : List ℕ) → Interleaves shape image []
+unfolding lane_of
+none_interleaves shape image =
+    record { ordered = λ x block l. empty_list image shape x block l; counted = λ x l. omega arith }
+
+-- so it is after each further event
+all_interleave :
+    (shape : Shape) (image : List ℕ) (log es : List Event) → Interleaves shape image log
+    → IsRunFrom shape (end_of shape image log) es → TakeInOrder shape image log es → Interleaves shape image (log ++ es)
+all_interleave shape image log [] before run takes =
+    subst (λ (whole : List Event). Interleaves shape image whole) (sym (append-nil log)) before
+all_interleave shape image log (e ∷ es) before run takes =
+    let next : Interleaves shape image (log ++ e ∷ []) =
+    record {
+      ordered = ordered-after shape image log e before run.0 takes.0;
+      counted = counted-after shape image log e before;
+    } in
+    subst (λ (whole : List Event). Interleaves shape image whole) (append_assoc log (e ∷ []) es)
+    (all_interleave shape image (log ++ e ∷ []) es next
+    (subst (λ (t : ℕ → Block). IsRunFrom shape t es) (sym (end_of-append shape image log e)) run.1) takes.1)
+
+-- a lawful log interleaves the lists of its blocks
+pub interleaves : EveryLawfulLogInterleaves
+interleaves shape image log lawful =
+    all_interleave shape image [] log (none_interleaves shape image) lawful.run lawful.takes
 
 -- the first message of a channel is the first of its block's list there
 pub first_heads_its_list : FirstHeadsItsList
 first_heads_its_list shape image log x l message rest lawful e =
-    lawful.ordered x message.block l
+    (interleaves shape image log lawful).ordered x message.block l
     ∙ (ap (bodies_of message.block) e ∙ bodies_of-first message.block message rest refl)
 
 -- ## Messages of their channels

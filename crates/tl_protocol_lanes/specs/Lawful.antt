@@ -28,11 +28,14 @@ abbrev pub TakeInOrder : Shape → List ℕ → List Event → List Event → Ty
 TakeInOrder shape image log [] = Unit {0}
 TakeInOrder shape image log (e ∷ es) = TakesFirst shape image log e × TakeInOrder shape image (log ++ e ∷ []) es
 
--- The log is a run of which each event takes the first message of its channel: so the list of each block is the channel's, with
--- the messages of the other blocks taken out, and no more messages were sent on a channel than there are events.
+-- The log is a run of which each event takes the first message of its channel, if it takes one.
 pub record Lawful (shape : Shape) (image : List ℕ) (log : List Event) : Type 0 where
   pub run : IsRun shape image log
   pub takes : TakeInOrder shape image [] log
+
+-- The list of each block is the channel's, with the messages of the other blocks taken out, and no more messages were sent on a
+-- channel than there are events.
+pub record Interleaves (shape : Shape) (image : List ℕ) (log : List Event) : Type 0 where
   pub ordered :
       (x block : ℕ) (l : Channel)
       → list_in ((end_of shape image log block).client x) l ≡ bodies_of block (lane_of shape image log x l).messages
@@ -45,6 +48,11 @@ abbrev pub EmptyIsLawful : Type 0
 EmptyIsLawful =
     (shape : Shape) (image : List ℕ)
     → Lawful shape image [] × ((x : ℕ) (l : Channel) → lane_of shape image [] x l ≡ empty_lane)
+
+-- a lawful log interleaves the lists of its blocks
+abbrev pub EveryLawfulLogInterleaves : Type 0
+EveryLawfulLogInterleaves =
+    (shape : Shape) (image : List ℕ) (log : List Event) → Lawful shape image log → Interleaves shape image log
 
 -- a lawful log stays so with one more permitted event that takes the first message of its channel
 abbrev pub LawfulGrowsByOne : Type 0

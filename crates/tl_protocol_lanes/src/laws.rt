@@ -1,6 +1,6 @@
 //! How each event moves the messages between clients and home, and what holds of logs that take them in order.
 ghost use Rattle.tl_protocol_lanes.specs.Delivery.{EveryMessageIsDeliveredInOrder};
-ghost use Rattle.tl_protocol_lanes.specs.Lawful.{EmptyIsLawful, FirstHeadsItsList, FirstIsWhole, LanesGrowByOne, LawfulGrowsByOne, MessagesFitTheirChannels};
+ghost use Rattle.tl_protocol_lanes.specs.Lawful.{EmptyIsLawful, EveryLawfulLogInterleaves, FirstHeadsItsList, FirstIsWhole, LanesGrowByOne, LawfulGrowsByOne, MessagesFitTheirChannels};
 ghost use Rattle.tl_protocol_lanes.specs.Lists.{EveryEventIsOfOneClient, EveryEventMovesItsLists, EveryFirstIsFirst, EverySuchEventLeavesHome};
 
 /// Each permitted event takes the front of one list of its client and sends to the end of one, and leaves the other clients;
@@ -16,6 +16,7 @@ pub fn every_event()
 pub fn every_lawful_log()
     ensures empty { EmptyIsLawful }
     ensures grows { LawfulGrowsByOne }
+    ensures interleaves { EveryLawfulLogInterleaves }
     ensures lanes { LanesGrowByOne }
     ensures first { FirstHeadsItsList }
     ensures kinds { MessagesFitTheirChannels }

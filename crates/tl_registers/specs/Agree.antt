@@ -21,6 +21,7 @@ use Rattle.tl_registers.specs.Fit.{Fits, NobodyIsProbed}
 use Rattle.tl_registers.specs.NextAction.{next_due, probes_before}
 use Rattle.tl_registers.specs.Register.{victim_of, works_on, opened, acquire_task}
 use Rattle.tl_registers.specs.Registers.{is_busy, register_of, noted, ended, closed}
+use Rattle.tl_types.specs.declared.limits.TheConstants.{CLIENTS}
 
 -- A block on which nothing is under way that a register must know of.
 pub record IsAtRest (shape : Shape) (s : Block) : Type 0 where
@@ -145,7 +146,7 @@ IsFreeVictim shape states registers own (Some victim) =
 abbrev pub AcceptingKeepsAgreement : Type 0
 AcceptingKeepsAgreement =
     (shape : Shape) (states : ℕ → Block) (registers : List Register) (c own : ℕ) (grow : Grow) (rest : List Grow) (way : WayOfSet)
-    (victim : Option ℕ) → IsSteady shape states → Agree shape states registers → shape.clients ≤ 16
+    (victim : Option ℕ) → IsSteady shape states → Agree shape states registers → shape.clients ≤ CLIENTS
     → MayNext shape states (AcceptAcquire c own) → ((states own).client c).a ≡ grow ∷ rest → is_busy own registers ≡ false
     → IsFreeVictim shape states registers own victim
     → Agree shape (after_next shape states (AcceptAcquire c own))
@@ -155,7 +156,7 @@ AcceptingKeepsAgreement =
 abbrev pub EvictingKeepsAgreement : Type 0
 EvictingKeepsAgreement =
     (shape : Shape) (states : ℕ → Block) (registers : List Register) (own : ℕ) (way : WayOfSet) → IsSteady shape states
-    → Agree shape states registers → shape.clients ≤ 16 → own < shape.blocks → is_busy own registers ≡ false
+    → Agree shape states registers → shape.clients ≤ CLIENTS → own < shape.blocks → is_busy own registers ≡ false
     → Agree shape states (registers ++ opened own way Evict ∷ [])
 
 -- A register that closes when its GrantAck is taken keeps it.

@@ -9,10 +9,11 @@ use Rattle.tl_registers.specs.declared.register.Task.{Task}
 use Rattle.tl_registers.specs.declared.register.Task.TheVariants.{Acquire, Replace, Evict}
 use Rattle.tl_registers.specs.declared.register.Register.{Register}
 use Rattle.tl_registers.specs.declared.way_of_set.WayOfSet.{WayOfSet}
+use Rattle.tl_types.specs.declared.limits.TheConstants.{CLIENTS}
 
 -- a register that has probed nobody yet
 abbrev pub opened : ℕ → WayOfSet → Task → Register
-opened own way task = record { own = own; way = way; task = task; probed = replicate 16 false }
+opened own way task = record { own = own; way = way; task = task; probed = replicate CLIENTS false }
 
 -- what a register is open for that serves an Acquire, where its way has a victim or none
 abbrev pub acquire_task : Accepted → Option ℕ → Task

@@ -5,6 +5,7 @@ use Rattle.tl_protocol.specs.declared.event.Access.{Access}
 use Rattle.tl_protocol.specs.declared.event.Event.{Event}
 use Rattle.tl_protocol.specs.OneMemory.{access_of}
 use Rattle.tl_protocol.specs.LogView.{LogView}
+use Rattle.tl_types.specs.declared.limits.TheConstants.{CLIENTS}
 
 -- the accesses among some events, oldest first
 abbrev pub accesses_of : List Event → List Access
@@ -33,7 +34,7 @@ KeepIndexes a b =
 -- of two accesses of one client the one with the lower stamp has the lower index.
 pub record IsCertified (logs : List (List Event)) : Type 0 where
   pub few : length logs ≤ 8
-  pub known : All (λ (a : Access). a.client < 16) (all_accesses logs)
+  pub known : All (λ (a : Access). a.client < CLIENTS) (all_accesses logs)
   pub rising : All (λ log. AllPairs IsEarlier (accesses_of log)) logs
   pub apart : AllPairs AreApart (all_accesses logs)
   pub indexes : AllPairs KeepIndexes (all_accesses logs)

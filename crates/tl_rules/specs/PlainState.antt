@@ -2,6 +2,7 @@
 use Rattle.std.specs.Prelude.{◌≡◌, ◌<◌, ◌≤◌, List, All, length}
 use Rattle.tl_protocol.specs.declared.shape.Shape.{Shape}
 use Rattle.tl_rules.specs.PlainBlock.{PlainBlock}
+use Rattle.tl_types.specs.declared.limits.TheConstants.{BLOCK_BYTES}
 
 -- the shape of the clients and blocks, and the blocks in the order of their numbers
 pub record PlainState : Type 0 where
@@ -11,6 +12,6 @@ pub record PlainState : Type 0 where
 -- a block is of 1 to 64 bytes; each block of the memory is there, with each client
 pub record IsShaped (shape : Shape) (blocks : List PlainBlock) : Type 0 where
   pub nonempty : 0 < shape.block_bytes
-  pub at_most : shape.block_bytes ≤ 64
+  pub at_most : shape.block_bytes ≤ BLOCK_BYTES
   pub all_blocks : length blocks ≡ shape.blocks
   pub all_clients : All (λ block. length block.clients ≡ shape.clients) blocks

@@ -59,7 +59,7 @@ pub(crate) fn load_bytes(
     };
     let loaded = bank.load(client, address, usize::from(len), when)?;
     *clock = loaded.stamp;
-    Ok(loaded.bytes)
+    Ok(loaded.access())
 }
 
 /// A client writes. Its clock becomes the stamp of the access.

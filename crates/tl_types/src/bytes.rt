@@ -158,14 +158,17 @@ impl BlockBytes {
         ensures some { IsSome result ↔ ((offset + len ≤ length self.now) × (len ≤ 8)) }
         ensures bytes { IfSome result (λ access. (access ≡ slice_range self.now offset (offset + len)) × (length access ≡ len)) }
     {
-        let block = self.as_slice();
         let from = offset as usize;
-        let to = from + len as usize;
-        if to <= block.len() {
-            AccessBytes::from_slice(&block[from..to])
-        } else {
-            None
+        if from + len as usize > self.len as usize || len as usize > ACCESS {
+            return None;
         }
+        if from + ACCESS > BLOCK {
+            return AccessBytes::from_slice(&self.bytes[from..from + len as usize]);
+        }
+        // Eight bytes are read at once, of which the first `len` count.
+        let mut bytes = [0; ACCESS];
+        bytes.copy_from_slice(&self.bytes[from..from + ACCESS]);
+        Some(AccessBytes { bytes, len })
     }
 
     /// Writes `access` over the bytes from `offset` on.

@@ -4,6 +4,7 @@ use Rattle.std.specs.Prelude.{◌≡◌, ℕ, ◌^◌, ◌<◌, ◌≤◌, ◌==
 use Rattle.std.specs.Int.{bit_at}
 use Rattle.tl_types.specs.declared.permission.Perm.{Perm}
 use Rattle.tl_types.specs.declared.permission.Perm.TheVariants.{None as NoAccess, Branch, Tip}
+use Rattle.tl_types.specs.declared.limits.TheConstants.{CLIENTS}
 
 -- an entry of the directory: `owner` has Tip, and client c has Branch where bit c of `branches` is set
 pub record Entry : Type 0 where
@@ -28,8 +29,8 @@ entry_perm entry client = perm_by (is_owner entry.owner client) (bit_at entry.br
 -- an owner is alone, and only the clients below 16 have a permission
 pub record IsEntry (entry : Entry) : Type 0 where
   pub alone : IfSome entry.owner (λ owner. entry.branches ≡ 0)
-  pub owner : IfSome entry.owner (λ owner. owner < 16)
-  pub branches : entry.branches < 2 ^ 16
+  pub owner : IfSome entry.owner (λ owner. owner < CLIENTS)
+  pub branches : entry.branches < 2 ^ CLIENTS
 
 -- only the clients below n are recorded: the owner is one of them, and no bit at or past n is set
 pub record IsOfClients (n : ℕ) (entry : Entry) : Type 0 where

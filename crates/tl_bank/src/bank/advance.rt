@@ -9,7 +9,7 @@ ghost use Rattle.tl_bank_spec.specs.HomeCalls.{advance_cases};
 ghost use Rattle.tl_bank_spec.specs.HomeCases.{due_at, due_full};
 ghost use Rattle.tl_bank_spec.specs.Refusal.{IsRefused, first_of};
 ghost use Rattle.tl_bank_spec.specs.View.{end_at, client_at, shape_of};
-ghost use Rattle.tl_bank_spec.specs.Own.{IsOwn};
+ghost use Rattle.tl_bank_spec.specs.Own.{IsOwn, way_at};
 
 use crate::bank::Bank;
 use crate::link;
@@ -19,7 +19,7 @@ use tl_registers::{BlockView, Due, Task};
 use tl_types::{
     BlockBytes, BlockNo, Body, Channel, ClientId, Downward, GrantCap, Grow, Message, Perm, ProbeCap,
 };
-use tl_ways::Entry;
+use tl_ways::{Entry, Way};
 
 impl Bank {
     /// Carries out what the miss register of a block does next, and says what that was. It is refused with OutOfRange where the
@@ -109,13 +109,13 @@ impl Bank {
         ensures { Advances self.old self.new own result }
     {
         let acquire = self.accepted(own).unwrap();
-        let (entry, bytes) = self.home_line(own);
+        let (entry, bytes, way) = self.home_line(own);
         let cap = self.granted(acquire, entry, own);
         let recorded = entry.perm(client);
         let body = Body::Downward(Downward::Grant(cap, grant_bytes(recorded, bytes)));
         let message = Message { block: own, body };
         let ticket = link::send(&mut self.links, client, Channel::D, message);
-        self.home.grant(client, own, cap.perm());
+        self.home.grant(client, own, way, cap.perm());
         self.log.append(Event::SendGrant(client, own));
         Action::Grant(ticket)
     }
@@ -176,12 +176,13 @@ impl Bank {
         }
     }
 
-    /// Home's entry of a block that it holds, and its bytes.
-    fn home_line(&self, block: BlockNo) -> (Entry, &BlockBytes)
+    /// Home's entry of a block that it holds, its bytes, and the way in which it lies.
+    fn home_line(&self, block: BlockNo) -> (Entry, &BlockBytes, Way)
         requires own { IsOwn self.now.geometry self.now.number block }
         requires held { (end_at self.now block).home ≢ None }
         ensures recorded { (x : ℕ) → (client_at self.now x block).recorded ≡ entry_perm result.0 x }
         ensures bytes { result.1.now ≡ home_bytes (end_at self.now block).home }
+        ensures way { way_at self.now block ≡ Some result.2 }
     {
         let Some(line) = self.home.line(block) else {
             unreachable!()

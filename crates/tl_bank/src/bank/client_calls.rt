@@ -41,29 +41,33 @@ impl Bank {
             (λ loaded. Appends self.old self.new (Event.Load (record {
               client = client;
               address = address;
-              bytes = loaded.bytes;
+              bytes = loaded.bytes.items;
               stamp = loaded.stamp;
               index = when.index;
             }))) }
         ensures bytes { IfOk result
-            (λ loaded. loaded.bytes
+            (λ loaded. loaded.bytes.items
             ≡ slice_range (bytes_of (client_at self.old client (block_of_address self.old.geometry address)).held)
             (offset_of self.old.geometry address) (offset_of self.old.geometry address + len)) }
-        ensures newest { IfOk result (λ loaded. AreLast self.old.image self.old.log address loaded.bytes) }
+        ensures newest { IfOk result (λ loaded. AreLast self.old.image self.old.log address loaded.bytes.items) }
         ensures stamp { IfOk result (λ loaded. loaded.stamp ≡ latest self.old when.clock + 1) }
     {
         let bytes = self.check_load(client, address, len, when.clock)?;
         let stamp = self.next_stamp(when.clock);
         self.make_room()?;
+        let loaded = entry::loaded(&bytes);
         self.clock = stamp;
         self.log.append(Event::Load(Access {
             client,
             address,
-            bytes: bytes.copied(),
+            bytes,
             stamp,
             index: when.index,
         }));
-        Ok(Loaded { bytes, stamp })
+        Ok(Loaded {
+            bytes: loaded,
+            stamp,
+        })
     }
 
     /// Writes one to eight bytes over a client's copy, from an address on, in one block. The answer is the stamp.

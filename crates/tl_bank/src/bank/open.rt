@@ -212,7 +212,7 @@ impl Bank {
     {
         // For the prover: the clauses alone name it.
         let _ = block;
-        self.home.block_at(set, way)
+        self.home.occupant(set, way)
     }
 }
 

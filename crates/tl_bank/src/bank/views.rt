@@ -206,7 +206,7 @@ impl Bank {
         requires way { way < self.now.geometry.ways }
         ensures { result ≡ slot_at self.now set way }
     {
-        self.home.block_at(set, way)
+        self.home.occupant(set, way)
     }
 
     /// Whether a block is not of the memory, or of another bank.

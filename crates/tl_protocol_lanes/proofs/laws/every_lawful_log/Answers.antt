@@ -1,4 +1,4 @@
-use Rattle.tl_protocol_lanes.proofs.Logs.{empty_is_lawful, lawful_grows_by_one, lanes_grow_by_one, first_heads_its_list, messages_fit_their_channels}
+use Rattle.tl_protocol_lanes.proofs.Logs.{empty_is_lawful, lawful_grows_by_one, interleaves, lanes_grow_by_one, first_heads_its_list, messages_fit_their_channels}
 use Rattle.tl_protocol_lanes.proofs.First.{every_first_is_first}
 use Rattle.tl_protocol_lanes.proofs.Whole.{first_is_whole}
 use Rattle.tl_protocol_lanes.proofs.laws.every_lawful_log.Goals as goal
@@ -8,6 +8,9 @@ returns-clause-empty c = empty_is_lawful
 
 pub returns-clause-grows : goal.returns-clause-grows
 returns-clause-grows c = lawful_grows_by_one
+
+pub returns-clause-interleaves : goal.returns-clause-interleaves
+returns-clause-interleaves c = interleaves
 
 pub returns-clause-lanes : goal.returns-clause-lanes
 returns-clause-lanes c = lanes_grow_by_one

@@ -9,5 +9,5 @@ pub returns : goal.returns
 returns c =
     let m : Means c.args.self.now (layers c.self.inside) =
     subst (λ (v : View). Means v (layers c.self.inside)) c.self.view_is c.self.invariant in
-    slot-found c.args.self.now (layers c.self.inside) c.args.set c.args.way c.block_at.result m c.requires.set c.requires.way
-    c.block_at.ensures.inside c.block_at.ensures.set c.block_at.ensures.way c.block_at.ensures.free
+    slot-found c.args.self.now (layers c.self.inside) c.args.set c.args.way c.occupant.result m c.requires.set c.requires.way
+    c.occupant.ensures.inside c.occupant.ensures.set c.occupant.ensures.way c.occupant.ensures.free

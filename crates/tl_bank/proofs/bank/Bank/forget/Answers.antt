@@ -1,6 +1,3 @@
-use Rattle.std.proofs.Common.{◌≡◌, ℕ, List}
-use Rattle.tl_protocol.specs.declared.event.Event.{Event}
-use Rattle.tl_bank_spec.specs.View.{View}
 use Rattle.tl_bank.specs.Shown.{shown, layers}
 use Rattle.tl_bank_laws.proofs.Rooms.{means-forget, means-room}
 use Rattle.tl_bank.proofs.bank.Bank.forget.Goals as goal

@@ -21,12 +21,12 @@ reads c =
 
 pub invariant_of-self : goal.invariant_of-self
 invariant_of-self c =
-    rw (c.append.ensures.events, c.append.ensures.forgotten, c.copied.ensures)
+    rw (c.append.ensures.events, c.append.ensures.forgotten)
     (load-keeps (shown c.self.inside) (layers c.self.inside) c.args.client c.args.address c.args.len c.args.when.clock c.in_ok-bytes.bytes
     c.next_stamp-stamp.result c.args.when.index c.append.new.self.room c.self.invariant (reads c))
 
 pub returns-clause-newest : goal.returns-clause-newest
 returns-clause-newest c =
-    subst (λ (w : View). AreLast w.image w.log c.args.address c.in_ok-bytes.bytes) (c.self.view_is ∙ c.make_room.ensures.same)
+    rw c.loaded-loaded.ensures (subst (λ (w : View). AreLast w.image w.log c.args.address c.in_ok-bytes.bytes) (c.self.view_is ∙ c.make_room.ensures.same)
     (load-last (shown c.self.inside) (layers c.self.inside) c.args.client c.args.address c.args.len c.args.when.clock c.in_ok-bytes.bytes
-    c.next_stamp-stamp.result c.args.when.index c.append.new.self.room c.self.invariant (reads c))
+    c.next_stamp-stamp.result c.args.when.index c.append.new.self.room c.self.invariant (reads c)))

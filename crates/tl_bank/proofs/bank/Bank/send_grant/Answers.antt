@@ -1,4 +1,4 @@
-use Rattle.std.proofs.Common.{◌≢◌, ℕ, ◌∙◌, ◌<◌, ◌^◌, ◌-◌, Option, None, length, arith, ap, subst, sym}
+use Rattle.std.proofs.Common.{◌≡◌, ◌≢◌, ℕ, ◌∙◌, ◌<◌, ◌^◌, ◌-◌, Option, None, Some, length, arith, ap, subst, sym}
 use Rattle.std.specs.Prelude.{slice_index_or}
 use Rattle.tl_types.specs.declared.channel.Channel.TheVariants.{D}
 use Rattle.tl_types.specs.declared.ticket.Ticket.{Ticket}
@@ -7,11 +7,11 @@ use Rattle.tl_protocol.specs.Client.{grant_bytes}
 use Rattle.tl_bank_home.specs.Homes.{way_in}
 use Rattle.tl_registers.specs.declared.due.Due.TheVariants.{Grant}
 use Rattle.tl_bank_spec.specs.View.{View, end_at, client_at}
-use Rattle.tl_bank_spec.specs.Own.{ways_below}
+use Rattle.tl_bank_spec.specs.Own.{way_at, ways_below}
 use Rattle.tl_bank_spec.specs.declared.action.Action.TheVariants.{Grant as did_Grant}
 use Rattle.tl_bank.specs.Shown.{shown, layers}
 use Rattle.tl_bank_laws.proofs.Dues.{acts-at, advances-at, grant-free, ticket-is}
-use Rattle.tl_bank_laws.proofs.SendGrant.{Gives, grant-branch, grant-held, grant-keeps, grant-tip, home-has}
+use Rattle.tl_bank_laws.proofs.SendGrant.{Gives, grant-branch, grant-keeps, grant-tip, home-has}
 use Rattle.tl_bank_laws.proofs.SendProbe.{channel-room}
 use Rattle.tl_bank_laws.proofs.Slots.{below-at, below-same}
 use Rattle.tl_bank.proofs.bank.Bank.send_grant.Goals as goal
@@ -34,13 +34,14 @@ send-ticket-requires c =
     (grant-free v c.args.self.now c.args.own c.args.client c.self.view_is c.requires.permitted c.requires.due)
     (subst (λ (w : View). length w.log < 2 ^ 64 - 1) (sym c.self.view_is) c.requires.small)
 
-pub grant-requires-clause-held : goal.grant-requires-clause-held
-grant-requires-clause-held c =
+pub grant-requires-clause-lies : goal.grant-requires-clause-lies
+grant-requires-clause-lies c =
     let v : View = shown c.self.inside in
     let h = layers c.self.inside in
     let acts = acts-at v c.args.self.now h c.args.own (Grant c.args.client) c.self.invariant c.self.view_is c.requires.permitted
     c.requires.due in
-    grant-held v h c.args.own c.args.client c.self.invariant acts
+    sym (c.self.invariant.ways.shown c.args.own acts.is_own.0)
+    ∙ subst (λ (w : View). way_at w c.args.own ≡ Some c.home_line-entry.result.2) (sym c.self.view_is) c.home_line-entry.ensures.way
 
 pub grant-requires-clause-known : goal.grant-requires-clause-known
 grant-requires-clause-known c =

@@ -1,4 +1,4 @@
-use Rattle.std.proofs.Common.{rules, ◌≡◌, ℕ, ◌<◌, Bool, List, Option, None, slice_index_or, sym, ◌∙◌, ap, subst, arith, ◌+◌}
+use Rattle.std.proofs.Common.{rules, ◌≡◌, ℕ, ◌-◌, ◌^◌, ◌<◌, Bool, List, Option, None, length, slice_index_or, sym, ◌∙◌, ap, subst, arith, ◌+◌}
 use Rattle.tl_types.specs.declared.channel.Channel.TheVariants.{C}
 use Rattle.tl_types.specs.declared.permission.Perm.{Perm}
 use Rattle.tl_map.specs.Numbers.{Numbers}
@@ -16,7 +16,7 @@ use Rattle.tl_bank.specs.Shown.{shown, layers}
 use Rattle.tl_bank_laws.specs.Given.{brought_by}
 use Rattle.tl_bank_laws.proofs.Serves.{serves-next}
 use Rattle.tl_bank_laws.proofs.Slots.{below-at, below-same}
-use Rattle.tl_bank_laws.proofs.TakeC.{Comes, Passed, Received, take_c-branch, take_c-comes, take_c-held, take_c-keeps}
+use Rattle.tl_bank_laws.proofs.TakeC.{Comes, Passed, Received, answer-room, take_c-branch, take_c-comes, take_c-held, take_c-keeps}
 use Rattle.tl_bank.proofs.bank.Bank.take_c.Goals as goal
 
 pub receive-requires-clause-block : goal.receive-requires-clause-block
@@ -63,6 +63,20 @@ receive-requires-clause-branch c =
     c.take-message.ensures.message.1 in
     λ branch. take_c-branch v (layers c.self.inside) c.args.ticket c.take-message.result c.self.invariant comes
     (sym c.left_by-to.ensures ∙ branch)
+
+pub answer-sent-requires : goal.answer-sent-requires
+answer-sent-requires c =
+    let v : View = shown c.self.inside in
+    let made : v ≡ record c.args.self.now { room = c.make_room.new.self.room } = c.self.view_is ∙ c.make_room.ensures.same in
+    let none : first_of (take_c_cases v c.args.ticket) ≡ None =
+    subst (λ (w : View). first_of (take_c_cases w c.args.ticket) ≡ None) (sym made) (c.in_ok-check_c.ensures.permitted) in
+    let comes : Comes v c.args.ticket c.take-message.result =
+    take_c-comes v (layers c.self.inside) c.args.ticket c.take-message.result c.take-message.ensures.message.0 c.self.invariant none
+    c.take-message.ensures.message.1 in
+    let small : length v.log < 2 ^ 64 - 1 =
+    subst (λ (w : View). length w.log < 2 ^ 64 - 1) (sym c.self.view_is) c.make_room.ensures.small in
+    λ is. answer-room v (layers c.self.inside) c.args.ticket c.take-message.result c.take-message.new.links c.self.invariant none comes
+    c.take-message.ensures.same c.take-message.ensures.after small (sym c.is_release-is_release.ensures ∙ is)
 
 pub invariant_of-self : goal.invariant_of-self
 invariant_of-self c =

@@ -20,34 +20,34 @@ set-requires-clause-known c =
 
 pub set-requires-clause-tip : goal.set-requires-clause-tip
 set-requires-clause-tip c = λ tip other apart.
-    let held : IsHeld c.args.self.now c.args.block c.unwrap-held.result.set c.unwrap-held.result.way c.unwrap-held.result.entry =
-    rw c.unwrap-held.ensures at c.find.ensures.is in
-    sym (recorded_of-held c.args.self.now other c.args.block c.unwrap-held.result.set c.unwrap-held.result.way c.unwrap-held.result.entry held) ∙ c.requires.tip tip other apart
+    let held : IsHeld c.args.self.now c.args.block c.at-held.result.set c.at-held.result.way c.at-held.result.entry =
+    c.at-held.ensures in
+    sym (recorded_of-held c.args.self.now other c.args.block c.at-held.result.set c.at-held.result.way c.at-held.result.entry held) ∙ c.requires.tip tip other apart
 
 pub set-requires-clause-branch : goal.set-requires-clause-branch
 set-requires-clause-branch c = λ branch other apart same.
-    let held : IsHeld c.args.self.now c.args.block c.unwrap-held.result.set c.unwrap-held.result.way c.unwrap-held.result.entry =
-    rw c.unwrap-held.ensures at c.find.ensures.is in
-    c.requires.branch branch other apart (recorded_of-held c.args.self.now other c.args.block c.unwrap-held.result.set c.unwrap-held.result.way c.unwrap-held.result.entry held ∙ same)
+    let held : IsHeld c.args.self.now c.args.block c.at-held.result.set c.at-held.result.way c.at-held.result.entry =
+    c.at-held.ensures in
+    c.requires.branch branch other apart (recorded_of-held c.args.self.now other c.args.block c.at-held.result.set c.at-held.result.way c.at-held.result.entry held ∙ same)
 
 pub invariant_of-self : goal.invariant_of-self
 invariant_of-self c =
-    let held : IsHeld c.args.self.now c.args.block c.unwrap-held.result.set c.unwrap-held.result.way c.unwrap-held.result.entry =
-    rw c.unwrap-held.ensures at c.find.ensures.is in
-    IsDirectory-replaced c.self.inside.geometry c.self.inside.bank c.self.inside.ways c.touch.new.self c.self.inside.store c.self.inside.store c.unwrap-held.result.set c.unwrap-held.result.way
-    c.unwrap-held.result.entry c.set.new.self c.self.invariant
-    (subst (λ (d : Directory). entry_at d.table c.unwrap-held.result.set c.unwrap-held.result.way ≡ Some c.unwrap-held.result.entry) (sym c.self.view_is) held.line)
+    let held : IsHeld c.args.self.now c.args.block c.at-held.result.set c.at-held.result.way c.at-held.result.entry =
+    c.at-held.ensures in
+    IsDirectory-replaced c.self.inside.geometry c.self.inside.bank c.self.inside.ways c.touch.new.self c.self.inside.store c.self.inside.store c.at-held.result.set c.at-held.result.way
+    c.at-held.result.entry c.set.new.self c.self.invariant
+    (subst (λ (d : Directory). entry_at d.table c.at-held.result.set c.at-held.result.way ≡ Some c.at-held.result.entry) (sym c.self.view_is) held.line)
     c.set.ensures.tag (same-size c.place.ensures.size c.touch.ensures.size) (λ x y. c.touch.ensures.entries x y ∙ c.place.ensures.entries x y) refl refl
     (λ kept.
-    of-clients-set c.self.inside.geometry.clients c.args.client c.args.perm c.unwrap-held.result.entry c.set.new.self
+    of-clients-set c.self.inside.geometry.clients c.args.client c.args.perm c.at-held.result.entry c.set.new.self
     (subst (λ (d : Directory). c.args.client < d.geometry.clients) (sym c.self.view_is) c.requires.known) kept c.set.ensures.perms)
 
 -- the block's entry is replaced by the one in which the permission is set
-step : (c : goal.After-touch) → Replaces c.args.self.now (dir c.self.inside.geometry c.self.inside.bank c.touch.new.self c.self.inside.store) c.args.block c.unwrap-held.result.set c.unwrap-held.result.way c.unwrap-held.result.entry c.set.new.self
+step : (c : goal.After-touch) → Replaces c.args.self.now (dir c.self.inside.geometry c.self.inside.bank c.touch.new.self c.self.inside.store) c.args.block c.at-held.result.set c.at-held.result.way c.at-held.result.entry c.set.new.self
 step c =
-    let held : IsHeld c.args.self.now c.args.block c.unwrap-held.result.set c.unwrap-held.result.way c.unwrap-held.result.entry =
-    rw c.unwrap-held.ensures at c.find.ensures.is in
-    replaces c.args.self.now c.self.inside.geometry c.self.inside.bank c.self.inside.ways c.touch.new.self c.self.inside.store c.self.inside.store c.args.block c.unwrap-held.result.set c.unwrap-held.result.way c.unwrap-held.result.entry c.set.new.self
+    let held : IsHeld c.args.self.now c.args.block c.at-held.result.set c.at-held.result.way c.at-held.result.entry =
+    c.at-held.ensures in
+    replaces c.args.self.now c.self.inside.geometry c.self.inside.bank c.self.inside.ways c.touch.new.self c.self.inside.store c.self.inside.store c.args.block c.at-held.result.set c.at-held.result.way c.at-held.result.entry c.set.new.self
     c.self.view_is held c.set.ensures.tag (same-size c.place.ensures.size c.touch.ensures.size) (λ x y. c.touch.ensures.entries x y ∙ c.place.ensures.entries x y) (λ x y inside other. refl)
 
 pub returns-clause-ways : goal.returns-clause-ways
@@ -55,7 +55,7 @@ returns-clause-ways c = ways-kept (step c)
 
 pub returns-clause-lines : goal.returns-clause-lines
 returns-clause-lines c =
-    lines-kept (step c) (ap (λ (d : Directory). bytes_at d.store c.unwrap-held.result.set c.unwrap-held.result.way) c.self.view_is) c.set.ensures.dirty
+    lines-kept (step c) (ap (λ (d : Directory). bytes_at d.store c.at-held.result.set c.at-held.result.way) c.self.view_is) c.set.ensures.dirty
 
 pub returns-clause-recorded : goal.returns-clause-recorded
 returns-clause-recorded c = recorded-set (step c) c.args.client c.args.perm c.set.ensures.perms
@@ -65,7 +65,7 @@ returns-clause-free c = free-kept (step c)
 
 pub returns-clause-orders : goal.returns-clause-orders
 returns-clause-orders c =
-    let held : IsHeld c.args.self.now c.args.block c.unwrap-held.result.set c.unwrap-held.result.way c.unwrap-held.result.entry =
-    rw c.unwrap-held.ensures at c.find.ensures.is in
-    orders-touched c.args.self.now c.self.inside.geometry c.self.inside.bank c.self.inside.ways c.touch.new.self c.self.inside.store c.self.inside.store c.args.block c.unwrap-held.result.set c.unwrap-held.result.way c.unwrap-held.result.entry c.self.view_is held
-    (λ x. c.touch.ensures.orders x ∙ rw (c.place.ensures.orders c.unwrap-held.result.set, c.place.ensures.orders x) refl)
+    let held : IsHeld c.args.self.now c.args.block c.at-held.result.set c.at-held.result.way c.at-held.result.entry =
+    c.at-held.ensures in
+    orders-touched c.args.self.now c.self.inside.geometry c.self.inside.bank c.self.inside.ways c.touch.new.self c.self.inside.store c.self.inside.store c.args.block c.at-held.result.set c.at-held.result.way c.at-held.result.entry c.self.view_is held
+    (λ x. c.touch.ensures.orders x ∙ rw (c.place.ensures.orders c.at-held.result.set, c.place.ensures.orders x) refl)

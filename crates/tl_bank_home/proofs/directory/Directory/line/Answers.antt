@@ -11,7 +11,7 @@ pub returns-clause-is : goal.returns-clause-is
 returns-clause-is c =
     line_of-held c.args.self.now c.args.block c.in_ok-held.held.set c.in_ok-held.held.way c.in_ok-held.held.entry c.in_ok-held.ensures.is
     ∙ sym (ap (λ (bytes : List ℕ). Some (record { bytes = bytes; dirty = c.in_ok-held.held.entry.dirty }))
-    (c.read.ensures ∙ ap (λ (d : Directory). bytes_at d.store c.in_ok-held.held.set c.in_ok-held.held.way) c.self.view_is))
+    (c.read-bytes.ensures ∙ ap (λ (d : Directory). bytes_at d.store c.in_ok-held.held.set c.in_ok-held.held.way) c.self.view_is))
 
 pub returns-clause-recorded : goal.returns-clause-recorded
 returns-clause-recorded c =

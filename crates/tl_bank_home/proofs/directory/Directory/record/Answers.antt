@@ -39,7 +39,7 @@ invariant_of-self c =
     (subst (λ (d : Directory). c.args.client < d.geometry.clients) (sym c.self.view_is) c.requires.known) kept c.set.ensures.perms)
 
 -- the block's entry is replaced by the one in which the permission is set
-step : (c : goal.After-place) → Replaces c.args.self.now (dir c.self.inside.geometry c.self.inside.bank c.place.new.self c.self.inside.store) c.args.block c.unwrap-held.result.set c.unwrap-held.result.way c.unwrap-held.result.entry c.set.new.self
+step : (c : goal.After-result-1) → Replaces c.args.self.now (dir c.self.inside.geometry c.self.inside.bank c.place.new.self c.self.inside.store) c.args.block c.unwrap-held.result.set c.unwrap-held.result.way c.unwrap-held.result.entry c.set.new.self
 step c =
     let held : IsHeld c.args.self.now c.args.block c.unwrap-held.result.set c.unwrap-held.result.way c.unwrap-held.result.entry =
     rw c.unwrap-held.ensures at c.find.ensures.is in

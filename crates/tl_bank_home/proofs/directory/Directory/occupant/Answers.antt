@@ -3,7 +3,7 @@ use Rattle.std.specs.Prelude.{is_none}
 use Rattle.tl_map.specs.declared.place.Place.{Place}
 use Rattle.tl_ways.specs.Tables.{entry_at}
 use Rattle.tl_bank_home.proofs.DirectoryLaws.{block_found, block_lies, free-is, on_some}
-use Rattle.tl_bank_home.proofs.directory.Directory.block_at.Goals as goal
+use Rattle.tl_bank_home.proofs.directory.Directory.occupant.Goals as goal
 
 -- the place with this bank, set and tag
 abbrev place : ℕ → ℕ → ℕ → Place
