@@ -257,6 +257,7 @@ class Home {
 
     void d_taken(uint32_t k) { // a beat of what d() offers
         Client &me = clients_.at(k);
+        if (!d(k)) throw std::logic_error("jinavoke: a beat is taken on D, and none is offered");
         Down &down = me.d.front();
         if (Grant *g = me.d_beat == 0 ? grant_of(me, down) : nullptr) {
             g->is_begun = true;
@@ -272,6 +273,7 @@ class Home {
     }
     void b_taken(uint32_t k) {
         Client &me = clients_.at(k);
+        if (me.b.empty()) throw std::logic_error("jinavoke: a beat is taken on B, and none is offered");
         Message m = me.b.front();
         me.b.pop_front();
         tell(m);
@@ -284,9 +286,7 @@ class Home {
         if (const auto &torn = me.c.torn())
             fault(Cause::Beats, *torn, torn->kind() + " is broken off: a later beat has other fields");
         if (!m || !is_sound(*m, beat)) return;
-        if (m->is_release() && !me.releases.insert(m->source).second)
-            fault(Cause::Source, *m, m->kind() + ": source " + words::number(m->source)
-                + " has a Release that is not answered");
+        if (m->is_release()) use(me.releases, *m, "Release");
         take(me, Held{*m, std::nullopt, cycle_, cycle_, JV_OK});
     }
     // `raised`: the cycle in which valid rose for this beat, where it is known. A BtoT that waited since before its
@@ -297,9 +297,7 @@ class Home {
         m.client = k; m.channel = JV_A; m.opcode = beat.opcode; m.param = beat.param; m.source = beat.source;
         m.address = beat.address;
         if (!is_sound(m, beat)) return;
-        if (m.source >= options_.sources || !me.acquires.insert(m.source).second)
-            fault(Cause::Source, m, m.kind() + ": source " + words::number(m.source)
-                + (m.source < options_.sources ? " has an Acquire that is not answered" : " is not one of the link"));
+        use(me.acquires, m, "Acquire");
         take(me, Held{m, std::nullopt, cycle_, raised.value_or(cycle_), JV_OK});
     }
     void e(uint32_t k, uint32_t sink) {
@@ -538,7 +536,19 @@ class Home {
         default: return false;
         }
     }
+    void use(std::set<uint32_t> &sources, const Message &m, const std::string &what) {
+        std::string said = m.kind() + ": source " + words::number(m.source);
+        if (m.source >= options_.sources) fault(Cause::Source, m, said + " is not one of the link");
+        else if (!sources.insert(m.source).second) fault(Cause::Source, m, said + " has an unanswered " + what);
+    }
     void access(uint32_t k, bool is_store, uint64_t address, const uint8_t *bytes, uint32_t len) {
+        uint64_t end = address_of(uint32_t(options_.numbers.memory_blocks));
+        if (address < options_.base || address > end || len > end - address) {
+            Message m;
+            m.client = k;
+            std::string what = is_store ? "a store" : "a load";
+            return fault(Cause::Address, m, what + " at " + words::address(address) + ", outside the memory", false);
+        }
         for (uint32_t at = 0; at < len;) {
             uint32_t block = block_of(address + at);
             uint32_t room = bus_.block_bytes - uint32_t((address + at - options_.base) % bus_.block_bytes);
@@ -555,8 +565,9 @@ class Home {
     void take(Client &me, Held &&h) {
         if (me.held.empty() && make(me, h)) return;
         me.held.push_back(std::move(h));
-        if (me.held.size() > 1) settle(me);
-        else waits_++;
+        size_t all = me.held.size();
+        if (all > 1) settle(me);
+        if (me.held.size() == all) waits_++;
     }
     void settle(Client &me) {
         for (size_t i = 0; i < me.held.size();) {
@@ -796,7 +807,7 @@ class Home {
         if (lane.ups.empty() || !chance()) return;
         Up up = lane.ups.front();
         jv_answer a = jv_take_c(cache_, up.ticket);
-        if (a.status == JV_LINK_FULL) return;
+        if (a.status) return; // D is full
         lane.ups.pop_front();
         changes_[bank]++;
         note(JV_EVENT_TAKE_C, bank, me.number, up.block);
@@ -818,7 +829,7 @@ class Home {
     void step_e(Client &me, uint32_t bank) {
         auto g = std::find_if(me.grants.begin(), me.grants.end(), [&](const Grant &it) { return it.bank == bank; });
         if (g == me.grants.end() || !g->is_taken || !g->is_acknowledged || !chance()) return;
-        jv_take_grant_ack(cache_, g->ack);
+        if (jv_take_grant_ack(cache_, g->ack).status) return;
         note(JV_EVENT_TAKE_GRANT_ACK, bank, me.number, g->block);
         changes_[bank]++;
         me.grants.erase(g);
@@ -880,13 +891,14 @@ class Home {
             if (out.due > cycle_ || !chance()) { i++; continue; }
             if (!out.is_served) {
                 jv_answer a = jv_serve_memory(cache_, out.block);
+                i++;
+                if (a.status) continue;
                 out.is_served = true;
                 note(JV_EVENT_SERVE, out.bank, 0, out.block);
                 to_memory(out, a, JV_D);
-                i++;
                 continue;
             }
-            jv_take_memory(cache_, out.block);
+            if (jv_take_memory(cache_, out.block).status) { i++; continue; }
             note(out.is_put ? JV_EVENT_TAKE_PUT_ACK : JV_EVENT_TAKE_DATA, out.bank, 0, out.block);
             changes_[out.bank]++;
             out = outward_.back();

@@ -105,8 +105,12 @@ void jvh_c(void *home, int client, int opcode, int param, int size, int source, 
     home_of(home).c(uint32_t(client), beat);
 }
 void jvh_e(void *home, int client, int sink) { home_of(home).e(uint32_t(client), uint32_t(sink)); }
-void jvh_taken(void *home, int client, int channel) {
-    if (channel == JV_B) home_of(home).b_taken(uint32_t(client)); else home_of(home).d_taken(uint32_t(client));
+int jvh_taken(void *home, int client, int channel) { // 0 where nothing is offered there
+    uint32_t k = uint32_t(client);
+    if (channel == JV_B && home_of(home).b(k)) home_of(home).b_taken(k);
+    else if (channel == JV_D && home_of(home).d(k)) home_of(home).d_taken(k);
+    else return 0;
+    return 1;
 }
 void jvh_access(void *home, int client, int is_store, long long address, int len, long long bytes) {
     uint8_t data[8];

@@ -42,7 +42,7 @@ def library(path):
     for name, words, result in [
             ("free", [], None), ("a", [number] * 5 + [wide, wide], None),
             ("c", [number] * 5 + [wide, c.c_char_p], None),
-            ("e", [number, number], None), ("taken", [number, number], None),
+            ("e", [number, number], None), ("taken", [number, number], number),
             ("access", [number, number, wide, number, wide], None), ("tick", [], None),
             ("b", [number, out, out, c.POINTER(wide)], number), ("d", [number, out, out, out, out, c.c_char_p], number),
             ("is_quiet", [], number), ("faults", [], number), ("fault", [], c.c_char_p), ("cycle", [], wide)]:
@@ -145,10 +145,16 @@ class Link:
         return None
 
     def b_taken(self):
-        self.call("taken", B)
+        """The beat of b() fired."""
+        self.take(B)
 
     def d_taken(self):
-        self.call("taken", D)
+        """The beat of d() fired."""
+        self.take(D)
+
+    def take(self, channel):
+        if not self.call("taken", channel):
+            raise ValueError(f"nothing is offered on {'ABCDE'[channel]}")
 
     def load(self, address, data):
         """The core loaded these bytes."""
