@@ -1,7 +1,8 @@
 #!/usr/bin/env python3
 """Two small caches in plain Python on the links of a home, as a cocotb bench would drive them: links.py [LIBRARY].
 
-Without a plant no fault is told; with each one a fault of that client is, or none where what is planted is lawful.
+On buses and blocks of several sizes, without a plant no fault is told; with each one a fault of that client is, or none
+where what is planted is lawful.
 LIBRARY is libjinavoke_dpi.so, where it is not installed with the module. Status 1 where one is told otherwise.
 """
 import pathlib
@@ -11,7 +12,7 @@ import sys
 sys.path.append(str(pathlib.Path(__file__).resolve().parents[2] / "python"))
 import jinavoke as jv  # noqa: E402
 
-BASE, BLOCKS, BLOCK, BUS = 0x80000000, 4, 64, 16
+BASE, BLOCKS = 0x80000000, 4
 NONE, BRANCH, TIP = range(3)
 ACQUIRE_BLOCK, PROBE_ACK, PROBE_ACK_DATA, RELEASE, RELEASE_DATA, GRANT, RELEASE_ACK = 6, 4, 5, 6, 7, 4, 6
 TO_T, TO_N = 0, 2
@@ -19,8 +20,8 @@ REPORT = {(TIP, BRANCH): 0, (TIP, NONE): 1, (BRANCH, NONE): 2, (BRANCH, BRANCH):
 
 
 class Line:
-    def __init__(self):
-        self.perm, self.dirty, self.bytes = NONE, False, bytearray(BLOCK)
+    def __init__(self, size):
+        self.perm, self.dirty, self.bytes = NONE, False, bytearray(size)
 
 
 class Client:
@@ -28,7 +29,8 @@ class Client:
 
     def __init__(self, link, rng, plant=""):
         self.link, self.rng, self.plant = link, rng, plant
-        self.lines = [Line() for _ in range(BLOCKS)]
+        self.size, self.bus = link.home.numbers["block_bytes"], link.home.numbers["beat_bytes"]
+        self.lines = [Line(self.size) for _ in range(BLOCKS)]
         self.beats, self.grant = [], b""                # of C, to be sent; of a Grant, so far
         self.acquires, self.releases = None, None       # the block that is asked for; that is given up
         self.offers, self.acks = None, []               # on A; sinks to be acknowledged
@@ -38,9 +40,9 @@ class Client:
         if goes() and (beat := self.link.d()):
             self.link.d_taken()
             self.on_d(beat)
-        if goes() and not self.beats and (beat := self.link.b()) and (beat.address - BASE) // BLOCK != self.releases:
+        if goes() and not self.beats and (beat := self.link.b()) and self.block_of(beat.address) != self.releases:
             self.link.b_taken()
-            self.give_up((beat.address - BASE) // BLOCK, NONE if beat.param == TO_N else BRANCH, PROBE_ACK)
+            self.give_up(self.block_of(beat.address), NONE if beat.param == TO_N else BRANCH, PROBE_ACK)
         if goes() and self.beats:
             self.link.c(**self.beats.pop(0))
         if goes():
@@ -51,13 +53,20 @@ class Client:
         if goes() and self.acks:
             self.link.e(self.acks.pop(0))
 
+    def block_of(self, address):
+        return (address - BASE) // self.size
+
+    def lanes(self, block):
+        """Where the bytes of a block lie on a bus that is wider."""
+        return block * self.size % self.bus if self.size < self.bus else 0
+
     def on_d(self, beat):
         if beat.opcode == RELEASE_ACK:
             self.releases = None
             return
         if beat.opcode != GRANT:
-            self.grant += beat.data
-            if len(self.grant) < BLOCK:
+            self.grant += beat.data[self.lanes(self.acquires):][:self.size]
+            if len(self.grant) < self.size:
                 return
         line = self.lines[self.acquires]
         line.perm, line.dirty = (TIP if beat.param == TO_T else BRANCH), False
@@ -70,15 +79,15 @@ class Client:
         line = self.lines[block]
         to = min(line.perm, cap)
         with_data = line.dirty and self.plant != "lost data" or self.plant == "clean data" and line.perm == TIP > to
-        words = dict(opcode=opcode + with_data, param=REPORT[line.perm, to], source=0, address=BASE + block * BLOCK)
-        for at in range(0, BLOCK if with_data else BUS, BUS):
-            self.beats.append(dict(words, data=bytes(line.bytes[at:at + BUS])))
+        words = dict(opcode=opcode + with_data, param=REPORT[line.perm, to], source=0, address=BASE + block * self.size)
+        for at in range(0, self.size if with_data else 1, self.bus):
+            self.beats.append(dict(words, data=bytes(self.lanes(block)) + bytes(line.bytes[at:at + self.bus])))
         line.perm, line.dirty = (line.perm if self.plant == "kept copy" and opcode == PROBE_ACK else to), False
 
     def work(self):
         """A load, a store or a Release, or an Acquire of what lacks."""
-        block, at, stores = self.rng.randrange(BLOCKS), self.rng.randrange(0, BLOCK, 8), self.rng.random() < 0.5
-        line, address = self.lines[block], BASE + block * BLOCK + at
+        block, at, stores = self.rng.randrange(BLOCKS), self.rng.randrange(0, self.size, 8), self.rng.random() < 0.5
+        line, address = self.lines[block], BASE + block * self.size + at
         if self.rng.random() < 0.1:
             if line.perm and self.releases is None and not self.beats and block != self.acquires:
                 self.releases = block
@@ -98,8 +107,8 @@ class Client:
 def faults_of(path, plant, cycles=3000, **numbers):
     """What is told of a run, up to its first fault."""
     rng = random.Random(1)
-    image = rng.randbytes(BLOCKS * BLOCK)
-    with jv.Home(image=image, path=path, clients=2, base=BASE, beat_bytes=BUS, seed=3, **numbers) as home:
+    image = rng.randbytes(BLOCKS * numbers["block_bytes"])
+    with jv.Home(image=image, path=path, clients=2, base=BASE, seed=3, evict_every=50, **numbers) as home:
         clients = [Client(link, rng, plant if link.client == 1 else "") for link in home.links]
         while home.cycle < cycles and not home.fault_count():
             for client in clients:
@@ -112,10 +121,12 @@ def main():
     path = sys.argv[1] if len(sys.argv) > 1 else None
     wanted = {"": "", "clean data": "", "lost data": "client 1, block", "kept copy": "client 1, block"}
     wrong = 0
-    for plant, words in wanted.items():
-        told = faults_of(path, plant, evict_every=50)
-        print(f"{plant or 'nothing'} planted: {told.splitlines()[0][:80] if told else 'no fault'}")
-        wrong += words not in told if words else told != ""
+    for block, bus in (64, 8), (64, 16), (64, 64), (32, 8), (8, 8), (8, 64):
+        for plant, words in wanted.items():
+            told = faults_of(path, plant, block_bytes=block, beat_bytes=bus)
+            first = told.splitlines()[0][:80] if told else "no fault"
+            print(f"block {block}, bus {bus}, {plant or 'nothing'} planted: {first}")
+            wrong += words not in told if words else told != ""
     return 1 if wrong else 0
 
 

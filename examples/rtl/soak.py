@@ -32,7 +32,8 @@ def run(bench, **words):
 
 def long_runs(bench, cycles):
     """Whether the long run has no fault; its figures beside those of a home without a model."""
-    for words in dict(cycles=cycles // 10), dict(cycles=cycles), dict(cycles=cycles, plain=1), dict(cycles=cycles, taps=0):
+    for words in dict(cycles=cycles // 10), dict(), dict(plain=1), dict(taps=0):
+        words = {"cycles": cycles, **words}
         fault, wrong, speed, memory = run(bench, seed=1, stall=4, **words)
         print(f"{words}: fault {fault}, scoreboard {wrong}, {speed:,} cycles a second, {memory:,} KiB", flush=True)
         if fault or wrong:
