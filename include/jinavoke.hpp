@@ -437,9 +437,9 @@ class Home {
     }
     void remember(uint32_t kind, uint32_t client, uint32_t block, uint32_t param, const Access *access) {
         History &past = pasts_[block];
-        if (kind == JV_EVENT_DROP || kind == JV_EVENT_TAKE_PUT_ACK) { past = History(); return; }
-        if (past.is_cut) return;
-        if (past.steps.size() >= 180) { past.steps.clear(); past.is_cut = true; return; }
+        bool is_gone = kind == JV_EVENT_DROP || kind == JV_EVENT_TAKE_PUT_ACK, is_long = past.steps.size() >= 180;
+        if (is_gone || is_long) past = History{{}, !is_gone};
+        if (is_gone || past.is_cut) return;
         Past p = {uint8_t(kind), uint8_t(client), uint8_t(param), 0, 0, {}};
         if (access) {
             p.len = uint8_t(access->len);
@@ -642,7 +642,11 @@ class Home {
     bool make_answer(Client &me, Held &h) {
         uint32_t block = block_of(h.m.address);
         const Probe *p = probe_of(me, block);
-        if (!p) { fault(Cause::Unasked, h.m, h.m.kind() + " answers no Probe that the client took"); return true; }
+        if (!p) {
+            note(JV_EVENT_ANSWER_PROBE, h.m.bank, me.number, block, h.m.param, &h.m);
+            fault(Cause::Unasked, h.m, h.m.kind() + " answers no Probe that the client took");
+            return true;
+        }
         for (const Probe &it : me.probes) { // the model answers the Probes of a bank in their order
             if (&it == p) break;
             if (it.ticket.bank == p->ticket.bank) return false;
