@@ -5,6 +5,8 @@
     asked = cache.ticket("acquire", client=0, place=0, param=jv.JV_NTOT)
     cache.step("accept", **asked)
 
+A design's links have a home of their own, `jv.Home` (links.py).
+
 Each JV_ name of the header is a name of this module. To import it opens no file: the header is read where a number is first
 needed, and the shared library is loaded by the first cache. Both are those that were installed with this file, or, in a checkout,
 the repository's header. JINAVOKE_HEADER and JINAVOKE_LIBRARY name others.
@@ -169,3 +171,6 @@ class Cache:
 
     def __del__(self):
         self.close()
+
+
+from .links import Down, Home, Link  # noqa: E402, F401

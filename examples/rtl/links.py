@@ -1,0 +1,134 @@
+#!/usr/bin/env python3
+"""Two small caches in plain Python on the links of a home, as a cocotb bench would drive them: links.py [LIBRARY].
+
+On buses and blocks of several sizes, without a plant no fault is told; with each one a fault of that client is, or none
+where what is planted is lawful.
+LIBRARY is libjinavoke_dpi.so, where it is not installed with the module. Status 1 where one is told otherwise.
+"""
+import pathlib
+import random
+import sys
+
+sys.path.append(str(pathlib.Path(__file__).resolve().parents[2] / "python"))
+import jinavoke as jv  # noqa: E402
+
+BASE, BLOCKS = 0x80000000, 4
+NONE, BRANCH, TIP = range(3)
+ACQUIRE_BLOCK, PROBE_ACK, PROBE_ACK_DATA, RELEASE, RELEASE_DATA, GRANT, RELEASE_ACK = 6, 4, 5, 6, 7, 4, 6
+TO_T, TO_N = 0, 2
+REPORT = {(TIP, BRANCH): 0, (TIP, NONE): 1, (BRANCH, NONE): 2, (BRANCH, BRANCH): 4, (NONE, NONE): 5}
+
+
+class Line:
+    def __init__(self, size):
+        self.perm, self.dirty, self.bytes = NONE, False, bytearray(size)
+
+
+class Client:
+    """A cache of all blocks, with one Acquire and one Release at a time; `plant` is what it does wrong, or seems to."""
+
+    def __init__(self, link, rng, plant=""):
+        self.link, self.rng, self.plant = link, rng, plant
+        self.size, self.bus = link.home.numbers["block_bytes"], link.home.numbers["beat_bytes"]
+        self.lines = [Line(self.size) for _ in range(BLOCKS)]
+        self.beats, self.grant = [], b""                # of C, to be sent; of a Grant, so far
+        self.acquires, self.releases = None, None       # the block that is asked for; that is given up
+        self.offers, self.acks = None, []               # on A; sinks to be acknowledged
+
+    def cycle(self):
+        goes = lambda: self.rng.random() < 0.7
+        if goes() and (beat := self.link.d()):
+            self.link.d_taken()
+            self.on_d(beat)
+        if goes() and not self.beats and (beat := self.link.b()) and self.block_of(beat.address) != self.releases:
+            self.link.b_taken()
+            self.give_up(self.block_of(beat.address), NONE if beat.param == TO_N else BRANCH, PROBE_ACK)
+        if goes() and self.beats:
+            self.link.c(**self.beats.pop(0))
+        if goes():
+            self.work()
+        if goes() and self.offers:
+            self.link.a(**self.offers)
+            self.offers = None
+        if goes() and self.acks:
+            self.link.e(self.acks.pop(0))
+
+    def block_of(self, address):
+        return (address - BASE) // self.size
+
+    def lanes(self, block):
+        """Where the bytes of a block lie on a bus that is wider."""
+        return block * self.size % self.bus if self.size < self.bus else 0
+
+    def on_d(self, beat):
+        if beat.opcode == RELEASE_ACK:
+            self.releases = None
+            return
+        if beat.opcode != GRANT:
+            self.grant += beat.data[self.lanes(self.acquires):][:self.size]
+            if len(self.grant) < self.size:
+                return
+        line = self.lines[self.acquires]
+        line.perm, line.dirty = (TIP if beat.param == TO_T else BRANCH), False
+        line.bytes = bytearray(self.grant) or line.bytes
+        self.acquires, self.grant = None, b""
+        self.acks.append(beat.sink)
+
+    def give_up(self, block, cap, opcode):
+        """Sends a Release, or the answer to a Probe, beat by beat."""
+        line = self.lines[block]
+        to = min(line.perm, cap)
+        with_data = line.dirty and self.plant != "lost data" or self.plant == "clean data" and line.perm == TIP > to
+        words = dict(opcode=opcode + with_data, param=REPORT[line.perm, to], source=0, address=BASE + block * self.size)
+        for at in range(0, self.size if with_data else 1, self.bus):
+            self.beats.append(dict(words, data=bytes(self.lanes(block)) + bytes(line.bytes[at:at + self.bus])))
+        line.perm, line.dirty = (line.perm if self.plant == "kept copy" and opcode == PROBE_ACK else to), False
+
+    def work(self):
+        """A load, a store or a Release, or an Acquire of what lacks."""
+        block, at, stores = self.rng.randrange(BLOCKS), self.rng.randrange(0, self.size, 8), self.rng.random() < 0.5
+        line, address = self.lines[block], BASE + block * self.size + at
+        if self.rng.random() < 0.1:
+            if line.perm and self.releases is None and not self.beats and block != self.acquires:
+                self.releases = block
+                self.give_up(block, NONE, RELEASE)
+        elif line.perm >= (TIP if stores else BRANCH):
+            if stores:
+                line.bytes[at:at + 8] = self.rng.randbytes(8)
+                line.dirty = True
+            (self.link.store if stores else self.link.load)(address, line.bytes[at:at + 8])
+        elif self.acquires is None and block != self.releases and not self.beats:
+            self.acquires = block
+            param = (2 if line.perm else 1) if stores else 0
+            self.offers = dict(opcode=ACQUIRE_BLOCK, param=param, source=1, address=address - at,
+                               raised=self.link.home.cycle)
+
+
+def faults_of(path, plant, cycles=3000, **numbers):
+    """What is told of a run, up to its first fault."""
+    rng = random.Random(1)
+    image = rng.randbytes(BLOCKS * numbers["block_bytes"])
+    with jv.Home(image=image, path=path, clients=2, base=BASE, seed=3, evict_every=50, **numbers) as home:
+        clients = [Client(link, rng, plant if link.client == 1 else "") for link in home.links]
+        while home.cycle < cycles and not home.fault_count():
+            for client in clients:
+                client.cycle()
+            home.tick()
+        return home.faults()
+
+
+def main():
+    path = sys.argv[1] if len(sys.argv) > 1 else None
+    wanted = {"": "", "clean data": "", "lost data": "client 1, block", "kept copy": "client 1, block"}
+    wrong = 0
+    for block, bus in (64, 8), (64, 16), (64, 64), (32, 8), (8, 8), (8, 64):
+        for plant, words in wanted.items():
+            told = faults_of(path, plant, block_bytes=block, beat_bytes=bus)
+            first = told.splitlines()[0][:80] if told else "no fault"
+            print(f"block {block}, bus {bus}, {plant or 'nothing'} planted: {first}")
+            wrong += words not in told if words else told != ""
+    return 1 if wrong else 0
+
+
+if __name__ == "__main__":
+    sys.exit(main())
