@@ -124,7 +124,7 @@ fn push_ways(text: &mut String, bank: &Bank, set: Set) -> Result<(), AllocError>
     ensures { OnOk result (string_bytes text.new ≡ string_bytes text.old ++ ways_below bank.now set bank.now.geometry.ways) }
 {
     for way in 0..bank.geometry().ways() {
-        let block = bank.block_at(set, Way::new(way));
+        let block = bank.occupant(set, Way::new(way));
         write!(text, "{}", Slot(block))?;
     }
     Ok(())
