@@ -10,7 +10,9 @@ use crate::views::bank_for;
 use tl_bank::Bank;
 use tl_script_words::{Step, TicketCall};
 use tl_trace::Network;
-use tl_types::{BlockNo, Channel, ClientId, DirtyPrune, Kind, MESSAGES, Message, ProbeReport, Prune, Ticket};
+use tl_types::{
+    BlockNo, Channel, ClientId, DirtyPrune, Kind, MESSAGES, Message, ProbeReport, Prune, Ticket,
+};
 
 /// A message that a device sent.
 #[repr(C)]

@@ -6,8 +6,8 @@ use crate::answer::Answer;
 use crate::events::shape_of;
 use tl_bank::Bank;
 use tl_protocol::Outward;
-use tl_text::{Answer as Shown, BlockSize, MemoryMessage};
 use tl_script_words::Step;
+use tl_text::{Answer as Shown, BlockSize, MemoryMessage};
 use tl_trace::{Network, bank_asked};
 use tl_types::{BankNo, Body, Kind, Message, Ticket, code};
 
@@ -77,8 +77,8 @@ fn memory_told(size: BlockSize, message: &MemoryMessage) -> Answer
     let told = coded(message.kind(), sized);
     match message {
         MemoryMessage::Get { address: _ } | MemoryMessage::AccessAck => told,
-        MemoryMessage::PutFullData { address: _, bytes }
-        | MemoryMessage::AccessAckData { bytes } => told.with_bytes(bytes.as_slice()),
+        MemoryMessage::PutFullData { address: _, bytes } | MemoryMessage::AccessAckData { bytes } =>
+            told.with_bytes(bytes.as_slice()),
     }
 }
 
