@@ -167,6 +167,7 @@ typedef struct { /* what is not told is 0 */
     uint32_t index;   /* of an access: the one that its call was given */
     uint32_t len;     /* how many bytes there are */
     uint32_t stores;  /* 0 in this version */
+    uint32_t reserved; /* 0 */
     uint64_t serial;  /* of a ticket; a view's number; the stamp of an access, which rises over all of a bank's log */
     uint8_t bytes[64];
 } jv_answer;
@@ -211,7 +212,7 @@ JV_AT_(jv_request, serial, 32); JV_AT_(jv_request, bytes, 40); JV_ASSERT_(sizeof
 JV_AT_(jv_answer, status, 0); JV_AT_(jv_answer, what, 4); JV_AT_(jv_answer, bank, 8); JV_AT_(jv_answer, client, 12);
 JV_AT_(jv_answer, channel, 16); JV_AT_(jv_answer, opcode, 20); JV_AT_(jv_answer, param, 24); JV_AT_(jv_answer, place, 28);
 JV_AT_(jv_answer, address, 32); JV_AT_(jv_answer, size, 36); JV_AT_(jv_answer, index, 40); JV_AT_(jv_answer, len, 44);
-JV_AT_(jv_answer, stores, 48); JV_AT_(jv_answer, serial, 56); JV_AT_(jv_answer, bytes, 64);
+JV_AT_(jv_answer, stores, 48); JV_AT_(jv_answer, reserved, 52); JV_AT_(jv_answer, serial, 56); JV_AT_(jv_answer, bytes, 64);
 JV_ASSERT_(sizeof(jv_answer) == 128, whole_answer);
 JV_AT_(jv_seen, channel, 0); JV_AT_(jv_seen, opcode, 4); JV_AT_(jv_seen, param, 8); JV_AT_(jv_seen, client, 12);
 JV_AT_(jv_seen, block, 16); JV_AT_(jv_seen, len, 20); JV_AT_(jv_seen, options, 24); JV_AT_(jv_seen, index, 28);

@@ -19,7 +19,7 @@ static int is_zero(const jv_answer *a) {
     int i;
     for (i = 0; i < 64; i++) if (a->bytes[i]) return 0;
     return !a->what && !a->bank && !a->client && !a->channel && !a->opcode && !a->param && !a->place && !a->address && !a->size
-        && !a->index && !a->len;
+        && !a->index && !a->len && !a->stores && !a->reserved;
 }
 static uint64_t events(const jv_cache *c) {
     uint32_t bank; uint64_t sum = 0;
@@ -35,14 +35,14 @@ static void judge(const jv_request *r, const jv_answer *a, uint64_t before, uint
     if (a->status == 0 && r->call >= 1 && r->call <= 14) ok = ok && after == before + (r->call != JV_CALL_EVICT);
     if (r->call == JV_CALL_RESERVE) ok = ok && (a->status == 0 || a->status == JV_OUT_OF_RANGE || a->status == JV_NO_MEMORY);
     if (r->call == JV_CALL_FORGET) ok = ok && (a->status == 0 || a->status == JV_OUT_OF_RANGE);
-    if (r->call > 16 && (r->call < 20 || r->call > 36)) ok = ok && a->status == JV_NO_CALL;
+    if (r->call > 16 && (r->call < 20 || r->call > 39)) ok = ok && a->status == JV_NO_CALL;
     if (!ok && ++wrong < 10) printf("call %u: status %u what %u, %llu events, then %llu\n", r->call, a->status, a->what,
         (unsigned long long)before, (unsigned long long)after);
 }
 /* The same request by the call that tells least, as jv_call tells it. The others of these calls know no such request. */
 static jv_answer short_call(jv_cache *c, const jv_request *r) {
     static const uint32_t numbers[] = {JV_VIEW_PERM, JV_VIEW_DIRECTORY, JV_VIEW_PEEK, JV_VIEW_HELD, JV_VIEW_RECORDED, JV_VIEW_EVENTS,
-        JV_VIEW_ROOM, JV_VIEW_COPIES, JV_VIEW_FORGOTTEN};
+        JV_VIEW_ROOM, JV_VIEW_COPIES, JV_VIEW_FORGOTTEN, JV_VIEW_WAITS_FOR, JV_VIEW_BANK};
     int is_access = r->call == JV_CALL_LOAD || r->call == JV_CALL_STORE, is_number = 0;
     size_t i; jv_answer a; jv_accessed x; jv_number n;
     for (i = 0; i < sizeof numbers / sizeof *numbers; i++) is_number |= r->call == numbers[i];
@@ -60,7 +60,7 @@ static void feed(jv_cache *c, jv_cache *twin, long steps) {
     long i; int k;
     for (i = 0; i < steps; i++) {
         jv_request r; jv_answer a, b; uint64_t before = events(c);
-        r.call = 1 + (uint32_t)some(37); r.index = (uint32_t)some(9); r.client = (uint32_t)some(4); r.place = (uint32_t)some(64);
+        r.call = 1 + (uint32_t)some(40); r.index = (uint32_t)some(9); r.client = (uint32_t)some(4); r.place = (uint32_t)some(64);
         r.param = (uint32_t)some(3); r.bank = (uint32_t)some(2); r.channel = (uint32_t)some(5); r.len = (uint32_t)some(9);
         r.serial = some(8);
         if (r.call == 0) r.call = 1;                         /* not the one that closes */

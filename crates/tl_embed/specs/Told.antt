@@ -45,6 +45,7 @@ only status = record {
   index = 0;
   len = 0;
   stores = 0;
+  reserved = 0;
   serial = 0;
   bytes = replicate 64 0;
 }

@@ -36,6 +36,8 @@ pub struct Answer {
     pub len: u32,
     /// How many stores were made before the message that was seen.
     pub stores: u32,
+    /// 0: so that no bytes lie between the fields, and two answers may be compared as bytes.
+    pub reserved: u32,
     /// The ticket's serial, a number, or the stamp of an access.
     pub serial: u64,
     /// The bytes, and 0 past them.
@@ -61,6 +63,7 @@ impl Answer {
             index: 0,
             len: 0,
             stores: 0,
+            reserved: 0,
             serial: 0,
             bytes: [0; 64],
         }
