@@ -8,10 +8,12 @@ import sys
 ROWS = {
     'misses': ('misses', 3000, 16, 64, 4, 16, 8, 8, 4096, 0),
     'misses, 64 bytes': ('misses', 3000, 16, 64, 4, 16, 8, 64, 4096, 0),
+    'misses, forgotten': ('forgetting', 3000, 16, 64, 4, 16, 8, 8, 4096, 0),
     'misses, the log grows': ('growing', 3000, 16, 64, 4, 16, 8, 8, 4096, 0),
     'loads, 1 copy': ('loads', 30000, 16, 64, 4, 16, 8, 8, 4096, 1),
     'loads, 16 copies': ('loads', 30000, 16, 64, 4, 16, 8, 64, 4096, 16),
     'loads, 64 copies': ('loads', 30000, 16, 64, 4, 16, 8, 64, 4096, 64),
+    'loads, 16, forgotten': ('loads-forgotten', 30000, 16, 64, 4, 16, 8, 64, 4096, 16),
     'loads and stores, 16': ('mixed', 30000, 16, 64, 4, 16, 8, 64, 4096, 16),
     'stream, 64 bytes': ('stream', 3000, 16, 64, 4, 16, 8, 64, 4096, 0),
     'ping-pong': ('ping-pong', 3000, 16, 64, 4, 16, 8, 8, 4096, 0),

@@ -12,7 +12,9 @@
  *                      is told only where the log had no room, and nothing changed. A view changes nothing.
  *   jv_access          what jv_call does of a load or a store, and what it answers, without what these never tell (`Accesses`).
  *   jv_look            what jv_call answers of a view of a number, likewise (`Looks`).
- *   jv_echo            the request again (`echoed`); jv_version the number 3.
+ *   jv_saw             the client's call that sends a message which was seen, done only where it sends just that one; or what the
+ *                      client would send, and nothing changed (`Saws`).
+ *   jv_echo            the request again (`echoed`); jv_echo_seen likewise (`seen_echoed`); jv_version the number 4.
  * The functions that are `static inline` are C: they fill in a request and call one of these, and are tested (examples/c), not
  * proved. After any sequence of calls of an opened cache, each of which met its contract, each bank's log is a run of the protocol
  * over the image, in which every load got the bytes last stored before it; what the bank shows is what that log leaves; and the
@@ -47,7 +49,7 @@
 extern "C" {
 #endif
 
-#define JV_VERSION 3u
+#define JV_VERSION 4u
 
 typedef struct jv_cache jv_cache; /* all banks with their clients; opaque */
 
@@ -84,8 +86,10 @@ enum jv_status { /* the status of an answer, and why a cache is closed */
     JV_NO_CALL = 16,         /* there is no such call */
     JV_BAD_ARGUMENT = 17,    /* a length above 8, or a param or a channel that there is not */
     JV_CLOSED = 18,          /* the cache is closed: `serial` says why, 18 where its caller closed it */
-    JV_FORGOTTEN = 19        /* the event at that place is forgotten */
+    JV_FORGOTTEN = 19,       /* the event at that place is forgotten */
                              /* 20 to 28: a number that is not lawful */
+    JV_DIFFERS = 29,         /* the client would send another message than the one that was seen: the answer tells it */
+    JV_OUTSIDE = 30          /* this profile has no message of that channel, opcode and param */
 };
 
 /* What a status means to a bench: the model is asked again later; the device did what no client may; a limit of this cache, or of the
@@ -98,10 +102,10 @@ enum jv_call_number {
     JV_CALL_SERVE_MEMORY, JV_CALL_TAKE_MEMORY, JV_CALL_RESERVE, JV_CALL_FORGET,
     JV_VIEW_PERM = 20, JV_VIEW_DIRECTORY, JV_VIEW_PEEK, JV_VIEW_HOME, JV_VIEW_OUTWARD, JV_VIEW_HELD, JV_VIEW_RECORDED,
     JV_VIEW_EVENTS, JV_VIEW_EVENT, JV_VIEW_ROOM, JV_VIEW_COPIES, JV_VIEW_IS_QUIET, JV_VIEW_OPEN_BLOCK, JV_VIEW_MESSAGE,
-    JV_VIEW_WAITING, JV_VIEW_MEMORY, JV_VIEW_FORGOTTEN
+    JV_VIEW_WAITING, JV_VIEW_MEMORY, JV_VIEW_FORGOTTEN, JV_VIEW_COPY, JV_VIEW_WAITS_FOR, JV_VIEW_BANK
 };
 
-enum jv_channel { JV_A, JV_B, JV_C, JV_D, JV_E };
+enum jv_channel { JV_A, JV_B, JV_C, JV_D, JV_E, JV_MEMORY_A, JV_MEMORY_D }; /* the last two: of the memory's link, and of no ticket */
 enum jv_grow { JV_NTOB, JV_NTOT, JV_BTOT };                            /* the param of an Acquire */
 enum jv_prune { JV_TTOB, JV_TTON, JV_BTON };                           /* the param of a Release */
 enum jv_report { JV_REPORT_TTOB = 0, JV_REPORT_TTON = 1, JV_REPORT_BTON = 2, JV_REPORT_BTOB = 4, JV_REPORT_NTON = 5 }; /* of a ProbeAck */
@@ -134,6 +138,8 @@ enum jv_limits { /* the most of each number; a log has no limit but the memory *
 };
 enum jv_outward { JV_QUIET, JV_GET, JV_DATA, JV_PUT, JV_PUT_ACK };     /* what passes of a block to or from the memory */
 enum jv_home { JV_HOME_NONE, JV_HOME_CLEAN, JV_HOME_DIRTY };
+enum jv_copy_kind { JV_COPY_NONE, JV_COPY_BRANCH, JV_COPY_CLEAN_TIP, JV_COPY_DIRTY_TIP };
+enum jv_awaited { JV_WAITS_FOR_NOTHING, JV_WAITS_FOR_GRANT, JV_WAITS_FOR_RELEASE_ACK };
 
 typedef struct { /* what a call does not use it takes no notice of */
     uint32_t call;    /* jv_call_number */
@@ -149,19 +155,33 @@ typedef struct { /* what a call does not use it takes no notice of */
 } jv_request;
 
 typedef struct { /* what is not told is 0 */
-    uint32_t status;  /* jv_status: where it is not 0 nothing else is told, but that `serial` of 18 says why */
+    uint32_t status;  /* jv_status: where it is not 0 nothing else is told, but that `serial` of 18 says why, and 29 tells a message */
     uint32_t what;    /* jv_what */
-    uint32_t bank, client, channel; /* with `serial` the ticket of a message; `client` also of an event */
+    uint32_t bank, client, channel; /* with `serial` the ticket of a message; `client` also of an event; `bank` and `channel` also of the
+                                       memory's link; `bank` also of a drop */
     uint32_t opcode;  /* jv_opcode of a message; jv_event_kind of an event */
     uint32_t param;   /* of a message; of the Acquire, Release or Probe that an event sends */
-    uint32_t place;   /* the block of a message of a client's link, or of an event */
-    uint32_t address; /* of a message between home and the memory, or of an access */
+    uint32_t place;   /* the block of a message of either link, of a drop, or of an event */
+    uint32_t address; /* of a message between home and the memory, or of a drop: the block's first; of an access */
     uint32_t size;    /* of a message between home and the memory: the base-2 logarithm of a block's bytes */
     uint32_t index;   /* of an access: the one that its call was given */
     uint32_t len;     /* how many bytes there are */
+    uint32_t stores;  /* 0 in this version */
     uint64_t serial;  /* of a ticket; a view's number; the stamp of an access, which rises over all of a bank's log */
     uint8_t bytes[64];
 } jv_answer;
+
+typedef struct { /* a message that was seen on a client's link: what a device sent */
+    uint32_t channel; /* JV_A, JV_C or JV_E */
+    uint32_t opcode;  /* jv_opcode */
+    uint32_t param;
+    uint32_t client;
+    uint32_t block;   /* of an E: that of the Grant whose sink it names */
+    uint32_t len;     /* how many bytes it carries: those of a block with ProbeAckData and ReleaseData, else 0 */
+    uint32_t options; /* 0 */
+    uint32_t index;   /* no notice is taken of it */
+    uint8_t bytes[64];
+} jv_seen;
 
 typedef struct { /* what a load or a store answers: a jv_answer without what these never tell */
     uint32_t status;
@@ -191,7 +211,11 @@ JV_AT_(jv_request, serial, 32); JV_AT_(jv_request, bytes, 40); JV_ASSERT_(sizeof
 JV_AT_(jv_answer, status, 0); JV_AT_(jv_answer, what, 4); JV_AT_(jv_answer, bank, 8); JV_AT_(jv_answer, client, 12);
 JV_AT_(jv_answer, channel, 16); JV_AT_(jv_answer, opcode, 20); JV_AT_(jv_answer, param, 24); JV_AT_(jv_answer, place, 28);
 JV_AT_(jv_answer, address, 32); JV_AT_(jv_answer, size, 36); JV_AT_(jv_answer, index, 40); JV_AT_(jv_answer, len, 44);
-JV_AT_(jv_answer, serial, 48); JV_AT_(jv_answer, bytes, 56); JV_ASSERT_(sizeof(jv_answer) == 120, whole_answer);
+JV_AT_(jv_answer, stores, 48); JV_AT_(jv_answer, serial, 56); JV_AT_(jv_answer, bytes, 64);
+JV_ASSERT_(sizeof(jv_answer) == 128, whole_answer);
+JV_AT_(jv_seen, channel, 0); JV_AT_(jv_seen, opcode, 4); JV_AT_(jv_seen, param, 8); JV_AT_(jv_seen, client, 12);
+JV_AT_(jv_seen, block, 16); JV_AT_(jv_seen, len, 20); JV_AT_(jv_seen, options, 24); JV_AT_(jv_seen, index, 28);
+JV_AT_(jv_seen, bytes, 32); JV_ASSERT_(sizeof(jv_seen) == 96, whole_seen);
 JV_AT_(jv_accessed, status, 0); JV_AT_(jv_accessed, what, 4); JV_AT_(jv_accessed, serial, 8); JV_AT_(jv_accessed, bytes, 16);
 JV_AT_(jv_accessed, len, 24); JV_ASSERT_(sizeof(jv_accessed) == 32, whole_accessed);
 JV_AT_(jv_number, status, 0); JV_AT_(jv_number, what, 4); JV_AT_(jv_number, serial, 8);
@@ -206,10 +230,37 @@ uint32_t jv_version(void);                      /* JV_VERSION of the archive */
 size_t jv_size(void);                           /* how many bytes of room a cache needs */
 size_t jv_align(void);                          /* what the room's address divides by */
 jv_answer jv_echo(const jv_request *request);   /* each field of the request in one of the answer, for jv_fits */
+jv_answer jv_echo_seen(const jv_seen *seen);    /* likewise */
 void jv_open(const jv_numbers *numbers, const uint8_t *image, size_t image_len, void *room);
 jv_answer jv_call(jv_cache *cache, const jv_request *request);      /* any call and any view */
 jv_accessed jv_access(jv_cache *cache, const jv_request *request);  /* JV_CALL_LOAD and JV_CALL_STORE alone; 16 of another */
 jv_number jv_look(jv_cache *cache, const jv_request *request);      /* a view of a number alone; 16 of another */
+
+/* A message that was seen on A, C or E of a client. The cache's own client then does what sends such a message, and does it only where
+   it sends just that one, by opcode, param and bytes:
+
+   | seen                       | the call                                                             | home then |
+   |----------------------------|----------------------------------------------------------------------|-----------|
+   | A AcquireBlock             | jv_acquire of the block                                              | jv_accept |
+   | C Release, ReleaseData     | jv_release of the block                                              | jv_take_c |
+   | C ProbeAck, ProbeAckData   | jv_answer_probe of the first Probe on the client's B, of the block   | jv_take_c |
+   | E GrantAck                 | jv_take_grant of the first message on the client's D, of the block   | jv_take_grant_ack |
+
+   B and D are those of the bank where the block lies. What is answered, the first that holds:
+     JV_CLOSED, as of any call
+     JV_BAD_ARGUMENT    another channel, or an option that there is not
+     JV_OUTSIDE         the profile has no such opcode or param there, as AcquirePerm, or a Release TtoT
+     JV_BAD_ARGUMENT    `len` is another than the opcode carries: the bytes of a block with ProbeAckData and ReleaseData, else 0
+     JV_OUT_OF_RANGE    there is no such client or block
+     JV_NOTHING_THERE   no Probe or Grant of the block waits for an E or an answer on C
+     JV_NOT_HEAD        one waits behind a message of another block: see that answered first, then ask again
+     the call's own refusal, which jv_acquire, jv_release, jv_answer_probe or jv_take_grant lists
+     JV_DIFFERS         the client would send another message. It is told as one that was sent (JV_TELLS_MESSAGE: bank, client, channel,
+                        opcode, param, place, bytes, len), without a serial: it has no ticket
+     JV_NO_MEMORY       the log has no room for the events
+     JV_OK              the call is done, and answered as it answers: with the ticket, by which home takes the message.
+   Nothing is changed unless it is JV_OK. */
+jv_answer jv_saw(jv_cache *cache, const jv_seen *seen);
 
 /* ---- a status in words */
 
@@ -217,15 +268,16 @@ static inline const char *jv_status_name(uint32_t status) {
     static const char *const names[] = {
         "ok", "no permission", "waiting", "wrong from", "nothing there", "not head", "release pending", "no register", "block busy",
         "not yet", "out of range", "wrong bank", "copies full", "link full", "no memory", "clock full", "no call", "bad argument", "closed",
-        "forgotten", "clients", "banks", "block bytes", "sets", "ways", "registers", "copies", "memory blocks", "version"};
+        "forgotten", "clients", "banks", "block bytes", "sets", "ways", "registers", "copies", "memory blocks", "version", "differs",
+        "outside the profile"};
     return status < sizeof names / sizeof *names ? names[status] : "no such status";
 }
 static inline enum jv_status_class_number jv_status_class(uint32_t status) {
     switch (status) {
     case JV_OK: return JV_CLASS_DONE;
     case JV_NO_REGISTER: case JV_BLOCK_BUSY: case JV_NOT_YET: case JV_LINK_FULL: return JV_CLASS_WAIT;
-    case JV_NO_PERMISSION: case JV_WAITING: case JV_WRONG_FROM: case JV_RELEASE_PENDING: return JV_CLASS_DEVICE;
-    case JV_COPIES_FULL: case JV_NO_MEMORY: case JV_CLOCK_FULL: return JV_CLASS_LIMIT;
+    case JV_NO_PERMISSION: case JV_WAITING: case JV_WRONG_FROM: case JV_RELEASE_PENDING: case JV_DIFFERS: return JV_CLASS_DEVICE;
+    case JV_COPIES_FULL: case JV_NO_MEMORY: case JV_CLOCK_FULL: case JV_OUTSIDE: return JV_CLASS_LIMIT;
     case JV_NOTHING_THERE: case JV_NOT_HEAD: return JV_CLASS_ORDER;
     default: return JV_CLASS_CALLER;
     }
@@ -235,16 +287,22 @@ static inline enum jv_status_class_number jv_status_class(uint32_t status) {
 
 /* Whether this header's structs are laid out as the archive's: 1, else 0. jv_new asks it. */
 static inline int jv_fits(void) {
-    jv_request r; jv_answer a; int i, same = 1;
+    jv_request r; jv_seen s; jv_answer a; int i, same = 1;
     r.call = 101; r.index = 102; r.client = 103; r.place = 104; r.param = 105; r.bank = 106; r.channel = 107; r.len = 108;
     r.serial = ((uint64_t)109 << 32) + 110;
     for (i = 0; i < 8; i++) r.bytes[i] = (uint8_t)(200 + i);
     if (jv_version() != JV_VERSION) return 0;
     a = jv_echo(&r);
     for (i = 0; i < 64; i++) same = same && a.bytes[i] == (i < 8 ? 200 + i : 0);
-    return same && a.status == 0 && a.what == r.call && a.index == r.index && a.client == r.client && a.place == r.place
+    if (!(same && a.status == 0 && a.what == r.call && a.index == r.index && a.client == r.client && a.place == r.place
         && a.param == r.param && a.bank == r.bank && a.channel == r.channel && a.opcode == r.len && a.address == 1 && a.size == 2
-        && a.len == 8 && a.serial == r.serial;
+        && a.len == 8 && a.stores == 3 && a.serial == r.serial)) return 0;
+    s.channel = 101; s.opcode = 102; s.param = 103; s.client = 104; s.block = 105; s.len = 106; s.options = 107; s.index = 108;
+    for (i = 0; i < 64; i++) s.bytes[i] = (uint8_t)(190 + i);
+    a = jv_echo_seen(&s);
+    for (i = 0; i < 64; i++) same = same && a.bytes[i] == 190 + i;
+    return same && a.status == 0 && a.channel == s.channel && a.opcode == s.opcode && a.param == s.param && a.client == s.client
+        && a.place == s.block && a.size == s.len && a.what == s.options && a.index == s.index && a.len == 64;
 }
 /* A request of zeros with a call's number. */
 static inline jv_request jv_asks_(uint32_t call) { jv_request r; memset(&r, 0, sizeof r); r.call = call; return r; }
@@ -396,6 +454,14 @@ static inline jv_number jv_directory(const jv_cache *c, uint32_t client, uint32_
 static inline jv_number jv_peek(const jv_cache *c, uint32_t client, uint32_t address) {
     return jv_number_of_block_(c, JV_VIEW_PEEK, client, address);
 }
+/* The client's whole copy of the block: jv_copy_kind, and its bytes where there is one. */
+static inline jv_answer jv_copy(const jv_cache *c, uint32_t client, uint32_t block) { return jv_of_block_(c, JV_VIEW_COPY, client, block); }
+/* What the client waits for about the block: jv_awaited. */
+static inline jv_number jv_waits_for(const jv_cache *c, uint32_t client, uint32_t block) {
+    return jv_number_of_block_(c, JV_VIEW_WAITS_FOR, client, block);
+}
+/* The bank where the block lies. */
+static inline jv_number jv_bank_of(const jv_cache *c, uint32_t block) { return jv_number_of_block_(c, JV_VIEW_BANK, 0, block); }
 /* Home's copy of the block: jv_home, and its bytes where there is one. */
 static inline jv_answer jv_home_copy(const jv_cache *c, uint32_t block) { return jv_of_block_(c, JV_VIEW_HOME, 0, block); }
 /* What passes of the block between home and the memory: jv_outward, with the bytes of JV_DATA and JV_PUT. */

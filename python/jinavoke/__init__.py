@@ -19,7 +19,7 @@ import re
 
 NUMBERS = "version clients banks block_bytes sets ways registers copies memory_blocks".split()
 ASKED = "call index client place param bank channel len".split()
-TOLD = "status what bank client channel opcode param place address size index len".split()
+TOLD = "status what bank client channel opcode param place address size index len stores".split()
 # What a ticket is made of.
 TICKET = "bank client channel serial".split()
 

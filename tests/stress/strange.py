@@ -92,7 +92,8 @@ def strange_scripts():
 # What each program takes: words that it answers, and others that it does not take.
 WORDS = {
     "tlcache": ([b"run", b"no such file"], [[], [b"run"], [b"run", b"a", b"b"], [b"walk", b"a"], [b"--", b"run"], [b"--help"]]),
-    "tlchart": ([b"no such file"], [[], [b"a", b"b"], [b"--block", b"a"], [b"--block", b"-1", b"a"], [b"--help"]]),
+    "tlchart": ([b"no such file"], [[], [b"a", b"b"], [b"--block", b"a"], [b"--block", b"-1", b"a"], [b"--html", b"--mermaid", b"a"],
+                                    [b"--html", b"--block", b"1", b"a"], [b"--help"]]),
     "tlcheck": ([b"no such file"], [[], [b"a", b"b"]]),
     "tlwire": ([b"--run", b"no such file"], [[], [b"--walk", b"a"], [b"--run", b"a", b"b"]]),
     "tlgen": ([b"1", b"run"], [[], [b"1"], [b"x", b"run"], [b"1", b"walk"], [b"1", b"run", b"colour=1"], [b"4294967296", b"run"]]),

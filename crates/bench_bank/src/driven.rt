@@ -52,6 +52,11 @@ impl Driven {
         }
     }
 
+    /// Forgets the log so far.
+    pub(crate) fn forget(&mut self) {
+        self.bank.forget();
+    }
+
     /// How many events happened.
     pub(crate) fn events(&self) -> usize {
         self.bank.events()

@@ -23,6 +23,8 @@ enum Work {
     Forgetting,
     /// Loads of copies that are held.
     Loads,
+    /// The same in a bank with room for one event, which is forgotten before the next.
+    LoadsForgotten,
     /// Stores to copies that are held.
     Stores,
     /// Loads and stores in turn.
@@ -46,6 +48,7 @@ fn work_of(word: &str) -> Option<Work> {
         "misses" => Some(Work::Misses),
         "forgetting" => Some(Work::Forgetting),
         "loads" => Some(Work::Loads),
+        "loads-forgotten" => Some(Work::LoadsForgotten),
         "stores" => Some(Work::Stores),
         "mixed" => Some(Work::Mixed),
         "refused" => Some(Work::Refused),
@@ -144,6 +147,10 @@ fn one(driven: &mut Driven, plan: &Plan, i: u32) -> Option<()> {
             cycle(driven, plan, i)
         }
         Work::Loads => hit(driven, plan, i, false),
+        Work::LoadsForgotten => {
+            driven.forget();
+            hit(driven, plan, i, false)
+        }
         Work::Stores => hit(driven, plan, i, true),
         Work::Mixed => hit(driven, plan, i, i & 1 == 1),
         Work::Refused => driven.refuse(BlockNo::new(0)),
@@ -197,7 +204,7 @@ fn sum(events: &[Event]) -> u64 {
 fn prepare(driven: &mut Driven, plan: &Plan) -> Option<()> {
     if matches!(
         plan.work,
-        Work::Loads | Work::Stores | Work::Mixed | Work::Views
+        Work::Loads | Work::LoadsForgotten | Work::Stores | Work::Mixed | Work::Views
     ) {
         for number in 0..plan.held {
             driven.fetch(ClientId::new(0), BlockNo::new(number), Grow::NtoT)?;
@@ -206,6 +213,7 @@ fn prepare(driven: &mut Driven, plan: &Plan) -> Option<()> {
     match plan.work {
         Work::Growing => {}
         Work::Forgetting => driven.reserve(1_000_000),
+        Work::LoadsForgotten => driven.reserve(1),
         _ => driven.reserve(plan.cycles as usize * 20),
     }
     Some(())
@@ -284,7 +292,7 @@ fn main(rt: HostRuntime) -> io::Result<()> {
     }
     let Some(plan) = plan_of(&words) else {
         return println!(rt;
-            "usage: bench_bank growing|misses|forgetting|loads|stores|mixed|refused|views|stream|ping-pong|share CYCLES CLIENTS COPIES WAYS SETS REGISTERS BLOCK_BYTES MEMORY_BLOCKS HELD ROUNDS"
+            "usage: bench_bank growing|misses|forgetting|loads|loads-forgotten|stores|mixed|refused|views|stream|ping-pong|share CYCLES CLIENTS COPIES WAYS SETS REGISTERS BLOCK_BYTES MEMORY_BLOCKS HELD ROUNDS"
         );
     };
     for _ in 0..plan.rounds.max(1) {

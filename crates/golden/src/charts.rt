@@ -1,10 +1,11 @@
-//! Whether each script is drawn as its pictures.
+//! Whether each script is drawn as its pictures, and has its page.
 
 use crate::answers::script_of;
 use crate::names::DRAWN;
 use std::alloc::Global;
 use std::{fs, io};
 use tlchart_draw::{Form, draw_script};
+use tlchart_page::page_script;
 
 /// Whether the picture of a script is this one.
 fn is_drawn(alloc: Global, script: &[u8], name: &str, form: Form, picture: &[u8]) -> bool {
@@ -31,11 +32,31 @@ fn print_picture(
     println!(rt; "{name}.{ending} drawn {told}")
 }
 
-/// Prints for each picture of a script whether it is drawn so.
+/// Whether the page of a script is this one.
+fn is_page(alloc: Global, script: &[u8], name: &str, page: &[u8]) -> bool {
+    match page_script(alloc, script, name) {
+        Ok(text) => text.as_bytes() == page,
+        Err(_) => false,
+    }
+}
+
+/// Prints whether a script has its page.
+fn print_page(rt: &HostRuntime, name: &str, script: &[u8]) -> io::Result<()> {
+    let page = fs::read(rt, format!(in rt.alloc(); "{name}.html")?.as_str())?;
+    let told = if is_page(rt.alloc(), script, name, &page) {
+        "as before"
+    } else {
+        "otherwise"
+    };
+    println!(rt; "{name}.html written {told}")
+}
+
+/// Prints for each picture of a script, and for its page, whether it is drawn so.
 fn print_pictures(rt: &HostRuntime, name: &str) -> io::Result<()> {
     let script = script_of(rt, name)?;
     print_picture(rt, name, &script, Form::Svg, "svg")?;
-    print_picture(rt, name, &script, Form::Mermaid, "mmd")
+    print_picture(rt, name, &script, Form::Mermaid, "mmd")?;
+    print_page(rt, name, &script)
 }
 
 /// Prints for each picture whether its script is drawn so.

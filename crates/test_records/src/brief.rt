@@ -1,22 +1,11 @@
-//! What is said of a record, without its judge.
+//! What is said of a record, without the state beside it.
 use std::alloc::Global;
-use tlcheck_reader::{CheckFault, Outcome, check};
-use tlcheck_rules::Breach;
+use std::test::Fail;
+use tlcheck_reader::{Ending, check};
 
-#[derive(Clone, Copy, Debug, PartialEq, Eq)]
-pub(crate) enum Verdict {
-    Lawful(u64),
-    Broken(u64, u64, Breach),
-    Unreadable(u64),
-    Empty,
-}
-
-pub(crate) fn verdict_on(alloc: Global, text: &[u8]) -> Result<Verdict, CheckFault> {
+/// The first line of the answer to a record.
+pub(crate) fn said_of(alloc: Global, text: &[u8]) -> Result<String, Fail> {
     let mut rest = text;
-    Ok(match check(alloc, &mut rest)? {
-        Outcome::Lawful(_, count) => Verdict::Lawful(count),
-        Outcome::Broken(line, broken) => Verdict::Broken(line, broken.number, broken.breach),
-        Outcome::Unreadable(line) => Verdict::Unreadable(line),
-        Outcome::Empty => Verdict::Empty,
-    })
+    let ending = Ending::Judged(check(alloc, &mut rest)?);
+    Ok(format!(in alloc; "{ending}")?)
 }

@@ -1,8 +1,8 @@
 //! A record with each kind of event, and each small damage of it, beside the plain map of the protocol.
-use crate::brief::{Verdict, verdict_on};
 use std::alloc::{AllocError, Global};
 use std::test::Fail;
 use tl_rules::{ApplyError, Plain, Shape};
+use tlcheck_reader::{Outcome, check};
 use tlcheck_record::read_entry;
 use tlcheck_rules::Breach;
 
@@ -99,22 +99,25 @@ fn first_refused(alloc: Global, lines: &[&str]) -> Result<Option<u64>, Fail> {
     Ok(None)
 }
 
-fn verdict(alloc: Global, lines: &[&str]) -> Result<Verdict, Fail> {
+fn outcome(alloc: Global, lines: &[&str]) -> Result<Outcome, Fail> {
     let mut text = String::from_str(alloc, "clients 3 block_bytes 8 memory_blocks 2\n")?;
     for line in lines {
         text.push_str(line)?;
         text.push_str("\n")?;
     }
-    Ok(verdict_on(alloc, text.as_bytes())?)
+    let mut rest = text.as_bytes();
+    Ok(check(alloc, &mut rest)?)
 }
 
-/// The verdict is what the plain map says: lawful to the end, or a rule broken by that entry.
+/// The outcome is what the plain map says: lawful to the end, or a rule broken by that entry.
 fn is_as_plain(alloc: Global, lines: &[&str]) -> Result<bool, Fail> {
     Ok(
-        match (verdict(alloc, lines)?, first_refused(alloc, lines)?) {
-            (Verdict::Lawful(count), None) => count == lines.len() as u64,
-            (Verdict::Broken(line, entry, Breach::NotPermitted(_)), Some(number)) => {
-                entry == number && line.checked_sub(1) == Some(number)
+        match (outcome(alloc, lines)?, first_refused(alloc, lines)?) {
+            (Outcome::Lawful(_, count), None) => count == lines.len() as u64,
+            (Outcome::Broken(line, broken), Some(number)) => {
+                matches!(&broken.breach, Breach::NotPermitted(_))
+                    && broken.number == number
+                    && line.checked_sub(1) == Some(number)
             }
             _ => false,
         },
@@ -123,7 +126,8 @@ fn is_as_plain(alloc: Global, lines: &[&str]) -> Result<bool, Fail> {
 
 #[test]
 fn each_kind_is_lawful(rt: HostRuntime) -> Result<(), Fail> {
-    assert_eq!(rt; verdict(rt.alloc(), LINES)?, Verdict::Lawful(41));
+    assert!(rt; is_as_plain(rt.alloc(), LINES)?);
+    assert_eq!(rt; first_refused(rt.alloc(), LINES)?, None);
     Ok(())
 }
 

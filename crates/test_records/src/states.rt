@@ -156,7 +156,7 @@ fn beside(alloc: Global, text: &str) -> Result<String, Fail> {
     match check(alloc, &mut text.as_bytes())? {
         Outcome::Lawful(judge, _) => push_end(&mut lines, judge.plain())?,
         Outcome::Broken(_, broken) => push_state(&mut lines, broken.judge.plain(), broken.block)?,
-        Outcome::Unreadable(_) | Outcome::Empty => {}
+        Outcome::Unreadable(_, _) | Outcome::Empty => {}
     }
     Ok(lines)
 }

@@ -1,17 +1,18 @@
 //! A ticket of an agent that was refused bars the later ones of its bank and channel, and is asked again before them.
 use crate::mails::{first_mail, open_two};
+use crate::order::are_serials;
+use crate::recorder::Recorder;
 use crate::turns::agent_turn;
 use std::alloc::Global;
 use std::marker::Model;
 use std::sync::Wait;
 use std::time::Clock;
-use tl_bank::{Bank, Loaded, Refusal, Share, When};
-use tl_client::{Agent, Free, Port, Turn};
+use tl_bank::{Bank, Share};
+use tl_client::{Agent, Free, Turn};
 use tl_client_mail::Mail;
-use tl_client_ports::Success;
 use tl_map::{Geometry, GeometryNumbers};
 use tl_tickets::{Ringer, Sender};
-use tl_types::{BankNo, BlockNo, Channel, ClientId, Grow, Perm, Prune, Ticket};
+use tl_types::{BankNo, Channel, ClientId, Ticket};
 
 /// One client, and one bank with one block.
 const NUMBERS: GeometryNumbers = GeometryNumbers {
@@ -25,98 +26,6 @@ const NUMBERS: GeometryNumbers = GeometryNumbers {
     copies: 1,
     memory_blocks: 1,
 };
-
-/// A port to no bank: it keeps the serials of the Grants and Probes that it is asked, and refuses them as long as it is told to.
-#[derive(Drop)]
-struct Recorder {
-    asked: Vec<u64>,
-    refuses: bool,
-}
-
-impl Recorder {
-    /// Keeps a ticket's serial, and answers a ticket on a channel, or refuses.
-    fn note(&mut self, ticket: Ticket, channel: Channel) -> Result<Ticket, Refusal> {
-        let _ = self.asked.push(ticket.serial);
-        if self.refuses {
-            return Err(Refusal::NotYet);
-        }
-        Ok(Ticket {
-            bank: ticket.bank,
-            client: ticket.client,
-            channel,
-            serial: ticket.serial,
-        })
-    }
-}
-
-impl Port for Recorder {
-    ghost use Rattle.std.specs.Prelude.{[]};
-
-    ghost successes = { λ p. [] };
-
-    fn successes(&self) -> &[Success] {
-        &[]
-    }
-
-    fn load(
-        &mut self,
-        _client: ClientId,
-        _address: u32,
-        _len: usize,
-        _when: When,
-    ) -> Result<Loaded, Refusal> {
-        Err(Refusal::NoPermission)
-    }
-
-    fn store(
-        &mut self,
-        _client: ClientId,
-        _address: u32,
-        _bytes: &[u8],
-        _when: When,
-    ) -> Result<u64, Refusal> {
-        Err(Refusal::NoPermission)
-    }
-
-    fn acquire(
-        &mut self,
-        _client: ClientId,
-        _block: BlockNo,
-        _grow: Grow,
-    ) -> Result<Ticket, Refusal> {
-        Err(Refusal::NotYet)
-    }
-
-    fn release(
-        &mut self,
-        _client: ClientId,
-        _block: BlockNo,
-        _prune: Prune,
-        _share: &mut Share,
-    ) -> Result<Ticket, Refusal> {
-        Err(Refusal::NotYet)
-    }
-
-    fn answer_probe(&mut self, ticket: Ticket, _share: &mut Share) -> Result<Ticket, Refusal> {
-        self.note(ticket, Channel::C)
-    }
-
-    fn take_grant(&mut self, ticket: Ticket, _share: &mut Share) -> Result<Ticket, Refusal> {
-        self.note(ticket, Channel::E)
-    }
-
-    fn take_release_ack(&mut self, _ticket: Ticket) -> Result<(), Refusal> {
-        Err(Refusal::NotHead)
-    }
-
-    fn perm(&self, _client: ClientId, _block: BlockNo) -> Perm {
-        Perm::None
-    }
-
-    fn oldest_copy(&self, _client: ClientId, _bank: BankNo) -> Option<BlockNo> {
-        None
-    }
-}
 
 /// An agent with no commands, with its port and its mail, and the ends of the one who sends to it. Its model says nothing, so that
 /// its turns have their answers alone to carry along.
@@ -159,7 +68,6 @@ impl Scene<'_> {
 
     /// Whether a turn worked, and asked just the tickets with these serials, in order. There are two clients, of which one is never done.
     fn asks<R: Wait + Clock>(&mut self, rt: &R, serials: &[u64]) -> bool {
-        self.port.asked.clear();
         let turn = agent_turn(
             rt,
             &mut self.agent,
@@ -168,7 +76,7 @@ impl Scene<'_> {
             2,
             &mut self.mail,
         );
-        turn == Turn::Worked && self.port.asked.as_slice() == serials
+        turn == Turn::Worked && are_serials(self.port.asked.as_slice(), serials)
     }
 
     /// Whether the first ticket of each channel alone is asked while it is refused, and then all of them.
@@ -196,11 +104,7 @@ fn scene_of<'a>(
 ) -> Option<Scene<'a>> {
     let (agent, mail) = agent.zip(mail)?;
     let (put, bell) = to;
-    let asked = Vec::new(alloc);
-    let port = Recorder {
-        asked,
-        refuses: true,
-    };
+    let port = Recorder::new(alloc);
     Some(Scene {
         agent,
         port,

@@ -1,18 +1,16 @@
 //! Idle turns of an agent: they ask nothing, and take nothing of the inbox.
-use crate::counts::{Counts, count};
+use crate::counts::Counts;
 use crate::mails::{first_mail, open_two};
+use crate::recorder::Recorder;
 use crate::turns::agent_turn;
 use std::alloc::Global;
-use std::cell::Cell;
 use std::sync::Wait;
 use std::time::Clock;
-use tl_bank::{Loaded, Refusal, Share, When};
 use tl_client::{Agent, Command, Turn};
 use tl_client_mail::Mail;
-use tl_client_ports::{Port, Success};
 use tl_map::{Geometry, GeometryNumbers};
 use tl_tickets::{Receiver, Sender};
-use tl_types::{BankNo, BlockNo, Channel, ClientId, Grow, Perm, Prune, Ticket};
+use tl_types::{BankNo, Channel, ClientId, Ticket};
 
 /// One client, and one bank with one block.
 const NUMBERS: GeometryNumbers = GeometryNumbers {
@@ -26,90 +24,6 @@ const NUMBERS: GeometryNumbers = GeometryNumbers {
     copies: 1,
     memory_blocks: 1,
 };
-
-/// A port to no bank: it counts its calls, and all are refused.
-#[derive(Drop)]
-struct Refuser {
-    calls: Cell<u32>,
-}
-
-impl Port for Refuser {
-    ghost use Rattle.std.specs.Prelude.{[]};
-
-    ghost successes = { λ p. [] };
-
-    fn successes(&self) -> &[Success] {
-        &[]
-    }
-
-    fn load(
-        &mut self,
-        _client: ClientId,
-        _address: u32,
-        _len: usize,
-        _when: When,
-    ) -> Result<Loaded, Refusal> {
-        count(&self.calls);
-        Err(Refusal::NoPermission)
-    }
-
-    fn store(
-        &mut self,
-        _client: ClientId,
-        _address: u32,
-        _bytes: &[u8],
-        _when: When,
-    ) -> Result<u64, Refusal> {
-        count(&self.calls);
-        Err(Refusal::NoPermission)
-    }
-
-    fn acquire(
-        &mut self,
-        _client: ClientId,
-        _block: BlockNo,
-        _grow: Grow,
-    ) -> Result<Ticket, Refusal> {
-        count(&self.calls);
-        Err(Refusal::NotYet)
-    }
-
-    fn release(
-        &mut self,
-        _client: ClientId,
-        _block: BlockNo,
-        _prune: Prune,
-        _share: &mut Share,
-    ) -> Result<Ticket, Refusal> {
-        count(&self.calls);
-        Err(Refusal::NotYet)
-    }
-
-    fn answer_probe(&mut self, _ticket: Ticket, _share: &mut Share) -> Result<Ticket, Refusal> {
-        count(&self.calls);
-        Err(Refusal::NotYet)
-    }
-
-    fn take_grant(&mut self, _ticket: Ticket, _share: &mut Share) -> Result<Ticket, Refusal> {
-        count(&self.calls);
-        Err(Refusal::NotYet)
-    }
-
-    fn take_release_ack(&mut self, _ticket: Ticket) -> Result<(), Refusal> {
-        count(&self.calls);
-        Err(Refusal::NotYet)
-    }
-
-    fn perm(&self, _client: ClientId, _block: BlockNo) -> Perm {
-        count(&self.calls);
-        Perm::None
-    }
-
-    fn oldest_copy(&self, _client: ClientId, _bank: BankNo) -> Option<BlockNo> {
-        count(&self.calls);
-        None
-    }
-}
 
 /// Puts a Grant to client 0, without a ring. Whether there was room.
 fn put_grant<R: Wait>(rt: &R, mut sender: Sender<'_>) -> bool {
@@ -142,14 +56,13 @@ type Seen = ([Turn; 2], [u32; 2], u32);
 /// Two turns, and before the second a ticket that nobody rings for.
 fn two_turns<R: Wait + Clock>(
     rt: &R,
+    alloc: Global,
     agent: &mut Agent<'_>,
     gate: &Counts,
     mail: &mut Mail<'_>,
     put: Sender<'_>,
 ) -> Option<([Turn; 2], [u32; 2])> {
-    let mut port = Refuser {
-        calls: Cell::new(0),
-    };
+    let mut port = Recorder::new(alloc);
     let first = agent_turn(rt, agent, &mut port, gate, 1, mail);
     let asked = port.calls.get();
     if !put_grant(rt, put) {
@@ -168,13 +81,14 @@ fn with_left(turns: Option<([Turn; 2], [u32; 2])>, left: u32) -> Option<Seen> {
 /// What is seen of an agent's two turns with its mail.
 fn seen<R: Wait + Clock>(
     rt: &R,
+    alloc: Global,
     agent: Option<Agent<'_>>,
     gate: &Counts,
     mail: Option<Mail<'_>>,
     put: Sender<'_>,
 ) -> Option<Seen> {
     let (mut agent, mut mail) = agent.zip(mail)?;
-    let turns = two_turns(rt, &mut agent, gate, &mut mail, put);
+    let turns = two_turns(rt, alloc, &mut agent, gate, &mut mail, put);
     let left = waiting(rt, mail.into_receiver());
     with_left(turns, left)
 }
@@ -188,7 +102,7 @@ fn seen_by_mail<R: Wait + Clock>(
 ) -> Option<Seen> {
     let (rooms, keys) = open_two(alloc)?;
     let (mail, (put, _bell), _done) = first_mail(alloc, &rooms, keys);
-    seen(rt, agent, gate, mail, put)
+    seen(rt, alloc, agent, gate, mail, put)
 }
 
 /// The two turns of an agent with one load to do.

@@ -1,78 +1,30 @@
 //! An idle turn leaves a ticket that was put without a ring: the inbox has it once it is settled.
-ghost use Rattle.std.specs.Prelude.{◌≡◌, [], IfSome};
+ghost use Rattle.std.specs.Prelude.{◌≡◌, IfSome};
 ghost use Rattle.tl_tickets.specs.Bell.{IsSeatOf};
 ghost use Rattle.tl_tickets.specs.Inbox.{IsPassOf, IsReceiverOf, IsSenderOf};
 
 use crate::mails::{Keys, Room, Rooms, first_mail, open_two};
-use arrayvec::ArrayVec;
+use crate::order::refusing_port;
 use std::alloc::Global;
 use std::sync::Wait;
 use std::time::Clock;
-use tl_bank::{Action, Refusal, Reply};
-use tl_client::{Free, Home, HomePort, Turn};
+use tl_client::{Free, Home, Turn};
 use tl_client_mail::Mail;
 use tl_tickets::{Missing, Pass, Sender};
-use tl_types::{BankNo, BlockNo, Channel, ClientId, Ticket};
-
-/// A port to no bank: no register is open, and it has no memory for a ticket.
-#[derive(Drop)]
-struct Closed;
-
-impl HomePort for Closed {
-    ghost use Rattle.std.specs.Prelude.{[]};
-
-    ghost asked = { λ p. [] };
-
-    fn begin(&mut self) {}
-
-    fn accept(&mut self, _ticket: Ticket) -> Result<(), Refusal> {
-        Err(Refusal::Memory)
-    }
-
-    fn take_c(&mut self, _ticket: Ticket) -> Result<Option<Ticket>, Refusal> {
-        Err(Refusal::Memory)
-    }
-
-    fn take_grant_ack(&mut self, _ticket: Ticket) -> Result<(), Refusal> {
-        Err(Refusal::Memory)
-    }
-
-    fn advance(&mut self, _block: BlockNo) -> Result<Action, Refusal> {
-        Err(Refusal::NotYet)
-    }
-
-    fn evict(&mut self, _block: BlockNo) -> Result<(), Refusal> {
-        Err(Refusal::NotYet)
-    }
-
-    fn serve_memory(&mut self, _block: BlockNo) -> Result<Reply, Refusal> {
-        Err(Refusal::NothingThere)
-    }
-
-    fn take_memory(&mut self, _block: BlockNo) -> Result<(), Refusal> {
-        Err(Refusal::NothingThere)
-    }
-
-    fn open_blocks(&self) -> ArrayVec<BlockNo, 8> {
-        ArrayVec::new()
-    }
-
-    fn is_quiet(&self) -> bool {
-        false
-    }
-}
+use tl_types::{BankNo, Channel, ClientId, Ticket};
 
 /// Two turns of a home, and before the second a ticket that nobody rings for. The passes of its inbox, where the first turn worked and
 /// the second was idle.
 fn two_turns<R: Wait + Clock>(
     rt: &R,
+    alloc: Global,
     mut home: Home,
     mut mail: Mail<'_>,
     mut put: Sender<'_>,
 ) -> Option<(Pass, Pass)>
     ensures { IfSome result (λ passes. IsReceiverOf mail.entry.inbox.inbox passes.0 × IsSenderOf put.entry.inbox passes.1) }
 {
-    let mut port = Closed;
+    let mut port = refusing_port(alloc);
     let Turn::Worked = home.turn(rt, &mut port, &Free, 1, &mut mail) else {
         return None;
     };
@@ -105,7 +57,7 @@ fn passes_after<R: Wait + Clock>(
     let (mail, (put, _bell), _done) = first_mail(alloc, rooms, keys);
     let mail = mail?;
     let home = Home::new(alloc, BankNo::new(0)).ok()?;
-    two_turns(rt, home, mail, put)
+    two_turns(rt, alloc, home, mail, put)
 }
 
 /// How many tickets wait in the inbox then. `None` where a turn was another one, or a request for memory was refused.

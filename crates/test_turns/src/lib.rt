@@ -18,6 +18,8 @@ mod play;
 #[cfg(test)]
 mod ports;
 #[cfg(test)]
+mod recorder;
+#[cfg(test)]
 mod silent;
 #[cfg(test)]
 mod turns;

@@ -22,7 +22,7 @@ use tl_types::{BankNo, BlockNo, Channel, ClientId, Ticket};
 /// it is told to. So many blocks, from 0 on, have an open register; those asked for a step are kept. Such a step is a Get where it
 /// is told to, else there is none; what was asked of the memory is kept too.
 #[derive(Drop)]
-struct Recorder {
+pub struct Recorder {
     calls: Cell<u32>,
     asked: Vec<Asked>,
     refuses: bool,
@@ -240,7 +240,7 @@ const STEPS: &[Step] = &[
 ];
 
 /// Whether tickets have these serials, in order.
-fn are_serials(asked: &[Asked], serials: &[u64]) -> bool {
+pub fn are_serials(asked: &[Asked], serials: &[u64]) -> bool {
     if asked.len() != serials.len() {
         return false;
     }
@@ -340,7 +340,7 @@ impl Scene<'_> {
 }
 
 /// A port that refuses on channel A, of no open block.
-fn refusing_port(alloc: Global) -> Recorder {
+pub fn refusing_port(alloc: Global) -> Recorder {
     Recorder {
         calls: Cell::new(0),
         asked: Vec::new(alloc),

@@ -1,6 +1,6 @@
--- What a bank shows of the clients' copies of a block, of home's copy and of the memory's bytes, and of the messages that wait (this
--- project's own).
-use Rattle.std.specs.Prelude.{ℕ, ◌+◌, List, Option, None, Some, slice_get, if◌then◌else◌}
+-- What a bank shows of the clients' copies of a block, of home's copy and of the memory's bytes, of the messages that wait, of the miss
+-- registers and of the ways (this project's own).
+use Rattle.std.specs.Prelude.{ℕ, ◌+◌, ◌&&◌, List, Option, None, Some, slice_get, nat_lt, if◌then◌else◌}
 use Rattle.std.specs.Option.{option_map}
 use Rattle.tl_types.specs.declared.channel.Channel.{Channel}
 use Rattle.tl_types.specs.declared.message.Message.{Message}
@@ -8,10 +8,13 @@ use Rattle.tl_types.specs.declared.ticket.Ticket.{Ticket}
 use Rattle.tl_types.specs.declared.wait.Awaited.{Awaited}
 use Rattle.tl_protocol.specs.declared.copy.CachedCopy.{CachedCopy}
 use Rattle.tl_protocol.specs.declared.home.Line.{Line}
+use Rattle.tl_registers.specs.declared.due.Due.{Due}
 use Rattle.tl_bank_spec.specs.Cases.{no_client}
 use Rattle.tl_bank_spec.specs.Channels.{lane_at}
 use Rattle.tl_bank_spec.specs.View.{View, end_at, client_at}
+use Rattle.tl_bank_spec.specs.HomeCases.{due_at}
 use Rattle.tl_bank_spec.specs.Views.{no_part, not_own}
+use Rattle.tl_bank_spec.specs.Ways.{slot_at}
 
 -- a client's copy of a block: its permission, its bytes, and whether they are dirty; None of a client or a block that the bank does
 -- not have
@@ -40,3 +43,12 @@ abbrev pub message_waiting : View → ℕ → Channel → ℕ → Option (Ticket
 message_waiting v client channel place =
     if no_client v client then None
     else option_map (λ message. (waiting_ticket v client channel place, message)) (slice_get (lane_at v client channel).messages place)
+
+-- what the miss register of a block does next; None where it waits, of a block that is no register's own, and of one that is not there
+-- or of another bank
+abbrev pub next_at : View → ℕ → Option Due
+next_at v block = if not_own v block then None else due_at v block
+
+-- the block in a way of a set, where there is one; None also of a set or way that is not there
+abbrev pub slot_shown : View → ℕ → ℕ → Option ℕ
+slot_shown v set way = if nat_lt set v.geometry.sets && nat_lt way v.geometry.ways then slot_at v set way else None

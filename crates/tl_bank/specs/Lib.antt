@@ -1,2 +1,3 @@
 pub mod Contents
 pub mod Shown
+pub mod Would

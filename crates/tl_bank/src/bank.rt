@@ -35,11 +35,13 @@ mod contents;
 mod home_calls;
 mod look;
 mod memory_calls;
+mod misses;
 mod open;
 mod protocol_view;
 mod settle;
 mod tickets;
 mod views;
+mod would;
 
 /// A bank can't be made for want of memory alone.
 pub type BankError = AllocError;

@@ -47,7 +47,7 @@ beginning-push bytes new script b c e h i each last =
 
 -- the success of one answer is what a port gains by its command
 pub gains-one : (t : AgentView) (client clock index stamp : ℕ) (c : Command) (b : List ℕ) (was is : List Success)
-    → t.client ≡ client → t.clock ≡ clock → length t.answered ≡ index
+    → t.links.client ≡ client → t.clock ≡ clock → length t.answered ≡ index
     → is ≡ was ++ success_at client (record { clock = clock; index = index }) c b stamp
     → stamp ≡ clock_after clock (success_at client (record { clock = clock; index = index }) c b stamp)
     → (is ≡ was ++ successes_of t (record { command = c; bytes = b } ∷ []) stamp)

@@ -1,3 +1,4 @@
+pub mod AgentLaws
 pub mod AnswerLaws
 pub mod RoundLaws
 pub mod ServeLaws

@@ -4,7 +4,7 @@ use Rattle.tl_types.specs.declared.ticket.Ticket.{Ticket}
 use Rattle.tl_client_mail.specs.Rounds.{AreBarred, is_barred}
 use Rattle.tl_client_ports.specs.Ports.{asked}
 use Rattle.tl_client_ports.specs.declared.port.Asked.{Asked}
-use Rattle.tl_client.specs.Homes.{Goes}
+use Rattle.tl_client.specs.Rounds.{Goes}
 
 -- a round that goes over one more ticket, which is barred
 pub goes-barred : (kept gone : List Ticket) (all : List Asked) (end : List Ticket) (t : Ticket) → Goes kept gone all end → is_barred end t ≡ true

@@ -1,11 +1,11 @@
--- How a home's round goes on: what it has gone over, what it asked, and what it kept.
-use Rattle.std.proofs.Common.{◌≡◌, ◌<◌, List, [], ◌∷◌, ◌++◌, true, false, length, take, drop, sym, ◌∙◌, ap, subst, arith, append-nil, append_assoc}
+-- How a round goes on: what it has gone over, what it asked, and what it kept.
+use Rattle.std.proofs.Common.{◌≡◌, ◌<◌, List, [], ◌∷◌, ◌++◌, Bool, true, false, length, take, drop, refl, sym, ◌∙◌, ap, subst, arith, append-nil, append_assoc}
 use Rattle.std.proofs.lemmas.Grind.{common_steps}
 use Rattle.std.proofs.lemmas.List.{append_cancel_left}
 use Rattle.tl_types.specs.declared.ticket.Ticket.{Ticket}
 use Rattle.tl_client_ports.specs.Ports.{asked}
-use Rattle.tl_client.specs.Homes.{Goes}
-use Rattle.tl_client_mail.specs.Rounds.{AreBarred, Round, all_of, is_barred}
+use Rattle.tl_client.specs.Rounds.{Goes}
+use Rattle.tl_client_mail.specs.Rounds.{AreBarred, Round, all_of, is_barred, once_asked}
 use Rattle.tl_client_ports.specs.declared.port.Asked.{Asked}
 use Rattle.tl_client.proofs.RoundLaws.{goes-served, goes-refused, goes-passed}
 
@@ -70,6 +70,13 @@ went-refused all before after new w t went next more = (
       (goes-refused [] went.0 went.1 w.kept t went.4 next.0),
 )
 
+-- a round whose next ticket is served or refused
+pub went-asked : (all : List Ticket) (before after new : List Asked) (w : Round) (t : Ticket) (served : Bool) → Went all before w after
+    → (is_barred w.kept t ≡ false) × ((later : List Ticket) × (w.rest ≡ t ∷ later)) → new ≡ after ++ asked t served ∷ []
+    → Went all before (once_asked served w) new
+went-asked all before after new w t true went next more = went-served all before after new w t went next more
+went-asked all before after new w t false went next more = went-refused all before after new w t went next more
+
 -- a round that has come to the end
 pub went-all : (all : List Ticket) (before after : List Asked) (w : Round) → Went all before w after → w.rest ≡ []
     → (more : List Asked) × (after ≡ before ++ more) × Goes [] all more (all_of w)
@@ -79,6 +86,11 @@ went-all all before after w went none = (
   subst (λ (g : List Ticket). Goes [] g went.1 (all_of w)) (sym (went.2 ∙ ap (λ (r : List Ticket). went.0 ++ r) none ∙ append-nil went.0))
       (subst (λ (k : List Ticket). Goes [] went.0 went.1 k) (sym (ap (λ (r : List Ticket). w.kept ++ r) none ∙ append-nil w.kept)) went.4),
 )
+
+-- the rest of a round once its next ticket was asked
+pub rest-asked : (served : Bool) (w : Round) → (once_asked served w).rest ≡ drop 1 w.rest
+rest-asked true w = refl
+rest-asked false w = refl
 
 -- fewer tickets are left once the next was asked
 pub fewer : (old new : Round) (t : Ticket) → all_of new ≡ all_of old → Passed old new → ((later : List Ticket) × (new.rest ≡ t ∷ later))

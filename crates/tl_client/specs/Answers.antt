@@ -8,6 +8,7 @@ use Rattle.tl_text.specs.declared.report.Answered.{Answered}
 use Rattle.tl_client_mail.specs.Ways.{Post, has_none_back}
 use Rattle.tl_client_ports.specs.declared.port.Success.{Success}
 use Rattle.tl_client_ports.specs.declared.port.Success.TheVariants.{Loaded, Stored}
+use Rattle.tl_client.specs.Agents.{ClientLinks}
 
 -- the success that carries a command out, which got these bytes and this stamp; none at a drop
 abbrev pub success_at : ℕ → When → Command → List ℕ → ℕ → List Success
@@ -45,9 +46,9 @@ abbrev pub clock_after : ℕ → List Success → ℕ
 clock_after clock [] = clock
 clock_after clock (s ∷ rest) = clock_after (stamp_of s) rest
 
--- what contracts see of an agent: its clock is the last stamp that it got
+-- what contracts see of an agent: its clock is the last stamp that it got, and its client is that of its links
 pub record AgentView : Type 0 where
-  pub client : ℕ
+  pub links : ClientLinks
   pub script : List Command
   pub answered : List Answered
   pub clock : ℕ
@@ -59,13 +60,13 @@ when_of t = record { clock = t.clock; index = length t.answered }
 -- the successes by which an agent carried commands out, with this stamp
 abbrev pub successes_of : AgentView → List Answered → ℕ → List Success
 successes_of t [] stamp = []
-successes_of t (a ∷ rest) stamp = success_at t.client (when_of t) a.command a.bytes stamp ++ successes_of t rest stamp
+successes_of t (a ∷ rest) stamp = success_at t.links.client (when_of t) a.command a.bytes stamp ++ successes_of t rest stamp
 
 -- What was answered stays, and at most one answer joins it. The port's list gains just the success of that answer, asked with the
 -- agent's own clock and index, and its stamp is the clock afterwards
 abbrev pub Gains : AgentView → List Success → AgentView → List Success → Type 0
 Gains old was new is =
-    (new.client ≡ old.client) × (new.script ≡ old.script)
+    (new.links.client ≡ old.links.client) × (new.script ≡ old.script)
     × ((added : List Answered) × (length added ≤ 1) × (new.answered ≡ old.answered ++ added)
     × (is ≡ was ++ successes_of old added new.clock) × (new.clock ≡ clock_after old.clock (successes_of old added new.clock)))
 

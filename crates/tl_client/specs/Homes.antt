@@ -1,25 +1,15 @@
 -- What a home's turn asks of its bank (this project's own; each channel of a link keeps its order).
-use Rattle.std.specs.Prelude.{◌≡◌, ◌⊎◌, ℕ, true, false, List, [], ◌∷◌, ◌++◌}
+use Rattle.std.specs.Prelude.{◌≡◌, ℕ, List, [], ◌++◌}
 use Rattle.std.specs.List.{filter}
 use Rattle.tl_types.specs.Channel.{channel_index}
 use Rattle.tl_types.specs.declared.channel.Channel.TheVariants.{A, C, E}
 use Rattle.tl_types.specs.declared.ticket.Ticket.{Ticket}
 use Rattle.tl_tickets.specs.Ends.{InboxEnd}
 use Rattle.tl_client_mail.specs.Inbox.{Took}
-use Rattle.tl_client_mail.specs.Rounds.{Round, all_of, is_barred, is_on}
+use Rattle.tl_client_mail.specs.Rounds.{Round, all_of, is_on}
 use Rattle.tl_client_mail.specs.declared.links.Links.TheVariants.{OfBank}
-use Rattle.tl_client_ports.specs.Ports.{asked}
 use Rattle.tl_client_ports.specs.declared.port.Asked.{Asked}
-
--- a round over tickets, in order: one whose channel and link has one kept is kept unasked; any other is asked, and kept where it was
--- refused. `all` are those asked, `end` those kept at the end
-abbrev pub Goes : List Ticket → List Ticket → List Asked → List Ticket → Type 0
-Goes kept [] all end = (all ≡ []) × (end ≡ kept)
-Goes kept (ticket ∷ rest) all end =
-    ((is_barred kept ticket ≡ true) × Goes (kept ++ ticket ∷ []) rest all end)
-    ⊎ ((is_barred kept ticket ≡ false) × ((later : List Asked)
-    × (((all ≡ asked ticket true ∷ later) × Goes kept rest later end)
-    ⊎ ((all ≡ asked ticket false ∷ later) × Goes (kept ++ ticket ∷ []) rest later end))))
+use Rattle.tl_client.specs.Rounds.{Goes}
 
 -- the order in which a home serves tickets that it took: those on E, then C, then A
 abbrev pub in_order : List Ticket → List Ticket

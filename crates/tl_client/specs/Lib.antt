@@ -1,2 +1,4 @@
+pub mod Agents
 pub mod Answers
 pub mod Homes
+pub mod Rounds

@@ -1,10 +1,11 @@
 //! A client's agent.
-ghost use Rattle.std.specs.Prelude.{◌≡◌, ◌≢◌, ◌≤◌, [], length, true, IfOk};
+ghost use Rattle.std.specs.Prelude.{◌≡◌, ◌≢◌, ◌≤◌, [], length, true, vec_len, IfOk, OnOk};
+ghost use Rattle.tl_client.specs.Agents.{Works, quiet_links};
 ghost use Rattle.tl_client.specs.Answers.{Gains, IsBeginning, IsDone, answered_of};
 ghost use Rattle.tl_client.specs.declared.turn.Turn.{Turn};
 
 use crate::carry_out::carry_out;
-use crate::requester::Requester;
+use crate::requester::{ROOM, Requester};
 use crate::turn::Turn;
 use std::alloc::{AllocError, Global};
 use std::marker::Model;
@@ -17,15 +18,14 @@ use tl_map::Geometry;
 use tl_script_words::Command;
 use tl_types::{AccessBytes, ClientId};
 
-/// A client's agent. Contracts see its client, its script, what it answered, and its clock: the last stamp that it got. Of what it
-/// answered it keeps the bytes: the commands are the script's.
+/// A client's agent. Contracts see its links with the tickets that wait, its script, what it answered, and its clock: the last stamp that
+/// it got. Of what it answered it keeps the bytes: the commands are the script's.
 #[derive(Drop)]
 pub struct Agent<'s> {
-    client: ClientId,
+    requester: Requester,
     script: &'s [Command],
     bytes: Vec<AccessBytes>,
     clock: u64,
-    requester: Requester,
     rest: Rest,
     /// Whether it has rung the done bell.
     has_rung: bool,
@@ -37,9 +37,9 @@ impl<'s> Model for Agent<'s> {
 
     ghost Value = { AgentView };
 
-    ghost view = { λ a. record { client = a.client; script = a.script.now; answered = answered_of a.bytes.items a.script.now; clock = a.clock } };
+    ghost view = { λ a. record { links = a.requester; script = a.script.now; answered = answered_of a.bytes.items a.script.now; clock = a.clock } };
 
-    ghost invariant = { λ a. IsBeginning (record { client = a.client; script = a.script.now; answered = answered_of a.bytes.items a.script.now; clock = a.clock }) × (length a.bytes.items ≤ length a.script.now) × (length a.script.now ≤ vec_capacity a.bytes) × (length a.script.now < 2 ^ 32) };
+    ghost invariant = { λ a. IsBeginning (record { links = a.requester; script = a.script.now; answered = answered_of a.bytes.items a.script.now; clock = a.clock }) × (length a.bytes.items ≤ length a.script.now) × (length a.script.now ≤ vec_capacity a.bytes) × (length a.script.now < 2 ^ 32) };
 }
 
 impl<'s> Agent<'s> {
@@ -52,18 +52,17 @@ impl<'s> Agent<'s> {
         commands: &'s [Command],
         shares: Vec<Share>,
     ) -> Result<Agent<'s>, AllocError>
-        ensures { IfOk result (λ a. a ≡ record { client = client; script = commands.entry.now; answered = []; clock = 0 }) }
+        ensures { IfOk result (λ a. a ≡ record { links = quiet_links client (vec_len shares) ROOM; script = commands.entry.now; answered = []; clock = 0 }) }
     {
         if commands.len() > u32::MAX as usize {
             return Err(AllocError);
         }
         let bytes = Vec::with_capacity(alloc, commands.len())?;
         Ok(Agent {
-            client,
+            requester: Requester::new(alloc, client, geometry, shares)?,
             script: commands,
             bytes,
             clock: 0,
-            requester: Requester::new(alloc, client, geometry, shares)?,
             rest: Rest::new(),
             has_rung: false,
         })
@@ -85,8 +84,10 @@ impl<'s> Agent<'s> {
     }
 
     /// One turn, over any port and gate. The answers are a beginning of the script's; those that were there stay, and the loads and
-    /// stores that the turn adds are, in order and with their bytes, what the port's successes gained. An idle turn, and one that
-    /// finds all clients done, asks the port nothing; an idle one takes no ticket.
+    /// stores that the turn adds are, in order and with their bytes, what the port's successes gained. What it takes of its inbox, at
+    /// most 64 tickets, joins those that wait. It asks the banks each Grant and ReleaseAck, in order, and then each Probe, but none of
+    /// whose bank and channel an earlier one was refused; the refused and those behind them wait on. An idle turn, and one that finds
+    /// all clients done, asks the port nothing and takes no ticket.
     pub fn turn<P: Port, G: Gate, R: Wait + Clock>(
         &mut self,
         rt: &R,
@@ -97,9 +98,11 @@ impl<'s> Agent<'s> {
     ) -> Turn
         ensures gains { Gains self.old (P.successes port.old) self.new (P.successes port.new) }
         ensures beginning { IsBeginning self.new }
-        ensures idle { result ≡ Turn.Idle → (self.new ≡ self.old) × (P.successes port.new ≡ P.successes port.old) × (mail.new.inbox ≡ mail.old.inbox) }
-        ensures finished { result ≡ Turn.Finished
-            → (self.new ≡ self.old) × (P.successes port.new ≡ P.successes port.old) × (clients ≤ mail.new.done.seat.seen) }
+        ensures works { result ≡ Turn.Worked → Works mail.old.inbox self.old.links mail.new.inbox self.new.links (P.asked port.new) }
+        ensures idle { result ≡ Turn.Idle → (self.new ≡ self.old) × (P.successes port.new ≡ P.successes port.old)
+            × (P.asked port.new ≡ P.asked port.old) × (mail.new.inbox ≡ mail.old.inbox) }
+        ensures finished { result ≡ Turn.Finished → (self.new ≡ self.old) × (P.successes port.new ≡ P.successes port.old)
+            × (P.asked port.new ≡ P.asked port.old) × (mail.new.inbox ≡ mail.old.inbox) × (clients ≤ mail.new.done.seat.seen) }
     {
         let is_due = self.requester.is_due() || mail.has_back();
         if mail.done() >= u64::from(clients) {
@@ -115,7 +118,7 @@ impl<'s> Agent<'s> {
         match self.work(rt, port, gate, mail) {
             Ok(()) => Turn::Worked,
             Err(_) => {
-                self.requester.progress.go_on();
+                self.requester.go_on();
                 Turn::Memory
             }
         }
@@ -131,13 +134,16 @@ impl<'s> Agent<'s> {
     ) -> Result<(), AllocError>
         ensures gains { Gains self.old (P.successes port.old) self.new (P.successes port.new) }
         ensures beginning { IsBeginning self.new }
+        ensures works { OnOk result (Works mail.old.inbox self.old.links mail.new.inbox self.new.links (P.asked port.new)) }
     {
-        self.requester.begin(rt, port, mail)?;
+        port.begin();
+        self.requester.take_tickets(rt, mail)?;
+        self.requester.serve_downward(rt, port, mail)?;
         self.try_command(rt, port, gate, mail)?;
         self.requester.serve_probes(rt, port, mail)?;
         self.finish(mail);
         self.rest
-            .after_turn(rt, mail.parker(), self.requester.progress.has_worked());
+            .after_turn(rt, mail.parker(), self.requester.has_worked());
         Ok(())
     }
 
@@ -151,6 +157,9 @@ impl<'s> Agent<'s> {
     ) -> Result<(), AllocError>
         ensures gains { Gains self.old (P.successes port.old) self.new (P.successes port.new) }
         ensures beginning { IsBeginning self.new }
+        ensures links { self.new.links ≡ self.old.links }
+        ensures asked { P.asked port.new ≡ P.asked port.old }
+        ensures inbox { mail.new.inbox ≡ mail.old.inbox }
     {
         let index = self.bytes.len();
         if index >= self.script.len() || self.requester.is_waiting() {
@@ -162,24 +171,26 @@ impl<'s> Agent<'s> {
             clock: self.clock,
             index: index as u32,
         };
+        let client = self.requester.client();
         let block = self.requester.block_of(command);
-        gate.before(self.client, index);
-        match carry_out(port, self.client, block, command, when) {
+        gate.before(client, index);
+        match carry_out(port, client, block, command, when) {
             Ok(done) => {
                 self.clock = done.clock;
                 self.bytes.push_reserved(done.bytes);
-                self.requester.progress.succeed();
-                gate.answered(self.client, index);
+                self.requester.succeed();
+                gate.answered(client, index);
                 Ok(())
             }
             Err(Refusal::NoPermission) => self.requester.change_copy(rt, port, mail, command),
-            Err(refusal) => self.requester.progress.refuse(refusal),
+            Err(refusal) => self.requester.refuse(refusal),
         }
     }
 
     /// Rings the done bell once, when the agent is done: never while a command is to be answered or a ticket to be put.
     fn finish(&mut self, mail: &mut Mail<'_>)
         ensures same { self.new ≡ self.old }
+        ensures inbox { mail.new.inbox ≡ mail.old.inbox }
         ensures rings { mail.new.done.seat.rung ≢ mail.old.done.seat.rung → IsDone self.old mail.old }
     {
         if self.is_done(mail) {

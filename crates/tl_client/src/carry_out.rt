@@ -34,11 +34,12 @@ pub(crate) fn carry_out<P: Port>(
     command: &Command,
     when: When,
 ) -> Result<Done, Refusal>
-    ensures { MatchResult result
+    ensures gains { MatchResult result
         (λ done. (P.successes port.new ≡ P.successes port.old ++ success_at client when command.now done.bytes done.clock)
         × (done.clock ≡ clock_after when.clock (success_at client when command.now done.bytes done.clock))
         × HasItsBytes command.now done.bytes)
         (λ _. P.successes port.new ≡ P.successes port.old) }
+    ensures asked { P.asked port.new ≡ P.asked port.old }
 {
     match command {
         Command::Load { address, len } => {

@@ -73,7 +73,8 @@ impl Home {
     ) -> Turn
         ensures works { result ≡ Turn.Worked → Works clients mail.old.inbox self.old mail.new.inbox self.new (P.asked port.new) }
         ensures idle { result ≡ Turn.Idle → (self.new ≡ self.old) × (P.asked port.new ≡ P.asked port.old) × (mail.new.inbox ≡ mail.old.inbox) }
-        ensures finished { result ≡ Turn.Finished → (self.new ≡ self.old) × (P.asked port.new ≡ P.asked port.old) × (clients ≤ mail.new.done.seat.seen) }
+        ensures finished { result ≡ Turn.Finished → (self.new ≡ self.old) × (P.asked port.new ≡ P.asked port.old)
+            × (mail.new.inbox ≡ mail.old.inbox) × (clients ≤ mail.new.done.seat.seen) }
     {
         let is_due = self.progress.is_due() || !self.waiting.is_empty() || mail.has_back();
         mail.send_again(rt);

@@ -1,9 +1,14 @@
 //! What an agent does beside answering commands: it serves tickets, and asks for the copies that its command needs.
-ghost use Rattle.std.specs.Prelude.{◌≡◌};
+ghost use Rattle.std.specs.Prelude.{◌≡◌, ◌++◌, ◌∷◌, [], vec_len, IfOk, OnOk};
+ghost use Rattle.std.specs.List.{All};
+ghost use Rattle.tl_client.specs.Agents.{AsksTwice, IsAsked, ServesDownward, ServesProbes, Takes, quiet_links};
+ghost use Rattle.tl_client_mail.specs.Ways.{HasRoom};
+ghost use Rattle.tl_client_ports.specs.Ports.{Asks, asked};
 
 use crate::carry_out::address_of;
 use crate::progress::Progress;
 use std::alloc::{AllocError, Global};
+use std::marker::Model;
 use std::sync::Wait;
 use tl_bank::{Refusal, Share};
 use tl_client_mail::{BATCH, Links, Mail, Waiting};
@@ -12,24 +17,25 @@ use tl_map::Geometry;
 use tl_script_words::Command;
 use tl_types::{BankNo, BlockNo, Channel, ClientId, Grow, Perm, Prune, Ticket};
 
-/// The answer of home that the present command waits for.
+/// A kind of answer of home to a client.
 #[derive(Clone, Copy, Debug, PartialEq, Eq)]
-enum Awaited {
-    Nothing,
+enum Answer {
     Grant,
     ReleaseAck,
 }
 
-/// Whether an answer of home was taken.
-#[derive(Clone, Copy, Debug)]
-enum Taken {
-    Yes,
-    No,
-    /// It is not the first message of its channel, or that is of another kind.
-    OtherKind,
+impl Answer {
+    /// The other kind.
+    fn other(self) -> Answer {
+        match self {
+            Answer::Grant => Answer::ReleaseAck,
+            Answer::ReleaseAck => Answer::Grant,
+        }
+    }
 }
 
-/// A client's side of its links: its tickets, its shares, and what it waits for.
+/// A client's side of its links: its tickets, its shares, and what it waits for. Contracts see the client, the number of banks, and the
+/// tickets that wait.
 #[derive(Drop)]
 pub(crate) struct Requester {
     client: ClientId,
@@ -42,11 +48,24 @@ pub(crate) struct Requester {
     downward: Waiting,
     /// Probes that are to be answered.
     probes: Waiting,
-    awaited: Awaited,
-    pub(crate) progress: Progress,
+    /// The answer of home that the present command waits for.
+    awaited: Option<Answer>,
+    progress: Progress,
     /// Whether the inbox may have tickets: its bell rang, or the last turn that took some took as many as a turn takes.
     may_have_mail: bool,
 }
+
+impl Model for Requester {
+    ghost use Rattle.std.specs.Prelude.{vec_len};
+    ghost use Rattle.tl_client.specs.Agents.{ClientLinks};
+
+    ghost Value = { ClientLinks };
+
+    ghost view = { λ r. record { client = r.client; banks = vec_len r.shares; downward = r.downward; probes = r.probes } };
+}
+
+/// For how many tickets of each channel a client has room from the start.
+pub(crate) const ROOM: usize = 2 * BATCH;
 
 impl Requester {
     /// A client that waits for nothing, with its share of each bank by number.
@@ -55,16 +74,17 @@ impl Requester {
         client: ClientId,
         geometry: Geometry,
         shares: Vec<Share>,
-    ) -> Result<Requester, AllocError> {
-        let room = 2 * BATCH;
+    ) -> Result<Requester, AllocError>
+        ensures { IfOk result (λ links. links ≡ quiet_links client (vec_len shares) ROOM) }
+    {
         Ok(Requester {
             client,
             geometry,
             shares,
             taken: Vec::with_capacity(alloc, BATCH)?,
-            downward: Waiting::new(alloc, room)?,
-            probes: Waiting::new(alloc, room)?,
-            awaited: Awaited::Nothing,
+            downward: Waiting::new(alloc, ROOM)?,
+            probes: Waiting::new(alloc, ROOM)?,
+            awaited: None,
             progress: Progress::new(),
             may_have_mail: true,
         })
@@ -75,6 +95,13 @@ impl Requester {
         self.shares
     }
 
+    /// The client.
+    pub(crate) fn client(&self) -> ClientId
+        ensures { result ≡ self.now.client }
+    {
+        self.client
+    }
+
     /// The block of a command.
     pub(crate) fn block_of(&self, command: &Command) -> BlockNo {
         self.geometry.block_at(address_of(command))
@@ -82,12 +109,40 @@ impl Requester {
 
     /// Whether the present command waits for an answer of home.
     pub(crate) fn is_waiting(&self) -> bool {
-        self.awaited != Awaited::Nothing
+        self.awaited.is_some()
     }
 
     /// The bell of the inbox rang.
-    pub(crate) fn hear(&mut self) {
+    pub(crate) fn hear(&mut self)
+        ensures { self.new ≡ self.old }
+    {
         self.may_have_mail = true;
+    }
+
+    /// The next turn has something to do.
+    pub(crate) fn go_on(&mut self)
+        ensures { self.new ≡ self.old }
+    {
+        self.progress.go_on();
+    }
+
+    /// The present command was answered.
+    pub(crate) fn succeed(&mut self)
+        ensures { self.new ≡ self.old }
+    {
+        self.progress.succeed();
+    }
+
+    /// The present command was refused. Want of memory is an error.
+    pub(crate) fn refuse(&mut self, refusal: Refusal) -> Result<(), AllocError>
+        ensures { self.new ≡ self.old }
+    {
+        self.progress.refuse(refusal)
+    }
+
+    /// Whether a call succeeded in this turn.
+    pub(crate) fn has_worked(&self) -> bool {
+        self.progress.has_worked()
     }
 
     /// Whether something is to be done but for what the bell brings.
@@ -95,32 +150,35 @@ impl Requester {
         self.progress.is_due() || !self.downward.is_empty() || !self.probes.is_empty()
     }
 
-    /// A turn begins: the inbox's tickets join the others, and those on channel D are served.
-    pub(crate) fn begin<P: Port, R: Wait>(
+    /// A turn begins: the tickets of the inbox, where there may be some, join those that wait.
+    pub(crate) fn take_tickets<R: Wait>(
         &mut self,
         rt: &R,
-        port: &mut P,
         mail: &mut Mail<'_>,
     ) -> Result<(), AllocError>
-        ensures { P.successes port.new ≡ P.successes port.old }
+        ensures takes { OnOk result (Takes mail.old.inbox self.old mail.new.inbox self.new) }
+        ensures client { self.new.client ≡ self.old.client }
     {
-        self.take_tickets(rt, mail)?;
-        self.serve_downward(rt, port, mail)
-    }
-
-    /// Takes the tickets of the inbox, at most 64, and lays each to the others of its channel.
-    fn take_tickets<R: Wait>(&mut self, rt: &R, mail: &mut Mail<'_>) -> Result<(), AllocError> {
         self.progress.begin();
         if !self.may_have_mail {
             return Ok(());
         }
+        self.take_mail(rt, mail)
+    }
+
+    /// Takes the tickets of the inbox, at most 64, and lays each behind the others of its channel.
+    fn take_mail<R: Wait>(&mut self, rt: &R, mail: &mut Mail<'_>) -> Result<(), AllocError>
+        ensures takes { OnOk result (Takes mail.old.inbox self.old mail.new.inbox self.new) }
+        ensures client { self.new.client ≡ self.old.client }
+    {
         self.taken.clear();
         self.taken.reserve(BATCH)?;
         self.downward.make_room(BATCH)?;
         self.probes.make_room(BATCH)?;
         let links = Links::OfClient(self.client, self.shares.len());
-        self.may_have_mail = mail.take_tickets(rt, &links, &mut self.taken);
-        if self.may_have_mail {
+        self.may_have_mail = false;
+        if mail.take_tickets(rt, &links, &mut self.taken) {
+            self.may_have_mail = true;
             self.progress.go_on();
         }
         self.downward.push_all(&self.taken, Channel::D);
@@ -129,24 +187,21 @@ impl Requester {
     }
 
     /// Serves the tickets on channel D in order. A refused one is kept, and no later one of its bank is asked before it.
-    fn serve_downward<P: Port, R: Wait>(
+    pub(crate) fn serve_downward<P: Port, R: Wait>(
         &mut self,
         rt: &R,
         port: &mut P,
         mail: &mut Mail<'_>,
     ) -> Result<(), AllocError>
-        ensures { P.successes port.new ≡ P.successes port.old }
+        ensures served { OnOk result (ServesDownward self.old (P.asked port.old) self.new (P.asked port.new)) }
+        ensures client { self.new.client ≡ self.old.client }
+        ensures successes { P.successes port.new ≡ P.successes port.old }
+        ensures inbox { mail.new.inbox ≡ mail.old.inbox }
     {
         self.downward.begin();
-        for _ in 0..self.downward.len() {
-            let Some(ticket) = self.downward.next() else {
-                return Ok(());
-            };
-            if self.take_answer(rt, port, mail, ticket)? {
-                self.downward.served();
-            } else {
-                self.downward.refused();
-            }
+        while let Some(ticket) = self.downward.next() {
+            let served = self.take_answer(rt, port, mail, ticket)?;
+            self.downward.answered(served);
         }
         Ok(())
     }
@@ -158,24 +213,20 @@ impl Requester {
         port: &mut P,
         mail: &mut Mail<'_>,
     ) -> Result<(), AllocError>
-        ensures { P.successes port.new ≡ P.successes port.old }
+        ensures served { OnOk result (ServesProbes self.old (P.asked port.old) self.new (P.asked port.new)) }
+        ensures client { self.new.client ≡ self.old.client }
+        ensures successes { P.successes port.new ≡ P.successes port.old }
+        ensures inbox { mail.new.inbox ≡ mail.old.inbox }
     {
         self.probes.begin();
-        for _ in 0..self.probes.len() {
-            let Some(ticket) = self.probes.next() else {
-                return Ok(());
-            };
-            if self.answer_probe(rt, port, mail, ticket)? {
-                self.probes.served();
-            } else {
-                self.probes.refused();
-            }
+        while let Some(ticket) = self.probes.next() {
+            let served = self.answer_probe(rt, port, mail, ticket)?;
+            self.probes.answered(served);
         }
         Ok(())
     }
 
-    /// Takes home's answer to an Acquire or a Release: first as the one that is awaited, then as the other. `false` where it was
-    /// refused as both.
+    /// Takes home's answer to an Acquire or a Release, and sends the GrantAck's ticket. `false` where it was refused.
     fn take_answer<P: Port, R: Wait>(
         &mut self,
         rt: &R,
@@ -183,107 +234,18 @@ impl Requester {
         mail: &mut Mail<'_>,
         ticket: Ticket,
     ) -> Result<bool, AllocError>
-        ensures { P.successes port.new ≡ P.successes port.old }
-    {
-        let again = ticket;
-        match self.take_as_awaited(rt, port, mail, ticket)? {
-            Taken::Yes => Ok(true),
-            Taken::No => Ok(false),
-            Taken::OtherKind => self.take_as_other(rt, port, mail, again),
-        }
-    }
-
-    /// Takes home's answer as a ReleaseAck where that is awaited, else as a Grant.
-    fn take_as_awaited<P: Port, R: Wait>(
-        &mut self,
-        rt: &R,
-        port: &mut P,
-        mail: &mut Mail<'_>,
-        ticket: Ticket,
-    ) -> Result<Taken, AllocError>
-        ensures { P.successes port.new ≡ P.successes port.old }
-    {
-        match self.awaited {
-            Awaited::ReleaseAck => self.take_release_ack(port, ticket),
-            Awaited::Nothing | Awaited::Grant => self.take_grant(rt, port, mail, ticket),
-        }
-    }
-
-    /// Takes home's answer as a Grant where a ReleaseAck is awaited, else as a ReleaseAck. `false` where it was refused.
-    fn take_as_other<P: Port, R: Wait>(
-        &mut self,
-        rt: &R,
-        port: &mut P,
-        mail: &mut Mail<'_>,
-        ticket: Ticket,
-    ) -> Result<bool, AllocError>
-        ensures { P.successes port.new ≡ P.successes port.old }
-    {
-        let taken = match self.awaited {
-            Awaited::ReleaseAck => self.take_grant(rt, port, mail, ticket)?,
-            Awaited::Nothing | Awaited::Grant => self.take_release_ack(port, ticket)?,
-        };
-        match taken {
-            Taken::Yes => Ok(true),
-            Taken::No | Taken::OtherKind => Ok(false),
-        }
-    }
-
-    /// Takes a ReleaseAck.
-    fn take_release_ack<P: Port>(
-        &mut self,
-        port: &mut P,
-        ticket: Ticket,
-    ) -> Result<Taken, AllocError>
-        ensures { P.successes port.new ≡ P.successes port.old }
-    {
-        match port.take_release_ack(ticket) {
-            Ok(()) => {
-                self.no_longer_awaits(Awaited::ReleaseAck);
-                Ok(Taken::Yes)
-            }
-            Err(refusal) => self.not_taken(refusal),
-        }
-    }
-
-    /// Takes a Grant, and sends the GrantAck's ticket.
-    fn take_grant<P: Port, R: Wait>(
-        &mut self,
-        rt: &R,
-        port: &mut P,
-        mail: &mut Mail<'_>,
-        ticket: Ticket,
-    ) -> Result<Taken, AllocError>
-        ensures { P.successes port.new ≡ P.successes port.old }
+        ensures asked { IfOk result (λ served. IsAsked (asked ticket served) (P.asked port.old) (P.asked port.new)) }
+        ensures same { self.new ≡ self.old }
+        ensures successes { P.successes port.new ≡ P.successes port.old }
+        ensures inbox { mail.new.inbox ≡ mail.old.inbox }
     {
         mail.make_room()?;
-        let Some(share) = self.shares.get_mut(ticket.bank.index()) else {
-            return Ok(Taken::Yes);
-        };
-        match port.take_grant(ticket, share) {
-            Ok(ack) => {
-                self.no_longer_awaits(Awaited::Grant);
-                mail.send(rt, ack.bank.index(), ack);
-                Ok(Taken::Yes)
+        match self.ask_as_either(port, ticket) {
+            Ok(sent) => {
+                self.served(rt, mail, sent);
+                Ok(true)
             }
-            Err(refusal) => self.not_taken(refusal),
-        }
-    }
-
-    /// Notes why an answer of home was not taken.
-    fn not_taken(&mut self, refusal: Refusal) -> Result<Taken, AllocError> {
-        if refusal == Refusal::NotHead {
-            return Ok(Taken::OtherKind);
-        }
-        self.progress.refuse(refusal)?;
-        Ok(Taken::No)
-    }
-
-    /// An answer of home was taken.
-    fn no_longer_awaits(&mut self, taken: Awaited) {
-        self.progress.succeed();
-        if self.awaited == taken {
-            self.awaited = Awaited::Nothing;
+            Err(refusal) => self.progress.refused(refusal),
         }
     }
 
@@ -295,19 +257,96 @@ impl Requester {
         mail: &mut Mail<'_>,
         ticket: Ticket,
     ) -> Result<bool, AllocError>
-        ensures { P.successes port.new ≡ P.successes port.old }
+        ensures asked { IfOk result (λ served. P.asked port.new ≡ P.asked port.old ++ asked ticket served ∷ []) }
+        ensures same { self.new ≡ self.old }
+        ensures successes { P.successes port.new ≡ P.successes port.old }
+        ensures inbox { mail.new.inbox ≡ mail.old.inbox }
     {
         mail.make_room()?;
-        let Some(share) = self.shares.get_mut(ticket.bank.index()) else {
-            return Ok(true);
-        };
-        match port.answer_probe(ticket, share) {
+        match self.ask_probe(port, ticket) {
             Ok(answer) => {
-                self.progress.succeed();
-                mail.send(rt, answer.bank.index(), answer);
+                self.served(rt, mail, Some(answer));
                 Ok(true)
             }
             Err(refusal) => self.progress.refused(refusal),
+        }
+    }
+
+    /// A ticket was served, and what it sent goes its way.
+    fn served<R: Wait>(&mut self, rt: &R, mail: &mut Mail<'_>, sent: Option<Ticket>)
+        requires { All HasRoom mail.old.ways }
+        ensures same { self.new ≡ self.old }
+        ensures inbox { mail.new.inbox ≡ mail.old.inbox }
+    {
+        self.progress.succeed();
+        if let Some(ticket) = sent {
+            mail.send(rt, ticket.bank.index(), ticket);
+        }
+    }
+
+    /// A bank is asked for an answer of home: first as the kind that is awaited, and where it is not that, as the other.
+    fn ask_as_either<P: Port>(
+        &mut self,
+        port: &mut P,
+        ticket: Ticket,
+    ) -> Result<Option<Ticket>, Refusal>
+        ensures asked { AsksTwice ticket result (P.asked port.old) (P.asked port.new) }
+        ensures same { self.new ≡ self.old }
+        ensures successes { P.successes port.new ≡ P.successes port.old }
+    {
+        let again = ticket;
+        let kind = self.awaited.unwrap_or(Answer::Grant);
+        match self.ask_as(port, kind, ticket) {
+            Err(Refusal::NotHead) => self.ask_as(port, kind.other(), again),
+            answer => answer,
+        }
+    }
+
+    /// A bank is asked for an answer of home of this kind, which is then no longer awaited. The GrantAck's ticket, if there is one.
+    fn ask_as<P: Port>(
+        &mut self,
+        port: &mut P,
+        kind: Answer,
+        ticket: Ticket,
+    ) -> Result<Option<Ticket>, Refusal>
+        ensures asked { Asks ticket result (P.asked port.old) (P.asked port.new) }
+        ensures same { self.new ≡ self.old }
+        ensures successes { P.successes port.new ≡ P.successes port.old }
+    {
+        let sent = match kind {
+            Answer::Grant => Some(self.ask_grant(port, ticket)?),
+            Answer::ReleaseAck => {
+                port.take_release_ack(ticket)?;
+                None
+            }
+        };
+        if self.awaited == Some(kind) {
+            self.awaited = None;
+        }
+        Ok(sent)
+    }
+
+    /// A bank is asked for a Grant, with the client's share of it. One of which there is no share refuses the ticket.
+    fn ask_grant<P: Port>(&mut self, port: &mut P, ticket: Ticket) -> Result<Ticket, Refusal>
+        ensures asked { Asks ticket result (P.asked port.old) (P.asked port.new) }
+        ensures same { self.new ≡ self.old }
+        ensures successes { P.successes port.new ≡ P.successes port.old }
+    {
+        match self.shares.get_mut(ticket.bank.index()) {
+            Some(share) => port.take_grant(ticket, share),
+            None => port.take_grant(ticket, &mut Share::default()),
+        }
+    }
+
+    /// A bank is asked to take a Probe's answer, with the client's share of it. One of which there is no share refuses the ticket.
+    fn ask_probe<P: Port>(&mut self, port: &mut P, ticket: Ticket) -> Result<Ticket, Refusal>
+        ensures asked { Asks ticket result (P.asked port.old) (P.asked port.new) }
+        ensures same { self.new ≡ self.old }
+        ensures successes { P.successes port.new ≡ P.successes port.old }
+    {
+        match self.shares.get_mut(ticket.bank.index()) {
+            Some(share) => port.answer_probe(ticket, share),
+            None => port.answer_probe(ticket, &mut Share::default()),
         }
     }
 
@@ -319,7 +358,10 @@ impl Requester {
         mail: &mut Mail<'_>,
         command: &Command,
     ) -> Result<(), AllocError>
-        ensures { P.successes port.new ≡ P.successes port.old }
+        ensures same { self.new ≡ self.old }
+        ensures asked { P.asked port.new ≡ P.asked port.old }
+        ensures successes { P.successes port.new ≡ P.successes port.old }
+        ensures inbox { mail.new.inbox ≡ mail.old.inbox }
     {
         let block = self.block_of(command);
         match command {
@@ -349,13 +391,16 @@ impl Requester {
         block: BlockNo,
         grow: Grow,
     ) -> Result<(), AllocError>
-        ensures { P.successes port.new ≡ P.successes port.old }
+        ensures same { self.new ≡ self.old }
+        ensures asked { P.asked port.new ≡ P.asked port.old }
+        ensures successes { P.successes port.new ≡ P.successes port.old }
+        ensures inbox { mail.new.inbox ≡ mail.old.inbox }
     {
         mail.make_room()?;
         match port.acquire(self.client, block, grow) {
             Ok(ticket) => {
                 self.progress.succeed();
-                self.awaited = Awaited::Grant;
+                self.awaited = Some(Answer::Grant);
                 mail.send(rt, ticket.bank.index(), ticket);
                 Ok(())
             }
@@ -389,7 +434,10 @@ impl Requester {
         mail: &mut Mail<'_>,
         block: BlockNo,
     ) -> Result<(), AllocError>
-        ensures { P.successes port.new ≡ P.successes port.old }
+        ensures same { self.new ≡ self.old }
+        ensures asked { P.asked port.new ≡ P.asked port.old }
+        ensures successes { P.successes port.new ≡ P.successes port.old }
+        ensures inbox { mail.new.inbox ≡ mail.old.inbox }
     {
         mail.make_room()?;
         let prune = match port.perm(self.client, block) {
@@ -406,7 +454,7 @@ impl Requester {
         match port.release(self.client, block, prune, share) {
             Ok(ticket) => {
                 self.progress.succeed();
-                self.awaited = Awaited::ReleaseAck;
+                self.awaited = Some(Answer::ReleaseAck);
                 mail.send(rt, ticket.bank.index(), ticket);
                 Ok(())
             }

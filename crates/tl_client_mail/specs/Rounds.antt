@@ -1,5 +1,5 @@
 -- The order in which tickets that wait are asked (this project's own; each channel of a link keeps its order).
-use Rattle.std.specs.Prelude.{◌≡◌, ◌==◌, ℕ, Bool, true, ◌&&◌, List, [], ◌∷◌, ◌++◌}
+use Rattle.std.specs.Prelude.{◌≡◌, ◌==◌, ℕ, Bool, true, false, ◌&&◌, List, [], ◌∷◌, ◌++◌, drop, take}
 use Rattle.std.specs.List.{list_any}
 use Rattle.tl_types.specs.Channel.{channel_index}
 use Rattle.tl_types.specs.declared.ticket.Ticket.{Ticket}
@@ -30,3 +30,8 @@ is_on channel ticket = channel_index ticket.channel == channel
 -- all tickets that wait, in order
 abbrev pub all_of : Round → List Ticket
 all_of round = round.kept ++ round.rest
+
+-- a round once its next ticket was served, or was refused and is kept
+abbrev pub once_asked : Bool → Round → Round
+once_asked true round = record round { rest = drop 1 round.rest }
+once_asked false round = record round { kept = round.kept ++ take 1 round.rest; rest = drop 1 round.rest }

@@ -156,7 +156,9 @@ impl<'a> Mail<'a> {
     }
 
     /// Rings the done bell, and ends the receivers' rests.
-    pub fn ring_done(&mut self) {
+    pub fn ring_done(&mut self)
+        ensures inbox { self.new.inbox ≡ self.old.inbox }
+    {
         self.done.ring();
         self.wake_all();
     }

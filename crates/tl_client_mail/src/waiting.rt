@@ -2,7 +2,7 @@
 ghost use Rattle.std.specs.Prelude.{◌≡◌, ◌++◌, ◌∷◌, ◌+◌, ◌≤◌, ◌==◌, [], false, drop, filter, length, take, IfOk, MatchOption, OnOk, List};
 ghost use Rattle.tl_types.specs.Channel.{channel_index};
 ghost use Rattle.tl_types.specs.declared.ticket.Ticket.{Ticket};
-ghost use Rattle.tl_client_mail.specs.Rounds.{AreBarred, all_of, is_barred, is_on, is_same_lane};
+ghost use Rattle.tl_client_mail.specs.Rounds.{AreBarred, all_of, is_barred, is_on, is_same_lane, once_asked};
 
 use std::alloc::{AllocError, Global};
 use std::collections::VecDeque;
@@ -99,8 +99,8 @@ impl Waiting {
         }
     }
 
-    /// The ticket that comes next in this round, of whose channel and link the round has kept none. It stays until it is `served` or
-    /// `refused`; those before it are kept, each barred by one that was kept before. None is lost.
+    /// The ticket that comes next in this round, of whose channel and link the round has kept none. It stays until it is `served`,
+    /// `refused` or `answered`; those before it are kept, each barred by one that was kept before. None is lost.
     pub fn next(&mut self) -> Option<Ticket>
         ensures order { all_of self.new ≡ all_of self.old }
         ensures next { MatchOption result (self.new.rest ≡ []) (λ t. (is_barred self.new.kept t ≡ false) × ((later : List Ticket) × (self.new.rest ≡ t ∷ later))) }
@@ -129,6 +129,17 @@ impl Waiting {
     {
         if let Some(ticket) = self.rest.pop_front() {
             self.kept.push_back_reserved(ticket);
+        }
+    }
+
+    /// The next ticket was served, or it was refused and is kept.
+    pub fn answered(&mut self, served: bool)
+        ensures { self.new ≡ once_asked served self.old }
+    {
+        if served {
+            self.served();
+        } else {
+            self.refused();
         }
     }
 

@@ -1,10 +1,12 @@
 //! A client's port to the locked banks.
-ghost use Rattle.std.specs.Prelude.{◌≡◌, ◌≢◌, ◌<◌, [], length, IfErr, OnOk, MatchResult};
+ghost use Rattle.std.specs.Prelude.{◌≡◌, ◌<◌, ◌++◌, ◌∷◌, [], length, IfErr, OnOk};
 ghost use Rattle.tl_bank_spec.specs.declared.refusal.Refusal.TheVariants.{Memory as NoMemory};
+ghost use Rattle.tl_client_ports.specs.Ports.{asked};
 
 use crate::gate::{Gate, Who};
+use crate::history::History;
 use crate::locked::Locked;
-use crate::port::{Port, Success};
+use crate::port::{Asked, Port, Success};
 use std::alloc::Global;
 use std::marker::Model;
 use std::sync::{MutexGuard, Wait};
@@ -12,7 +14,8 @@ use tl_bank::{Bank, Loaded, Refusal, Share, When};
 use tl_types::{AccessBytes, BankNo, BlockNo, ClientId, Grow, Perm, Prune, Ticket};
 
 /// A client's port: each call locks the bank that it asks, and no other. It keeps the loads and stores that succeeded, oldest
-/// first; where there is no room for one more, a load or a store is refused `Memory`, and no bank is asked.
+/// first; where there is no room for one more, a load or a store is refused `Memory`, and no bank is asked. Contracts also see the
+/// tickets that were asked in this turn.
 #[derive(Drop)]
 pub struct ClientPort<'a, R: Wait, G: Gate> {
     rt: &'a R,
@@ -20,6 +23,7 @@ pub struct ClientPort<'a, R: Wait, G: Gate> {
     gate: &'a G,
     client: ClientId,
     successes: Vec<Success>,
+    asked: History<Asked>,
 }
 
 impl<'a, R: Wait, G: Gate> Model for ClientPort<'a, R, G> {
@@ -28,11 +32,11 @@ impl<'a, R: Wait, G: Gate> Model for ClientPort<'a, R, G> {
 
     ghost Value = { OfClient };
 
-    ghost view = { λ p. record { client = p.client; successes = p.successes.items; room = vec_capacity p.successes } };
+    ghost view = { λ p. record { client = p.client; successes = p.successes.items; room = vec_capacity p.successes; asked = p.asked } };
 }
 
 impl<'a, R: Wait, G: Gate> ClientPort<'a, R, G> {
-    /// A port at which nothing has succeeded yet.
+    /// A port at which nothing has succeeded and nothing was asked yet.
     pub(crate) fn new(
         rt: &'a R,
         alloc: Global,
@@ -40,7 +44,7 @@ impl<'a, R: Wait, G: Gate> ClientPort<'a, R, G> {
         gate: &'a G,
         client: ClientId,
     ) -> ClientPort<'a, R, G>
-        ensures { result ≡ record { client = client; successes = []; room = 0 } }
+        ensures { result ≡ record { client = client; successes = []; room = 0; asked = [] } }
     {
         ClientPort {
             rt,
@@ -48,7 +52,15 @@ impl<'a, R: Wait, G: Gate> ClientPort<'a, R, G> {
             gate,
             client,
             successes: Vec::new(alloc),
+            asked: History::new(),
         }
+    }
+
+    /// Notes a ticket that was asked, and whether it was served.
+    fn note(&mut self, ticket: Ticket, served: bool)
+        ensures { self.new ≡ record self.old { asked = self.old.asked ++ asked ticket served ∷ [] } }
+    {
+        self.asked.push(Asked { ticket, served });
     }
 
     /// Makes room for one more success. Want of memory is the only refusal.
@@ -110,10 +122,43 @@ impl<'a, R: Wait, G: Gate> ClientPort<'a, R, G> {
         self.leave(number, bank);
         answer
     }
+
+    /// Asks a Probe's bank to take its answer.
+    fn ask_probe(&self, ticket: Ticket, share: &mut Share) -> Result<Ticket, Refusal> {
+        let number = ticket.bank;
+        let mut bank = self.enter(number)?;
+        let answer = bank.answer_probe(ticket, share);
+        self.leave(number, bank);
+        answer
+    }
+
+    /// Asks a Grant's bank for the Grant.
+    fn ask_grant(&self, ticket: Ticket, share: &mut Share) -> Result<Ticket, Refusal> {
+        let number = ticket.bank;
+        let mut bank = self.enter(number)?;
+        let answer = bank.take_grant(ticket, share);
+        self.leave(number, bank);
+        answer
+    }
+
+    /// Asks a ReleaseAck's bank for the ReleaseAck.
+    fn ask_release_ack(&self, ticket: Ticket) -> Result<(), Refusal> {
+        let number = ticket.bank;
+        let mut bank = self.enter(number)?;
+        let answer = bank.take_release_ack(ticket);
+        self.leave(number, bank);
+        answer
+    }
 }
 
 impl<'a, R: Wait, G: Gate> Port for ClientPort<'a, R, G> {
     ghost successes = { λ p. p.successes };
+
+    ghost asked = { λ p. p.asked };
+
+    fn begin(&mut self) {
+        self.asked = History::new();
+    }
 
     fn successes(&self) -> &[Success] {
         &self.successes
@@ -184,26 +229,23 @@ impl<'a, R: Wait, G: Gate> Port for ClientPort<'a, R, G> {
     }
 
     fn answer_probe(&mut self, ticket: Ticket, share: &mut Share) -> Result<Ticket, Refusal> {
-        let number = ticket.bank;
-        let mut bank = self.enter(number)?;
-        let answer = bank.answer_probe(ticket, share);
-        self.leave(number, bank);
+        let again = ticket;
+        let answer = self.ask_probe(ticket, share);
+        self.note(again, answer.is_ok());
         answer
     }
 
     fn take_grant(&mut self, ticket: Ticket, share: &mut Share) -> Result<Ticket, Refusal> {
-        let number = ticket.bank;
-        let mut bank = self.enter(number)?;
-        let answer = bank.take_grant(ticket, share);
-        self.leave(number, bank);
+        let again = ticket;
+        let answer = self.ask_grant(ticket, share);
+        self.note(again, answer.is_ok());
         answer
     }
 
     fn take_release_ack(&mut self, ticket: Ticket) -> Result<(), Refusal> {
-        let number = ticket.bank;
-        let mut bank = self.enter(number)?;
-        let answer = bank.take_release_ack(ticket);
-        self.leave(number, bank);
+        let again = ticket;
+        let answer = self.ask_release_ack(ticket);
+        self.note(again, answer.is_ok());
         answer
     }
 

@@ -1,4 +1,4 @@
-//! What a home asked at its port, as contracts see it. The list takes no memory, and no code can read it.
+//! What was asked at a port, as contracts see it. The list takes no memory, and no code can read it.
 ghost use Rattle.std.specs.Prelude.{◌≡◌, ◌++◌, ◌∷◌, []};
 
 use std::marker::Model;

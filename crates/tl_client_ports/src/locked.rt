@@ -103,7 +103,7 @@ impl Locked {
         }
     }
 
-    /// A client's own port, at which nothing has succeeded yet.
+    /// A client's own port, at which nothing has succeeded and nothing was asked yet.
     pub fn client_port<'a, R: Wait, G: Gate>(
         &'a self,
         rt: &'a R,
@@ -111,7 +111,7 @@ impl Locked {
         gate: &'a G,
         client: ClientId,
     ) -> ClientPort<'a, R, G>
-        ensures { result ≡ record { client = client; successes = []; room = 0 } }
+        ensures { result ≡ record { client = client; successes = []; room = 0; asked = [] } }
     {
         ClientPort::new(rt, alloc, self, gate, client)
     }

@@ -31,16 +31,23 @@ pub enum Success {
     },
 }
 
-/// A ticket that a home asked, and whether it was served.
+/// A call that asked a ticket, and whether it served it.
 #[derive(Clone, Copy, Debug, PartialEq, Eq)]
 pub struct Asked {
     pub ticket: Ticket,
     pub served: bool,
 }
 
-/// A client's calls.
+/// A client's calls. `asked` is the list of the tickets that were asked in a turn, in order, each with whether the call served it.
 pub trait Port {
     ghost successes: { Self → List Success };
+
+    ghost asked: { Self → List Asked };
+
+    /// A turn begins, in which nothing was asked yet.
+    fn begin(&mut self)
+        ensures asked { asked self.new ≡ [] }
+        ensures successes { successes self.new ≡ successes self.old };
 
     /// The loads and stores that succeeded at this port, oldest first. The port stores them.
     fn successes(&self) -> &[Success]
@@ -53,9 +60,10 @@ pub trait Port {
         len: usize,
         when: When,
     ) -> Result<Loaded, Refusal>
-        ensures { MatchResult result
+        ensures successes { MatchResult result
             (λ loaded. successes self.new ≡ successes self.old ++ WasLoaded client address len loaded.bytes.items when loaded.stamp ∷ [])
-            (λ _. successes self.new ≡ successes self.old) };
+            (λ _. successes self.new ≡ successes self.old) }
+        ensures asked { asked self.new ≡ asked self.old };
 
     fn store(
         &mut self,
@@ -64,12 +72,14 @@ pub trait Port {
         bytes: &[u8],
         when: When,
     ) -> Result<u64, Refusal>
-        ensures { MatchResult result
+        ensures successes { MatchResult result
             (λ stamp. successes self.new ≡ successes self.old ++ WasStored client address bytes.now when stamp ∷ [])
-            (λ _. successes self.new ≡ successes self.old) };
+            (λ _. successes self.new ≡ successes self.old) }
+        ensures asked { asked self.new ≡ asked self.old };
 
     fn acquire(&mut self, client: ClientId, block: BlockNo, grow: Grow) -> Result<Ticket, Refusal>
-        ensures { successes self.new ≡ successes self.old };
+        ensures successes { successes self.new ≡ successes self.old }
+        ensures asked { asked self.new ≡ asked self.old };
 
     fn release(
         &mut self,
@@ -78,16 +88,20 @@ pub trait Port {
         prune: Prune,
         share: &mut Share,
     ) -> Result<Ticket, Refusal>
-        ensures { successes self.new ≡ successes self.old };
+        ensures successes { successes self.new ≡ successes self.old }
+        ensures asked { asked self.new ≡ asked self.old };
 
     fn answer_probe(&mut self, ticket: Ticket, share: &mut Share) -> Result<Ticket, Refusal>
-        ensures { successes self.new ≡ successes self.old };
+        ensures successes { successes self.new ≡ successes self.old }
+        ensures asked { Asks ticket result (asked self.old) (asked self.new) };
 
     fn take_grant(&mut self, ticket: Ticket, share: &mut Share) -> Result<Ticket, Refusal>
-        ensures { successes self.new ≡ successes self.old };
+        ensures successes { successes self.new ≡ successes self.old }
+        ensures asked { Asks ticket result (asked self.old) (asked self.new) };
 
     fn take_release_ack(&mut self, ticket: Ticket) -> Result<(), Refusal>
-        ensures { successes self.new ≡ successes self.old };
+        ensures successes { successes self.new ≡ successes self.old }
+        ensures asked { Asks ticket result (asked self.old) (asked self.new) };
 
     /// What a client may do with a block.
     fn perm(&self, client: ClientId, block: BlockNo) -> Perm;
@@ -97,7 +111,7 @@ pub trait Port {
 }
 
 /// The calls of a bank's home. `asked` is the list of the tickets that were asked in a turn, in order, each with
-/// whether it was served.
+/// whether the call served it.
 pub trait HomePort {
     ghost asked: { Self → List Asked };
 

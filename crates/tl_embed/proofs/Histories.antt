@@ -1,5 +1,5 @@
 -- What a sequence of calls leaves of the logs of all banks.
-use Rattle.std.proofs.Common.{◌≡◌, ◌≢◌, ◌⊎◌, inl, inr, ℕ, zero, suc, ◌+◌, ◌*◌, ◌<◌, ◌≤◌, List, [], ◌∷◌, length, Option, Some, None, slice_get, slice_set, refl, sym, ◌∙◌, ap, subst, arith}
+use Rattle.std.proofs.Common.{◌≡◌, ◌≢◌, ◌⊎◌, inl, inr, ℕ, zero, suc, ◌+◌, ◌*◌, ◌<◌, ◌≤◌, List, [], ◌∷◌, length, Option, Some, None, Result, Ok, Err, slice_get, slice_set, refl, sym, ◌∙◌, ap, subst, arith}
 use Rattle.std.specs.Prelude.{IfSome}
 use Rattle.std.specs.Option.{option_map}
 use Rattle.std.proofs.lemmas.Option.{same_Some}
@@ -8,14 +8,19 @@ use Rattle.tl_map.specs.Refusals.{numbers_of, refusal_of}
 use Rattle.tl_map.specs.declared.numbers.GeometryError.{GeometryError}
 use Rattle.tl_map.specs.declared.numbers.GeometryNumbers.{GeometryNumbers}
 use Rattle.tl_bank_spec.specs.View.{View}
+use Rattle.tl_bank_spec.specs.declared.refusal.Refusal.{Refusal}
+use Rattle.tl_types.specs.declared.kind.Kind.{Kind}
+use Rattle.tl_types.specs.declared.message.Message.{Message}
 use Rattle.tl_script_words.specs.declared.step.Step.{Step}
 use Rattle.tl_trace.specs.NetworkState.{AreFresh, HasRoom, IsFresh, IsForgotten, IsReserved, IsReset, NetworkState, SharedBankState, bank_asked, bank_at}
 use Rattle.tl_trace.specs.NetworkSteps.{IsNetworkStep}
 use Rattle.tl_text.specs.declared.answer.Answer.{Answer as Shown}
 use Rattle.tl_embed.specs.Asked.{asked}
-use Rattle.tl_embed.specs.Calls.{AsksFor, Calls, CallsOn, GoesOn}
+use Rattle.tl_embed.specs.Calls.{AsksFor, Calls, CallsOn, GoesOn, IsPlayed, IsStarved}
 use Rattle.tl_embed.specs.Events.{Forgets, Reserves}
-use Rattle.tl_embed.specs.Histories.{AreCalls, EveryHistory, IsLater, IsRunning, RunsOn}
+use Rattle.tl_embed.specs.Histories.{AreCalls, Asking, EveryHistory, IsAsked, IsLater, IsRunning, RunsOn}
+use Rattle.tl_embed.specs.Saw.{AsCompared, SawsOn, SeenDoes, SeesOn}
+use Rattle.tl_embed.specs.Seen.{seen_asks}
 use Rattle.tl_embed.specs.Told.{only}
 use Rattle.tl_embed.specs.Opens.{OpensBy, OpensOver, as_given, closed}
 use Rattle.tl_embed.specs.declared.answer.Answer.{Answer}
@@ -23,6 +28,9 @@ use Rattle.tl_embed.specs.declared.cache.Cache.{Cache}
 use Rattle.tl_embed.specs.declared.request.Asked.{Asked}
 use Rattle.tl_embed.specs.declared.request.Asked.TheVariants as a
 use Rattle.tl_embed.specs.declared.request.Request.{Request}
+use Rattle.tl_embed.specs.declared.seen.Seen.{Seen}
+use Rattle.tl_embed.specs.declared.seen.SeenAsks.{SeenAsks}
+use Rattle.tl_embed.specs.declared.seen.SeenAsks.TheVariants.{Tells, Plays, Releases, Answers}
 use Rattle.tl_embed.proofs.Later.{later-twice, same-later, step-later}
 
 -- equal options hold equal values
@@ -147,6 +155,26 @@ asks-later a.Reserve old new r told h = room-asked r.bank r.serial old new told 
 asks-later a.Forget old new r told h = forget-asked r.bank old new told h
 asks-later a.Other old new r told h = none-later old new h.same
 
+-- a step that was made, or found no memory
+made-later : (index : ℕ) (step : Step) (old new : NetworkState) (told : Answer)
+    → IsPlayed index step old new told ⊎ IsStarved step old new told → AreLater old new
+made-later index step old new told (inl played) = step-of-network index step old new played.shown played.does
+made-later index step old new told (inr starved) = none-later old new starved.0.same
+
+-- a step that was compared with what was seen
+compared-later : (outcome : Result Message Refusal) (kind : Kind) (s : Seen) (step : Step) (old new : NetworkState) (told : Answer)
+    → AsCompared outcome kind s step old new told → AreLater old new
+compared-later (Err refusal) kind s step old new told h = none-later old new h.0
+compared-later (Ok message) kind s step old new told (inl same) = made-later 0 step old new told same.1
+compared-later (Ok message) kind s step old new told (inr other) = none-later old new other.1
+
+-- what a message that was seen asks
+seen-later : (what : SeenAsks) (old new : NetworkState) (s : Seen) (told : Answer) → SeenDoes what old s new told → AreLater old new
+seen-later (Tells status) old new s told h = none-later old new h.0
+seen-later (Plays step) old new s told h = made-later 0 step old new told h
+seen-later (Releases prune kind) old new s told h = compared-later h.outcome kind s _ old new told h.does
+seen-later (Answers ticket kind) old new s told h = compared-later h.outcome kind s _ old new told h.does
+
 -- A cache was open before, and its banks are later now.
 record IsOpenSince (old : Option NetworkState) (now : NetworkState) : Type 0 where
   before : NetworkState
@@ -193,10 +221,29 @@ call-later old new r told now h is =
     by-option old.network (λ o. CallsOn o old r new told) (λ shut none. closed-later old new now shut.0 none is)
     (λ network asks was. open-later network now old new r told was (zero-or r.call _ _ asks) is) h
 
+-- a message that was seen by an open cache leaves it open
+sees-later : (network now : NetworkState) (old new : Cache) (s : Seen) (told : Answer) → old.network ≡ Some network
+    → SeesOn network old s new told → new.network ≡ Some now → IsOpenSince old.network now
+sees-later network now old new s told was on is =
+    let same : on.next ≡ now = some-same (sym (ap (λ (x : Cache). x.network) on.is) ∙ is) in
+    record {
+      before = network;
+      is = was;
+      later = subst (λ (x : NetworkState). AreLater network x) same (seen-later (seen_asks network s) network on.next s told on.does);
+    }
+
+-- what leaves a cache open found it open
+asked-later : (asking : Asking) (old new : Cache) (now : NetworkState) → IsAsked old asking new → new.network ≡ Some now
+    → IsOpenSince old.network now
+asked-later (inl call) old new now h is = call-later old new call.0 call.1 now h is
+asked-later (inr sight) old new now h is =
+    by-option old.network (λ o. SawsOn o old sight.0 new sight.1) (λ shut none. closed-later old new now shut.0 none is)
+    (λ network does was. sees-later network now old new sight.0 sight.1 was does is) h
+
 -- ## All calls
 
 -- a sequence of calls that leaves a cache open found it open
-calls-later : (calls : List (Request × Answer)) (old new : Cache) (now : NetworkState) → AreCalls old calls new
+calls-later : (calls : List Asking) (old new : Cache) (now : NetworkState) → AreCalls old calls new
     → new.network ≡ Some now → IsOpenSince old.network now
 calls-later [] old new now h is = record {
   before = now;
@@ -205,7 +252,7 @@ calls-later [] old new now h is = record {
 }
 calls-later (call ∷ calls) old new now h is =
     let rest = calls-later calls h.0 new now h.2 is in
-    let one = call-later old h.0 call.0 call.1 rest.before h.1 rest.is in
+    let one = asked-later call old h.0 rest.before h.1 rest.is in
     record { before = one.before; is = one.is; later = later-then one.before rest.before now one.later rest.later }
 
 -- ## The opening

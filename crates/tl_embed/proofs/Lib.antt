@@ -1,3 +1,4 @@
 mod Histories
 mod Later
+pub mod Waits
 pub mod Widths

@@ -21,7 +21,7 @@ use Rattle.tl_embed.specs.declared.request.Request.{Request}
 pub record IsPlayed (index : ℕ) (step : Step) (old new : NetworkState) (told : Answer) : Type 0 where
   pub shown : Shown
   pub does : IsNetworkStep index step old new shown
-  pub tells : told ≡ step_told shown
+  pub tells : told ≡ step_told new step shown
 
 -- There was no memory for it: all is as it was, the log of the bank that it names had no room, and 14 is told.
 abbrev pub IsStarved : Step → NetworkState → NetworkState → Answer → Type 0
@@ -73,7 +73,9 @@ tells_number call =
     else if call == 27 then true
     else if call == 29 then true
     else if call == 30 then true
-    else call == 36
+    else if call == 36 then true
+    else if call == 38 then true
+    else call == 39
 
 -- What such a view shows, told in fewer bytes; another call is none of these. Nothing changes.
 pub record Looks (old : Cache) (r : Request) (new : Cache) (told : Number) : Type 0 where

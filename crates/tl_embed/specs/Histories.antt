@@ -1,5 +1,6 @@
 -- What holds of a cache after any sequence of calls.
-use Rattle.std.specs.Prelude.{◌≡◌, ℕ, ◌<◌, List, [], ◌∷◌, ◌++◌, Some}
+use Rattle.std.specs.Prelude.{◌≡◌, ◌⊎◌, ℕ, ◌<◌, List, [], ◌∷◌, ◌++◌, Some}
+use Rattle.std.proofs.Common.{inl, inr}
 use Rattle.tl_map.specs.Numbers.{Numbers as Shape}
 use Rattle.tl_map.specs.Refusals.{numbers_of}
 use Rattle.tl_protocol.specs.declared.event.Event.{Event}
@@ -9,15 +10,26 @@ use Rattle.tl_bank_spec.specs.View.{View, shape_of}
 use Rattle.tl_trace.specs.NetworkState.{NetworkState, bank_at}
 use Rattle.tl_embed.specs.Calls.{Calls}
 use Rattle.tl_embed.specs.Opens.{Opens, as_given}
+use Rattle.tl_embed.specs.Saw.{Saws}
 use Rattle.tl_embed.specs.declared.answer.Answer.{Answer}
 use Rattle.tl_embed.specs.declared.cache.Cache.{Cache}
 use Rattle.tl_embed.specs.declared.cache.Numbers.{Numbers}
 use Rattle.tl_embed.specs.declared.request.Request.{Request}
+use Rattle.tl_embed.specs.declared.seen.Seen.{Seen}
 
--- these requests are asked of a cache, one after another, and answered so
-abbrev pub AreCalls : Cache → List (Request × Answer) → Cache → Type 0
+-- what a cache is asked: a request, or what a message that was seen asks; with its answer
+abbrev pub Asking : Type 0
+Asking = (Request × Answer) ⊎ (Seen × Answer)
+
+-- a cache is asked this, and answers so
+abbrev pub IsAsked : Cache → Asking → Cache → Type 0
+IsAsked old (inl call) new = Calls old call.0 new call.1
+IsAsked old (inr sight) new = Saws old sight.0 new sight.1
+
+-- a cache is asked these, one after another
+abbrev pub AreCalls : Cache → List Asking → Cache → Type 0
 AreCalls old [] new = new ≡ old
-AreCalls old (call ∷ calls) new = (next : Cache) × Calls old call.0 next call.1 × AreCalls next calls new
+AreCalls old (asking ∷ more) new = (next : Cache) × IsAsked old asking next × AreCalls next more new
 
 -- A bank later: it is the same bank over the same memory, and its log begins with that of before.
 pub record IsLater (old new : View) : Type 0 where
@@ -53,7 +65,7 @@ pub record RunsOn (g : Shape) (image : List ℕ) (number : ℕ) (before now : Ne
 -- geometry, and each bank of it holds a run over the image, which goes on from the one that it held before.
 abbrev pub EveryHistory : Cache → ℕ → Type 0
 EveryHistory end number =
-    (numbers : Numbers) (image : List ℕ) (made between : Cache) (first later : List (Request × Answer)) (before now : NetworkState)
+    (numbers : Numbers) (image : List ℕ) (made between : Cache) (first later : List Asking) (before now : NetworkState)
     → Opens numbers image made → AreCalls made first between → AreCalls between later end
     → between.network ≡ Some before → end.network ≡ Some now
     → (g : Shape) × (numbers_of g ≡ as_given numbers) × (number < g.banks → RunsOn g image number before now)

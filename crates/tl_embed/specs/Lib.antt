@@ -3,5 +3,7 @@ pub mod Calls
 pub mod Events
 pub mod Histories
 pub mod Opens
+pub mod Saw
+pub mod Seen
 pub mod Told
 pub mod Views

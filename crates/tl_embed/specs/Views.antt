@@ -1,15 +1,19 @@
 -- What the views of a cache answer: each what its bank's view shows. They are told apart: 10 is what is not there, 4 an empty place,
 -- 16 no such view, 17 no such channel.
-use Rattle.std.specs.Prelude.{◌≡◌, ◌≢◌, ◌<◌, ◌≤◌, ℕ, ◌==◌, Bool, true, false, List, length, nat_lt, slice_get, Option, Some, None, if◌then◌else◌}
+use Rattle.std.specs.Prelude.{◌≡◌, ◌≢◌, ◌<◌, ◌≤◌, ◌+◌, ℕ, ◌==◌, Bool, true, false, List, length, nat_lt, slice_get, Option, Some, None, if◌then◌else◌}
 use Rattle.std.specs.List.Sorted.{IsNonDecreasing, IsPermutation}
 use Rattle.tl_types.specs.Permission.{rank}
 use Rattle.tl_types.specs.declared.channel.Channel.{Channel}
 use Rattle.tl_types.specs.declared.message.Message.{Message}
 use Rattle.tl_types.specs.declared.ticket.Ticket.{Ticket}
+use Rattle.tl_types.specs.declared.wait.Awaited.{Awaited}
+use Rattle.tl_types.specs.declared.wait.Awaited.TheVariants.{Nothing, ForGrant, ForReleaseAck}
 use Rattle.tl_map.specs.Places.{bank_of, block_of_address, has_block}
 use Rattle.tl_protocol.specs.Ledger.{has_copy, is_recorded}
+use Rattle.tl_protocol.specs.declared.copy.CachedCopy.{CachedCopy}
+use Rattle.tl_protocol.specs.declared.copy.CachedCopy.TheVariants.{Absent, Readable, Writable}
 use Rattle.tl_protocol.specs.declared.home.Line.{Line}
-use Rattle.tl_bank.specs.Contents.{line_at, memory_at, message_waiting}
+use Rattle.tl_bank.specs.Contents.{copy_at, line_at, memory_at, message_waiting, wait_at}
 use Rattle.tl_bank_spec.specs.Cases.{no_client}
 use Rattle.tl_bank_spec.specs.Tables.{copies_at}
 use Rattle.tl_bank_spec.specs.View.{View}
@@ -56,6 +60,28 @@ abbrev pub memory_told : Option (List ℕ) → Answer
 memory_told None = only 10
 memory_told (Some bytes) = with_bytes bytes (record (only 0) { what = 8 })
 
+-- a client's copy: 0 for none; 1 at Branch, 2 at Tip and clean, 3 at Tip and dirty, with its bytes
+abbrev pub copy_told : CachedCopy → Answer
+copy_told Absent = number_told 0
+copy_told (Readable bytes) = with_bytes bytes (number_told 1)
+copy_told (Writable bytes dirty) = with_bytes bytes (number_told (dirty_number dirty + 1))
+
+-- the same, if the bank has the client and the block
+abbrev pub copy_or_none : Option CachedCopy → Answer
+copy_or_none None = only 10
+copy_or_none (Some copy) = copy_told copy
+
+-- what a client waits for: 0 for nothing, 1 for a Grant, 2 for a ReleaseAck
+abbrev pub awaited_number : Awaited → ℕ
+awaited_number Nothing = 0
+awaited_number ForGrant = 1
+awaited_number ForReleaseAck = 2
+
+-- the same, if the bank has the client and the block
+abbrev pub awaited_told : Option Awaited → Answer
+awaited_told None = only 10
+awaited_told (Some awaited) = number_told (awaited_number awaited)
+
 -- a view of a block
 abbrev pub block_told : NetworkState → Request → Answer
 block_told network r =
@@ -65,6 +91,9 @@ block_told network r =
     shown_by (bank_for network r.client (block_of_address network.geometry r.place)) (λ v. byte_told (peeked v r.client r.place))
     else if r.call == 23 then shown_by (home_of network r.place) (λ v. home_told (line_at v r.place))
     else if r.call == 24 then shown_by (home_of network r.place) (λ v. outward_told (outward_at v r.place))
+    else if r.call == 37 then shown_by (bank_for network r.client r.place) (λ v. copy_or_none (copy_at v r.client r.place))
+    else if r.call == 38 then shown_by (bank_for network r.client r.place) (λ v. awaited_told (wait_at v r.client r.place))
+    else if r.call == 39 then shown_by (home_of network r.place) (λ v. number_told v.number)
     else shown_by (home_of network r.place) (λ v. memory_told (memory_at v r.place))
 
 -- ## Of a bank
@@ -147,5 +176,6 @@ pub record Views (network : NetworkState) (r : Request) (told : Answer) : Type 0
   pub waiting : r.call ≡ 34 → BankShows (bank_at network r.bank) r told
   pub memory : r.call ≡ 35 → told ≡ block_told network r
   pub forgotten : r.call ≡ 36 → BankShows (bank_at network r.bank) r told
+  pub copy : 37 ≤ r.call → r.call ≤ 39 → told ≡ block_told network r
   pub below : r.call < 20 → told ≡ only 16
-  pub above : 36 < r.call → told ≡ only 16
+  pub above : 39 < r.call → told ≡ only 16

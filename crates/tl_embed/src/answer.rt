@@ -1,7 +1,6 @@
 //! What a call answers, in plain numbers.
 ghost use Rattle.std.specs.Prelude.{◌≡◌, ◌≤◌, ◌-◌, ◌++◌, length, replicate};
-ghost use Rattle.tl_text.specs.declared.answer.Answer.TheVariants.{Loaded};
-ghost use Rattle.tl_embed.specs.Told.{number_told, number_wide, only, step_told, wide, with_bytes};
+ghost use Rattle.tl_embed.specs.Told.{loaded_told, number_told, number_wide, only, wide, with_bytes};
 
 use tl_types::AccessBytes;
 
@@ -9,24 +8,25 @@ use tl_types::AccessBytes;
 #[repr(C)]
 #[derive(Clone, Copy, Drop)]
 pub struct Answer {
-    /// 0; a bank's refusal, 1 to 15; 16 there is no such call; 17 an argument is out of its range; 18 the cache is closed; 19 the event is forgotten.
+    /// 0; a bank's refusal, 1 to 15; 16 there is no such call; 17 an argument is out of its range; 18 the cache is closed; 19 the event
+    /// is forgotten; 29 the client would send another message; 30 this profile has no such message.
     pub status: u32,
     /// What there is to tell: 0 nothing more, 1 a message of a client's link, 2 a message between home and the memory, 3 home
     /// dropped its copy, 4 the bytes of a load, 5 a number, 6 an event, 7 what passes between home and the memory, 8 bytes.
     pub what: u32,
-    /// The ticket of a message, with `serial`.
+    /// The bank of a ticket, with `serial`, of a drop, or of a message between home and the memory.
     pub bank: u32,
     /// The client of a ticket.
     pub client: u32,
-    /// The channel of a ticket: 0 to 4 for A to E.
+    /// The channel of a ticket: 0 to 4 for A to E; 5 and 6 for A and D of the memory's link.
     pub channel: u32,
     /// The opcode of a message, or the number of an event's kind.
     pub opcode: u32,
     /// The param of a message.
     pub param: u32,
-    /// The block of a message of a client's link, or of an event.
+    /// The block of a message, of a drop, or of an event.
     pub place: u32,
-    /// The address of a message between home and the memory, or of an access.
+    /// The first address of the block of a drop or of a message between home and the memory, or the address of an access.
     pub address: u32,
     /// The size of a message between home and the memory: the base-2 logarithm of its bytes.
     pub size: u32,
@@ -34,6 +34,8 @@ pub struct Answer {
     pub index: u32,
     /// How many bytes there are.
     pub len: u32,
+    /// How many stores were made before the message that was seen.
+    pub stores: u32,
     /// The ticket's serial, a number, or the stamp of an access.
     pub serial: u64,
     /// The bytes, and 0 past them.
@@ -58,6 +60,7 @@ impl Answer {
             size: 0,
             index: 0,
             len: 0,
+            stores: 0,
             serial: 0,
             bytes: [0; 64],
         }
@@ -110,7 +113,7 @@ impl Accessed {
 
     /// The bytes of a load.
     pub fn loaded(bytes: &AccessBytes) -> Accessed
-        ensures { wide result ≡ step_told (Loaded bytes.now) }
+        ensures { wide result ≡ loaded_told bytes.now }
     {
         let bytes = bytes.as_slice();
         Accessed {

@@ -1,10 +1,9 @@
 //! A cache, and one call of it.
-ghost use Rattle.std.specs.Prelude.{◌≡◌, None};
+ghost use Rattle.std.specs.Prelude.{◌≡◌, ◌⊎◌, None};
 ghost use Rattle.tl_embed.specs.Asked.{asked};
-ghost use Rattle.tl_embed.specs.Calls.{AsksFor, Calls};
+ghost use Rattle.tl_embed.specs.Calls.{AsksFor, Calls, IsPlayed, IsStarved};
 ghost use Rattle.tl_embed.specs.Events.{Forgets, Reserves};
 ghost use Rattle.tl_embed.specs.Opens.{Opens, as_given, closed};
-ghost use Rattle.tl_embed.specs.Told.{step_told};
 
 use crate::answer::Answer;
 use crate::request::{Asked, Request};
@@ -12,6 +11,7 @@ use crate::tell::step_told;
 use crate::views::view;
 use std::alloc::Global;
 use tl_map::{Geometry, GeometryNumbers};
+use tl_script_words::Step;
 use tl_trace::Network;
 use tl_types::BankNo;
 
@@ -109,17 +109,22 @@ fn ask(network: &mut Network, request: &Request) -> Answer
     ensures { AsksFor (asked request.now) network.old request.now network.new result }
 {
     match request.asked() {
-        Asked::Step(step) => {
-            let shown = network.step(request.index, &step);
-            match &shown {
-                Ok(shown) => step_told(shown),
-                Err(_) => Answer::only(14),
-            }
-        }
+        Asked::Step(step) => played(network, request.index, &step),
         Asked::BadArgument => Answer::only(17),
         Asked::Forget => forget(network, BankNo::new(request.bank)),
         Asked::Reserve => reserve(network, BankNo::new(request.bank), request.serial),
         Asked::Other => view(network, request),
+    }
+}
+
+/// Carries out a step.
+pub fn played(network: &mut Network, index: u32, step: &Step) -> Answer
+    ensures { IsPlayed index step.now network.old network.new result ⊎ IsStarved step.now network.old network.new result }
+{
+    let shown = network.step(index, step);
+    match &shown {
+        Ok(shown) => step_told(network, step, shown),
+        Err(_) => Answer::only(14),
     }
 }
 

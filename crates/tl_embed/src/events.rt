@@ -29,7 +29,7 @@ pub fn event_told(bank: &Bank, place: u64) -> Answer
     }
 }
 
-fn shape_of(geometry: Geometry) -> Shape
+pub fn shape_of(geometry: Geometry) -> Shape
     ensures { result ≡ shape_of geometry }
 {
     Shape {

@@ -6,7 +6,8 @@ ghost use Rattle.std.specs.Mem.{type_size};
 ghost use Rattle.std.specs.Ptr.{lies_at, room_at};
 ghost use Rattle.tl_embed.specs.Calls.{Accesses, Calls, Looks};
 ghost use Rattle.tl_embed.specs.Opens.{Opens};
-ghost use Rattle.tl_embed.specs.Told.{echoed};
+ghost use Rattle.tl_embed.specs.Saw.{Saws};
+ghost use Rattle.tl_embed.specs.Told.{echoed, seen_echoed};
 ghost use Rattle.tl_embed.specs.contracts.cache.Cache.{the_row};
 ghost use Rattle.tl_embed.specs.declared.cache.Cache.{Cache};
 
@@ -14,16 +15,18 @@ use crate::access::access;
 use crate::answer::{Accessed, Answer, Number};
 use crate::cache::{Cache, Numbers, call, opened};
 use crate::request::Request;
+use crate::saw::saw;
+use crate::seen::Seen;
 use crate::views::look;
 use std::alloc::Global;
 
 /// Which interface this is: it rises with each change of a struct, a number or a meaning.
-const VERSION: u32 = 3;
+const VERSION: u32 = 4;
 
 /// Which interface this is.
 #[unsafe(no_mangle)]
 pub extern "C" fn jv_version() -> u32
-    ensures { result ≡ 3 }
+    ensures { result ≡ 4 }
 {
     VERSION
 }
@@ -50,6 +53,14 @@ pub extern "C" fn jv_echo(request: &Request) -> Answer
     ensures { result ≡ echoed request.now }
 {
     request.echo()
+}
+
+/// A message that was seen again, likewise.
+#[unsafe(no_mangle)]
+pub extern "C" fn jv_echo_seen(seen: &Seen) -> Answer
+    ensures { result ≡ seen_echoed seen.now }
+{
+    seen.echo()
 }
 
 /// Puts a cache into room for one: at reset over an image, or closed for the reason that each call then answers.
@@ -80,6 +91,16 @@ pub unsafe extern "C" fn jv_access(cache: *mut u8, request: &Request) -> Accesse
     ensures* { ∃ₛ (λ (after : Cache). sem 𝓛 (lies_at the_row full_share cache after) ∗ ⌜ Accesses before request.now after result ⌝) }
 {
     access(unsafe { &mut *(cache as *mut Cache) }, request)
+}
+
+/// Carries out what a message that was seen asks of the cache at a pointer where `jv_open` put one.
+#[unsafe(no_mangle)]
+pub unsafe extern "C" fn jv_saw(cache: *mut u8, seen: &Seen) -> Answer
+    ghost before: { Cache }
+    requires* { sem 𝓛 (lies_at the_row full_share cache before) }
+    ensures* { ∃ₛ (λ (after : Cache). sem 𝓛 (lies_at the_row full_share cache after) ∗ ⌜ Saws before seen.now after result ⌝) }
+{
+    saw(unsafe { &mut *(cache as *mut Cache) }, seen)
 }
 
 /// Shows a number of the cache at a pointer where `jv_open` put one.

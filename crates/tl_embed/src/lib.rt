@@ -8,5 +8,7 @@ mod events;
 mod export;
 mod history;
 mod request;
+mod saw;
+mod seen;
 mod tell;
 mod views;

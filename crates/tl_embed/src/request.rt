@@ -165,6 +165,7 @@ impl Request {
             opcode: self.len,
             address: 1,
             size: 2,
+            stores: 3,
             serial: self.serial,
             ..Answer::only(0)
         };
@@ -195,7 +196,7 @@ pub fn channel_at(number: u32) -> Option<Channel>
     }
 }
 
-fn grow_at(param: u32) -> Option<Grow>
+pub fn grow_at(param: u32) -> Option<Grow>
     ensures { result ≡ grow_at param }
 {
     match param {
@@ -206,7 +207,7 @@ fn grow_at(param: u32) -> Option<Grow>
     }
 }
 
-fn prune_at(param: u32) -> Option<Prune>
+pub fn prune_at(param: u32) -> Option<Prune>
     ensures { result ≡ prune_at param }
 {
     match param {

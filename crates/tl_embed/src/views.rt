@@ -1,11 +1,11 @@
 //! What a cache shows.
-ghost use Rattle.std.specs.Prelude.{◌≡◌, ◌≤◌, true};
+ghost use Rattle.std.specs.Prelude.{◌≡◌, ◌≤◌, ◌⊎◌, true};
 ghost use Rattle.std.specs.Option.{option_map};
 ghost use Rattle.tl_types.specs.Permission.{rank};
 ghost use Rattle.tl_embed.specs.Asked.{channel_at, ticket_named};
 ghost use Rattle.tl_embed.specs.Calls.{Looks, tells_number};
 ghost use Rattle.tl_embed.specs.Told.{message_told, number_told, number_wide};
-ghost use Rattle.tl_embed.specs.Views.{BankTells, OpenTold, QuietTold, Views, bank_for, bank_told, block_told, byte_told, dirty_number, home_of, home_told, memory_told, ticket_told, waiting_told};
+ghost use Rattle.tl_embed.specs.Views.{BankTells, OpenTold, QuietTold, Views, awaited_told, bank_for, bank_told, block_told, byte_told, copy_or_none, dirty_number, home_of, home_told, memory_told, ticket_told, waiting_told};
 
 use crate::answer::{Answer, Number};
 use crate::cache::Cache;
@@ -13,18 +13,18 @@ use crate::events::event_told;
 use crate::request::{Request, channel_at};
 use crate::tell::{message_of, message_told, number_told, outward_told};
 use tl_bank::Bank;
-use tl_protocol::Line;
+use tl_protocol::{CachedCopy, Line};
 use tl_trace::Network;
-use tl_types::{BankNo, BlockBytes, BlockNo, ClientId, Message, Perm, Ticket};
+use tl_types::{Awaited, BankNo, BlockBytes, BlockNo, ClientId, Message, Perm, Ticket};
 
 /// What a request that asks for no step is answered: 20 perm, 21 directory, 22 peek, 23 home, 24 outward, 25 held, 26 recorded,
-/// 27 events, 28 event, 29 room, 30 copies, 31 is_quiet, 32 open block, 33 message, 34 waiting, 35 memory, 36 forgotten; 16 where it is none
-/// of these.
+/// 27 events, 28 event, 29 room, 30 copies, 31 is_quiet, 32 open block, 33 message, 34 waiting, 35 memory, 36 forgotten, 37 copy, 38 waits
+/// for, 39 the bank of a block; 16 where it is none of these.
 pub fn view(network: &Network, request: &Request) -> Answer
     ensures { Views network.now request.now result }
 {
     match request.call {
-        20..=24 | 35 => of_block(network, request),
+        20..=24 | 35 | 37..=39 => of_block(network, request),
         25..=32 | 34 | 36 => match network.bank(BankNo::new(request.bank)) {
             Some(bank) => of_bank(bank, request),
             None => Answer::only(10),
@@ -34,11 +34,11 @@ pub fn view(network: &Network, request: &Request) -> Answer
     }
 }
 
-/// A view of a number, as `call` shows it; 16 where the call is none of them (20 to 22, 25 to 27, 29, 30, 36).
+/// A view of a number, as `call` shows it; 16 where the call is none of them (20 to 22, 25 to 27, 29, 30, 36, 38, 39).
 pub fn look(cache: &mut Cache, request: &Request) -> Number
     ensures { Looks cache.old request.now cache.new result }
 {
-    if !matches!(request.call, 20..=22 | 25..=27 | 29 | 30 | 36) {
+    if !matches!(request.call, 20..=22 | 25..=27 | 29 | 30 | 36 | 38 | 39) {
         return Number::only(16);
     }
     match &cache.network {
@@ -55,7 +55,7 @@ fn number_view(network: &Network, request: &Request) -> Number
     requires { tells_number request.now.call ≡ true }
     ensures { Views network.now request.now (number_wide result) }
 {
-    if request.call <= 22 {
+    if request.call <= 22 || request.call >= 38 {
         return number_of_block(network, request);
     }
     match network.bank(BankNo::new(request.bank)) {
@@ -68,15 +68,20 @@ fn number_view(network: &Network, request: &Request) -> Number
 fn of_block(network: &Network, request: &Request) -> Answer
     ensures { result ≡ block_told network.now request.now }
 {
+    let client = ClientId::new(request.client);
     let block = BlockNo::new(request.place);
     match request.call {
-        20..=22 => number_of_block(network, request).wide(),
+        20..=22 | 38 | 39 => number_of_block(network, request).wide(),
         23 => match home_of(network, block) {
             Some(bank) => home_told(bank.line(block)),
             None => Answer::only(10),
         },
         24 => match home_of(network, block) {
             Some(bank) => outward_told(bank.outward(block)),
+            None => Answer::only(10),
+        },
+        37 => match bank_for(network, client, block) {
+            Some(bank) => copy_or_none(bank.copy(client, block)),
             None => Answer::only(10),
         },
         _ => match home_of(network, block) {
@@ -88,7 +93,7 @@ fn of_block(network: &Network, request: &Request) -> Answer
 
 /// Of a block and a client: what is a number.
 fn number_of_block(network: &Network, request: &Request) -> Number
-    requires { (20 ≤ request.now.call) × (request.now.call ≤ 22) }
+    requires { ((20 ≤ request.now.call) × (request.now.call ≤ 22)) ⊎ ((38 ≤ request.now.call) × (request.now.call ≤ 39)) }
     ensures { number_wide result ≡ block_told network.now request.now }
 {
     let client = ClientId::new(request.client);
@@ -102,6 +107,14 @@ fn number_of_block(network: &Network, request: &Request) -> Number
             Some(bank) => perm_told(bank.directory(client, block)),
             None => Number::only(10),
         },
+        38 => match bank_for(network, client, block) {
+            Some(bank) => awaited_told(bank.waits_for(client, block)),
+            None => Number::only(10),
+        },
+        39 => match home_of(network, block) {
+            Some(bank) => Number::told(u64::from(bank.number().number())),
+            None => Number::only(10),
+        },
         _ => match bank_for(network, client, network.geometry().block_at(request.place)) {
             Some(bank) => byte_told(bank.peek(client, request.place)),
             None => Number::only(10),
@@ -110,7 +123,7 @@ fn number_of_block(network: &Network, request: &Request) -> Number
 }
 
 /// The bank where a block lies, if the memory has it.
-fn home_of(network: &Network, block: BlockNo) -> Option<&Bank>
+pub fn home_of(network: &Network, block: BlockNo) -> Option<&Bank>
     ensures { option_map (λ bank. bank.now) result ≡ home_of network.now block }
 {
     if !network.geometry().has(block) {
@@ -120,7 +133,7 @@ fn home_of(network: &Network, block: BlockNo) -> Option<&Bank>
 }
 
 /// The same, if there is the client as well.
-fn bank_for(network: &Network, client: ClientId, block: BlockNo) -> Option<&Bank>
+pub fn bank_for(network: &Network, client: ClientId, block: BlockNo) -> Option<&Bank>
     ensures { option_map (λ bank. bank.now) result ≡ bank_for network.now client block }
 {
     if client.number() >= network.geometry().clients() {
@@ -146,6 +159,32 @@ fn byte_told(byte: Option<u8>) -> Number
     match byte {
         Some(byte) => Number::told(u64::from(byte)),
         None => Number::only(1),
+    }
+}
+
+/// What a client waits for: 0 nothing, 1 a Grant, 2 a ReleaseAck.
+fn awaited_told(awaited: Option<Awaited>) -> Number
+    ensures { number_wide result ≡ awaited_told awaited }
+{
+    match awaited {
+        None => Number::only(10),
+        Some(Awaited::Nothing) => Number::told(0),
+        Some(Awaited::ForGrant) => Number::told(1),
+        Some(Awaited::ForReleaseAck) => Number::told(2),
+    }
+}
+
+/// A client's copy: 0 none, 1 at Branch, 2 at Tip and clean, 3 at Tip and dirty, with its bytes.
+fn copy_or_none(copy: Option<CachedCopy>) -> Answer
+    ensures { result ≡ copy_or_none copy }
+{
+    match copy {
+        None => Answer::only(10),
+        Some(CachedCopy::Absent) => number_told(0),
+        Some(CachedCopy::Readable(bytes)) => number_told(1).with_bytes(bytes.as_slice()),
+        Some(CachedCopy::Writable(bytes, dirty)) => {
+            number_told(dirty_number(dirty) + 1).with_bytes(bytes.as_slice())
+        }
     }
 }
 

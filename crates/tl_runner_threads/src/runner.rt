@@ -5,6 +5,7 @@ ghost use Rattle.tl_runner_report.specs.Conclusion.{IsRunReport};
 ghost use Rattle.tl_runner_report.specs.RunError.{TellsTurns};
 ghost use Rattle.tl_runner_report.specs.declared.error.RunError.TheVariants.{Memory as NoMemory};
 ghost use Rattle.tl_runner_threads.specs.Ends.{is_finished, lacks_memory};
+ghost use Rattle.tl_runner_threads.specs.Opens.{HoldsEach, Opens};
 
 use crate::banks::{Opened, no_shares, open_banks};
 use crate::deal::Post;
@@ -117,8 +118,28 @@ fn run_locked<R: Threads + Wait + Clock + Sync, G: Gate + Sync>(
         turns: script.turns,
     };
     let (mailroom, keys) = open_mailroom(alloc, geometry, capacity)?;
-    let posts = deal_out(alloc, geometry, &mailroom, keys);
-    run_posts(rt, script, &shared, posts, shares)
+    run_over(rt, script, &shared, &mailroom, keys, capacity, shares)
+}
+
+/// Runs the threads over a mailroom whose inboxes hold so many tickets each. The shares of each bank come back.
+fn run_over<R: Threads + Wait + Clock + Sync, G: Gate + Sync>(
+    rt: &R,
+    script: &Script,
+    shared: &Shared<'_, G>,
+    mailroom: &Mailroom,
+    keys: AllKeys,
+    capacity: usize,
+    shares: Vec<Vec<Share>>,
+) -> Result<Vec<Vec<Share>>, RunError>
+    requires opens { Opens script.now.geometry mailroom.now keys }
+    requires room { HoldsEach capacity mailroom.now }
+    requires shares { vec_len shares ≡ length script.now.commands.items }
+    ensures { IfErr result (TellsTurns script.now.turns) }
+{
+    // For the prover: the clauses alone name it.
+    let _ = capacity;
+    let posts = deal_out(shared.alloc, script.geometry(), mailroom, keys);
+    run_posts(rt, script, shared, posts, shares)
 }
 
 /// Runs the threads with what each uses, where there was memory for that. The shares of each bank come back.

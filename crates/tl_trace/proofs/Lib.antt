@@ -3,6 +3,7 @@ pub mod Answered
 pub mod Chain
 pub mod ClosingLemmas
 pub mod Done
+pub mod Foreseen
 pub mod Places
 pub mod Posted
 pub mod Resets

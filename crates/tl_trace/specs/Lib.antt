@@ -4,3 +4,4 @@ pub mod Closing
 pub mod NetworkSteps
 pub mod Ready
 pub mod NetworkState
+pub mod Would

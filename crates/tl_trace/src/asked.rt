@@ -53,7 +53,7 @@ pub(crate) fn bank_of_block(geometry: Geometry, block: BlockNo) -> usize
 }
 
 /// A bank; bank 0 where it is not there.
-fn bank_or_first(geometry: Geometry, bank: BankNo) -> usize
+pub(crate) fn bank_or_first(geometry: Geometry, bank: BankNo) -> usize
     ensures is { result ≡ (if nat_lt bank geometry.banks then bank else 0) }
     ensures inside { result < geometry.banks }
 {

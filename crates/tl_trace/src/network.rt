@@ -3,9 +3,11 @@ ghost use Rattle.std.specs.Prelude.{◌≡◌, ◌<◌, ◌≤◌, ◌*◌, IfEr
 ghost use Rattle.tl_trace.specs.Closing.{Close};
 ghost use Rattle.tl_trace.specs.NetworkSteps.{AreNetworkSteps, IsNetworkStep, IsRefusedNetwork, IsStarvedNetwork};
 ghost use Rattle.std.specs.Option.{option_map};
+ghost use Rattle.tl_script_words.specs.declared.step.TicketCall.{TicketCall};
 ghost use Rattle.tl_trace.specs.NetworkState.{AreCoherent, AreFresh, IsForgotten, IsReset, IsReserved, IsShort, bank_at};
+ghost use Rattle.tl_trace.specs.Would.{WouldComeTo};
 
-use crate::asked::{bank_asked, bank_of_block, client_named};
+use crate::asked::{bank_asked, bank_of_block, bank_or_first, client_named};
 use crate::closing::closing;
 use crate::shared_bank::SharedBank;
 use std::alloc::{AllocError, Global};
@@ -14,7 +16,7 @@ use tl_bank::{Bank, Refusal};
 use tl_map::Geometry;
 use tl_script_words::{STEPS, Step};
 use tl_text::{Answer, BankClosing};
-use tl_types::{AccessBytes, BankNo, ClientId};
+use tl_types::{AccessBytes, BankNo, BlockNo, ClientId, Message, Prune, Ticket};
 
 /// Every bank with its clients' shares, by number, and the clock of each client: all that steps are asked of.
 #[derive(Drop)]
@@ -98,6 +100,27 @@ impl Network {
         let stored = self.shared_banks[place].store(&mut clock, index, client, address, bytes);
         self.set_clock(client, clock);
         stored
+    }
+
+    /// What a Release would send, were it asked now, or the first refusal that stands against it, but for want of memory.
+    pub fn would_release(
+        &self,
+        client: ClientId,
+        block: BlockNo,
+        prune: Prune,
+    ) -> Result<Message, Refusal>
+        ensures { WouldComeTo self.now (Step.Release client block prune) result }
+    {
+        let place = bank_of_block(self.geometry, block);
+        self.shared_banks[place].would_release(client, block, prune)
+    }
+
+    /// What the answer to a Probe would send, likewise.
+    pub fn would_answer(&self, ticket: Ticket) -> Result<Message, Refusal>
+        ensures { WouldComeTo self.now (Step.Ticket TicketCall.AnswerProbe ticket) result }
+    {
+        let place = bank_or_first(self.geometry, ticket.bank);
+        self.shared_banks[place].would_answer(ticket)
     }
 
     /// The geometry of all banks.

@@ -1,8 +1,11 @@
 //! A bank with its clients' shares.
-ghost use Rattle.std.specs.Prelude.{◌≡◌, ◌<◌, ◌≤◌, ◌*◌, IfErr, IfOk, OnErr, OnOk, length};
+ghost use Rattle.std.specs.Prelude.{◌≡◌, ℕ, ◌<◌, ◌≤◌, ◌*◌, IfErr, IfOk, MatchResult, OnErr, OnOk, length};
 ghost use Rattle.tl_bank_spec.specs.Steps.{Forgets};
 ghost use Rattle.tl_trace.specs.NetworkSteps.{IsRefusedAt, IsStarvedAt, IsStepAt};
+ghost use Rattle.tl_types.specs.declared.message.Body.{Body};
+ghost use Rattle.tl_script_words.specs.declared.step.TicketCall.{TicketCall};
 ghost use Rattle.tl_trace.specs.NetworkState.{HasRoom, IsFresh, share_place};
+ghost use Rattle.tl_trace.specs.Would.{WouldRefuseAt, WouldSendAt};
 
 use crate::act::act;
 use crate::asked::client_named;
@@ -14,7 +17,7 @@ use tl_bank::{Bank, Refusal, Share};
 use tl_map::Geometry;
 use tl_script_words::Step;
 use tl_text::Answer;
-use tl_types::{AccessBytes, BankNo, ClientId};
+use tl_types::{AccessBytes, BankNo, BlockNo, Body, ClientId, Message, Prune, Ticket, Upward};
 
 /// A bank, and the share of each client in it.
 #[derive(Drop)]
@@ -112,6 +115,37 @@ impl SharedBank {
         store_bytes(&mut self.bank, clock, index, client, address, bytes)
     }
 
+    /// What a Release would send, or the first refusal that stands against it, but for want of memory.
+    pub(crate) fn would_release(
+        &self,
+        client: ClientId,
+        block: BlockNo,
+        prune: Prune,
+    ) -> Result<Message, Refusal>
+        ensures { MatchResult result
+            (λ message. (clock : ℕ) → WouldSendAt self.now clock (Step.Release client block prune) message)
+            (λ refusal. (clock : ℕ) → WouldRefuseAt self.now clock (Step.Release client block prune) refusal) }
+    {
+        let share = &self.shares[self.share_place(client)];
+        match self.bank.would_release(client, block, prune, share) {
+            Ok(given) => Ok(on_c(block, Upward::Release(given))),
+            Err(refusal) => Err(refusal),
+        }
+    }
+
+    /// What the answer to a Probe would send, likewise.
+    pub(crate) fn would_answer(&self, ticket: Ticket) -> Result<Message, Refusal>
+        ensures { MatchResult result
+            (λ message. (clock : ℕ) → WouldSendAt self.now clock (Step.Ticket TicketCall.AnswerProbe ticket) message)
+            (λ refusal. (clock : ℕ) → WouldRefuseAt self.now clock (Step.Ticket TicketCall.AnswerProbe ticket) refusal) }
+    {
+        let share = &self.shares[self.share_place(ticket.client)];
+        match self.bank.would_answer(ticket, share) {
+            Ok(found) => Ok(on_c(found.0, Upward::ProbeAck(found.1))),
+            Err(refusal) => Err(refusal),
+        }
+    }
+
     /// Makes room in the bank's log for `count` more events. It is refused only for want of memory, and then nothing changed.
     pub(crate) fn reserve_steps(&mut self, count: usize) -> Result<(), Refusal>
         ensures unchanged { OnErr result (self.new ≡ self.old) }
@@ -139,5 +173,15 @@ impl SharedBank {
         } else {
             0
         }
+    }
+}
+
+/// A message on C.
+fn on_c(block: BlockNo, message: Upward) -> Message
+    ensures { result ≡ record { block = block; body = Body.Upward message } }
+{
+    Message {
+        block,
+        body: Body::Upward(message),
     }
 }

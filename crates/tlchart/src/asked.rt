@@ -1,4 +1,4 @@
-//! The command line: `tlchart [--mermaid] [--block NUM] FILE`.
+//! The command line: `tlchart [--mermaid] [--block NUM] FILE`, or `tlchart --html FILE`.
 
 use clap::{Arg, ArgAction, ArgMatches, Command};
 use std::alloc::{AllocError, Global};
@@ -7,12 +7,20 @@ use tl_streams::WordsError;
 use tl_types::BlockNo;
 use tlchart_draw::Form;
 
-/// What the words ask for: a file, a form, and the block of the bands.
+/// What is made of a script.
+#[derive(Clone, Copy, Debug)]
+pub(crate) enum Output {
+    /// A picture in a form, with bands of a block.
+    Picture(Form, Option<BlockNo>),
+    /// A page that walks through the trace.
+    Page,
+}
+
+/// What the words ask for.
 #[derive(Debug, Drop)]
 pub(crate) struct Asked {
     pub(crate) file: String,
-    pub(crate) form: Form,
-    pub(crate) block: Option<BlockNo>,
+    pub(crate) output: Output,
 }
 
 /// The words that the program takes.
@@ -22,6 +30,11 @@ fn command<'a>(alloc: Global) -> Result<Command<'a>, AllocError> {
         .arg(
             Arg::new(alloc, "mermaid")
                 .long("mermaid")
+                .action(ArgAction::SetTrue),
+        )?
+        .arg(
+            Arg::new(alloc, "html")
+                .long("html")
                 .action(ArgAction::SetTrue),
         )?
         .arg(
@@ -56,13 +69,23 @@ fn form_asked(matches: &ArgMatches<'_>) -> Form {
     }
 }
 
+/// What is asked for: a page has no form and no block.
+fn output_asked(matches: &ArgMatches<'_>) -> Result<Output, WordsError> {
+    let form = form_asked(matches);
+    let block = block_asked(matches)?;
+    match (matches.get_flag("html"), form, block) {
+        (false, form, block) => Ok(Output::Picture(form, block)),
+        (true, Form::Svg, None) => Ok(Output::Page),
+        (true, _, _) => Err(WordsError::Usage),
+    }
+}
+
 /// What the words that were matched ask for.
 fn asked_in(alloc: Global, matches: &ArgMatches<'_>) -> Result<Asked, WordsError> {
     let file = matches.get_str("file").ok_or(WordsError::Usage)?;
     Ok(Asked {
         file: String::from_str(alloc, file)?,
-        form: form_asked(matches),
-        block: block_asked(matches)?,
+        output: output_asked(matches)?,
     })
 }
 

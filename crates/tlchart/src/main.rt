@@ -1,15 +1,16 @@
-//! `tlchart FILE`: the sequence chart of a script's trace. `-` stands for standard input.
+//! `tlchart FILE`: the sequence chart of a script's trace, or a page that walks through it. `-` stands for standard input.
 #![tactic(auto)]
 
 mod asked;
 mod fault;
 
-use asked::{Asked, asked_by, title_of};
+use asked::{Asked, Output, asked_by, title_of};
 use fault::{Fault, show};
 use std::fs::File;
 use std::process::ExitCode;
 use tl_streams::{ProgramFault, read_whole, words, write_whole};
 use tlchart_draw::draw_script;
+use tlchart_page::page_script;
 
 /// The bytes of the file that is asked for.
 fn bytes(rt: &HostRuntime, file: &str) -> Result<Vec<u8>, Fault> {
@@ -22,21 +23,20 @@ fn bytes(rt: &HostRuntime, file: &str) -> Result<Vec<u8>, Fault> {
     }
 }
 
-fn picture(rt: &HostRuntime, asked: &Asked) -> Result<String, Fault> {
+/// What is asked for, as text.
+fn text(rt: &HostRuntime, asked: &Asked) -> Result<String, Fault> {
     let bytes = bytes(rt, &asked.file)?;
-    Ok(draw_script(
-        rt.alloc(),
-        &bytes,
-        title_of(&asked.file),
-        asked.form,
-        asked.block,
-    )?)
+    let title = title_of(&asked.file);
+    match asked.output {
+        Output::Picture(form, block) => Ok(draw_script(rt.alloc(), &bytes, title, form, block)?),
+        Output::Page => Ok(page_script(rt.alloc(), &bytes, title)?),
+    }
 }
 
 fn answer(rt: &HostRuntime) -> Result<(), Fault> {
     let words = words(rt)?;
-    let picture = picture(rt, &asked_by(rt.alloc(), &words)?)?;
-    match write_whole(&mut rt.stdout(), picture.as_bytes()) {
+    let text = text(rt, &asked_by(rt.alloc(), &words)?)?;
+    match write_whole(&mut rt.stdout(), text.as_bytes()) {
         Ok(()) => Ok(()),
         Err(_) => Err(Fault::Program(ProgramFault::File)),
     }

@@ -30,7 +30,7 @@ pub(crate) fn push_message(text: &mut String, message: &ShownMessage) -> Result<
 }
 
 /// The name of a lifeline.
-pub(crate) fn push_lifeline(text: &mut String, lifeline: Lifeline) -> Result<(), AllocError> {
+pub fn push_lifeline(text: &mut String, lifeline: Lifeline) -> Result<(), AllocError> {
     match lifeline {
         Lifeline::Client(client) => write!(text, "client {client}")?,
         Lifeline::Home(bank) => write!(text, "home {bank}")?,
@@ -45,7 +45,7 @@ fn push_access(text: &mut String, word: &str, bytes: &AccessBytes) -> Result<(),
 }
 
 /// The words of a mark.
-pub(crate) fn push_mark(text: &mut String, mark: &Mark) -> Result<(), AllocError> {
+pub fn push_mark(text: &mut String, mark: &Mark) -> Result<(), AllocError> {
     match mark {
         Mark::Loaded(bytes) => push_access(text, "load", bytes),
         Mark::Stored(bytes) => push_access(text, "store", bytes),
@@ -79,7 +79,7 @@ fn block_verb(call: BlockCall) -> &'static str {
 }
 
 /// A step, in the words of a script.
-pub(crate) fn push_step(text: &mut String, step: &Step) -> Result<(), AllocError> {
+pub fn push_step(text: &mut String, step: &Step) -> Result<(), AllocError> {
     match step {
         Step::Load {
             client,
@@ -119,7 +119,7 @@ fn is_plain(letter: char) -> bool {
 }
 
 /// A title, with a question mark for each letter that is not plain.
-pub(crate) fn push_title(text: &mut String, title: &str) -> Result<(), AllocError> {
+pub fn push_title(text: &mut String, title: &str) -> Result<(), AllocError> {
     for letter in title.chars() {
         text.push(if is_plain(letter) { letter } else { '?' })?;
     }

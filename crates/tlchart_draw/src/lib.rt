@@ -9,4 +9,5 @@ mod sheet;
 mod svg;
 
 pub use draw::{DrawError, draw_script};
+pub use labels::{push_lifeline, push_mark, push_step, push_title};
 pub use sheet::{Form, Sheet, picture_of};

@@ -2,7 +2,8 @@
 use Rattle.std.proofs.Common.{◌≡◌, ◌≢◌, ◌+◌, ◌==◌, ℕ, Bool, true, false, cond, List, [], ◌∷◌, ◌++◌, length, Option, Some, None, IfOk, IfSome, Result, Ok, Err, refl, sym, ◌∙◌, ap, subst, arith, append_assoc, length-append}
 use Rattle.std.proofs.lemmas.List.{append-nil}
 use Rattle.std.specs.Io.BufRead.{take_through, drop_through, strip_last}
-use Rattle.tl_script_words.specs.Reads.{◌>>=◌}
+use Rattle.tlcheck_record.specs.Cause.{◌>>=◌}
+use Rattle.tlcheck_record.specs.declared.cause.Cause.{Cause}
 use Rattle.tlcheck_reader.specs.declared.outcome.BrokenEntry.{BrokenEntry}
 use Rattle.tlcheck_reader.specs.declared.outcome.LineFault.{LineFault}
 use Rattle.tlcheck_reader.specs.declared.outcome.LineFault.TheVariants.{Unreadable as bad_line, Broken as bad_entry, Memory}
@@ -46,25 +47,25 @@ at_end (x ∷ xs) e = absurd (at_end_byte x xs (x == 10) e)
 -- ## Reading
 
 -- a reading that goes on as it is
-bind_some : (o : Option Reading) → (o >>= (λ t. Some t)) ≡ o
-bind_some None = refl
-bind_some (Some t) = refl
+bind_ok : (o : Result Reading Cause) → (o >>= (λ t. Ok t)) ≡ o
+bind_ok (Err cause) = refl
+bind_ok (Ok t) = refl
 
 -- lines that are joined
-bind_joined : (o : Option Reading) (xs ys : List (List ℕ)) → ((t : Reading) → reading_of t (xs ++ ys) ≡ (reading_of t xs >>= (λ u. reading_of u ys)))
+bind_joined : (o : Result Reading Cause) (xs ys : List (List ℕ)) → ((t : Reading) → reading_of t (xs ++ ys) ≡ (reading_of t xs >>= (λ u. reading_of u ys)))
     → (o >>= (λ t. reading_of t (xs ++ ys))) ≡ ((o >>= (λ t. reading_of t xs)) >>= (λ u. reading_of u ys))
-bind_joined None xs ys h = refl
-bind_joined (Some t) xs ys h = h t
+bind_joined (Err cause) xs ys h = refl
+bind_joined (Ok t) xs ys h = h t
 
 joined : (xs : List (List ℕ)) (ys : List (List ℕ)) (r : Reading) → reading_of r (xs ++ ys) ≡ (reading_of r xs >>= (λ u. reading_of u ys))
 joined [] ys r = refl
 joined (l ∷ xs) ys r = bind_joined (after_line r l) xs ys (λ t. joined xs ys t)
 
 -- one more line
-pub read_more : (r : Reading) (read : List (List ℕ)) (line : List ℕ) (last : Reading) → reading_of r read ≡ Some last
+pub read_more : (r : Reading) (read : List (List ℕ)) (line : List ℕ) (last : Reading) → reading_of r read ≡ Ok last
     → reading_of r (read ++ line ∷ []) ≡ after_line last line
 read_more r read line last e =
-    joined read (line ∷ []) r ∙ (ap (λ (o : Option Reading). o >>= (λ u. reading_of u (line ∷ []))) e ∙ bind_some (after_line last line))
+    joined read (line ∷ []) r ∙ (ap (λ (o : Result Reading Cause). o >>= (λ u. reading_of u (line ∷ []))) e ∙ bind_ok (after_line last line))
 
 -- nothing was read yet
 pub starts : (text : List ℕ) → IsAt text text 0 Fresh
@@ -91,8 +92,8 @@ module _ (text left : List ℕ) (count : ℕ) (stage : Stage) (at : IsAt text le
     pub goes : (then_ : Stage) → Takes (after_line at.reading line) (Ok then_) → IsAt text (drop_through 10 left) (count + 1) then_
     goes then_ t = record { read = at.read ++ line ∷ []; reading = t.0; lines = lines_here; reads = reads_here ∙ t.1; agrees = t.2; number = counted }
 
-    pub unreadable : Takes (after_line at.reading line) (Err bad_line) → IsOutcome text (Unreadable (count + 1))
-    unreadable t = record {
+    pub unreadable : (cause : Cause) → Takes (after_line at.reading line) (Err (bad_line cause)) → IsOutcome text (Unreadable (count + 1) cause)
+    unreadable cause t = record {
       reading = at.reading;
       bad = line;
       read = at.read;
@@ -119,7 +120,7 @@ module _ (text left : List ℕ) (count : ℕ) (stage : Stage) (at : IsAt text le
     }
 
   -- at the end
-  end_at : (reading : Reading) (last : Stage) → Agrees reading last → reading_of fresh (lines_of text) ≡ Some reading → IsOutcome text (ending_of last)
+  end_at : (reading : Reading) (last : Stage) → Agrees reading last → reading_of fresh (lines_of text) ≡ Ok reading → IsOutcome text (ending_of last)
   end_at fresh Fresh h e = (fresh, e, tt)
   end_at fresh (Shaped shape) h e = absurd h
   end_at fresh (Judging judge n) h e = absurd h
@@ -179,10 +180,11 @@ module _ (now : Option (List ℕ)) (n : ℕ) (stage : Stage) (old new : List ℕ
           (subst (λ (o : Result Stage LineFault). Takes (after_line w.2.reading (take_through 10 w.0)) o) r (leads text w.0 w.1 w.2)),
     )
 
-    pub no_line : (known : Option (List ℕ)) → result ≡ Err bad_line → IsWhere known now n stage → IfSome known (λ text. IsOutcome text (Unreadable (n + 1)))
-    no_line None r w = tt
-    no_line (Some text) r w =
-        unreadable text w.0 n stage w.2 (there w.0 w.1)
+    pub no_line : (known : Option (List ℕ)) (cause : Cause) → result ≡ Err (bad_line cause) → IsWhere known now n stage
+        → IfSome known (λ text. IsOutcome text (Unreadable (n + 1) cause))
+    no_line None cause r w = tt
+    no_line (Some text) cause r w =
+        unreadable text w.0 n stage w.2 (there w.0 w.1) cause
         (subst (λ (o : Result Stage LineFault). Takes (after_line w.2.reading (take_through 10 w.0)) o) r (leads text w.0 w.1 w.2))
 
     pub no_entry : (known : Option (List ℕ)) (b : BrokenEntry) → result ≡ Err (bad_entry b) → IsWhere known now n stage
@@ -195,8 +197,9 @@ module _ (now : Option (List ℕ)) (n : ℕ) (stage : Stage) (old new : List ℕ
     -- what is said where the line is not taken
     stops_at : (known : Option (List ℕ)) (fault : LineFault) (o : Outcome) → result ≡ Err fault → stop_of (n + 1) fault ≡ Some o → IsWhere known now n stage
         → IfSome known (λ text. IsOutcome text o)
-    stops_at known bad_line o r e w =
-        let same : Unreadable (n + 1) ≡ o = cc in subst (λ (x : Outcome). IfSome known (λ text. IsOutcome text x)) same (no_line known r w)
+    stops_at known (bad_line cause) o r e w =
+        let same : Unreadable (n + 1) cause ≡ o = cc in
+        subst (λ (x : Outcome). IfSome known (λ text. IsOutcome text x)) same (no_line known cause r w)
     stops_at known (bad_entry b) o r e w =
         let same : Broken (n + 1) b ≡ o = cc in
         subst (λ (x : Outcome). IfSome known (λ text. IsOutcome text x)) same (no_entry known b r w)

@@ -4,6 +4,7 @@ use Rattle.std.specs.Io.KnownBytes.{Appends}
 use Rattle.tlcheck_reader.specs.Outcome.{IsOutcome}
 use Rattle.tlcheck_reader.specs.declared.outcome.Outcome.{Outcome}
 use Rattle.tlcheck_reader.specs.declared.outcome.Outcome.TheVariants.{Lawful, Broken, Unreadable, Empty}
+use Rattle.tlcheck_record.specs.Cause.{sentence}
 use Rattle.tlcheck_record.specs.Reason.{reason_text}
 use Rattle.tl_streams.specs.Fault.{program_fault_text}
 use Rattle.tl_streams.specs.Written.{AppendsBeginning}
@@ -18,7 +19,7 @@ use Rattle.tlcheck_reader.specs.declared.ending.Ending.TheVariants.{Usage, Judge
 abbrev pub outcome_status : Outcome → ℕ
 outcome_status (Lawful judge count) = 0
 outcome_status (Broken line broken) = 1
-outcome_status (Unreadable line) = 3
+outcome_status (Unreadable line cause) = 3
 outcome_status Empty = 3
 
 -- usage ends with 2, want of memory with 4, the file with 5
@@ -38,14 +39,14 @@ abbrev pub outcome_text : Outcome → List ℕ
 outcome_text (Lawful judge count) = codes "lawful: " ++ decimal count ++ codes " entries"
 outcome_text (Broken line broken) =
     codes "not lawful: line " ++ decimal line ++ codes ", entry " ++ decimal broken.number ++ codes ": " ++ reason_text broken.breach
-outcome_text (Unreadable line) = codes "error 50 line " ++ decimal line
+outcome_text (Unreadable line cause) = codes "error 50 line " ++ decimal line ++ codes ": " ++ sentence cause
 outcome_text Empty = codes "error 51 empty"
 
 -- what stands beside it: the state at the record's end, or before the entry that is not permitted, of the entry's block
 abbrev pub beside : Outcome → List ℕ
 beside (Lawful judge count) = end_lines judge.plain
 beside (Broken line broken) = state_lines broken.judge.plain broken.block
-beside (Unreadable line) = []
+beside (Unreadable line cause) = []
 beside Empty = []
 
 -- what the program ends with

@@ -12,8 +12,9 @@ use Rattle.tlcheck_reader.specs.declared.outcome.Outcome.{Outcome}
 use Rattle.tlcheck_reader.specs.declared.outcome.Outcome.TheVariants.{Lawful, Broken, Unreadable, Empty}
 use Rattle.tlcheck_reader.specs.declared.outcome.Stage.{Stage}
 use Rattle.tlcheck_reader.specs.declared.outcome.Stage.TheVariants.{Fresh, Shaped, Judging}
-use Rattle.tl_script_words.specs.declared.error.ParseError.{ParseError}
-use Rattle.tl_script_words.specs.declared.error.ParseError.TheVariants.{Malformed, Memory as p_Memory}
+use Rattle.tlcheck_record.specs.declared.cause.Cause.{Cause}
+use Rattle.tlcheck_record.specs.declared.cause.LineError.{LineError}
+use Rattle.tlcheck_record.specs.declared.cause.LineError.TheVariants.{Wrong, Memory as no_memory}
 use Rattle.tlcheck_reader.specs.Lines.{lines_of}
 use Rattle.tlcheck_reader.specs.Reading.{Reading, fresh, shaped, going, after_line, reading_of}
 
@@ -40,12 +41,12 @@ stopped_at judge entry number breach =
     bad_entry (record { judge = judge; block = block_of judge.plain.shape entry.event; number = number; breach = breach })
 
 -- this is an entry that breaks something after those that are lawful
-pub record BreaksHere (then_ : Option Reading) (broken : BrokenEntry) : Type 0 where
+pub record BreaksHere (then_ : Result Reading Cause) (broken : BrokenEntry) : Type 0 where
   pub shape : Shape
   pub image : List ℕ
   pub entries : List Entry
   pub entry : Entry
-  pub reads : then_ ≡ Some (going shape image (entries ++ entry ∷ []))
+  pub reads : then_ ≡ Ok (going shape image (entries ++ entry ∷ []))
   pub lawful : IsLawful shape image entries
   pub stops : Stops shape image entries entry broken
 
@@ -56,23 +57,23 @@ IsFit (Shaped shape) = (0 < shape.block_bytes) × (shape.block_bytes ≤ 64) × 
 IsFit (Judging judge count) = Unit {0}
 
 -- what a line is that could not be read
-abbrev pub fault_of : ParseError → LineFault
-fault_of Malformed = bad_line
-fault_of p_Memory = Memory
+abbrev pub fault_of : LineError → LineFault
+fault_of (Wrong cause) = bad_line cause
+fault_of no_memory = Memory
 
 -- ## An entry after those that are lawful
 
 -- the judge goes on, or says what the entry breaks
 abbrev pub IsJudged : Shape → List ℕ → List Entry → Entry → Result Stage LineFault → Type 0
 IsJudged shape image entries entry (Ok stage) = Agrees (going shape image (entries ++ entry ∷ [])) stage
-IsJudged shape image entries entry (Err bad_line) = ⊥
+IsJudged shape image entries entry (Err (bad_line cause)) = ⊥
 IsJudged shape image entries entry (Err (bad_entry broken)) = Stops shape image entries entry broken
 IsJudged shape image entries entry (Err Memory) = Unit {0}
 
 -- what a text that is not blank leads to, and whether the check is there
-abbrev pub Takes : Option Reading → Result Stage LineFault → Type 0
-Takes then_ (Ok stage) = (after : Reading) × (then_ ≡ Some after) × Agrees after stage
-Takes then_ (Err bad_line) = then_ ≡ None
+abbrev pub Takes : Result Reading Cause → Result Stage LineFault → Type 0
+Takes then_ (Ok stage) = (after : Reading) × (then_ ≡ Ok after) × Agrees after stage
+Takes then_ (Err (bad_line cause)) = then_ ≡ Err cause
 Takes then_ (Err (bad_entry broken)) = BreaksHere then_ broken
 Takes then_ (Err Memory) = Unit {0}
 
@@ -83,7 +84,7 @@ pub record IsLawfulText (text : List ℕ) (judge : JudgeState) (count : ℕ) : T
   pub shape : Shape
   pub image : List ℕ
   pub entries : List Entry
-  pub reads : reading_of fresh (lines_of text) ≡ Some (going shape image entries)
+  pub reads : reading_of fresh (lines_of text) ≡ Ok (going shape image entries)
   pub lawful : IsLawful shape image entries
   pub counted : length entries ≡ count
   pub end : Follows shape image (events_of entries) judge
@@ -97,20 +98,20 @@ pub record IsBrokenText (text : List ℕ) (line : ℕ) (broken : BrokenEntry) : 
   pub read : List (List ℕ)
   pub rest : List (List ℕ)
   pub lines : lines_of text ≡ read ++ rest
-  pub reads : reading_of fresh read ≡ Some (going shape image (entries ++ entry ∷ []))
+  pub reads : reading_of fresh read ≡ Ok (going shape image (entries ++ entry ∷ []))
   pub lawful : IsLawful shape image entries
   pub stops : Stops shape image entries entry broken
   pub number : length read ≡ line
 
--- A line is outside the grammar, and those before it are in it.
-pub record IsUnreadable (text : List ℕ) (line : ℕ) : Type 0 where
+-- A line cannot be read, for this cause, and those before it can.
+pub record IsUnreadable (text : List ℕ) (line : ℕ) (cause : Cause) : Type 0 where
   pub reading : Reading
   pub bad : List ℕ
   pub read : List (List ℕ)
   pub rest : List (List ℕ)
   pub lines : lines_of text ≡ read ++ bad ∷ rest
-  pub reads : reading_of fresh read ≡ Some reading
-  pub outside : after_line reading bad ≡ None
+  pub reads : reading_of fresh read ≡ Ok reading
+  pub outside : after_line reading bad ≡ Err cause
   pub number : length read + 1 ≡ line
 
 -- neither image nor entry was read
@@ -123,8 +124,8 @@ IsShort (going shape image entries) = ⊥
 abbrev pub IsOutcome : List ℕ → Outcome → Type 0
 IsOutcome text (Lawful judge count) = IsLawfulText text judge count
 IsOutcome text (Broken line broken) = IsBrokenText text line broken
-IsOutcome text (Unreadable line) = IsUnreadable text line
-IsOutcome text Empty = (reading : Reading) × (reading_of fresh (lines_of text) ≡ Some reading) × IsShort reading
+IsOutcome text (Unreadable line cause) = IsUnreadable text line cause
+IsOutcome text Empty = (reading : Reading) × (reading_of fresh (lines_of text) ≡ Ok reading) × IsShort reading
 
 -- what is said at the end of a text
 abbrev pub ending_of : Stage → Outcome
@@ -134,7 +135,7 @@ ending_of (Judging judge count) = Lawful judge count
 
 -- what is said where a line is not taken
 abbrev pub stop_of : ℕ → LineFault → Option Outcome
-stop_of line bad_line = Some (Unreadable line)
+stop_of line (bad_line cause) = Some (Unreadable line cause)
 stop_of line (bad_entry broken) = Some (Broken line broken)
 stop_of line Memory = None
 
@@ -143,6 +144,6 @@ pub record IsAt (text left : List ℕ) (count : ℕ) (stage : Stage) : Type 0 wh
   pub read : List (List ℕ)
   pub reading : Reading
   pub lines : lines_of text ≡ read ++ lines_of left
-  pub reads : reading_of fresh read ≡ Some reading
+  pub reads : reading_of fresh read ≡ Ok reading
   pub agrees : Agrees reading stage
   pub number : length read ≡ count

@@ -38,10 +38,10 @@ impl fmt::Display for OutcomeText<'_> {
                     f,
                     "not lawful: line {line}, entry {}: {}",
                     broken.number,
-                    Reason(broken.breach)
+                    Reason(&broken.breach)
                 )
             }
-            Outcome::Unreadable(line) => write!(f, "error 50 line {line}"),
+            Outcome::Unreadable(line, cause) => write!(f, "error 50 line {line}: {cause}"),
             Outcome::Empty => f.write_str("error 51 empty"),
         }
     }
@@ -80,7 +80,7 @@ impl Ending {
             Ending::Judged(Outcome::Lawful(_, _)) => 0,
             Ending::Judged(Outcome::Broken(_, _)) => 1,
             Ending::Usage => 2,
-            Ending::Judged(Outcome::Unreadable(_) | Outcome::Empty) => 3,
+            Ending::Judged(Outcome::Unreadable(_, _) | Outcome::Empty) => 3,
             Ending::Memory => 4,
             Ending::File => 5,
         }
@@ -94,7 +94,7 @@ fn push_beside(text: &mut String, outcome: &Outcome) -> Result<(), AllocError>
     match outcome {
         Outcome::Lawful(judge, _) => push_end(text, judge.plain()),
         Outcome::Broken(_, broken) => push_state(text, broken.judge.plain(), broken.block),
-        Outcome::Unreadable(_) | Outcome::Empty => Ok(()),
+        Outcome::Unreadable(_, _) | Outcome::Empty => Ok(()),
     }
 }
 

@@ -10,18 +10,17 @@ ghost use Rattle.tlcheck_reader.specs.Reading.{Reading, after_text, next};
 use crate::outcome::{BrokenEntry, LineFault, Stage};
 use std::alloc::Global;
 use tl_rules::Shape;
-use tl_script_words::ParseError;
 use tl_types::{BLOCK_BYTES, BLOCKS};
-use tlcheck_record::{is_blank, read_entry, read_image, read_shape};
+use tlcheck_record::{LineError, is_blank, read_entry, read_image_line, read_shape, read_text};
 use tlcheck_rules::{Breach, Entry, Judge, Refusal};
 
-/// A line that could not be read is outside the grammar, or there was no memory.
-fn fault(error: ParseError) -> LineFault
+/// A line could not be read, or there was no memory.
+fn fault(error: LineError) -> LineFault
     ensures { result ≡ fault_of error }
 {
     match error {
-        ParseError::Malformed => LineFault::Unreadable,
-        ParseError::Memory => LineFault::Memory,
+        LineError::Wrong(cause) => LineFault::Unreadable(cause),
+        LineError::Memory => LineFault::Memory,
     }
 }
 
@@ -85,19 +84,16 @@ fn second_line(alloc: Global, shape: Shape, text: &str) -> Result<Stage, LineFau
     ensures takes { (reading : Reading) → Agrees reading (Stage.Shaped shape) → Takes (next reading text.now) result }
     ensures fit { IfOk result IsFit }
 {
-    match read_image(alloc, text) {
-        Ok(image) => match Judge::new(alloc, shape, &image) {
+    match read_image_line(alloc, shape, text) {
+        Ok(Some(image)) => match Judge::new(alloc, shape, &image) {
             Ok(judge) => Ok(Stage::Judging(judge, 0)),
             Err(_) => Err(LineFault::Memory),
         },
-        Err(ParseError::Memory) => Err(LineFault::Memory),
-        Err(ParseError::Malformed) => match read_entry(alloc, text) {
-            Ok(entry) => match Judge::new(alloc, shape, &[]) {
-                Ok(judge) => judge_entry(judge, 0, &entry),
-                Err(_) => Err(LineFault::Memory),
-            },
-            Err(error) => Err(fault(error)),
+        Ok(None) => match Judge::new(alloc, shape, &[]) {
+            Ok(judge) => entry_line(alloc, judge, 0, text),
+            Err(_) => Err(LineFault::Memory),
         },
+        Err(error) => Err(fault(error)),
     }
 }
 
@@ -123,8 +119,8 @@ pub fn take_line(alloc: Global, stage: Stage, text: &[u8]) -> Result<Stage, Line
     if is_blank(text) {
         return Ok(stage);
     }
-    match std::str::from_utf8(text) {
+    match read_text(text) {
         Ok(text) => full_line(alloc, stage, text),
-        Err(_) => Err(LineFault::Unreadable),
+        Err(cause) => Err(LineFault::Unreadable(cause)),
     }
 }

@@ -1,5 +1,6 @@
 //! What a check answers, and where it is.
 use tl_rules::Shape;
+use tlcheck_record::Cause;
 use tlcheck_rules::{Breach, Judge};
 
 /// The first entry that is not permitted.
@@ -22,8 +23,8 @@ pub enum Outcome {
     Lawful(Judge, u64),
     /// On this line, from 1 on, stands the first entry that is not permitted.
     Broken(u64, BrokenEntry),
-    /// This line is outside the grammar.
-    Unreadable(u64),
+    /// This line cannot be read, for this cause.
+    Unreadable(u64, Cause),
     /// There is no geometry, or neither image nor entry.
     Empty,
 }
@@ -31,8 +32,8 @@ pub enum Outcome {
 /// Why a line is not taken.
 #[derive(Drop)]
 pub enum LineFault {
-    /// It is outside the grammar.
-    Unreadable,
+    /// It cannot be read, for this cause.
+    Unreadable(Cause),
     /// It has an entry that is not permitted.
     Broken(BrokenEntry),
     /// A request for memory was refused.

@@ -58,14 +58,14 @@ fn stop(number: u64, fault: LineFault) -> Result<Outcome, CheckFault>
     ensures { IfOk result (λ outcome. stop_of number fault ≡ Some outcome) }
 {
     match fault {
-        LineFault::Unreadable => Ok(Outcome::Unreadable(number)),
+        LineFault::Unreadable(cause) => Ok(Outcome::Unreadable(number, cause)),
         LineFault::Broken(broken) => Ok(Outcome::Broken(number, broken)),
         LineFault::Memory => Err(CheckFault::Memory),
     }
 }
 
 /// Checks a record line by line, as it is read: it takes memory for one line, for blocks, clients and the messages that wait. It says
-/// whether each entry is permitted, or which is the first that is not and what it breaks, or which line is outside the grammar; and it
+/// whether each entry is permitted, or which is the first that is not and what it breaks, or which line cannot be read and why; and it
 /// gives the judge of the entries that are permitted.
 pub fn check<R: BufRead>(alloc: Global, reader: &mut R) -> Result<Outcome, CheckFault>
     ensures { IfOk result (λ outcome. IfSome (R.remaining reader.old) (λ text. IsOutcome text outcome)) }

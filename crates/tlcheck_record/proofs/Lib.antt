@@ -2,3 +2,4 @@ pub mod Lines
 pub mod OneMore
 pub mod ReadBack
 pub mod StateLines
+pub mod Texts

@@ -1,5 +1,5 @@
 -- An entry is read back from the line that it prints as.
-use Rattle.std.proofs.Common.{◌≡◌, ℕ, ◌<◌, ◌≤◌, ◌^◌, ◌||◌, true, false, not, nat_lt, eqb, List, [], ◌∷◌, ◌++◌, length, All, Option, Some, None, codes, decimal, refl, sym, ap, subst, ◌∙◌, arith, append_assoc}
+use Rattle.std.proofs.Common.{◌≡◌, ℕ, ◌<◌, ◌≤◌, ◌^◌, ◌||◌, true, false, not, nat_lt, eqb, List, [], ◌∷◌, ◌++◌, length, All, Option, Some, None, Result, Ok, codes, decimal, refl, sym, ap, subst, ◌∙◌, arith, append_assoc}
 use Rattle.std.proofs.lemmas.Bool.{le-ltb}
 use Rattle.std.proofs.lemmas.Bool.Decides.{nat_tests}
 use Rattle.std.proofs.lemmas.List.{append-nil}
@@ -22,9 +22,11 @@ use Rattle.tl_types.specs.declared.permission.Prune.TheVariants as prune
 use Rattle.tl_script_words.proofs.HexLaws.{address_read, bytes_read}
 use Rattle.tl_script_words.proofs.TicketLaws.{number_read}
 use Rattle.tl_script_words.specs.Hex.{hex_text, address_text}
-use Rattle.tl_script_words.specs.Reads.{◌>>=◌}
 use Rattle.tl_script_words.specs.Ticket.{grow_of, prune_of}
 use Rattle.tl_script_words.specs.Words.{access_of, number_of, words_of}
+use Rattle.tlcheck_record.specs.Cause.{◌>>=◌}
+use Rattle.tlcheck_record.specs.Words.{block_bytes_in}
+use Rattle.tlcheck_record.specs.declared.cause.Cause.{Cause}
 use Rattle.tl_protocol.specs.declared.event.Access.{Access}
 use Rattle.tl_protocol.specs.declared.event.Event.{Event}
 use Rattle.tl_protocol.specs.declared.event.Event.TheVariants as event
@@ -35,7 +37,7 @@ use Rattle.tlcheck_record.specs.declared.entries.ClientCall.TheVariants as call
 use Rattle.tlcheck_record.specs.declared.entries.HomeCall.{HomeCall}
 use Rattle.tlcheck_record.specs.declared.entries.HomeCall.TheVariants as home
 use Rattle.tlcheck_record.specs.Entry.{access_in, acquire_in, client_entry, client_event, entry_by, entry_in, entry_of, home_entry, home_event, probe_in, release_in, with_access}
-use Rattle.tlcheck_record.specs.Shown.{bare_kind, block_bytes_of, data_kind, dirty_of, grant_cap_of, plain_kind, probe_cap_of, report_of, shown_of}
+use Rattle.tlcheck_record.specs.Shown.{bare_kind, data_kind, dirty_of, grant_cap_of, plain_kind, probe_cap_of, report_of, shown_of}
 use Rattle.tlcheck_record.specs.Written.{HasLine, HasWords, IsMessage, IsShowable, MayShow, access_text, entry_text, event_text, pair_text, plain_access, plain_entry, plain_event, shown_text}
 use Rattle.tlcheck_record.proofs.Lines.{AreWords, IsWord, address, both_words, hex, is_word, line, number, spaced, spaced_more}
 
@@ -67,7 +69,7 @@ probe_word : (p : ProbeCap) → IsWord (probe_cap_text p)
 probe_word probe.ToB = (refl, (refl, (refl, tt)))
 probe_word probe.ToN = (refl, (refl, (refl, tt)))
 
-probe_read : (p : ProbeCap) → probe_cap_of (probe_cap_text p) ≡ Some p
+probe_read : (p : ProbeCap) → probe_cap_of (probe_cap_text p) ≡ Ok p
 unfolding probe_cap_of
 probe_read probe.ToB = refl
 probe_read probe.ToN = refl
@@ -76,7 +78,7 @@ grant_word : (p : GrantCap) → IsWord (grant_cap_text p)
 grant_word grant.ToT = (refl, (refl, (refl, tt)))
 grant_word grant.ToB = (refl, (refl, (refl, tt)))
 
-grant_read : (p : GrantCap) → grant_cap_of (grant_cap_text p) ≡ Some p
+grant_read : (p : GrantCap) → grant_cap_of (grant_cap_text p) ≡ Ok p
 unfolding grant_cap_of
 grant_read grant.ToT = refl
 grant_read grant.ToB = refl
@@ -85,7 +87,7 @@ dirty_word : (p : DirtyPrune) → IsWord (dirty_prune_text p)
 dirty_word dirty.TtoB = (refl, (refl, (refl, (refl, tt))))
 dirty_word dirty.TtoN = (refl, (refl, (refl, (refl, tt))))
 
-dirty_read : (p : DirtyPrune) → dirty_of (dirty_prune_text p) ≡ Some p
+dirty_read : (p : DirtyPrune) → dirty_of (dirty_prune_text p) ≡ Ok p
 unfolding dirty_of
 dirty_read dirty.TtoB = refl
 dirty_read dirty.TtoN = refl
@@ -97,7 +99,7 @@ report_word report.BtoB = (refl, (refl, (refl, (refl, tt))))
 report_word report.BtoN = (refl, (refl, (refl, (refl, tt))))
 report_word report.NtoN = (refl, (refl, (refl, (refl, tt))))
 
-report_read : (p : ProbeReport) → report_of (probe_report_text p) ≡ Some p
+report_read : (p : ProbeReport) → report_of (probe_report_text p) ≡ Ok p
 unfolding report_of
 report_read report.TtoB = refl
 report_read report.TtoN = refl
@@ -113,8 +115,8 @@ access_read a h =
     let few : (eqb (length a.bytes) 0 || nat_lt 8 (length a.bytes)) ≡ false = let lo = h.some in let hi = h.most in grind (arith, nat_tests) in
     rw (bytes_read a.bytes h.bytes, few) refl
 
-block_read : (bytes : List ℕ) → length bytes ≤ 64 → All (λ b. b < 256) bytes → block_bytes_of (hex_text bytes) ≡ Some bytes
-unfolding block_bytes_of
+block_read : (bytes : List ℕ) → length bytes ≤ 64 → All (λ b. b < 256) bytes → block_bytes_in (hex_text bytes) ≡ Ok bytes
+unfolding block_bytes_in
 block_read bytes few h = rw (bytes_read bytes h, le-ltb 64 (length bytes) few) refl
 
 -- ## What is shown
@@ -124,13 +126,13 @@ record Shows (shown : Option Shown) : Type 0 where
   words : List (List ℕ)
   text : shown_text shown ≡ spaced words
   are : AreWords words
-  read : shown_of words ≡ Some shown
+  read : shown_of words ≡ Ok shown
 
 -- a message with its bytes
 abbrev with_ : Kind → Option (List ℕ) → Option Shown
 with_ k bytes = Some (record { kind = k; bytes = bytes })
 
-bare : (name : List ℕ) (k : Kind) → kind_text k ≡ name → IsWord name → bare_kind name ≡ Some k → Shows (with_ k None)
+bare : (name : List ℕ) (k : Kind) → kind_text k ≡ name → IsWord name → bare_kind name ≡ Ok k → Shows (with_ k None)
 unfolding shown_of
 bare name k same word read = record {
   words = name ∷ [];
@@ -139,7 +141,7 @@ bare name k same word read = record {
   read = rw read refl;
 }
 
-plain : (name param : List ℕ) (k : Kind) → kind_text k ≡ name ++ 32 ∷ param → IsWord name → IsWord param → plain_kind name param ≡ Some k → Shows (with_ k None)
+plain : (name param : List ℕ) (k : Kind) → kind_text k ≡ name ++ 32 ∷ param → IsWord name → IsWord param → plain_kind name param ≡ Ok k → Shows (with_ k None)
 unfolding shown_of
 plain name param k same word param_word read = record {
   words = name ∷ param ∷ [];
@@ -148,7 +150,7 @@ plain name param k same word param_word read = record {
   read = rw read refl;
 }
 
-data_ : (name param bytes : List ℕ) (k : Kind) → kind_text k ≡ name ++ 32 ∷ param → IsWord name → IsWord param → data_kind name param ≡ Some k
+data_ : (name param bytes : List ℕ) (k : Kind) → kind_text k ≡ name ++ 32 ∷ param → IsWord name → IsWord param → data_kind name param ≡ Ok k
     → length bytes ≤ 64 → All (λ b. b < 256) bytes → Shows (with_ k (Some bytes))
 unfolding shown_of
 data_ name param bytes k same word param_word read few h = record {
@@ -203,7 +205,7 @@ line_words e shown verb args s word are text =
 
 -- a client and a block are read back
 client_read : (k : ClientCall) (c block : ℕ) (shown : Option Shown) (s : Shows shown) → c < 2 ^ 32 → block < 2 ^ 32
-    → client_entry k (decimal c ∷ decimal block ∷ s.words) ≡ Some (record { event = client_event k c block; shown = shown })
+    → client_entry k (decimal c ∷ decimal block ∷ s.words) ≡ Ok (record { event = client_event k c block; shown = shown })
 unfolding client_entry
 client_read k c block shown s hc hb = rw (number_read c hc, number_read block hb, s.read) refl
 
@@ -211,7 +213,7 @@ client_read k c block shown s hc hb = rw (number_read c hc, number_read block hb
 client_line : (e : Event) (verb : List ℕ) (k : ClientCall) (c block : ℕ) (shown : Option Shown) → IsShowable shown → (c < 2 ^ 32) × (block < 2 ^ 32)
     → event_text e ≡ verb ++ 32 ∷ pair_text c block → list_all (λ c. not (eqb c 32)) verb ≡ true
     → ((args : List (List ℕ)) → entry_in (verb ∷ args) ≡ client_entry k args)
-    → entry_of (event_text e ++ shown_text shown) ≡ Some (record { event = client_event k c block; shown = shown })
+    → entry_of (event_text e ++ shown_text shown) ≡ Ok (record { event = client_event k c block; shown = shown })
 client_line e verb k c block shown showable h text word reads =
     let s = shows shown showable in
     let args : event_text e ≡ verb ++ spaced (decimal c ∷ decimal block ∷ []) =
@@ -225,7 +227,7 @@ alone_words : (e : Event) (verb : List ℕ) (args : List (List ℕ)) → list_al
 alone_words e verb args word are text = ap words_of (append-nil (event_text e) ∙ text) ∙ line verb args (is_word verb word) are
 
 home_read : (k : HomeCall) (block : ℕ) → block < 2 ^ 32
-    → home_entry k (decimal block ∷ []) ≡ Some (record { event = home_event k block; shown = None })
+    → home_entry k (decimal block ∷ []) ≡ Ok (record { event = home_event k block; shown = None })
 unfolding home_entry
 home_read k block h = rw (number_read block h) refl
 
@@ -233,7 +235,7 @@ home_read k block h = rw (number_read block h) refl
 home_line : (e : Event) (verb : List ℕ) (k : HomeCall) (block : ℕ) → block < 2 ^ 32
     → event_text e ≡ verb ++ 32 ∷ decimal block → list_all (λ c. not (eqb c 32)) verb ≡ true
     → ((args : List (List ℕ)) → entry_in (verb ∷ args) ≡ home_entry k args)
-    → entry_of (event_text e ++ []) ≡ Some (record { event = home_event k block; shown = None })
+    → entry_of (event_text e ++ []) ≡ Ok (record { event = home_event k block; shown = None })
 home_line e verb k block h text word reads =
     let args : event_text e ≡ verb ++ spaced (decimal block ∷ []) = text ∙ rw (append-nil (decimal block)) refl in
     ap entry_in (alone_words e verb (decimal block ∷ []) word (number block h, tt) args)
@@ -251,31 +253,31 @@ param_line e verb param c block shown s h param_word text word =
     ap entry_in (line_words e shown verb (decimal c ∷ decimal block ∷ param ∷ []) s word (number c h.0, (number block h.1, (param_word, tt))) args)
 
 acquire_line : (c block : ℕ) (g : Grow) (shown : Option Shown) → IsShowable shown → (c < 2 ^ 32) × (block < 2 ^ 32)
-    → entry_of (event_text (event.SendAcquire c block g) ++ shown_text shown) ≡ Some (record { event = event.SendAcquire c block g; shown = shown })
+    → entry_of (event_text (event.SendAcquire c block g) ++ shown_text shown) ≡ Ok (record { event = event.SendAcquire c block g; shown = shown })
 unfolding entry_in entry_by acquire_in
 acquire_line c block g shown showable h =
     let s = shows shown showable in
-    let read : acquire_in (decimal c ∷ decimal block ∷ grow_text g ∷ s.words) ≡ Some (record { event = event.SendAcquire c block g; shown = shown }) =
+    let read : acquire_in (decimal c ∷ decimal block ∷ grow_text g ∷ s.words) ≡ Ok (record { event = event.SendAcquire c block g; shown = shown }) =
     rw (number_read c h.0, number_read block h.1, grow_read g, s.read) refl in
     param_line (event.SendAcquire c block g) (codes "acquire") (grow_text g) c block shown s h (grow_word g)
     (ap (λ (l : List ℕ). codes "acquire " ++ l) (append_assoc (pair_text c block) (codes " ") (grow_text g))) refl ∙ read
 
 release_line : (c block : ℕ) (p : Prune) (shown : Option Shown) → IsShowable shown → (c < 2 ^ 32) × (block < 2 ^ 32)
-    → entry_of (event_text (event.SendRelease c block p) ++ shown_text shown) ≡ Some (record { event = event.SendRelease c block p; shown = shown })
+    → entry_of (event_text (event.SendRelease c block p) ++ shown_text shown) ≡ Ok (record { event = event.SendRelease c block p; shown = shown })
 unfolding entry_in entry_by release_in
 release_line c block p shown showable h =
     let s = shows shown showable in
-    let read : release_in (decimal c ∷ decimal block ∷ prune_text p ∷ s.words) ≡ Some (record { event = event.SendRelease c block p; shown = shown }) =
+    let read : release_in (decimal c ∷ decimal block ∷ prune_text p ∷ s.words) ≡ Ok (record { event = event.SendRelease c block p; shown = shown }) =
     rw (number_read c h.0, number_read block h.1, prune_read p, s.read) refl in
     param_line (event.SendRelease c block p) (codes "release") (prune_text p) c block shown s h (prune_word p)
     (ap (λ (l : List ℕ). codes "release " ++ l) (append_assoc (pair_text c block) (codes " ") (prune_text p))) refl ∙ read
 
 probe_line : (c block : ℕ) (p : ProbeCap) (shown : Option Shown) → IsShowable shown → (c < 2 ^ 32) × (block < 2 ^ 32)
-    → entry_of (event_text (event.SendProbe c block p) ++ shown_text shown) ≡ Some (record { event = event.SendProbe c block p; shown = shown })
+    → entry_of (event_text (event.SendProbe c block p) ++ shown_text shown) ≡ Ok (record { event = event.SendProbe c block p; shown = shown })
 unfolding entry_in entry_by probe_in
 probe_line c block p shown showable h =
     let s = shows shown showable in
-    let read : probe_in (decimal c ∷ decimal block ∷ probe_cap_text p ∷ s.words) ≡ Some (record { event = event.SendProbe c block p; shown = shown }) =
+    let read : probe_in (decimal c ∷ decimal block ∷ probe_cap_text p ∷ s.words) ≡ Ok (record { event = event.SendProbe c block p; shown = shown }) =
     rw (number_read c h.0, number_read block h.1, probe_read p, s.read) refl in
     param_line (event.SendProbe c block p) (codes "probe") (probe_cap_text p) c block shown s h (probe_word p)
     (ap (λ (l : List ℕ). codes "probe " ++ l) (append_assoc (pair_text c block) (codes " ") (probe_cap_text p))) refl ∙ read
@@ -294,23 +296,23 @@ access_line e verb a h text word =
     ap entry_in (alone_words e verb (decimal a.client ∷ address_text a.address ∷ hex_text a.bytes ∷ []) word
     (number a.client h.client, (address a.address, (hex a.bytes h.bytes, tt))) args)
 
-words_read : (a : Access) → HasWords a → access_in (decimal a.client ∷ address_text a.address ∷ hex_text a.bytes ∷ []) ≡ Some (plain_access a)
+words_read : (a : Access) → HasWords a → access_in (decimal a.client ∷ address_text a.address ∷ hex_text a.bytes ∷ []) ≡ Ok (plain_access a)
 unfolding access_in
 words_read a h = rw (number_read a.client h.client, address_read a.address h.address, access_read a h) refl
 
-load_line : (a : Access) → HasWords a → entry_of (event_text (event.Load a) ++ []) ≡ Some (record { event = event.Load (plain_access a); shown = None })
+load_line : (a : Access) → HasWords a → entry_of (event_text (event.Load a) ++ []) ≡ Ok (record { event = event.Load (plain_access a); shown = None })
 unfolding entry_in entry_by
-load_line a h = access_line (event.Load a) (codes "load") a h refl refl ∙ ap (λ (o : Option Access). with_access event.Load o) (words_read a h)
+load_line a h = access_line (event.Load a) (codes "load") a h refl refl ∙ ap (λ (o : Result Access Cause). with_access event.Load o) (words_read a h)
 
-store_line : (a : Access) → HasWords a → entry_of (event_text (event.Store a) ++ []) ≡ Some (record { event = event.Store (plain_access a); shown = None })
+store_line : (a : Access) → HasWords a → entry_of (event_text (event.Store a) ++ []) ≡ Ok (record { event = event.Store (plain_access a); shown = None })
 unfolding entry_in entry_by
-store_line a h = access_line (event.Store a) (codes "store") a h refl refl ∙ ap (λ (o : Option Access). with_access event.Store o) (words_read a h)
+store_line a h = access_line (event.Store a) (codes "store") a h refl refl ∙ ap (λ (o : Result Access Cause). with_access event.Store o) (words_read a h)
 
 -- ## Entries
 
 -- the line of an event and what it shows
 read : (e : Event) (shown : Option Shown) → HasLine e → MayShow e shown
-    → entry_of (event_text e ++ shown_text shown) ≡ Some (record { event = plain_event e; shown = shown })
+    → entry_of (event_text e ++ shown_text shown) ≡ Ok (record { event = plain_event e; shown = shown })
 unfolding entry_in entry_by
 read (event.Load a) None h m = load_line a h
 read (event.Load a) (Some shown) h m = cc
@@ -339,7 +341,7 @@ read (event.Drop b) (Some shown) h m = cc
 read (event.SendPut b) (Some shown) h m = cc
 read (event.TakePutAck b) (Some shown) h m = cc
 
-pub entry_read : (entry : Entry) → HasLine entry.event → MayShow entry.event entry.shown → entry_of (entry_text entry) ≡ Some (plain_entry entry)
+pub entry_read : (entry : Entry) → HasLine entry.event → MayShow entry.event entry.shown → entry_of (entry_text entry) ≡ Ok (plain_entry entry)
 entry_read entry h m = read entry.event entry.shown h m
 
 -- of an event alone nothing is shown
@@ -363,5 +365,5 @@ may_show (event.Drop b) = refl
 may_show (event.SendPut b) = refl
 may_show (event.TakePutAck b) = refl
 
-pub event_read : (e : Event) → HasLine e → entry_of (event_text e) ≡ Some (record { event = plain_event e; shown = None })
+pub event_read : (e : Event) → HasLine e → entry_of (event_text e) ≡ Ok (record { event = plain_event e; shown = None })
 event_read e h = ap (λ (t : List ℕ). entry_of t) (sym (append-nil (event_text e))) ∙ read e None h (may_show e)

@@ -1,12 +1,13 @@
--- The first lines of a record (this project's own format; the keys are those of a script).
-use Rattle.std.specs.Prelude.{ℕ, ◌*◌, ◌==◌, ◌&&◌, ◌||◌, nat_le, Bool, List, [], ◌∷◌, length, slice_index, codes, bytes_eq, Option, Some, None, if◌then◌else◌}
-use Rattle.tl_script_words.specs.Reads.{◌>>=◌}
-use Rattle.tl_script_words.specs.Words.{words_of, number_of, bytes_of}
+-- The first lines of a record of events (this project's own format; the keys are those of a script).
+use Rattle.std.specs.Prelude.{ℕ, ◌==◌, ◌&&◌, ◌||◌, nat_le, Bool, List, [], ◌∷◌, codes, bytes_eq, Option, Some, None, Result, Ok, Err, if◌then◌else◌}
+use Rattle.tl_script_words.specs.Words.{words_of}
 use Rattle.tl_protocol.specs.declared.shape.Shape.{Shape}
-
--- a line that says nothing: it is empty, or begins with `#`
-abbrev pub is_blank : List ℕ → Bool
-is_blank line = (length line == 0) || (slice_index line 0 == 35)
+use Rattle.tlcheck_record.specs.Cause.{◌>>=◌}
+use Rattle.tlcheck_record.specs.Words.{image_in, number_in}
+use Rattle.tlcheck_record.specs.declared.cause.Cause.{Cause}
+use Rattle.tlcheck_record.specs.declared.cause.Cause.TheVariants as cause
+use Rattle.tlcheck_record.specs.declared.header.Key.{Key}
+use Rattle.tlcheck_record.specs.declared.header.Key.TheVariants as key
 
 -- the clients, a block's bytes and the blocks are in range
 abbrev pub is_in_range : Shape → Bool
@@ -16,44 +17,50 @@ is_in_range shape =
     && nat_le 1 shape.blocks && nat_le shape.blocks 65536
 
 -- the geometry, where it is in range and nothing follows it
-abbrev pub in_range : List (List ℕ) → Shape → Option Shape
-in_range [] shape = if is_in_range shape then Some shape else None
-in_range (word ∷ rest) shape = None
+abbrev pub in_range : List (List ℕ) → Shape → Result Shape Cause
+in_range [] shape = if is_in_range shape then Ok shape else Err cause.Range
+in_range (word ∷ rest) shape = Err cause.MoreWords
+
+-- the word of a key
+abbrev pub key_text : Key → List ℕ
+key_text key.Clients = codes "clients"
+key_text key.BlockBytes = codes "block_bytes"
+key_text key.MemoryBlocks = codes "memory_blocks"
 
 -- the number at a key
-abbrev pub field_of : List ℕ → List ℕ → List ℕ → Option ℕ
-field_of name key value = if bytes_eq key name then number_of value else None
+unfoldable pub field_of : Key → List ℕ → List ℕ → Result ℕ Cause
+field_of k word value = if bytes_eq word (key_text k) then number_in value else Err cause.Geometry
 
 -- `memory_blocks N`, after the clients and a block's bytes
-unfoldable pub blocks_in : ℕ → ℕ → List (List ℕ) → Option Shape
-blocks_in clients size (key ∷ value ∷ rest) = do
-  n ← field_of (codes "memory_blocks") key value
-  in_range rest (record { clients = clients; block_bytes = size; blocks = n })
-blocks_in clients size _ = None
+unfoldable pub blocks_in : ℕ → ℕ → List (List ℕ) → Result Shape Cause
+blocks_in clients size (word ∷ value ∷ rest) =
+    field_of key.MemoryBlocks word value
+    >>= (λ n. in_range rest (record { clients = clients; block_bytes = size; blocks = n }))
+blocks_in clients size _ = Err cause.Geometry
 
 -- `block_bytes N memory_blocks N`, after the clients
-unfoldable pub bytes_in : ℕ → List (List ℕ) → Option Shape
-bytes_in clients (key ∷ value ∷ rest) = do
-  n ← field_of (codes "block_bytes") key value
-  blocks_in clients n rest
-bytes_in clients _ = None
+unfoldable pub bytes_in : ℕ → List (List ℕ) → Result Shape Cause
+bytes_in clients (word ∷ value ∷ rest) = field_of key.BlockBytes word value >>= (λ n. blocks_in clients n rest)
+bytes_in clients _ = Err cause.Geometry
 
 -- `clients N block_bytes N memory_blocks N`
-unfoldable pub shape_in : List (List ℕ) → Option Shape
-shape_in (key ∷ value ∷ rest) = do
-  n ← field_of (codes "clients") key value
-  bytes_in n rest
-shape_in _ = None
+unfoldable pub shape_in : List (List ℕ) → Result Shape Cause
+shape_in (word ∷ value ∷ rest) = field_of key.Clients word value >>= (λ n. bytes_in n rest)
+shape_in _ = Err cause.Geometry
 
 -- the geometry that a line writes
-abbrev pub shape_of : List ℕ → Option Shape
+abbrev pub shape_of : List ℕ → Result Shape Cause
 shape_of line = shape_in (words_of line)
 
--- `image HEX`: the bytes of the memory at reset, 0 past their end
-unfoldable pub image_in : List (List ℕ) → Option (List ℕ)
-image_in (image ∷ bytes ∷ []) = if bytes_eq image (codes "image") then bytes_of bytes else None
-image_in _ = None
+-- an image that was read
+abbrev pub an_image : Result (List ℕ) Cause → Result (Option (List ℕ)) Cause
+an_image image = image >>= (λ bytes. Ok (Some bytes))
 
--- the image that a line writes
-abbrev pub image_of : List ℕ → Option (List ℕ)
-image_of line = image_in (words_of line)
+-- `image HEX`, where the first word is `image`
+unfoldable pub image_line : Shape → List (List ℕ) → Result (Option (List ℕ)) Cause
+image_line shape [] = Ok None
+image_line shape (word ∷ rest) = if bytes_eq word (codes "image") then an_image (image_in shape rest) else Ok None
+
+-- the image that a line writes, or that it writes none
+abbrev pub image_of : Shape → List ℕ → Result (Option (List ℕ)) Cause
+image_of shape line = image_line shape (words_of line)

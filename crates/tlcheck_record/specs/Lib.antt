@@ -1,7 +1,9 @@
 pub mod Carries
+pub mod Cause
 pub mod Entry
 pub mod Header
 pub mod Reason
 pub mod Shown
 pub mod State
+pub mod Words
 pub mod Written

@@ -1,15 +1,16 @@
 //! The lines of a record that stand for events.
 ghost use Rattle.std.specs.Prelude.{◌≡◌, None};
-ghost use Rattle.tl_script_words.specs.Reads.{Reads};
-ghost use Rattle.tl_script_words.specs.Words.{number_of, texts};
+ghost use Rattle.tl_script_words.specs.Words.{texts};
+ghost use Rattle.tlcheck_record.specs.Cause.{Gives};
+ghost use Rattle.tlcheck_record.specs.Words.{number_in};
 ghost use Rattle.tlcheck_record.specs.Entry.{access_in, acquire_in, client_entry, client_event, entry_by, entry_in, entry_of, home_entry, home_event, probe_in, release_in};
 
+use crate::cause::{Cause, LineError};
 use crate::shown::{parse_probe_cap, parse_shown};
+use crate::words::{read_access, read_address, read_grow, read_number, read_prune};
 use std::alloc::Global;
 use tl_rules::{Access, Event};
-use tl_script_words::{
-    ParseError, parse_access, parse_address, parse_grow, parse_number, parse_prune, split_words,
-};
+use tl_script_words::split_words;
 use tl_types::{BlockNo, ClientId};
 use tlcheck_rules::Entry;
 
@@ -63,29 +64,30 @@ fn home_event(verb: HomeCall, b: BlockNo) -> Event
     }
 }
 
-fn client(text: &str) -> Result<ClientId, ParseError>
-    ensures { Reads (λ x. x) result (number_of text.now) }
+fn client(text: &str) -> Result<ClientId, Cause>
+    ensures { result ≡ number_in text.now }
 {
-    Ok(ClientId::new(parse_number(text).ok_or(ParseError::Malformed)?))
+    Ok(ClientId::new(read_number(text)?))
 }
 
-fn block(text: &str) -> Result<BlockNo, ParseError>
-    ensures { Reads (λ x. x) result (number_of text.now) }
+fn block(text: &str) -> Result<BlockNo, Cause>
+    ensures { result ≡ number_in text.now }
 {
-    Ok(BlockNo::new(parse_number(text).ok_or(ParseError::Malformed)?))
+    Ok(BlockNo::new(read_number(text)?))
 }
 
 #[tactic(auto, unfolding(crate::specs::Entry::access_in))]
-fn access(arguments: &[&str]) -> Result<Access, ParseError>
-    ensures { Reads (λ x. x) result (access_in (texts arguments.now)) }
+fn access(arguments: &[&str]) -> Result<Access, LineError>
+    ensures { Gives (λ x. x) result (access_in (texts arguments.now)) }
 {
     match arguments {
-        [] | [_] => Err(ParseError::Malformed),
+        [] | [_] => Err(LineError::Wrong(Cause::Words)),
         [who, address, rest @ ..] => match *rest {
+            [] => Err(LineError::Wrong(Cause::Words)),
             [bytes] => {
                 let client = client(who)?;
-                let address = parse_address(address).ok_or(ParseError::Malformed)?;
-                let bytes = parse_access(bytes).ok_or(ParseError::Malformed)?;
+                let address = read_address(address)?;
+                let bytes = read_access(bytes)?;
                 Ok(Access {
                     client,
                     address,
@@ -94,17 +96,17 @@ fn access(arguments: &[&str]) -> Result<Access, ParseError>
                     index: 0,
                 })
             }
-            _ => Err(ParseError::Malformed),
+            _ => Err(LineError::Wrong(Cause::MoreWords)),
         },
     }
 }
 
 #[tactic(auto, unfolding(crate::specs::Entry::client_entry))]
-fn client_entry(alloc: Global, verb: ClientCall, arguments: &[&str]) -> Result<Entry, ParseError>
-    ensures { Reads (λ x. x) result (client_entry verb (texts arguments.now)) }
+fn client_entry(alloc: Global, verb: ClientCall, arguments: &[&str]) -> Result<Entry, LineError>
+    ensures { Gives (λ x. x) result (client_entry verb (texts arguments.now)) }
 {
     match arguments {
-        [] | [_] => Err(ParseError::Malformed),
+        [] | [_] => Err(LineError::Wrong(Cause::Words)),
         [who, place, rest @ ..] => {
             let c = client(who)?;
             let b = block(place)?;
@@ -118,10 +120,11 @@ fn client_entry(alloc: Global, verb: ClientCall, arguments: &[&str]) -> Result<E
 }
 
 #[tactic(auto, unfolding(crate::specs::Entry::home_entry))]
-fn home_entry(verb: HomeCall, arguments: &[&str]) -> Result<Entry, ParseError>
-    ensures { Reads (λ x. x) result (home_entry verb (texts arguments.now)) }
+fn home_entry(verb: HomeCall, arguments: &[&str]) -> Result<Entry, LineError>
+    ensures { Gives (λ x. x) result (home_entry verb (texts arguments.now)) }
 {
     match *arguments {
+        [] => Err(LineError::Wrong(Cause::Words)),
         [place] => {
             let b = block(place)?;
             Ok(Entry {
@@ -129,20 +132,20 @@ fn home_entry(verb: HomeCall, arguments: &[&str]) -> Result<Entry, ParseError>
                 shown: None,
             })
         }
-        _ => Err(ParseError::Malformed),
+        _ => Err(LineError::Wrong(Cause::MoreWords)),
     }
 }
 
 #[tactic(auto, unfolding(crate::specs::Entry::acquire_in))]
-fn acquire(alloc: Global, arguments: &[&str]) -> Result<Entry, ParseError>
-    ensures { Reads (λ x. x) result (acquire_in (texts arguments.now)) }
+fn acquire(alloc: Global, arguments: &[&str]) -> Result<Entry, LineError>
+    ensures { Gives (λ x. x) result (acquire_in (texts arguments.now)) }
 {
     match arguments {
-        [] | [_] | [_, _] => Err(ParseError::Malformed),
+        [] | [_] | [_, _] => Err(LineError::Wrong(Cause::Words)),
         [who, place, word, rest @ ..] => {
             let c = client(who)?;
             let b = block(place)?;
-            let param = parse_grow(word)?;
+            let param = read_grow(word)?;
             let shown = parse_shown(alloc, rest)?;
             Ok(Entry {
                 event: Event::SendAcquire(c, b, param),
@@ -153,15 +156,15 @@ fn acquire(alloc: Global, arguments: &[&str]) -> Result<Entry, ParseError>
 }
 
 #[tactic(auto, unfolding(crate::specs::Entry::release_in))]
-fn release(alloc: Global, arguments: &[&str]) -> Result<Entry, ParseError>
-    ensures { Reads (λ x. x) result (release_in (texts arguments.now)) }
+fn release(alloc: Global, arguments: &[&str]) -> Result<Entry, LineError>
+    ensures { Gives (λ x. x) result (release_in (texts arguments.now)) }
 {
     match arguments {
-        [] | [_] | [_, _] => Err(ParseError::Malformed),
+        [] | [_] | [_, _] => Err(LineError::Wrong(Cause::Words)),
         [who, place, word, rest @ ..] => {
             let c = client(who)?;
             let b = block(place)?;
-            let param = parse_prune(word)?;
+            let param = read_prune(word)?;
             let shown = parse_shown(alloc, rest)?;
             Ok(Entry {
                 event: Event::SendRelease(c, b, param),
@@ -172,11 +175,11 @@ fn release(alloc: Global, arguments: &[&str]) -> Result<Entry, ParseError>
 }
 
 #[tactic(auto, unfolding(crate::specs::Entry::probe_in))]
-fn probe(alloc: Global, arguments: &[&str]) -> Result<Entry, ParseError>
-    ensures { Reads (λ x. x) result (probe_in (texts arguments.now)) }
+fn probe(alloc: Global, arguments: &[&str]) -> Result<Entry, LineError>
+    ensures { Gives (λ x. x) result (probe_in (texts arguments.now)) }
 {
     match arguments {
-        [] | [_] | [_, _] => Err(ParseError::Malformed),
+        [] | [_] | [_, _] => Err(LineError::Wrong(Cause::Words)),
         [who, place, word, rest @ ..] => {
             let c = client(who)?;
             let b = block(place)?;
@@ -197,8 +200,8 @@ fn quiet(event: Event) -> Entry
 }
 
 #[tactic(auto, unfolding(crate::specs::Entry::entry_by))]
-fn entry_by(alloc: Global, verb: &str, arguments: &[&str]) -> Result<Entry, ParseError>
-    ensures { Reads (λ x. x) result (entry_by verb.now (texts arguments.now)) }
+fn entry_by(alloc: Global, verb: &str, arguments: &[&str]) -> Result<Entry, LineError>
+    ensures { Gives (λ x. x) result (entry_by verb.now (texts arguments.now)) }
 {
     match verb {
         "load" => Ok(quiet(Event::Load(access(arguments)?))),
@@ -219,23 +222,23 @@ fn entry_by(alloc: Global, verb: &str, arguments: &[&str]) -> Result<Entry, Pars
         "drop" => home_entry(HomeCall::Drop, arguments),
         "put" => home_entry(HomeCall::SendPut, arguments),
         "take_put_ack" => home_entry(HomeCall::TakePutAck, arguments),
-        _ => Err(ParseError::Malformed),
+        _ => Err(LineError::Wrong(Cause::Verb)),
     }
 }
 
 #[tactic(auto, unfolding(crate::specs::Entry::entry_in))]
-fn entry_in(alloc: Global, words: &[&str]) -> Result<Entry, ParseError>
-    ensures { Reads (λ x. x) result (entry_in (texts words.now)) }
+fn entry_in(alloc: Global, words: &[&str]) -> Result<Entry, LineError>
+    ensures { Gives (λ x. x) result (entry_in (texts words.now)) }
 {
     match words {
-        [] => Err(ParseError::Malformed),
+        [] => Err(LineError::Wrong(Cause::Words)),
         [verb, arguments @ ..] => entry_by(alloc, verb, arguments),
     }
 }
 
-/// The entry that a line writes. Malformed where the line is outside the grammar.
-pub fn read_entry(alloc: Global, line: &str) -> Result<Entry, ParseError>
-    ensures { Reads (λ x. x) result (entry_of line.now) }
+/// The entry that a line writes, or why it cannot be read.
+pub fn read_entry(alloc: Global, line: &str) -> Result<Entry, LineError>
+    ensures { Gives (λ x. x) result (entry_of line.now) }
 {
     let words = split_words(alloc, line)?;
     entry_in(alloc, &words)

@@ -1,20 +1,16 @@
-//! The lines of a record before its events.
-ghost use Rattle.std.specs.Prelude.{◌≡◌, IfOk, ◌<◌, ◌≤◌};
-ghost use Rattle.tl_script_words.specs.Reads.{Reads};
+//! The lines of a record of events before its events.
+ghost use Rattle.std.specs.Prelude.{◌≡◌, IfOk, ◌<◌, ◌≤◌, bytes_eq};
+ghost use Rattle.std.specs.Option.{option_map};
 ghost use Rattle.tl_script_words.specs.Words.{texts};
-ghost use Rattle.tlcheck_record.specs.Header.{blocks_in, bytes_in, field_of, image_in, in_range, image_of, is_blank, is_in_range, shape_in, shape_of};
+ghost use Rattle.tlcheck_record.specs.Cause.{Gives};
+ghost use Rattle.tlcheck_record.specs.Header.{blocks_in, bytes_in, field_of, image_line, image_of, in_range, is_in_range, key_text, shape_in, shape_of};
 
+use crate::cause::{Cause, LineError};
+use crate::words::{read_image, read_number};
 use std::alloc::Global;
 use tl_rules::Shape;
-use tl_script_words::{ParseError, parse_bytes, parse_number, split_words};
+use tl_script_words::split_words;
 use tl_types::{BLOCK_BYTES, BLOCKS};
-
-/// Whether a line says nothing: it is empty, or begins with `#`.
-pub fn is_blank(line: &[u8]) -> bool
-    ensures { result ≡ is_blank line.now }
-{
-    line.is_empty() || line[0] == b'#'
-}
 
 fn is_in_range(shape: Shape) -> bool
     ensures { result ≡ is_in_range shape }
@@ -30,8 +26,8 @@ fn is_in_range(shape: Shape) -> bool
 }
 
 /// The geometry that a line writes: `clients N block_bytes N memory_blocks N`.
-pub fn read_shape(alloc: Global, line: &str) -> Result<Shape, ParseError>
-    ensures value { Reads (λ x. x) result (shape_of line.now) }
+pub fn read_shape(alloc: Global, line: &str) -> Result<Shape, LineError>
+    ensures value { Gives (λ x. x) result (shape_of line.now) }
     ensures bytes { IfOk result (λ shape. (0 < shape.block_bytes) × (shape.block_bytes ≤ BLOCK_BYTES)) }
     ensures blocks { IfOk result (λ shape. shape.blocks ≤ BLOCKS) }
 {
@@ -39,20 +35,40 @@ pub fn read_shape(alloc: Global, line: &str) -> Result<Shape, ParseError>
     shape(&words)
 }
 
-/// The number at a key.
-fn field(name: &str, key: &str, value: &str) -> Result<u32, ParseError>
-    ensures { Reads (λ x. x) result (field_of name.now key.now value.now) }
+/// A key of the geometry.
+#[derive(Clone, Copy, Debug, PartialEq, Eq)]
+pub enum Key {
+    Clients,
+    BlockBytes,
+    MemoryBlocks,
+}
+
+/// Whether a word is this key.
+fn is_key(key: Key, word: &str) -> bool
+    ensures { result ≡ bytes_eq word.now (key_text key) }
 {
-    if key == name {
-        parse_number(value).ok_or(ParseError::Malformed)
+    match key {
+        Key::Clients => word == "clients",
+        Key::BlockBytes => word == "block_bytes",
+        Key::MemoryBlocks => word == "memory_blocks",
+    }
+}
+
+/// The number at a key.
+#[tactic(auto, unfolding(crate::specs::Header::field_of))]
+fn field(key: Key, word: &str, value: &str) -> Result<u32, LineError>
+    ensures { Gives (λ x. x) result (field_of key word.now value.now) }
+{
+    if is_key(key, word) {
+        Ok(read_number(value)?)
     } else {
-        Err(ParseError::Malformed)
+        Err(LineError::Wrong(Cause::Geometry))
     }
 }
 
 /// The geometry, where it is in range and nothing follows it.
-fn in_range(rest: &[&str], shape: Shape) -> Result<Shape, ParseError>
-    ensures value { Reads (λ x. x) result (in_range (texts rest.now) shape) }
+fn in_range(rest: &[&str], shape: Shape) -> Result<Shape, LineError>
+    ensures value { Gives (λ x. x) result (in_range (texts rest.now) shape) }
     ensures bytes { IfOk result (λ shape. (0 < shape.block_bytes) × (shape.block_bytes ≤ BLOCK_BYTES)) }
     ensures blocks { IfOk result (λ shape. shape.blocks ≤ BLOCKS) }
 {
@@ -61,23 +77,23 @@ fn in_range(rest: &[&str], shape: Shape) -> Result<Shape, ParseError>
             if is_in_range(shape) {
                 Ok(shape)
             } else {
-                Err(ParseError::Malformed)
+                Err(LineError::Wrong(Cause::Range))
             }
         }
-        [_, ..] => Err(ParseError::Malformed),
+        [_, ..] => Err(LineError::Wrong(Cause::MoreWords)),
     }
 }
 
 #[tactic(auto, unfolding(crate::specs::Header::blocks_in))]
-fn blocks(clients: u32, block_bytes: u32, words: &[&str]) -> Result<Shape, ParseError>
-    ensures value { Reads (λ x. x) result (blocks_in clients block_bytes (texts words.now)) }
+fn blocks(clients: u32, block_bytes: u32, words: &[&str]) -> Result<Shape, LineError>
+    ensures value { Gives (λ x. x) result (blocks_in clients block_bytes (texts words.now)) }
     ensures bytes { IfOk result (λ shape. (0 < shape.block_bytes) × (shape.block_bytes ≤ BLOCK_BYTES)) }
     ensures blocks { IfOk result (λ shape. shape.blocks ≤ BLOCKS) }
 {
     match words {
-        [] | [_] => Err(ParseError::Malformed),
+        [] | [_] => Err(LineError::Wrong(Cause::Geometry)),
         [key, value, rest @ ..] => {
-            let blocks = field("memory_blocks", key, value)?;
+            let blocks = field(Key::MemoryBlocks, key, value)?;
             in_range(
                 rest,
                 Shape {
@@ -91,55 +107,56 @@ fn blocks(clients: u32, block_bytes: u32, words: &[&str]) -> Result<Shape, Parse
 }
 
 #[tactic(auto, unfolding(crate::specs::Header::bytes_in))]
-fn bytes(clients: u32, words: &[&str]) -> Result<Shape, ParseError>
-    ensures value { Reads (λ x. x) result (bytes_in clients (texts words.now)) }
+fn bytes(clients: u32, words: &[&str]) -> Result<Shape, LineError>
+    ensures value { Gives (λ x. x) result (bytes_in clients (texts words.now)) }
     ensures bytes { IfOk result (λ shape. (0 < shape.block_bytes) × (shape.block_bytes ≤ BLOCK_BYTES)) }
     ensures blocks { IfOk result (λ shape. shape.blocks ≤ BLOCKS) }
 {
     match words {
-        [] | [_] => Err(ParseError::Malformed),
+        [] | [_] => Err(LineError::Wrong(Cause::Geometry)),
         [key, value, rest @ ..] => {
-            let block_bytes = field("block_bytes", key, value)?;
+            let block_bytes = field(Key::BlockBytes, key, value)?;
             blocks(clients, block_bytes, rest)
         }
     }
 }
 
 #[tactic(auto, unfolding(crate::specs::Header::shape_in))]
-fn shape(words: &[&str]) -> Result<Shape, ParseError>
-    ensures value { Reads (λ x. x) result (shape_in (texts words.now)) }
+fn shape(words: &[&str]) -> Result<Shape, LineError>
+    ensures value { Gives (λ x. x) result (shape_in (texts words.now)) }
     ensures bytes { IfOk result (λ shape. (0 < shape.block_bytes) × (shape.block_bytes ≤ BLOCK_BYTES)) }
     ensures blocks { IfOk result (λ shape. shape.blocks ≤ BLOCKS) }
 {
     match words {
-        [] | [_] => Err(ParseError::Malformed),
+        [] | [_] => Err(LineError::Wrong(Cause::Geometry)),
         [key, value, rest @ ..] => {
-            let clients = field("clients", key, value)?;
+            let clients = field(Key::Clients, key, value)?;
             bytes(clients, rest)
         }
     }
 }
 
-/// The image that a line writes: `image HEX`.
-pub fn read_image(alloc: Global, line: &str) -> Result<Vec<u8>, ParseError>
-    ensures { Reads (λ x. x.items) result (image_of line.now) }
+/// The image of a memory that a line writes: `image HEX`. None where the first word is another.
+pub fn read_image_line(
+    alloc: Global,
+    shape: Shape,
+    line: &str,
+) -> Result<Option<Vec<u8>>, LineError>
+    ensures { Gives (λ x. option_map (λ v. v.items) x) result (image_of shape line.now) }
 {
     let words = split_words(alloc, line)?;
-    image(alloc, &words)
+    image(alloc, shape, &words)
 }
 
-#[tactic(auto, unfolding(crate::specs::Header::image_in))]
-fn image(alloc: Global, words: &[&str]) -> Result<Vec<u8>, ParseError>
-    ensures { Reads (λ x. x.items) result (image_in (texts words.now)) }
+#[tactic(auto, unfolding(crate::specs::Header::image_line))]
+fn image(alloc: Global, shape: Shape, words: &[&str]) -> Result<Option<Vec<u8>>, LineError>
+    ensures { Gives (λ x. option_map (λ v. v.items) x) result (image_line shape (texts words.now)) }
 {
-    match *words {
-        [key, bytes] => {
-            if key == "image" {
-                parse_bytes(alloc, bytes)
-            } else {
-                Err(ParseError::Malformed)
-            }
-        }
-        _ => Err(ParseError::Malformed),
+    match words {
+        [] => Ok(None),
+        [word, rest @ ..] => match *word {
+            "image" => Ok(Some(read_image(alloc, shape, rest)?)),
+            _ => Ok(None),
+        },
     }
 }

@@ -2,6 +2,7 @@
 //! permitted, and the state of a block.
 #![tactic(auto)]
 
+mod cause;
 mod client;
 mod entries;
 mod header;
@@ -9,10 +10,15 @@ mod home;
 mod reason;
 mod shown;
 mod state;
+mod words;
 mod written;
 
+pub use cause::{Cause, LineError};
 pub use entries::read_entry;
-pub use header::{is_blank, read_image, read_shape};
+pub use header::{read_image_line, read_shape};
 pub use reason::{Place, Reason, Source};
 pub use state::{push_end, push_state};
+pub use words::{
+    is_blank, read_access, read_address, read_block_bytes, read_image, read_number, read_text,
+};
 pub use written::{EntryLine, EventLine, lines_are_read_back};

@@ -1,9 +1,11 @@
 //! Why an entry is not permitted, in words.
 ghost use Rattle.std.specs.Prelude.{◌≡◌, Some};
-ghost use Rattle.tlcheck_record.specs.Reason.{place_of, place_text, reason_text, rule_place, rule_sentence, rule_source, sentence_of, source_of, source_text};
+ghost use Rattle.tlcheck_record.specs.Reason.{bytes_text, difference_text, place_of, place_text, reason_text, rule_place, rule_sentence, rule_source, sentence_of, source_of, source_text};
 
 use std::fmt;
-use tlcheck_rules::{Breach, Rule};
+use tl_script_words::Hex;
+use tl_types::BlockBytes;
+use tlcheck_rules::{Breach, Difference, Rule};
 
 /// Who laid a rule down.
 #[derive(Clone, Copy, Debug, PartialEq, Eq)]
@@ -39,12 +41,13 @@ fn rule_sentence(rule: Rule) -> &'static str
         Rule::CopyIsReadable => "a load needs a copy at Branch or Tip",
         Rule::LoadHasItsBytes => "a load gets the bytes of its copy",
         Rule::CopyIsWritable => "a store needs a copy at Tip",
-        Rule::WaitsForNothing =>
-            "a client with an unanswered Acquire or Release of the block sends neither",
+        Rule::NoAcquireUnanswered => "no Acquire is sent between an Acquire and its Grant",
+        Rule::NoReleaseBesideAcquire => "no Release is sent between an Acquire and its Grant",
         Rule::StartsFromItsCopy =>
             "what is asked for or given up starts from the permission of the copy",
         Rule::ProbeWaits => "an answer to a Probe needs a Probe on B",
-        Rule::NoReleaseUnanswered => "no Probe is answered between a Release and its ReleaseAck",
+        Rule::NoReleaseUnanswered =>
+            "no ProbeAck, Acquire or Release is sent between a Release and its ReleaseAck",
         Rule::GrantIsFirst => "a Grant is taken where one is first on D",
         Rule::ReleaseAckIsFirst => "a ReleaseAck is taken where one is first on D",
         Rule::AcquireWaits => "an Acquire is accepted where one is on A",
@@ -52,12 +55,15 @@ fn rule_sentence(rule: Rule) -> &'static str
         Rule::RecordIsAbove => "a Probe asks for less than home records",
         Rule::ClientHasNoProbe => "no earlier Probe of the block is unanswered at the client",
         Rule::NoGrantIsPending => "no Grant of the block is pending",
+        Rule::OneGrantIsPending => "one Grant of the block is pending at a time",
         Rule::MessageIsOnC => "home takes a message of C where one waits",
         Rule::ServesThisClient => "a Grant answers the Acquire that home serves",
         Rule::OthersLeaveRoom =>
             "beside a Grant toT every other record is None, and beside a Grant toB none is Tip",
         Rule::HomeHasTheBlock => "home has a copy of the block",
         Rule::NoProbeIsPending => "no Probe of the block is unanswered",
+        Rule::NothingIsPending =>
+            "home gives up only a block of which no Probe and no Grant is pending",
         Rule::GrantAckWaits => "a GrantAck is taken where one is on E",
         Rule::ServesAnAcquire => "home serves an Acquire of the block",
         Rule::HomeLacksTheBlock => "home has no copy of the block",
@@ -79,21 +85,24 @@ fn rule_source(rule: Rule) -> Source
         Rule::BlockIsThere
         | Rule::ClientIsThere
         | Rule::AccessFits
-        | Rule::WaitsForNothing
-        | Rule::NoReleaseUnanswered
+        | Rule::NoReleaseBesideAcquire
         | Rule::ServesNoAcquire
         | Rule::RecordIsAbove
+        | Rule::OneGrantIsPending
         | Rule::HomeHasTheBlock
         | Rule::ServesAnAcquire
         | Rule::HomeLacksTheBlock
+        | Rule::NothingIsPending
         | Rule::NothingIsOutward
         | Rule::CopyIsDirty
         | Rule::NobodyIsRecorded => Source::Own,
         Rule::CopyIsReadable
         | Rule::LoadHasItsBytes
         | Rule::CopyIsWritable
+        | Rule::NoAcquireUnanswered
         | Rule::StartsFromItsCopy
         | Rule::ProbeWaits
+        | Rule::NoReleaseUnanswered
         | Rule::GrantIsFirst
         | Rule::ReleaseAckIsFirst
         | Rule::AcquireWaits
@@ -116,12 +125,15 @@ fn rule_place(rule: Rule) -> Place
 {
     match rule {
         Rule::CopyIsReadable | Rule::CopyIsWritable => Place::Permissions,
-        Rule::WaitsForNothing
+        Rule::NoAcquireUnanswered
+        | Rule::NoReleaseBesideAcquire
         | Rule::NoReleaseUnanswered
         | Rule::ServesNoAcquire
         | Rule::ClientHasNoProbe
         | Rule::NoGrantIsPending
+        | Rule::OneGrantIsPending
         | Rule::NoProbeIsPending
+        | Rule::NothingIsPending
         | Rule::CopyIsClean
         | Rule::CopyIsDirty
         | Rule::NobodyIsRecorded => Place::Rules,
@@ -149,41 +161,88 @@ fn rule_place(rule: Rule) -> Place
     }
 }
 
-/// What an entry breaks. It prints as the sentence, who laid it down, and where it stands.
-#[derive(Clone, Copy, Debug, PartialEq, Eq)]
-pub struct Reason(pub Breach);
+// The bytes that an event sends, and those that are shown.
+#[derive(Clone, Copy)]
+struct BytesText<'a> {
+    sent: &'a BlockBytes,
+    shown: &'a BlockBytes,
+}
 
-impl Reason {
-    /// What the entry does not keep, in one sentence.
-    pub fn sentence(self) -> &'static str
-        ensures { result.now ≡ sentence_of self.0 }
-    {
+impl fmt::Display for BytesText<'_> {
+    ghost output = { λ x. Some (bytes_text x.sent.now x.shown.now) };
+
+    fn fmt<W: fmt::Write>(&self, f: &mut fmt::Formatter<W>) -> fmt::Result {
+        let sent = Hex(self.sent.as_slice());
+        let shown = Hex(self.shown.as_slice());
+        write!(f, "it sends the bytes {sent}, and {shown} are shown")
+    }
+}
+
+// How what is shown differs from what an event sends.
+#[derive(Clone, Copy)]
+struct DifferenceText<'a>(&'a Difference);
+
+impl fmt::Display for DifferenceText<'_> {
+    ghost output = { λ x. Some (difference_text x.0.now) };
+
+    fn fmt<W: fmt::Write>(&self, f: &mut fmt::Formatter<W>) -> fmt::Result {
         match self.0 {
-            Breach::NotPermitted(rule) => rule_sentence(rule),
-            Breach::OutOfOrder => "a message is taken where it is the first of its channel",
-            Breach::NotAsShown => "what is shown is what the event sends",
+            Difference::NothingIsSent => f.write_str("it sends no message"),
+            Difference::OtherMessage(kind) => write!(f, "it sends another message, {kind}"),
+            Difference::OtherParam(kind) => write!(f, "it sends another parameter, {kind}"),
+            Difference::DataIsMissing(kind) => write!(f, "it sends {kind}, whose data is missing"),
+            Difference::DataIsExtra(kind) => write!(f, "it sends {kind}, which has no data"),
+            Difference::OtherBytes(sent, shown) => write!(f, "{}", BytesText { sent, shown }),
         }
     }
+}
 
+// What an entry does not keep, in one sentence.
+#[derive(Clone, Copy)]
+struct Sentence<'a>(&'a Breach);
+
+impl fmt::Display for Sentence<'_> {
+    ghost output = { λ x. Some (sentence_of x.0.now) };
+
+    fn fmt<W: fmt::Write>(&self, f: &mut fmt::Formatter<W>) -> fmt::Result {
+        match self.0 {
+            Breach::NotPermitted(rule) => f.write_str(rule_sentence(*rule)),
+            Breach::OutOfOrder => {
+                f.write_str("a message is taken where it is the first of its channel")
+            }
+            Breach::NotAsShown(difference) => write!(
+                f,
+                "what is shown is what the event sends: {}",
+                DifferenceText(difference)
+            ),
+        }
+    }
+}
+
+/// What an entry breaks. It prints as a sentence, who laid it down, and where it stands.
+#[derive(Clone, Copy, Debug)]
+pub struct Reason<'a>(pub &'a Breach);
+
+impl Reason<'_> {
     /// Whether it is TileLink's or this project's own.
     pub fn source(self) -> Source
-        ensures { result ≡ source_of self.0 }
+        ensures { result ≡ source_of self.entry.0.now }
     {
         match self.0 {
-            Breach::NotPermitted(rule) => rule_source(rule),
+            Breach::NotPermitted(rule) => rule_source(*rule),
             Breach::OutOfOrder => Source::TileLink,
-            Breach::NotAsShown => Source::Own,
+            Breach::NotAsShown(_) => Source::Own,
         }
     }
 
     /// Where it is written.
     pub fn place(self) -> Place
-        ensures { result ≡ place_of self.0 }
+        ensures { result ≡ place_of self.entry.0.now }
     {
         match self.0 {
-            Breach::NotPermitted(rule) => rule_place(rule),
+            Breach::NotPermitted(rule) => rule_place(*rule),
             Breach::OutOfOrder => Place::Channels,
-            Breach::NotAsShown => Place::Verdict,
+            Breach::NotAsShown(_) => Place::Verdict,
         }
     }
 }
@@ -213,14 +272,14 @@ impl fmt::Display for Place {
     }
 }
 
-impl fmt::Display for Reason {
-    ghost output = { λ x. Some (reason_text x.0) };
+impl fmt::Display for Reason<'_> {
+    ghost output = { λ x. Some (reason_text x.0.now) };
 
     fn fmt<W: fmt::Write>(&self, f: &mut fmt::Formatter<W>) -> fmt::Result {
         write!(
             f,
             "{} ({}), {}",
-            self.sentence(),
+            Sentence(self.0),
             self.source(),
             self.place()
         )

@@ -1,5 +1,5 @@
 //! An entry as the line that stands for it.
-ghost use Rattle.std.specs.Prelude.{◌≡◌, ◌++◌, Some, None};
+ghost use Rattle.std.specs.Prelude.{◌≡◌, ◌++◌, Some, None, Ok};
 ghost use Rattle.std.specs.Option.{option_map};
 ghost use Rattle.tl_protocol.specs.declared.event.Event.{Event};
 ghost use Rattle.tlcheck_rules.specs.declared.entry.Entry.{Entry};
@@ -172,6 +172,6 @@ impl fmt::Display for EntryLine<'_> {
 /// of 1 to 8 bytes, and what it shows is a message between home and a client. The stamp and the index of an access are not written.
 pub fn lines_are_read_back()
     ensures entry { (entry : Entry) → HasLine entry.event → MayShow entry.event entry.shown
-        → entry_of (entry_text entry) ≡ Some (plain_entry entry) }
-    ensures event { (event : Event) → HasLine event → entry_of (event_text event) ≡ Some (record { event = plain_event event; shown = None }) }
+        → entry_of (entry_text entry) ≡ Ok (plain_entry entry) }
+    ensures event { (event : Event) → HasLine event → entry_of (event_text event) ≡ Ok (record { event = plain_event event; shown = None }) }
 {}

@@ -1,5 +1,5 @@
 -- What the judge's state says of an entry is what the log says that it follows.
-use Rattle.std.proofs.Common.{◌≡◌, ◌≢◌, ◌<◌, ◌≤◌, ◌↔◌, ℕ, zero, suc, Bool, true, false, cond, List, [], ◌∷◌, ◌++◌, map, drop, Option, Some, None, IfSome, refl, sym, ◌∙◌, ap, subst, arith, inl, inr, eq-eqb, append_assoc}
+use Rattle.std.proofs.Common.{◌≡◌, ◌≢◌, ◌<◌, ◌≤◌, ◌↔◌, ℕ, zero, suc, Bool, true, false, cond, List, [], ◌∷◌, ◌++◌, map, drop, Option, Some, None, IfSome, IsSome, refl, sym, ◌∙◌, ap, subst, arith, inl, inr, eq-eqb, append_assoc}
 use Rattle.std.specs.Option.{option_map}
 use Rattle.std.proofs.lemmas.List.{append-nil}
 use Rattle.std.proofs.lemmas.Bool.{cases_eq, cases_lt, ne_eqb}
@@ -18,12 +18,16 @@ use Rattle.tl_protocol_lanes.specs.Lanes.{LinkChannel, Post, lane_of, lane_after
 use Rattle.tl_protocol_lanes.specs.Lawful.{IsNext, Lawful}
 use Rattle.tl_protocol_lanes.proofs.Logs.{empty_is_lawful, lanes_grow_by_one, lawful_grows_by_one}
 use Rattle.tl_rules.specs.Plain.{IsReset, state_of_plain}
+use Rattle.tlcheck_rules.specs.declared.difference.Difference.{Difference}
+use Rattle.tlcheck_rules.specs.declared.difference.Difference.TheVariants.{NothingIsSent, OtherMessage, OtherParam, DataIsMissing, DataIsExtra, OtherBytes}
 use Rattle.tlcheck_rules.specs.declared.entry.Entry.{Entry}
+use Rattle.tlcheck_rules.specs.declared.entry.Shown.{Shown}
 use Rattle.tlcheck_rules.specs.declared.judge.Breach.{Breach}
 use Rattle.tlcheck_rules.specs.declared.judge.Breach.TheVariants.{NotPermitted, OutOfOrder, NotAsShown}
 use Rattle.tlcheck_rules.specs.declared.rule.Rule.{Rule}
 use Rattle.tlcheck_rules.specs.declared.rule.Rule.TheVariants.{BlockIsThere}
-use Rattle.tlcheck_rules.specs.Judged.{Allows, Breaks, Carries, EveryLawfulRecordIsALawfulLog, Follows, NoBrokenEntryIsPermitted, IsLawfulAfter, IsPermitted, IsShown, JudgeState, Rejects, events_of, own_block}
+use Rattle.tlcheck_rules.specs.Judged.{Allows, Breaks, Carries, EveryLawfulRecordIsALawfulLog, Follows, NoBrokenEntryIsPermitted, IsLawfulAfter, IsPermitted, IsShown, JudgeState, Rejects, events_of, own_block, post_after}
+use Rattle.tlcheck_rules.specs.Differs.{Differs, DiffersFrom, IsMessage, bare_of, name_of}
 use Rattle.tlcheck_rules.specs.Order.{HeadIs, IsNextIn, joined, place_at, post_at, removed, waiting_in}
 use Rattle.tlcheck_rules.specs.Rules.{IsFirstBroken, Keeps, KeepsBefore, client_of, rule_at}
 use Rattle.tlcheck_rules.proofs.Rules.{block_first, no_block, not_permitted}
@@ -223,10 +227,10 @@ module _ (image : List ℕ) (log : List Event) (j : JudgeState) (f : Follows j.p
     may_there entry.event r.0,
     λ first. r.1 ((next_is (own_block j entry.event) (block_of j.plain.shape entry.event) entry.event r.0.1).1 first),
   )
-  rejected entry NotAsShown r = (
+  rejected entry (NotAsShown difference) r = (
     may_there entry.event r.0,
     (next_is (own_block j entry.event) (block_of j.plain.shape entry.event) entry.event r.0.1).0 r.1,
-    λ shown. r.2 (subst (λ (b : Block). IsShown (post_of j.plain.shape b entry.event) entry.shown) (same_block entry.event r.0.0) shown),
+    subst (λ (b : Block). Differs (post_of j.plain.shape b entry.event) entry.shown difference) (sym (same_block entry.event r.0.0)) r.2,
   )
 
   -- the judge goes on with an event that is carried out
@@ -293,8 +297,24 @@ goes_on shape image log (entry ∷ rest) lawful h =
 pub every_lawful_record : EveryLawfulRecordIsALawfulLog
 every_lawful_record shape image entries h = goes_on shape image [] entries (empty_is_lawful shape image).0 h
 
+-- what differs from a message is not that message
+no_message : (body : Body) (shown : Shown) (d : Difference) → DiffersFrom body shown d → ¬ IsMessage body shown
+no_message body shown NothingIsSent h m = h
+no_message body shown (OtherMessage sent) h m = h.1 (ap name_of (h.0 ∙ m.0))
+no_message body shown (OtherParam sent) h m = h.2 (ap bare_of (h.0 ∙ m.0))
+no_message body shown (DataIsMissing sent) h m = h.3 (h.0 ∙ m.0, subst (λ (b : Option (List ℕ)). IsSome b) m.1 h.2)
+no_message body shown (DataIsExtra sent) h m = h.3 (h.0 ∙ m.0, sym m.1 ∙ h.2)
+no_message body shown (OtherBytes sent seen) h m = let e = m.1 in let f = h.1 in let g = h.2 in h.3 (cc)
+
+-- and what differs from what is sent is not as it is shown
+differs : (post : Option Post) (shown : Option Shown) (d : Difference) → Differs post shown d → ¬ IsShown post shown
+differs post None d h s = h
+differs None (Some shown) d h s = s
+differs (Some post) (Some shown) d h s = no_message post.body shown d h s
+
 -- an entry that breaks something is not permitted
 pub no_broken_entry : NoBrokenEntryIsPermitted
 no_broken_entry shape image log entry (NotPermitted rule) b p = b.1 p.may
 no_broken_entry shape image log entry OutOfOrder b p = b.1 p.first
-no_broken_entry shape image log entry NotAsShown b p = b.2 p.shown
+no_broken_entry shape image log entry (NotAsShown difference) b p =
+    differs (post_after shape image log entry.event) entry.shown difference b.2 p.shown

@@ -1,5 +1,7 @@
 -- The rules that an event is under are, together, what permits it.
-use Rattle.std.proofs.Common.{◌≡◌, ℕ, ◌<◌, zero, suc, List, [], ◌∷◌, length, get_or, refl, arith, lit<, sym, subst, ap, ◌+◌, ◌≤◌, ◌↔◌, below_more, Option, Some, None}
+use Rattle.std.proofs.Common.{◌≡◌, ◌≢◌, ℕ, ◌<◌, zero, suc, List, [], ◌∷◌, length, get_or, refl, arith, lit<, sym, subst, ap, ◌+◌, ◌≤◌, ◌↔◌, below_more, Option, Some, None}
+use Rattle.tl_types.specs.declared.wait.Awaited.{Awaited}
+use Rattle.tl_types.specs.declared.wait.Awaited.TheVariants.{Nothing, ForGrant, ForReleaseAck}
 use Rattle.tl_protocol.specs.declared.event.Event.{Event}
 use Rattle.tl_protocol.specs.declared.event.Event.TheVariants.{Load, Store, SendAcquire, SendRelease, AnswerProbe, TakeGrant, TakeReleaseAck, AcceptAcquire, SendProbe, TakeC, SendGrant, TakeGrantAck, SendGet, Serve, TakeData, Drop, SendPut, TakePutAck}
 use Rattle.tl_protocol.specs.declared.shape.Shape.{Shape}
@@ -21,46 +23,66 @@ at_place P [] d k h lt = absurd (omega (arith, lt))
 at_place P (x ∷ xs) d zero h lt = h.0
 at_place P (x ∷ xs) d (suc k) h lt = at_place P xs d k h.1 (omega (arith, lt))
 
+-- a client that waits neither for a Grant nor for a ReleaseAck waits for nothing, and the other way round
+waits_for_nothing : (w : Awaited) → w ≢ ForGrant → w ≢ ForReleaseAck → w ≡ Nothing
+waits_for_nothing Nothing g r = refl
+waits_for_nothing ForGrant g r = absurd (g refl)
+waits_for_nothing ForReleaseAck g r = absurd (r refl)
+
+not_for_grant : (w : Awaited) → w ≡ Nothing → w ≢ ForGrant
+not_for_grant w h = λ g. cc
+
+not_for_release : (w : Awaited) → w ≡ Nothing → w ≢ ForReleaseAck
+not_for_release w h = λ r. cc
+
 -- an event that keeps its rules is permitted
 pub permitted : (shape : Shape) (s : Block) (e : Event) → KeepsBefore shape s e (length (rules_of e)) → May shape s e
 permitted shape s (Load access) h = (h 0 (lit< tt), (h 1 (lit< tt), (h 4 (lit< tt)).1))
 permitted shape s (Store access) h = (h 0 (lit< tt), (h 1 (lit< tt), (h 2 (lit< tt), (h 3 (lit< tt)).1)))
-permitted shape s (SendAcquire c block grow) h = (h 0 (lit< tt), (h 1 (lit< tt), ((h 2 (lit< tt)).1, (h 3 (lit< tt)).1)))
-permitted shape s (SendRelease c block prune) h = (h 0 (lit< tt), (h 1 (lit< tt), ((h 2 (lit< tt)).1, (h 3 (lit< tt)).1)))
+permitted shape s (SendAcquire c block grow) h =
+    (h 0 (lit< tt), (h 1 (lit< tt), (waits_for_nothing (s.client c).wait (h 2 (lit< tt)).1 (h 3 (lit< tt)).1, (h 4 (lit< tt)).1)))
+permitted shape s (SendRelease c block prune) h =
+    (h 0 (lit< tt), (h 1 (lit< tt), (waits_for_nothing (s.client c).wait (h 3 (lit< tt)).1 (h 2 (lit< tt)).1, (h 4 (lit< tt)).1)))
 permitted shape s (AnswerProbe c block) h = (h 0 (lit< tt), (h 1 (lit< tt), ((h 2 (lit< tt)).1, (h 3 (lit< tt)).1)))
 permitted shape s (TakeGrant c block) h = (h 0 (lit< tt), (h 1 (lit< tt), (h 2 (lit< tt)).1))
 permitted shape s (TakeReleaseAck c block) h = (h 0 (lit< tt), (h 1 (lit< tt), (h 2 (lit< tt)).1))
 permitted shape s (AcceptAcquire c block) h = (h 0 (lit< tt), (h 1 (lit< tt), (h 2 (lit< tt)).1, h 3 (lit< tt)))
 permitted shape s (SendProbe c block asked) h = (h 0 (lit< tt), (h 1 (lit< tt), ((h 2 (lit< tt)).1, (h 3 (lit< tt)).1, h 4 (lit< tt))))
 permitted shape s (TakeC c block) h = (h 0 (lit< tt), (h 1 (lit< tt), (h 2 (lit< tt)).1))
-permitted shape s (SendGrant c block) h = (h 0 (lit< tt), (h 1 (lit< tt), (h 3 (lit< tt), h 4 (lit< tt), h 5 (lit< tt), h 6 (lit< tt))))
+permitted shape s (SendGrant c block) h = (h 0 (lit< tt), (h 1 (lit< tt), (h 6 (lit< tt), h 3 (lit< tt), h 4 (lit< tt), h 5 (lit< tt))))
 permitted shape s (TakeGrantAck c block) h = (h 0 (lit< tt), (h 1 (lit< tt), (h 2 (lit< tt)).1))
 permitted shape s (SendGet block) h = (h 0 (lit< tt), (h 1 (lit< tt), h 2 (lit< tt), h 3 (lit< tt)))
 permitted shape s (Serve block) h = (h 0 (lit< tt), h 1 (lit< tt))
 permitted shape s (TakeData block) h = (h 0 (lit< tt), h 1 (lit< tt))
-permitted shape s (Drop block) h = (h 0 (lit< tt), (h 2 (lit< tt), record { nobody = h 3 (lit< tt); no_probe = h 4 (lit< tt); no_grant = h 5 (lit< tt); not_accepted = h 6 (lit< tt); quiet = h 7 (lit< tt) }))
-permitted shape s (SendPut block) h = (h 0 (lit< tt), (h 2 (lit< tt), record { nobody = h 3 (lit< tt); no_probe = h 4 (lit< tt); no_grant = h 5 (lit< tt); not_accepted = h 6 (lit< tt); quiet = h 7 (lit< tt) }))
+permitted shape s (Drop block) h =
+    (h 0 (lit< tt), (h 6 (lit< tt), record { nobody = h 2 (lit< tt); no_probe = (h 1 (lit< tt)).0; no_grant = (h 1 (lit< tt)).1; not_accepted = h 3 (lit< tt); quiet = h 4 (lit< tt) }))
+permitted shape s (SendPut block) h =
+    (h 0 (lit< tt), (h 6 (lit< tt), record { nobody = h 2 (lit< tt); no_probe = (h 1 (lit< tt)).0; no_grant = (h 1 (lit< tt)).1; not_accepted = h 3 (lit< tt); quiet = h 4 (lit< tt) }))
 permitted shape s (TakePutAck block) h = (h 0 (lit< tt), h 1 (lit< tt))
 
 -- a permitted event keeps each of its rules
 each_kept : (shape : Shape) (s : Block) (e : Event) → May shape s e → Each (Keeps shape s e) (rules_of e)
 each_kept shape s (Load access) m = (m.0, (m.1.0, (m.1.1.0, ((m.1.0, m.1.1.1), ((m.1.0, m.1.1), tt)))))
 each_kept shape s (Store access) m = (m.0, (m.1.0, (m.1.1.0, ((m.1.0, m.1.1.1), tt))))
-each_kept shape s (SendAcquire c block grow) m = (m.0, (m.1.0, ((m.1.0, m.1.1.0), ((m.1.0, m.1.1.1), tt))))
-each_kept shape s (SendRelease c block prune) m = (m.0, (m.1.0, ((m.1.0, m.1.1.0), ((m.1.0, m.1.1.1), tt))))
+each_kept shape s (SendAcquire c block grow) m =
+    (m.0, (m.1.0, ((m.1.0, not_for_grant _ m.1.1.0), ((m.1.0, not_for_release _ m.1.1.0), ((m.1.0, m.1.1.1), tt)))))
+each_kept shape s (SendRelease c block prune) m =
+    (m.0, (m.1.0, ((m.1.0, not_for_release _ m.1.1.0), ((m.1.0, not_for_grant _ m.1.1.0), ((m.1.0, m.1.1.1), tt)))))
 each_kept shape s (AnswerProbe c block) m = (m.0, (m.1.0, ((m.1.0, m.1.1.0), ((m.1.0, m.1.1.1), tt))))
 each_kept shape s (TakeGrant c block) m = (m.0, (m.1.0, ((m.1.0, m.1.1), tt)))
 each_kept shape s (TakeReleaseAck c block) m = (m.0, (m.1.0, ((m.1.0, m.1.1), tt)))
 each_kept shape s (AcceptAcquire c block) m = (m.0, (m.1.0, ((m.1.0, m.1.1), (m.1.2, tt))))
 each_kept shape s (SendProbe c block asked) m = (m.0, (m.1.0, ((m.1.0, m.1.1.0), ((m.1.0, m.1.1.1), (m.1.1.2, tt)))))
 each_kept shape s (TakeC c block) m = (m.0, (m.1.0, ((m.1.0, m.1.1), tt)))
-each_kept shape s (SendGrant c block) m = (m.0, (m.1.0, ((m.1.1.0.0, m.1.1.0.1), (m.1.1.0, (m.1.1.1, (m.1.1.2, (m.1.1.3, tt)))))))
+each_kept shape s (SendGrant c block) m = (m.0, (m.1.0, ((m.1.1.0.0, m.1.1.0.1), (m.1.1.1, (m.1.1.2, (m.1.1.3, (m.1.1.0, tt)))))))
 each_kept shape s (TakeGrantAck c block) m = (m.0, (m.1.0, ((m.1.0, m.1.1), tt)))
 each_kept shape s (SendGet block) m = (m.0, (m.1.0, (m.1.1, (m.1.2, tt))))
 each_kept shape s (Serve block) m = (m.0, (m.1, tt))
 each_kept shape s (TakeData block) m = (m.0, (m.1, tt))
-each_kept shape s (Drop block) m = (m.0, ((m.1.0.0, m.1.0.1), (m.1.0, (m.1.1.nobody, (m.1.1.no_probe, (m.1.1.no_grant, (m.1.1.not_accepted, (m.1.1.quiet, tt))))))))
-each_kept shape s (SendPut block) m = (m.0, ((m.1.0.0, m.1.0.1), (m.1.0, (m.1.1.nobody, (m.1.1.no_probe, (m.1.1.no_grant, (m.1.1.not_accepted, (m.1.1.quiet, tt))))))))
+each_kept shape s (Drop block) m =
+    (m.0, ((m.1.1.no_probe, m.1.1.no_grant), (m.1.1.nobody, (m.1.1.not_accepted, (m.1.1.quiet, ((m.1.0.0, m.1.0.1), (m.1.0, tt)))))))
+each_kept shape s (SendPut block) m =
+    (m.0, ((m.1.1.no_probe, m.1.1.no_grant), (m.1.1.nobody, (m.1.1.not_accepted, (m.1.1.quiet, ((m.1.0.0, m.1.0.1), (m.1.0, tt)))))))
 each_kept shape s (TakePutAck block) m = (m.0, (m.1, tt))
 
 pub kept : (shape : Shape) (s : Block) (e : Event) → May shape s e → KeepsBefore shape s e (length (rules_of e))

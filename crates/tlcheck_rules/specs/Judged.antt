@@ -1,6 +1,5 @@
 -- What it is for a record's events to be permitted one after another, and which rule the first breaks that is not.
 use Rattle.std.specs.Prelude.{◌≡◌, ℕ, ◌<◌, List, [], ◌∷◌, ◌++◌, map, Option, Some, None}
-use Rattle.tl_types.specs.Bodies.{body_kind, body_bytes}
 use Rattle.tl_types.specs.declared.channel.Channel.{Channel}
 use Rattle.tl_protocol.specs.declared.event.Event.{Event}
 use Rattle.tl_protocol.specs.declared.shape.Shape.{Shape}
@@ -10,6 +9,7 @@ use Rattle.tl_protocol_lanes.specs.Lanes.{Post, post_of, take_of, lane_of}
 use Rattle.tl_protocol_lanes.specs.Lawful.{TakesFirst, Lawful}
 use Rattle.tl_rules.specs.Plain.{state_of_plain, IsStep}
 use Rattle.tl_rules.specs.PlainState.{PlainState}
+use Rattle.tlcheck_rules.specs.Differs.{Differs, IsMessage}
 use Rattle.tlcheck_rules.specs.Order.{Waiting, IsNextIn, joined, removed, waiting_in}
 use Rattle.tlcheck_rules.specs.Rules.{IsFirstBroken}
 use Rattle.tlcheck_rules.specs.declared.entry.Entry.{Entry}
@@ -22,7 +22,7 @@ use Rattle.tlcheck_rules.specs.declared.judge.Breach.TheVariants.{NotPermitted, 
 -- a message that is sent is the one that is shown
 abbrev pub IsSent : Option Post → Shown → Type 0
 IsSent None shown = ⊥
-IsSent (Some post) shown = (body_kind post.body ≡ shown.kind) × (body_bytes post.body ≡ shown.bytes)
+IsSent (Some post) shown = IsMessage post.body shown
 
 -- what is shown of an event, if anything is, is what it sends
 abbrev pub IsShown : Option Post → Option Shown → Type 0
@@ -40,16 +40,16 @@ pub record IsPermitted (shape : Shape) (image : List ℕ) (log : List Event) (en
   pub first : TakesFirst shape image log entry.event
   pub shown : IsShown (post_after shape image log entry.event) entry.shown
 
--- the first test that an entry does not meet after a log: a rule of the protocol, the order of its channel, what is shown
+-- the first test that an entry does not meet after a log: a rule of the protocol, the order of its channel, what is shown, and how that differs
 abbrev pub Breaks : Shape → List ℕ → List Event → Entry → Breach → Type 0
 Breaks shape image log entry (NotPermitted rule) =
     IsFirstBroken shape (end_of shape image log (block_of shape entry.event)) entry.event (Some rule)
     × (¬ MayNext shape (end_of shape image log) entry.event)
 Breaks shape image log entry OutOfOrder =
     MayNext shape (end_of shape image log) entry.event × (¬ TakesFirst shape image log entry.event)
-Breaks shape image log entry NotAsShown =
+Breaks shape image log entry (NotAsShown difference) =
     MayNext shape (end_of shape image log) entry.event × TakesFirst shape image log entry.event
-    × (¬ IsShown (post_after shape image log entry.event) entry.shown)
+    × Differs (post_after shape image log entry.event) entry.shown difference
 
 -- ## A record
 
@@ -102,10 +102,10 @@ Rejects judge entry (NotPermitted rule) =
 Rejects judge entry OutOfOrder =
     May judge.plain.shape (own_block judge entry.event) entry.event
     × (¬ IsNextIn judge.order (block_of judge.plain.shape entry.event) (take_of entry.event))
-Rejects judge entry NotAsShown =
+Rejects judge entry (NotAsShown difference) =
     May judge.plain.shape (own_block judge entry.event) entry.event
     × IsNextIn judge.order (block_of judge.plain.shape entry.event) (take_of entry.event)
-    × (¬ IsShown (post_of judge.plain.shape (own_block judge entry.event) entry.event) entry.shown)
+    × Differs (post_of judge.plain.shape (own_block judge entry.event) entry.event) entry.shown difference
 
 -- An event is carried out, in the map and in the order of the channels.
 pub record Carries (old new : JudgeState) (e : Event) : Type 0 where

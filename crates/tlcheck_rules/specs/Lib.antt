@@ -1,3 +1,4 @@
+pub mod Differs
 pub mod Judged
 pub mod Order
 pub mod Rules

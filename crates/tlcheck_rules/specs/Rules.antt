@@ -6,7 +6,7 @@ use Rattle.tl_types.specs.declared.permission.Perm.{Perm}
 use Rattle.tl_types.specs.declared.permission.Perm.TheVariants.{None as p_None, Tip}
 use Rattle.tl_types.specs.declared.permission.Grow.{Grow}
 use Rattle.tl_types.specs.declared.permission.ProbeCap.{ProbeCap}
-use Rattle.tl_types.specs.declared.wait.Awaited.TheVariants.{Nothing, ForReleaseAck}
+use Rattle.tl_types.specs.declared.wait.Awaited.TheVariants.{ForGrant, ForReleaseAck}
 use Rattle.tl_protocol.specs.Access.{FitsBlock, MayLoad}
 use Rattle.tl_protocol.specs.Client.{NoProbePending, MayTakeGrant, MayTakeReleaseAck}
 use Rattle.tl_protocol.specs.Copy.{perm_of}
@@ -22,7 +22,7 @@ use Rattle.tl_protocol.specs.declared.home.Line.{Line}
 use Rattle.tl_protocol.specs.declared.home.Outward.TheVariants.{Quiet, PutAck}
 use Rattle.tl_protocol.specs.declared.shape.Shape.{Shape}
 use Rattle.tlcheck_rules.specs.declared.rule.Rule.{Rule}
-use Rattle.tlcheck_rules.specs.declared.rule.Rule.TheVariants.{BlockIsThere, ClientIsThere, AccessFits, CopyIsReadable, LoadHasItsBytes, CopyIsWritable, WaitsForNothing, StartsFromItsCopy, ProbeWaits, NoReleaseUnanswered, GrantIsFirst, ReleaseAckIsFirst, AcquireWaits, ServesNoAcquire, RecordIsAbove, ClientHasNoProbe, NoGrantIsPending, MessageIsOnC, ServesThisClient, OthersLeaveRoom, HomeHasTheBlock, NoProbeIsPending, GrantAckWaits, ServesAnAcquire, HomeLacksTheBlock, NothingIsOutward, RequestIsOutward, DataIsOutward, PutAckIsOutward, CopyIsClean, CopyIsDirty, NobodyIsRecorded}
+use Rattle.tlcheck_rules.specs.declared.rule.Rule.TheVariants.{BlockIsThere, ClientIsThere, AccessFits, CopyIsReadable, LoadHasItsBytes, CopyIsWritable, NoAcquireUnanswered, NoReleaseBesideAcquire, StartsFromItsCopy, ProbeWaits, NoReleaseUnanswered, GrantIsFirst, ReleaseAckIsFirst, AcquireWaits, ServesNoAcquire, RecordIsAbove, ClientHasNoProbe, NoGrantIsPending, OneGrantIsPending, MessageIsOnC, ServesThisClient, OthersLeaveRoom, HomeHasTheBlock, NoProbeIsPending, NothingIsPending, GrantAckWaits, ServesAnAcquire, HomeLacksTheBlock, NothingIsOutward, RequestIsOutward, DataIsOutward, PutAckIsOutward, CopyIsClean, CopyIsDirty, NobodyIsRecorded}
 
 -- ## What an event names
 
@@ -110,25 +110,25 @@ cap_of (Drop block) = None
 cap_of (SendPut block) = None
 cap_of (TakePutAck block) = None
 
--- the rules that an event is under, in order
+-- the rules that an event is under, in the order of docs/PROTOCOL.md, Events, state and runs
 abbrev pub rules_of : Event → List Rule
 rules_of (Load access) = BlockIsThere ∷ ClientIsThere ∷ AccessFits ∷ CopyIsReadable ∷ LoadHasItsBytes ∷ []
 rules_of (Store access) = BlockIsThere ∷ ClientIsThere ∷ AccessFits ∷ CopyIsWritable ∷ []
-rules_of (SendAcquire c block grow) = BlockIsThere ∷ ClientIsThere ∷ WaitsForNothing ∷ StartsFromItsCopy ∷ []
-rules_of (SendRelease c block prune) = BlockIsThere ∷ ClientIsThere ∷ WaitsForNothing ∷ StartsFromItsCopy ∷ []
+rules_of (SendAcquire c block grow) = BlockIsThere ∷ ClientIsThere ∷ NoAcquireUnanswered ∷ NoReleaseUnanswered ∷ StartsFromItsCopy ∷ []
+rules_of (SendRelease c block prune) = BlockIsThere ∷ ClientIsThere ∷ NoReleaseUnanswered ∷ NoReleaseBesideAcquire ∷ StartsFromItsCopy ∷ []
 rules_of (AnswerProbe c block) = BlockIsThere ∷ ClientIsThere ∷ ProbeWaits ∷ NoReleaseUnanswered ∷ []
 rules_of (TakeGrant c block) = BlockIsThere ∷ ClientIsThere ∷ GrantIsFirst ∷ []
 rules_of (TakeReleaseAck c block) = BlockIsThere ∷ ClientIsThere ∷ ReleaseAckIsFirst ∷ []
 rules_of (AcceptAcquire c block) = BlockIsThere ∷ ClientIsThere ∷ AcquireWaits ∷ ServesNoAcquire ∷ []
 rules_of (SendProbe c block cap) = BlockIsThere ∷ ClientIsThere ∷ RecordIsAbove ∷ ClientHasNoProbe ∷ NoGrantIsPending ∷ []
 rules_of (TakeC c block) = BlockIsThere ∷ ClientIsThere ∷ MessageIsOnC ∷ []
-rules_of (SendGrant c block) = BlockIsThere ∷ ClientIsThere ∷ ServesThisClient ∷ OthersLeaveRoom ∷ HomeHasTheBlock ∷ NoProbeIsPending ∷ NoGrantIsPending ∷ []
+rules_of (SendGrant c block) = BlockIsThere ∷ ClientIsThere ∷ ServesThisClient ∷ HomeHasTheBlock ∷ NoProbeIsPending ∷ OneGrantIsPending ∷ OthersLeaveRoom ∷ []
 rules_of (TakeGrantAck c block) = BlockIsThere ∷ ClientIsThere ∷ GrantAckWaits ∷ []
 rules_of (SendGet block) = BlockIsThere ∷ ServesAnAcquire ∷ HomeLacksTheBlock ∷ NothingIsOutward ∷ []
 rules_of (Serve block) = BlockIsThere ∷ RequestIsOutward ∷ []
 rules_of (TakeData block) = BlockIsThere ∷ DataIsOutward ∷ []
-rules_of (Drop block) = BlockIsThere ∷ HomeHasTheBlock ∷ CopyIsClean ∷ NobodyIsRecorded ∷ NoProbeIsPending ∷ NoGrantIsPending ∷ ServesNoAcquire ∷ NothingIsOutward ∷ []
-rules_of (SendPut block) = BlockIsThere ∷ HomeHasTheBlock ∷ CopyIsDirty ∷ NobodyIsRecorded ∷ NoProbeIsPending ∷ NoGrantIsPending ∷ ServesNoAcquire ∷ NothingIsOutward ∷ []
+rules_of (Drop block) = BlockIsThere ∷ NothingIsPending ∷ NobodyIsRecorded ∷ ServesNoAcquire ∷ NothingIsOutward ∷ HomeHasTheBlock ∷ CopyIsClean ∷ []
+rules_of (SendPut block) = BlockIsThere ∷ NothingIsPending ∷ NobodyIsRecorded ∷ ServesNoAcquire ∷ NothingIsOutward ∷ HomeHasTheBlock ∷ CopyIsDirty ∷ []
 rules_of (TakePutAck block) = BlockIsThere ∷ PutAckIsOutward ∷ []
 
 -- ## What each rule says
@@ -145,7 +145,8 @@ Keeps shape s e AccessFits = IfSome (access_of e) (λ access. FitsBlock shape ac
 Keeps shape s e CopyIsReadable = OfClient shape s e (λ k. perm_of k.held ≢ p_None)
 Keeps shape s e LoadHasItsBytes = OfClient shape s e (λ k. IfSome (access_of e) (λ access. MayLoad shape k access))
 Keeps shape s e CopyIsWritable = OfClient shape s e (λ k. perm_of k.held ≡ Tip)
-Keeps shape s e WaitsForNothing = OfClient shape s e (λ k. k.wait ≡ Nothing)
+Keeps shape s e NoAcquireUnanswered = OfClient shape s e (λ k. k.wait ≢ ForGrant)
+Keeps shape s e NoReleaseBesideAcquire = OfClient shape s e (λ k. k.wait ≢ ForGrant)
 Keeps shape s e StartsFromItsCopy = OfClient shape s e (λ k. IfSome (from_of e) (λ from. perm_of k.held ≡ from))
 Keeps shape s e ProbeWaits = OfClient shape s e (λ k. HasFirst k.b)
 Keeps shape s e NoReleaseUnanswered = OfClient shape s e (λ k. k.wait ≢ ForReleaseAck)
@@ -156,6 +157,7 @@ Keeps shape s e ServesNoAcquire = s.accepted ≡ None
 Keeps shape s e RecordIsAbove = OfClient shape s e (λ k. IfSome (cap_of e) (λ cap. rank (probe_perm cap) < rank k.recorded))
 Keeps shape s e ClientHasNoProbe = OfClient shape s e NoProbePending
 Keeps shape s e NoGrantIsPending = NoGrant shape s
+Keeps shape s e OneGrantIsPending = NoGrant shape s
 Keeps shape s e MessageIsOnC = OfClient shape s e (λ k. HasFirst k.c)
 Keeps shape s e ServesThisClient = (grow : Grow) × (s.accepted ≡ Some (record { client = client_of e; grow = grow }))
 Keeps shape s e OthersLeaveRoom =
@@ -163,6 +165,7 @@ Keeps shape s e OthersLeaveRoom =
     × RoomFor shape s (client_of e) (granted shape s (record { client = client_of e; grow = grow }))
 Keeps shape s e HomeHasTheBlock = (line : Line) × (s.home ≡ Some line)
 Keeps shape s e NoProbeIsPending = NoProbe shape s
+Keeps shape s e NothingIsPending = NoProbe shape s × NoGrant shape s
 Keeps shape s e GrantAckWaits = OfClient shape s e (λ k. 0 < k.e)
 Keeps shape s e ServesAnAcquire = (acquire : Accepted) × (s.accepted ≡ Some acquire)
 Keeps shape s e HomeLacksTheBlock = s.home ≡ None

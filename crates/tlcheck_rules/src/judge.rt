@@ -7,29 +7,30 @@ ghost use Rattle.tlcheck_rules.specs.Judged.{EveryLawfulRecordIsALawfulLog, NoBr
 ghost use Rattle.tlcheck_rules.specs.declared.judge.Refusal.TheVariants.{Broken};
 ghost use Rattle.tlcheck_rules.specs.declared.judge.Breach.{Breach};
 
+use crate::difference::{Difference, difference_of};
 use crate::entry::Entry;
 use crate::keeps::broken_rule;
 use crate::order::Order;
 use crate::rule::{Rule, client_of};
-use crate::sent::{is_shown, sent_by, taken_channel};
+use crate::sent::{sent_by, taken_channel};
 use std::alloc::{AllocError, Global};
 use std::marker::Model;
 use tl_rules::{Event, Plain, Shape};
 use tl_types::{BLOCK_BYTES, BLOCKS, BlockNo, Body, Channel, ClientId};
 
 /// What an entry of a record breaks.
-#[derive(Clone, Copy, Debug, PartialEq, Eq)]
+#[derive(Debug, Drop)]
 pub enum Breach {
     /// A rule of the protocol.
     NotPermitted(Rule),
     /// Another message is first on the channel.
     OutOfOrder,
     /// The event sends another message than the record shows, or none.
-    NotAsShown,
+    NotAsShown(Difference),
 }
 
 /// Why a judge goes no further.
-#[derive(Clone, Copy, Debug, PartialEq, Eq)]
+#[derive(Debug, Drop)]
 pub enum Refusal {
     /// The entry breaks this.
     Broken(Breach),
@@ -56,6 +57,7 @@ impl Model for Judge {
 }
 
 impl Judge {
+    ghost use Rattle.tlcheck_rules.specs.Differs.{Differs};
     ghost use Rattle.tlcheck_rules.specs.Judged.{Allows, Breaks, Carries, Follows, IsPermitted, IsShown, Rejects, own_block};
     ghost use Rattle.tlcheck_rules.specs.Order.{IsNextIn, post_at, waiting_in};
     ghost use Rattle.tlcheck_rules.specs.Rules.{client_of};
@@ -112,16 +114,16 @@ impl Judge {
         sent_by(block, shape, event)
     }
 
-    /// What is shown, if something is, is what the event sends.
-    fn is_as_shown(&self, entry: &Entry) -> bool
+    /// How what is shown, if something is, differs from what the event sends.
+    fn difference(&self, entry: &Entry) -> Option<Difference>
         requires { May self.now.plain.shape (own_block self.now entry.now.event) entry.now.event }
-        ensures { IsTrue result
-            ↔ IsShown (post_of self.now.plain.shape (own_block self.now entry.now.event) entry.now.event) entry.now.shown }
+        ensures { let post = post_of self.now.plain.shape (own_block self.now entry.now.event) entry.now.event in
+            MatchOption result (IsShown post entry.now.shown) (λ d. Differs post entry.now.shown d) }
     {
         if entry.shown.is_none() {
-            return true;
+            return None;
         }
-        is_shown(&self.sent(&entry.event), &entry.shown)
+        difference_of(&self.sent(&entry.event), &entry.shown)
     }
 
     /// The first test that an entry does not meet.
@@ -134,10 +136,10 @@ impl Judge {
         if !self.takes_first(&entry.event) {
             return Some(Breach::OutOfOrder);
         }
-        if !self.is_as_shown(entry) {
-            return Some(Breach::NotAsShown);
+        match self.difference(entry) {
+            Some(difference) => Some(Breach::NotAsShown(difference)),
+            None => None,
         }
-        None
     }
 
     /// Carries out an event that may come next.

@@ -104,7 +104,9 @@ fn keeps(block: &BlockState, shape: Shape, event: &Event, rule: Rule) -> bool
             is_there && has_its_bytes(block.the_client(c), shape, access_of(event))
         }
         Rule::CopyIsWritable => is_there && block.the_client(c).held.perm() == Perm::Tip,
-        Rule::WaitsForNothing => is_there && block.the_client(c).wait == Awaited::Nothing,
+        Rule::NoAcquireUnanswered | Rule::NoReleaseBesideAcquire => {
+            is_there && block.the_client(c).wait != Awaited::ForGrant
+        }
         Rule::StartsFromItsCopy => is_there && starts_from(block.the_client(c), from_of(event)),
         Rule::ProbeWaits => is_there && block.the_client(c).b.has_first(),
         Rule::NoReleaseUnanswered => is_there && block.the_client(c).wait != Awaited::ForReleaseAck,
@@ -114,12 +116,13 @@ fn keeps(block: &BlockState, shape: Shape, event: &Event, rule: Rule) -> bool
         Rule::ServesNoAcquire => block.accepted().is_none(),
         Rule::RecordIsAbove => is_there && is_above(block.the_client(c), cap_of(event)),
         Rule::ClientHasNoProbe => is_there && block.the_client(c).has_no_probe(),
-        Rule::NoGrantIsPending => block.has_no_grant(shape),
+        Rule::NoGrantIsPending | Rule::OneGrantIsPending => block.has_no_grant(shape),
         Rule::MessageIsOnC => is_there && block.the_client(c).may_take_c(),
         Rule::ServesThisClient => serves(block, c),
         Rule::OthersLeaveRoom => leaves_room(block, shape, c),
         Rule::HomeHasTheBlock => block.is_at_home(),
         Rule::NoProbeIsPending => block.has_no_probe(shape),
+        Rule::NothingIsPending => block.has_no_probe(shape) && block.has_no_grant(shape),
         Rule::GrantAckWaits => is_there && block.the_client(c).may_take_grant_ack(),
         Rule::ServesAnAcquire => block.accepted().is_some(),
         Rule::HomeLacksTheBlock => !block.is_at_home(),

@@ -1,6 +1,7 @@
 //! Judges a record of events: is each permitted after the ones before it, and if not, which rule does the first one break.
 #![tactic(auto)]
 
+mod difference;
 mod entry;
 mod judge;
 mod keeps;
@@ -8,6 +9,7 @@ mod order;
 mod rule;
 mod sent;
 
+pub use difference::{Difference, Name};
 pub use entry::{Entry, Shown};
 pub use judge::{Breach, Judge, Refusal, every_record};
 pub use keeps::broken_rule;

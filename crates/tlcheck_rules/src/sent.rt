@@ -1,19 +1,14 @@
 //! What an event takes and sends.
-ghost use Rattle.std.specs.Prelude.{◌≡◌, ◌↔◌, ◌<◌, ℕ, IsTrue, length};
+ghost use Rattle.std.specs.Prelude.{◌≡◌, ◌<◌, ℕ, length};
 ghost use Rattle.std.specs.Option.{option_map};
-ghost use Rattle.tl_types.specs.Bodies.{body_kind, body_bytes};
 ghost use Rattle.tl_protocol.specs.Protocol.{MayOn, MaySendGrant};
 ghost use Rattle.tl_protocol_lanes.specs.Lanes.{ack_post, answer_post, grant_post, post_of, take_of};
 ghost use Rattle.tl_rules.specs.Plain.{block_state, plain_client};
-ghost use Rattle.tlcheck_rules.specs.Judged.{IsShown};
 ghost use Rattle.tlcheck_rules.specs.Order.{place_at, post_at};
 ghost use Rattle.tlcheck_rules.specs.Rules.{client_of};
 
-use crate::entry::Shown;
 use tl_rules::{BlockState, Client, Event, Shape};
-use tl_types::{
-    BlockBytes, Body, Channel, ClientId, Downward, Perm, ProbeAnswer, Surrender, Upward,
-};
+use tl_types::{Body, Channel, ClientId, Downward, Perm, ProbeAnswer, Surrender, Upward};
 
 /// The channel of which an event takes the first message.
 pub(crate) fn taken_channel(event: &Event) -> Option<Channel>
@@ -104,34 +99,5 @@ pub(crate) fn sent_by(block: &BlockState, shape: Shape, event: &Event) -> Option
         | Event::Drop(_)
         | Event::SendPut(_)
         | Event::TakePutAck(_) => None,
-    }
-}
-
-fn are_bytes(bytes: Option<&BlockBytes>, shown: &Option<BlockBytes>) -> bool
-    ensures { IsTrue result ↔ (option_map (λ b. b.now) bytes.entry ≡ shown.now) }
-{
-    match (bytes, shown) {
-        (None, None) => true,
-        (Some(bytes), Some(shown)) => bytes.as_slice() == shown.as_slice(),
-        (None, Some(_)) | (Some(_), None) => false,
-    }
-}
-
-/// Whether a message is the one that is shown.
-fn is_shown_as(body: &Body, shown: &Shown) -> bool
-    ensures { IsTrue result ↔ ((body_kind body.now ≡ shown.now.kind) × (body_bytes body.now ≡ shown.now.bytes)) }
-{
-    body.kind() == shown.kind && are_bytes(body.bytes(), &shown.bytes)
-}
-
-/// Whether what is shown, if something is, is the message that is sent.
-pub(crate) fn is_shown(sent: &Option<(Channel, Body)>, shown: &Option<Shown>) -> bool
-    ensures { (c : ℕ)
-        → IsTrue result ↔ IsShown (option_map (λ s. post_at c s.0 s.1) sent.now) shown.now }
-{
-    match (sent, shown) {
-        (_, None) => true,
-        (None, Some(_)) => false,
-        (Some((_, body)), Some(shown)) => is_shown_as(body, shown),
     }
 }

@@ -12,7 +12,7 @@ use Rattle.tlwire_answer.specs.declared.ending.Ending.TheVariants.{Usage, Answer
 abbrev pub MayEnd : List (List ℕ) → Ending → Type 0
 MayEnd lines Usage = ⊥
 MayEnd lines (Answered m explanation) = IsRead lines (Ok m) × IsExplanation m.setting.shape m.image m.seen explanation
-MayEnd lines (Wrong line fault) = IsRead lines (Err (read.Line line fault))
+MayEnd lines (Wrong line cause) = IsRead lines (Err (read.Line line cause))
 MayEnd lines Empty = IsRead lines (Err read.Empty)
 MayEnd lines Memory = Unit {0}
 MayEnd lines File = Unit {0}
@@ -21,7 +21,7 @@ MayEnd lines File = Unit {0}
 abbrev pub IsEnding : MessagesState → Ending → Type 0
 IsEnding seen Usage = ⊥
 IsEnding seen (Answered m explanation) = (m ≡ seen) × IsExplanation m.setting.shape m.image m.seen explanation
-IsEnding seen (Wrong line fault) = ⊥
+IsEnding seen (Wrong line cause) = ⊥
 IsEnding seen Empty = ⊥
 IsEnding seen Memory = Unit {0}
 IsEnding seen File = ⊥

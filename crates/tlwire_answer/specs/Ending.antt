@@ -12,9 +12,9 @@ use Rattle.tl_streams.specs.declared.reading.ReadError.{ReadError}
 use Rattle.tl_streams.specs.declared.reading.ReadError.TheVariants as read
 use Rattle.tlwire_search.specs.declared.answer.Explanation.{Explanation}
 use Rattle.tlwire_search.specs.declared.answer.Explanation.TheVariants.{Explained, NotExplained}
-use Rattle.tlwire_record.specs.Fault.{is_outside, sentence}
+use Rattle.tlcheck_record.specs.Cause.{is_outside, sentence}
 use Rattle.tlwire_record.specs.Messages.{MessagesState}
-use Rattle.tlwire_record.specs.declared.fault.Fault.{Fault}
+use Rattle.tlcheck_record.specs.declared.cause.Cause.{Cause}
 use Rattle.tlwire_answer.specs.Run.{run_text}
 use Rattle.tlwire_answer.specs.declared.ending.Ending.{Ending}
 use Rattle.tlwire_answer.specs.declared.ending.Ending.TheVariants.{Usage, Answered, Wrong, Empty, Memory, File}
@@ -30,22 +30,22 @@ explanation_status (NotExplained place) = 6
 abbrev pub status_of : Ending → ℕ
 status_of Usage = 2
 status_of (Answered messages explanation) = explanation_status explanation
-status_of (Wrong line fault) = 3
+status_of (Wrong line cause) = 3
 status_of Empty = 3
 status_of Memory = 4
 status_of File = 5
 
 -- 50 is outside the format, 52 TileLink's and outside the profile
-abbrev pub wrong_text : ℕ → Fault → List ℕ
-wrong_text line fault =
-    if is_outside fault then codes "error 52 line " ++ decimal line ++ codes ": " ++ sentence fault
-    else codes "error 50 line " ++ decimal line ++ codes ": " ++ sentence fault
+abbrev pub wrong_text : ℕ → Cause → List ℕ
+wrong_text line cause =
+    if is_outside cause then codes "error 52 line " ++ decimal line ++ codes ": " ++ sentence cause
+    else codes "error 50 line " ++ decimal line ++ codes ": " ++ sentence cause
 
 -- a fault as it prints
 abbrev pub fault_text : Ending → List ℕ
 fault_text Usage = program_fault_text program.Usage
 fault_text (Answered messages explanation) = []
-fault_text (Wrong line fault) = wrong_text line fault
+fault_text (Wrong line cause) = wrong_text line cause
 fault_text Empty = codes "error 51 empty"
 fault_text Memory = program_fault_text program.Memory
 fault_text File = program_fault_text program.File
@@ -120,7 +120,7 @@ answer_text form lines m (NotExplained place) =
 abbrev pub ending_text : Form → List (List ℕ) → Ending → List ℕ
 ending_text form lines (Answered messages explanation) = answer_text form lines messages explanation
 ending_text form lines Usage = []
-ending_text form lines (Wrong line fault) = []
+ending_text form lines (Wrong line cause) = []
 ending_text form lines Empty = []
 ending_text form lines Memory = []
 ending_text form lines File = []

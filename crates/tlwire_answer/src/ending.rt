@@ -11,7 +11,8 @@ use std::fmt::Write as WriteText;
 use std::io::Write;
 use tl_rules::Event;
 use tl_streams::{ProgramFault, ReadError, WordsError, tell};
-use tlwire_record::{Fault, Messages};
+use tlcheck_record::Cause;
+use tlwire_record::Messages;
 use tlwire_search::Explanation;
 
 /// What is written of a run that was found.
@@ -31,7 +32,7 @@ pub enum Ending {
     /// What was said of what was seen.
     Answered(Messages, Explanation),
     /// On this line, from 1 on, this is wrong.
-    Wrong(u64, Fault),
+    Wrong(u64, Cause),
     /// There is no shape, or neither image nor message.
     Empty,
     /// A request for memory was refused.
@@ -47,11 +48,11 @@ impl fmt::Display for Ending {
         match self {
             Ending::Usage => write!(f, "{}", ProgramFault::Usage),
             Ending::Answered(_, _) => Ok(()),
-            Ending::Wrong(line, fault) => {
-                if fault.is_outside() {
-                    write!(f, "error 52 line {line}: {fault}")
+            Ending::Wrong(line, cause) => {
+                if cause.is_outside() {
+                    write!(f, "error 52 line {line}: {cause}")
                 } else {
-                    write!(f, "error 50 line {line}: {fault}")
+                    write!(f, "error 50 line {line}: {cause}")
                 }
             }
             Ending::Empty => f.write_str("error 51 empty"),

@@ -30,7 +30,7 @@ fn ending(alloc: Global, lines: &[&[u8]]) -> Ending
 {
     match read(alloc, lines) {
         Ok(messages) => explained(alloc, messages),
-        Err(ReadFault::Line(line, fault)) => Ending::Wrong(line, fault),
+        Err(ReadFault::Line(line, cause)) => Ending::Wrong(line, cause),
         Err(ReadFault::Empty) => Ending::Empty,
         Err(ReadFault::Memory) => Ending::Memory,
     }

@@ -7,8 +7,8 @@ use Rattle.tl_types.specs.declared.kind.Kind.{Kind}
 use Rattle.tl_types.specs.declared.kind.Kind.TheVariants.{PutFullData, Get, AcquireBlock, ProbeBlock, ProbeAck, ProbeAckData, Release, ReleaseData, AccessAck, AccessAckData, Grant, GrantData, ReleaseAck, GrantAck}
 use Rattle.tlwire_record.specs.declared.code.Role.{Role}
 use Rattle.tlwire_record.specs.declared.code.Role.TheVariants as role
-use Rattle.tlwire_record.specs.declared.fault.Fault.{Fault}
-use Rattle.tlwire_record.specs.declared.fault.Fault.TheVariants as fault
+use Rattle.tlcheck_record.specs.declared.cause.Cause.{Cause}
+use Rattle.tlcheck_record.specs.declared.cause.Cause.TheVariants as cause
 use Rattle.tlwire_record.specs.declared.line.Link.{Link}
 use Rattle.tlwire_record.specs.declared.line.Link.TheVariants.{Client, Memory}
 
@@ -49,15 +49,15 @@ is_named E opcode param = (opcode == 0) && (param == 0)
 -- ## Those of this project
 
 -- the kind, or why there is none
-abbrev pub kind_or : Option Kind → Bool → Result Kind Fault
+abbrev pub kind_or : Option Kind → Bool → Result Kind Cause
 kind_or (Some kind) named = Ok kind
-kind_or None true = Err fault.Profile
-kind_or None false = Err fault.Code
+kind_or None true = Err cause.Profile
+kind_or None false = Err cause.Code
 
 -- the kind that a channel, an opcode and a parameter stand for
-unfoldable pub kind_of : Channel → ℕ → ℕ → Result Kind Fault
+unfoldable pub kind_of : Channel → ℕ → ℕ → Result Kind Cause
 kind_of channel opcode param =
-    if nat_lt 7 opcode || nat_lt 7 param then Err fault.Code
+    if nat_lt 7 opcode || nat_lt 7 param then Err cause.Code
     else kind_or (kind_at channel opcode param) (is_named channel opcode param)
 
 -- the memory's link

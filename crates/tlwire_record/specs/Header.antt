@@ -1,13 +1,13 @@
 -- The lines before the messages (this project's own format).
-use Rattle.std.specs.Prelude.{ℕ, ◌%◌, ◌++◌, ◌==◌, ◌&&◌, nat_le, nat_lt, Bool, false, List, [], ◌∷◌, length, codes, bytes_eq, Result, Ok, Err, ok_or, if◌then◌else◌}
+use Rattle.std.specs.Prelude.{ℕ, ◌%◌, ◌++◌, ◌==◌, ◌&&◌, nat_le, nat_lt, Bool, false, List, [], ◌∷◌, length, codes, bytes_eq, Result, Ok, Err, if◌then◌else◌}
 use Rattle.std.specs.List.{list_any}
 use Rattle.tl_protocol.specs.declared.shape.Shape.{Shape}
 use Rattle.tlcheck_record.specs.Header.{is_in_range}
-use Rattle.tl_script_words.specs.Words.{bytes_of}
-use Rattle.tlwire_record.specs.Fault.{◌>>=◌}
-use Rattle.tlwire_record.specs.Fields.{address_in, number_in, pair_of}
-use Rattle.tlwire_record.specs.declared.fault.Fault.{Fault}
-use Rattle.tlwire_record.specs.declared.fault.Fault.TheVariants as fault
+use Rattle.tlcheck_record.specs.Cause.{◌>>=◌}
+use Rattle.tlcheck_record.specs.Words.{address_in, number_in}
+use Rattle.tlwire_record.specs.Fields.{pair_of}
+use Rattle.tlcheck_record.specs.declared.cause.Cause.{Cause}
+use Rattle.tlcheck_record.specs.declared.cause.Cause.TheVariants as cause
 use Rattle.tlwire_record.specs.declared.header.Sources.{Sources}
 
 -- The memory, the clients and their sources, in the order of their lines.
@@ -31,21 +31,21 @@ is_title (name ∷ version ∷ []) = bytes_eq name (codes "jvwire") && bytes_eq 
 is_title _ = false
 
 -- the number behind the key, in the two parts of `KEY=NUM`
-abbrev pub number_part : List ℕ → List (List ℕ) → Result ℕ Fault
-number_part key (name ∷ value ∷ []) = if bytes_eq name key then number_in value else Err fault.Key
-number_part key _ = Err fault.Key
+abbrev pub number_part : List ℕ → List (List ℕ) → Result ℕ Cause
+number_part key (name ∷ value ∷ []) = if bytes_eq name key then number_in value else Err cause.Key
+number_part key _ = Err cause.Key
 
 -- the number at a key: `KEY=NUM`
-abbrev pub number_at : List ℕ → List ℕ → Result ℕ Fault
+abbrev pub number_at : List ℕ → List ℕ → Result ℕ Cause
 number_at key word = number_part key (pair_of word)
 
 -- the address behind the key, in the two parts of `KEY=ADDR`
-abbrev pub address_part : List ℕ → List (List ℕ) → Result ℕ Fault
-address_part key (name ∷ value ∷ []) = if bytes_eq name key then address_in value else Err fault.Key
-address_part key _ = Err fault.Key
+abbrev pub address_part : List ℕ → List (List ℕ) → Result ℕ Cause
+address_part key (name ∷ value ∷ []) = if bytes_eq name key then address_in value else Err cause.Key
+address_part key _ = Err cause.Key
 
 -- the address at a key: `KEY=ADDR`
-abbrev pub address_at : List ℕ → List ℕ → Result ℕ Fault
+abbrev pub address_at : List ℕ → List ℕ → Result ℕ Cause
 address_at key word = address_part key (pair_of word)
 
 -- the numbers are in range, and block 0 begins where a block may
@@ -53,48 +53,43 @@ abbrev pub is_fit : Shape → ℕ → Bool
 is_fit shape base = is_in_range shape && (base % shape.block_bytes == 0)
 
 -- the setting of these numbers, where they are fit
-abbrev pub fitting : Shape → ℕ → Result SettingState Fault
-fitting shape base = if is_fit shape base then Ok (record { shape = shape; base = base; sources = [] }) else Err fault.Range
+abbrev pub fitting : Shape → ℕ → Result SettingState Cause
+fitting shape base = if is_fit shape base then Ok (record { shape = shape; base = base; sources = [] }) else Err cause.Range
 
 -- `clients=NUM block=NUM blocks=NUM base=ADDR`, behind the word `shape`
-unfoldable pub numbers_in : List (List ℕ) → Result SettingState Fault
+unfoldable pub numbers_in : List (List ℕ) → Result SettingState Cause
 numbers_in (clients ∷ block ∷ blocks ∷ base ∷ []) =
     number_at (codes "clients") clients
     >>= (λ c. number_at (codes "block") block
     >>= (λ bytes. number_at (codes "blocks") blocks
     >>= (λ n. address_at (codes "base") base
     >>= (λ a. fitting (record { clients = c; block_bytes = bytes; blocks = n }) a))))
-numbers_in _ = Err fault.Shape
+numbers_in _ = Err cause.Shape
 
 -- `shape` and its numbers
-unfoldable pub setting_in : List (List ℕ) → Result SettingState Fault
-setting_in [] = Err fault.Shape
-setting_in (word ∷ rest) = if bytes_eq word (codes "shape") then numbers_in rest else Err fault.Shape
+unfoldable pub setting_in : List (List ℕ) → Result SettingState Cause
+setting_in [] = Err cause.Shape
+setting_in (word ∷ rest) = if bytes_eq word (codes "shape") then numbers_in rest else Err cause.Shape
 
 -- the client is there, and the range is one
 abbrev pub has_sources : Shape → Sources → Bool
 has_sources shape s = nat_lt s.client shape.clients && nat_le s.from s.to
 
 -- `client=NUM from=NUM to=NUM`, behind the word `source`
-unfoldable pub sources_in : Shape → List (List ℕ) → Result Sources Fault
+unfoldable pub sources_in : Shape → List (List ℕ) → Result Sources Cause
 sources_in shape (client ∷ from ∷ to ∷ []) =
     number_at (codes "client") client
     >>= (λ c. number_at (codes "from") from
     >>= (λ first. number_at (codes "to") to
     >>= (λ last.
     let s : Sources = record { client = c; from = first; to = last } in
-    if has_sources shape s then Ok s else Err fault.Sources)))
-sources_in shape _ = Err fault.Sources
+    if has_sources shape s then Ok s else Err cause.Sources)))
+sources_in shape _ = Err cause.Sources
 
 -- one line of sources more
 abbrev pub with_sources : SettingState → Sources → SettingState
 with_sources setting s = record setting { sources = setting.sources ++ s ∷ [] }
 
 -- the setting with what a line of sources gives
-abbrev pub sources_taken : SettingState → List (List ℕ) → Result SettingState Fault
+abbrev pub sources_taken : SettingState → List (List ℕ) → Result SettingState Cause
 sources_taken setting words = sources_in setting.shape words >>= (λ s. Ok (with_sources setting s))
-
--- `HEX`, behind the word `image`: the bytes of the memory at reset, 0 past their end
-unfoldable pub image_in : List (List ℕ) → Result (List ℕ) Fault
-image_in (bytes ∷ []) = ok_or (bytes_of bytes) fault.Bytes
-image_in _ = Err fault.Bytes

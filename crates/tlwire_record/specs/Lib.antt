@@ -1,5 +1,4 @@
 pub mod Code
-pub mod Fault
 pub mod Fields
 pub mod Header
 pub mod Line

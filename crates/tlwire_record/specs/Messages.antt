@@ -6,12 +6,12 @@ use Rattle.tlcheck_rules.specs.declared.entry.Shown.{Shown}
 use Rattle.tlwire_search.specs.declared.seen.Seen.{Seen}
 use Rattle.tlwire_search.specs.declared.seen.Seen.TheVariants.{OnLink, OnMemory, Load as Loads, Store as Stores}
 use Rattle.tlwire_record.specs.Code.{is_on_link, kind_of, role_of}
-use Rattle.tlwire_record.specs.Fault.{◌>>=◌}
+use Rattle.tlcheck_record.specs.Cause.{◌>>=◌}
 use Rattle.tlwire_record.specs.Header.{SettingState, owns}
 use Rattle.tlwire_record.specs.Place.{has_its_data, has_other_fields, is_size, offset_of}
 use Rattle.tlwire_record.specs.Tables.{TableState, no_tables, taken}
-use Rattle.tlwire_record.specs.declared.fault.Fault.{Fault}
-use Rattle.tlwire_record.specs.declared.fault.Fault.TheVariants as fault
+use Rattle.tlcheck_record.specs.declared.cause.Cause.{Cause}
+use Rattle.tlcheck_record.specs.declared.cause.Cause.TheVariants as cause
 use Rattle.tlwire_record.specs.declared.fields.Fields.{Fields}
 use Rattle.tlwire_record.specs.declared.line.Line.{Line}
 use Rattle.tlwire_record.specs.declared.line.Link.{Link}
@@ -28,13 +28,13 @@ has_own_source setting (Client c) None = true
 has_own_source setting (Client c) (Some source) = owns setting.sources c source
 
 -- what is wrong with a message of a kind on a link, if anything: the first of these
-abbrev pub wrong_in : SettingState → Link → Channel → Kind → Fields → Option Fault
+abbrev pub wrong_in : SettingState → Link → Channel → Kind → Fields → Option Cause
 wrong_in setting link channel kind f =
-    if not (is_on_link kind link) then Some fault.Profile
-    else if has_other_fields channel f then Some fault.Extra
-    else if not (is_size setting.shape f.size) then Some fault.Size
-    else if not (has_own_source setting link f.source) then Some fault.Source
-    else if not (has_its_data setting.shape kind f.bytes) then Some fault.Data
+    if not (is_on_link kind link) then Some cause.Profile
+    else if has_other_fields channel f then Some cause.Extra
+    else if not (is_size setting.shape f.size) then Some cause.Size
+    else if not (has_own_source setting link f.source) then Some cause.Source
+    else if not (has_its_data setting.shape kind f.bytes) then Some cause.Data
     else None
 
 -- a message of a block, on a link
@@ -43,18 +43,18 @@ seen_on (Client c) block shown = OnLink c block shown
 seen_on Memory block shown = OnMemory block shown
 
 -- a value, unless something is wrong
-abbrev pub unless_wrong : {A : Type 0} → Option Fault → Result A Fault → Result A Fault
+abbrev pub unless_wrong : {A : Type 0} → Option Cause → Result A Cause → Result A Cause
 unless_wrong None value = value
 unless_wrong (Some f) value = Err f
 
 -- a message of a kind, and what is open after it
-abbrev pub kind_taken : SettingState → TableState → Link → Kind → Fields → Result (Seen × TableState) Fault
+abbrev pub kind_taken : SettingState → TableState → Link → Kind → Fields → Result (Seen × TableState) Cause
 kind_taken setting t link kind f =
     taken setting t (role_of kind) link f
     >>= (λ block. Ok (seen_on link block.0 (record { kind = kind; bytes = f.bytes }), block.1))
 
 -- a message by its codes and fields; a parameter that does not stand is 0
-unfoldable pub message_taken : SettingState → TableState → Link → Channel → ℕ → Fields → Result (Seen × TableState) Fault
+unfoldable pub message_taken : SettingState → TableState → Link → Channel → ℕ → Fields → Result (Seen × TableState) Cause
 message_taken setting t link channel opcode f =
     kind_of channel opcode (unwrap_or f.param 0)
     >>= (λ kind. unless_wrong (wrong_in setting link channel kind f) (kind_taken setting t link kind f))
@@ -67,12 +67,12 @@ is_there clients (Client c) = nat_lt c clients
 is_there clients Memory = true
 
 -- the client whose link it is
-abbrev pub owner_of : Link → Result ℕ Fault
+abbrev pub owner_of : Link → Result ℕ Cause
 owner_of (Client c) = Ok c
-owner_of Memory = Err fault.Client
+owner_of Memory = Err cause.Client
 
 -- what is seen of what a line says, and what is open after it
-unfoldable pub said_taken : SettingState → TableState → Link → Said → Result (Seen × TableState) Fault
+unfoldable pub said_taken : SettingState → TableState → Link → Said → Result (Seen × TableState) Cause
 said_taken setting t link (said.Load address bytes) =
     owner_of link >>= (λ c. offset_of setting.shape setting.base address bytes >>= (λ offset. Ok (Loads c offset bytes, t)))
 said_taken setting t link (said.Store address bytes) =
@@ -93,10 +93,10 @@ abbrev pub began : SettingState → List ℕ → MessagesState
 began setting image = record { setting = setting; image = image; cycle = 0; tables = no_tables; seen = []; lines = [] }
 
 -- the line with this number has what is seen of it, and nothing else changes but the cycle and what is open
-abbrev pub line_taken : MessagesState → ℕ → Line → Result MessagesState Fault
+abbrev pub line_taken : MessagesState → ℕ → Line → Result MessagesState Cause
 line_taken m number line =
-    if nat_lt line.cycle m.cycle then Err fault.Backwards
-    else if not (is_there m.setting.shape.clients line.link) then Err fault.Client
+    if nat_lt line.cycle m.cycle then Err cause.Backwards
+    else if not (is_there m.setting.shape.clients line.link) then Err cause.Client
     else
     said_taken m.setting m.tables line.link line.said
     >>= (λ s. Ok (record m { cycle = line.cycle; tables = s.1; seen = m.seen ++ s.0 ∷ []; lines = m.lines ++ number ∷ [] }))

@@ -6,24 +6,24 @@ use Rattle.tl_types.specs.declared.channel.Channel.TheVariants.{A, B, C, D, E}
 use Rattle.tl_types.specs.declared.kind.Kind.{Kind}
 use Rattle.tl_protocol.specs.declared.shape.Shape.{Shape}
 use Rattle.tlwire_record.specs.Code.{has_data}
-use Rattle.tlwire_record.specs.declared.fault.Fault.{Fault}
-use Rattle.tlwire_record.specs.declared.fault.Fault.TheVariants as fault
+use Rattle.tlcheck_record.specs.declared.cause.Cause.{Cause}
+use Rattle.tlcheck_record.specs.declared.cause.Cause.TheVariants as cause
 use Rattle.tlwire_record.specs.declared.fields.Fields.{Fields}
 
 -- the block whose first byte lies at an address
-abbrev pub block_at : Shape → ℕ → ℕ → Result ℕ Fault
+abbrev pub block_at : Shape → ℕ → ℕ → Result ℕ Cause
 block_at shape base address =
-    if nat_lt address base then Err fault.Outside
-    else if not (nat_lt ((address - base) / shape.block_bytes) shape.blocks) then Err fault.Outside
-    else if not ((address - base) % shape.block_bytes == 0) then Err fault.Unaligned
+    if nat_lt address base then Err cause.Outside
+    else if not (nat_lt ((address - base) / shape.block_bytes) shape.blocks) then Err cause.Outside
+    else if not ((address - base) % shape.block_bytes == 0) then Err cause.Unaligned
     else Ok ((address - base) / shape.block_bytes)
 
 -- how far behind the memory's first byte an access begins, where it lies in one block of the memory
-abbrev pub offset_of : Shape → ℕ → ℕ → List ℕ → Result ℕ Fault
+abbrev pub offset_of : Shape → ℕ → ℕ → List ℕ → Result ℕ Cause
 offset_of shape base address bytes =
-    if nat_lt address base then Err fault.Outside
-    else if not (nat_lt ((address - base) / shape.block_bytes) shape.blocks) then Err fault.Outside
-    else if nat_lt shape.block_bytes ((address - base) % shape.block_bytes + length bytes) then Err fault.Access
+    if nat_lt address base then Err cause.Outside
+    else if not (nat_lt ((address - base) / shape.block_bytes) shape.blocks) then Err cause.Outside
+    else if nat_lt shape.block_bytes ((address - base) % shape.block_bytes + length bytes) then Err cause.Access
     else Ok (address - base)
 
 -- a size, where it stands, is the base-2 logarithm of a block's bytes (TileLink 1.8, section 4)

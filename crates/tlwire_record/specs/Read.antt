@@ -10,7 +10,7 @@ use Rattle.tlwire_record.specs.declared.stage.Stage.TheVariants.{Fresh, Titled, 
 -- all lines are in the format and lead there, or this is the first that is not
 abbrev pub IsAfter : List (List ℕ) → Result Stage ReadFault → Type 0
 IsAfter lines (Ok stage) = after_lines 0 Fresh lines ≡ Ok stage
-IsAfter lines (Err (Line number fault)) = after_lines 0 Fresh lines ≡ Err (number, fault)
+IsAfter lines (Err (Line number cause)) = after_lines 0 Fresh lines ≡ Err (number, cause)
 IsAfter lines (Err Empty) = ⊥
 IsAfter lines (Err Memory) = Unit {0}
 
@@ -24,6 +24,6 @@ ending_of (Going messages) = Ok messages
 -- All lines are in the format, and lead to what was seen; or to neither image nor message; or this is the first that is not in it.
 abbrev pub IsRead : List (List ℕ) → Result MessagesState ReadFault → Type 0
 IsRead lines (Ok messages) = after_lines 0 Fresh lines ≡ Ok (Going messages)
-IsRead lines (Err (Line number fault)) = after_lines 0 Fresh lines ≡ Err (number, fault)
+IsRead lines (Err (Line number cause)) = after_lines 0 Fresh lines ≡ Err (number, cause)
 IsRead lines (Err Empty) = (stage : Stage) × (after_lines 0 Fresh lines ≡ Ok stage) × (ending_of stage ≡ Err Empty)
 IsRead lines (Err Memory) = Unit {0}

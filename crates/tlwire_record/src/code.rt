@@ -3,9 +3,9 @@ ghost use Rattle.std.specs.Prelude.{◌≡◌};
 ghost use Rattle.tl_types.specs.Decoding.{kind_at};
 ghost use Rattle.tlwire_record.specs.Code.{has_data, is_both_ways, is_from_client, is_from_home, is_named, is_on_link, kind_of, role_of};
 
-use crate::fault::Fault;
 use crate::line::Link;
 use tl_types::{Channel, Kind, decode};
+use tlcheck_record::Cause;
 
 fn is_both_ways(opcode: u32, param: u32) -> bool
     ensures { result ≡ is_both_ways opcode param }
@@ -62,19 +62,19 @@ fn kind_at(channel: Channel, opcode: u8, param: u8) -> Option<Kind>
 /// The kind that a channel, an opcode and a parameter stand for. Code where TileLink has no such message, Profile where it has one that
 /// this project leaves out.
 #[tactic(auto, unfolding(crate::specs::Code::kind_of))]
-pub(crate) fn kind_of(channel: Channel, opcode: u32, param: u32) -> Result<Kind, Fault>
+pub(crate) fn kind_of(channel: Channel, opcode: u32, param: u32) -> Result<Kind, Cause>
     ensures { result ≡ kind_of channel opcode param }
 {
     if opcode > 7 || param > 7 {
-        return Err(Fault::Code);
+        return Err(Cause::Code);
     }
     match kind_at(channel, opcode as u8, param as u8) {
         Some(kind) => Ok(kind),
         None => {
             if is_named(channel, opcode, param) {
-                Err(Fault::Profile)
+                Err(Cause::Profile)
             } else {
-                Err(Fault::Code)
+                Err(Cause::Code)
             }
         }
     }

@@ -1,13 +1,12 @@
 //! The fields of a message: words KEY=VALUE.
 ghost use Rattle.std.specs.Prelude.{◌≡◌, IfOk, bytes_eq, codes, false};
 ghost use Rattle.tl_script_words.specs.Words.{texts};
-ghost use Rattle.tlwire_record.specs.Fault.{Gives};
-ghost use Rattle.tlwire_record.specs.Fields.{address_in, block_bytes_in, field_by, field_in, field_of, fields_in, no_fields, number_in, pair_of, with_field};
+ghost use Rattle.tlcheck_record.specs.Cause.{Gives};
+ghost use Rattle.tlwire_record.specs.Fields.{field_by, field_in, field_of, fields_in, no_fields, pair_of, with_field};
 
-use crate::fault::{Fault, WireError};
 use std::alloc::{AllocError, Global};
-use tl_script_words::{parse_address, parse_bytes, parse_number};
 use tl_types::BlockBytes;
+use tlcheck_record::{Cause, LineError, read_address, read_block_bytes, read_number};
 
 /// A field of a message.
 #[derive(Drop)]
@@ -38,70 +37,44 @@ pub(crate) fn split_pair(alloc: Global, word: &str) -> Result<Vec<&str>, AllocEr
     word.split('=').collect(alloc)
 }
 
-/// A number in its place.
-pub(crate) fn number(text: &str) -> Result<u32, Fault>
-    ensures { result ≡ number_in text.now }
-{
-    parse_number(text).ok_or(Fault::Number)
-}
-
-/// An address in its place.
-pub(crate) fn address(text: &str) -> Result<u32, Fault>
-    ensures { result ≡ address_in text.now }
-{
-    parse_address(text).ok_or(Fault::Number)
-}
-
-/// The bytes of a block.
-#[tactic(auto, unfolding(crate::specs::Fields::block_bytes_in))]
-fn block_bytes(alloc: Global, text: &str) -> Result<BlockBytes, WireError>
-    ensures { Gives (λ x. x) result (block_bytes_in text.now) }
-{
-    let bytes = parse_bytes(alloc, text)?;
-    match BlockBytes::from_slice(&bytes) {
-        Some(bytes) => Ok(bytes),
-        None => Err(WireError::Wrong(Fault::Bytes)),
-    }
-}
-
 /// The field of a key, where that is not `data`, and a value.
 #[tactic(auto, unfolding(crate::specs::Fields::field_by))]
-fn number_field(key: &str, value: &str) -> Result<Field, Fault>
+fn number_field(key: &str, value: &str) -> Result<Field, Cause>
     requires { bytes_eq key.now (codes "data") ≡ false }
     ensures { result ≡ field_by key.now value.now }
 {
     match key {
-        "param" => number(value).map(Field::Param),
-        "size" => number(value).map(Field::Size),
-        "source" => number(value).map(Field::Source),
-        "sink" => number(value).map(Field::Sink),
-        "address" => address(value).map(Field::Address),
-        _ => Err(Fault::Key),
+        "param" => read_number(value).map(Field::Param),
+        "size" => read_number(value).map(Field::Size),
+        "source" => read_number(value).map(Field::Source),
+        "sink" => read_number(value).map(Field::Sink),
+        "address" => read_address(value).map(Field::Address),
+        _ => Err(Cause::Key),
     }
 }
 
 #[tactic(auto, unfolding(crate::specs::Fields::field_by))]
-fn field_by(alloc: Global, key: &str, value: &str) -> Result<Field, WireError>
+fn field_by(alloc: Global, key: &str, value: &str) -> Result<Field, LineError>
     ensures { Gives (λ x. x) result (field_by key.now value.now) }
 {
     match key {
-        "data" => Ok(Field::Data(block_bytes(alloc, value)?)),
+        "data" => Ok(Field::Data(read_block_bytes(alloc, value)?)),
         _ => Ok(number_field(key, value)?),
     }
 }
 
 #[tactic(auto, unfolding(crate::specs::Fields::field_in))]
-fn field_in(alloc: Global, parts: &[&str]) -> Result<Field, WireError>
+fn field_in(alloc: Global, parts: &[&str]) -> Result<Field, LineError>
     ensures { Gives (λ x. x) result (field_in (texts parts.now)) }
 {
     match *parts {
         [key, value] => field_by(alloc, key, value),
-        _ => Err(WireError::Wrong(Fault::Key)),
+        _ => Err(LineError::Wrong(Cause::Key)),
     }
 }
 
 /// The field that a word writes.
-fn parse_field(alloc: Global, word: &str) -> Result<Field, WireError>
+fn parse_field(alloc: Global, word: &str) -> Result<Field, LineError>
     ensures { Gives (λ x. x) result (field_of word.now) }
 {
     let parts = split_pair(alloc, word)?;
@@ -123,7 +96,7 @@ pub(crate) fn no_fields() -> Fields
 }
 
 /// One field more, unless it is there.
-fn with_field(mut fields: Fields, field: Field) -> Result<Fields, Fault>
+fn with_field(mut fields: Fields, field: Field) -> Result<Fields, Cause>
     ensures { result ≡ with_field fields field }
 {
     let was_there = match field {
@@ -135,7 +108,7 @@ fn with_field(mut fields: Fields, field: Field) -> Result<Fields, Fault>
         Field::Data(bytes) => fields.bytes.replace(bytes).is_some(),
     };
     if was_there {
-        Err(Fault::Twice)
+        Err(Cause::Twice)
     } else {
         Ok(fields)
     }
@@ -143,7 +116,7 @@ fn with_field(mut fields: Fields, field: Field) -> Result<Fields, Fault>
 
 /// The fields that some words write, beside those that are there.
 #[tactic(auto, unfolding(crate::specs::Fields::fields_in))]
-pub(crate) fn parse_fields(alloc: Global, have: Fields, words: &[&str]) -> Result<Fields, WireError>
+pub(crate) fn parse_fields(alloc: Global, have: Fields, words: &[&str]) -> Result<Fields, LineError>
     ensures { Gives (λ x. x) result (fields_in have (texts words.now)) }
 {
     match words {

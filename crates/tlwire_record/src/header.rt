@@ -2,16 +2,15 @@
 ghost use Rattle.std.specs.Prelude.{◌≡◌, ◌<◌, ◌≤◌, [], ◌∷◌, Ok};
 ghost use Rattle.std.specs.List.{list_any};
 ghost use Rattle.tl_script_words.specs.Words.{texts};
-ghost use Rattle.tlwire_record.specs.Fault.{Gives};
-ghost use Rattle.tlwire_record.specs.Header.{address_at, address_part, fitting, has_source, has_sources, image_in, is_fit, is_title, number_at, number_part, numbers_in, owns, setting_in, sources_in, sources_taken, with_sources};
+ghost use Rattle.tlcheck_record.specs.Cause.{Gives};
+ghost use Rattle.tlwire_record.specs.Header.{address_at, address_part, fitting, has_source, has_sources, is_fit, is_title, number_at, number_part, numbers_in, owns, setting_in, sources_in, sources_taken, with_sources};
 
-use crate::fault::{Fault, WireError};
-use crate::fields::{address, number, split_pair};
+use crate::fields::split_pair;
 use std::alloc::Global;
 use std::marker::Model;
 use tl_rules::Shape;
-use tl_script_words::parse_bytes;
 use tl_types::{BLOCK_BYTES, BLOCKS, ClientId};
+use tlcheck_record::{Cause, LineError, read_address, read_number};
 
 /// The source ids from one to another, both with them, which are a client's.
 #[derive(Clone, Copy, Debug, PartialEq, Eq)]
@@ -90,7 +89,7 @@ impl Setting {
     }
 
     /// One line of sources more.
-    fn add(&mut self, sources: Sources) -> Result<(), WireError>
+    fn add(&mut self, sources: Sources) -> Result<(), LineError>
         ensures { Gives (λ _. self.new) result (Ok (with_sources self.old sources)) }
     {
         self.sources.push(sources)?;
@@ -108,46 +107,46 @@ pub(crate) fn is_title(words: &[&str]) -> bool
     }
 }
 
-fn number_part(key: &str, parts: &[&str]) -> Result<u32, Fault>
+fn number_part(key: &str, parts: &[&str]) -> Result<u32, Cause>
     ensures { result ≡ number_part key.now (texts parts.now) }
 {
     match *parts {
         [name, value] => {
             if name == key {
-                number(value)
+                read_number(value)
             } else {
-                Err(Fault::Key)
+                Err(Cause::Key)
             }
         }
-        _ => Err(Fault::Key),
+        _ => Err(Cause::Key),
     }
 }
 
 /// The number at a key.
-fn number_at(alloc: Global, key: &str, word: &str) -> Result<u32, WireError>
+fn number_at(alloc: Global, key: &str, word: &str) -> Result<u32, LineError>
     ensures { Gives (λ x. x) result (number_at key.now word.now) }
 {
     let parts = split_pair(alloc, word)?;
     Ok(number_part(key, &parts)?)
 }
 
-fn address_part(key: &str, parts: &[&str]) -> Result<u32, Fault>
+fn address_part(key: &str, parts: &[&str]) -> Result<u32, Cause>
     ensures { result ≡ address_part key.now (texts parts.now) }
 {
     match *parts {
         [name, value] => {
             if name == key {
-                address(value)
+                read_address(value)
             } else {
-                Err(Fault::Key)
+                Err(Cause::Key)
             }
         }
-        _ => Err(Fault::Key),
+        _ => Err(Cause::Key),
     }
 }
 
 /// The address at a key.
-fn address_at(alloc: Global, key: &str, word: &str) -> Result<u32, WireError>
+fn address_at(alloc: Global, key: &str, word: &str) -> Result<u32, LineError>
     ensures { Gives (λ x. x) result (address_at key.now word.now) }
 {
     let parts = split_pair(alloc, word)?;
@@ -168,7 +167,7 @@ fn is_fit(shape: Shape, base: u32) -> bool
         && base % shape.block_bytes == 0
 }
 
-fn fitting(alloc: Global, shape: Shape, base: u32) -> Result<Setting, Fault>
+fn fitting(alloc: Global, shape: Shape, base: u32) -> Result<Setting, Cause>
     ensures { result ≡ fitting shape base }
 {
     if is_fit(shape, base) {
@@ -178,7 +177,7 @@ fn fitting(alloc: Global, shape: Shape, base: u32) -> Result<Setting, Fault>
             sources: Vec::new(alloc),
         })
     } else {
-        Err(Fault::Range)
+        Err(Cause::Range)
     }
 }
 
@@ -190,7 +189,7 @@ fn setting_of(
     block: &str,
     blocks: &str,
     base: &str,
-) -> Result<Setting, WireError>
+) -> Result<Setting, LineError>
     ensures { Gives (λ x. x) result (numbers_in (clients.now ∷ block.now ∷ blocks.now ∷ base.now ∷ [])) }
 {
     let clients = number_at(alloc, "clients", clients)?;
@@ -207,25 +206,25 @@ fn setting_of(
 
 /// `clients=N block=N blocks=N base=ADDR`, behind the word `shape`.
 #[tactic(auto, unfolding(crate::specs::Header::numbers_in))]
-fn parse_numbers(alloc: Global, words: &[&str]) -> Result<Setting, WireError>
+fn parse_numbers(alloc: Global, words: &[&str]) -> Result<Setting, LineError>
     ensures { Gives (λ x. x) result (numbers_in (texts words.now)) }
 {
     match *words {
         [clients, block, blocks, base] => setting_of(alloc, clients, block, blocks, base),
-        _ => Err(WireError::Wrong(Fault::Shape)),
+        _ => Err(LineError::Wrong(Cause::Shape)),
     }
 }
 
 /// `shape clients=N block=N blocks=N base=ADDR`.
 #[tactic(auto, unfolding(crate::specs::Header::setting_in))]
-pub(crate) fn parse_setting(alloc: Global, words: &[&str]) -> Result<Setting, WireError>
+pub(crate) fn parse_setting(alloc: Global, words: &[&str]) -> Result<Setting, LineError>
     ensures { Gives (λ x. x) result (setting_in (texts words.now)) }
 {
     match words {
-        [] => Err(WireError::Wrong(Fault::Shape)),
+        [] => Err(LineError::Wrong(Cause::Shape)),
         [word, rest @ ..] => match *word {
             "shape" => parse_numbers(alloc, rest),
-            _ => Err(WireError::Wrong(Fault::Shape)),
+            _ => Err(LineError::Wrong(Cause::Shape)),
         },
     }
 }
@@ -244,7 +243,7 @@ fn sources_of(
     client: &str,
     from: &str,
     to: &str,
-) -> Result<Sources, WireError>
+) -> Result<Sources, LineError>
     ensures { Gives (λ x. x) result (sources_in shape (client.now ∷ from.now ∷ to.now ∷ [])) }
 {
     let client = ClientId::new(number_at(alloc, "client", client)?);
@@ -254,18 +253,18 @@ fn sources_of(
     if has_sources(shape, sources) {
         Ok(sources)
     } else {
-        Err(WireError::Wrong(Fault::Sources))
+        Err(LineError::Wrong(Cause::Sources))
     }
 }
 
 /// `source client=N from=N to=N`.
 #[tactic(auto, unfolding(crate::specs::Header::sources_in))]
-fn parse_sources(alloc: Global, shape: Shape, words: &[&str]) -> Result<Sources, WireError>
+fn parse_sources(alloc: Global, shape: Shape, words: &[&str]) -> Result<Sources, LineError>
     ensures { Gives (λ x. x) result (sources_in shape (texts words.now)) }
 {
     match *words {
         [client, from, to] => sources_of(alloc, shape, client, from, to),
-        _ => Err(WireError::Wrong(Fault::Sources)),
+        _ => Err(LineError::Wrong(Cause::Sources)),
     }
 }
 
@@ -274,21 +273,10 @@ pub(crate) fn take_sources(
     alloc: Global,
     mut setting: Setting,
     words: &[&str],
-) -> Result<Setting, WireError>
+) -> Result<Setting, LineError>
     ensures { Gives (λ x. x) result (sources_taken setting (texts words.now)) }
 {
     let sources = parse_sources(alloc, setting.shape(), words)?;
     setting.add(sources)?;
     Ok(setting)
-}
-
-/// `HEX`, behind the word `image`.
-#[tactic(auto, unfolding(crate::specs::Header::image_in))]
-pub(crate) fn parse_image(alloc: Global, words: &[&str]) -> Result<Vec<u8>, WireError>
-    ensures { Gives (λ x. x.items) result (image_in (texts words.now)) }
-{
-    match *words {
-        [bytes] => Ok(parse_bytes(alloc, bytes)?),
-        _ => Err(WireError::Wrong(Fault::Bytes)),
-    }
 }

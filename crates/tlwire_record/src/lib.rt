@@ -2,7 +2,6 @@
 #![tactic(auto)]
 
 mod code;
-mod fault;
 mod fields;
 mod header;
 mod line;
@@ -13,7 +12,6 @@ mod stage;
 mod tables;
 
 pub use code::Role;
-pub use fault::{Fault, WireError};
 pub use fields::{Field, Fields};
 pub use header::{Setting, Sources};
 pub use line::{Line, Link, Said};

@@ -1,14 +1,14 @@
 //! A line of a message, of a load or of a store.
 ghost use Rattle.std.specs.Prelude.{◌≡◌, [], ◌∷◌};
 ghost use Rattle.tl_script_words.specs.Words.{texts};
-ghost use Rattle.tlwire_record.specs.Fault.{Gives};
+ghost use Rattle.tlcheck_record.specs.Cause.{Gives};
 ghost use Rattle.tlwire_record.specs.Line.{access_in, channel_of_word, client_of_word, line_in, link_of, message_in, said_in, same_link};
 
-use crate::fault::{Fault, WireError};
-use crate::fields::{Fields, address, no_fields, number, parse_fields};
+use crate::fields::{Fields, no_fields, parse_fields};
 use std::alloc::Global;
-use tl_script_words::{parse_access, parse_number};
+use tl_script_words::parse_number;
 use tl_types::{AccessBytes, Channel, ClientId};
+use tlcheck_record::{Cause, LineError, read_access, read_address, read_number};
 
 /// Whose link.
 #[derive(Clone, Copy, Debug, PartialEq, Eq)]
@@ -79,7 +79,7 @@ fn client_of_word(text: &str) -> Option<u32>
     parse_number(digits)
 }
 
-fn parse_link(text: &str) -> Result<Link, Fault>
+fn parse_link(text: &str) -> Result<Link, Cause>
     ensures { result ≡ link_of text.now }
 {
     if text == "m" {
@@ -87,12 +87,12 @@ fn parse_link(text: &str) -> Result<Link, Fault>
     }
     match client_of_word(text) {
         Some(number) => Ok(Link::Client(ClientId::new(number))),
-        None => Err(Fault::Link),
+        None => Err(Cause::Link),
     }
 }
 
 #[tactic(auto, unfolding(crate::specs::Line::channel_of_word))]
-fn parse_channel(text: &str) -> Result<Channel, Fault>
+fn parse_channel(text: &str) -> Result<Channel, Cause>
     ensures { result ≡ channel_of_word text.now }
 {
     match text {
@@ -101,34 +101,34 @@ fn parse_channel(text: &str) -> Result<Channel, Fault>
         "C" => Ok(Channel::C),
         "D" => Ok(Channel::D),
         "E" => Ok(Channel::E),
-        _ => Err(Fault::Channel),
+        _ => Err(Cause::Channel),
     }
 }
 
 /// An address, and the bytes from it on.
 #[tactic(auto, unfolding(crate::specs::Line::access_in))]
-fn parse_words_of_access(words: &[&str]) -> Result<(u32, AccessBytes), WireError>
+fn parse_words_of_access(words: &[&str]) -> Result<(u32, AccessBytes), LineError>
     ensures { Gives (λ x. x) result (access_in (texts words.now)) }
 {
     match *words {
         [place, bytes] => {
-            let address = address(place)?;
-            let bytes = parse_access(bytes).ok_or(WireError::Wrong(Fault::Bytes))?;
+            let address = read_address(place)?;
+            let bytes = read_access(bytes)?;
             Ok((address, bytes))
         }
-        _ => Err(WireError::Wrong(Fault::Words)),
+        _ => Err(LineError::Wrong(Cause::Words)),
     }
 }
 
 /// A message's opcode and fields.
 #[tactic(auto, unfolding(crate::specs::Line::message_in))]
-fn message(alloc: Global, channel: Channel, words: &[&str]) -> Result<Said, WireError>
+fn message(alloc: Global, channel: Channel, words: &[&str]) -> Result<Said, LineError>
     ensures { Gives (λ x. x) result (message_in channel (texts words.now)) }
 {
     match words {
-        [] => Err(WireError::Wrong(Fault::Words)),
+        [] => Err(LineError::Wrong(Cause::Words)),
         [opcode, rest @ ..] => {
-            let opcode = number(opcode)?;
+            let opcode = read_number(opcode)?;
             let fields = parse_fields(alloc, no_fields(), rest)?;
             Ok(Said::Message(channel, opcode, fields))
         }
@@ -136,7 +136,7 @@ fn message(alloc: Global, channel: Channel, words: &[&str]) -> Result<Said, Wire
 }
 
 #[tactic(auto, unfolding(crate::specs::Line::said_in))]
-fn parse_said(alloc: Global, verb: &str, words: &[&str]) -> Result<Said, WireError>
+fn parse_said(alloc: Global, verb: &str, words: &[&str]) -> Result<Said, LineError>
     ensures { Gives (λ x. x) result (said_in verb.now (texts words.now)) }
 {
     match verb {
@@ -163,10 +163,10 @@ fn line_of(
     place: &str,
     verb: &str,
     rest: &[&str],
-) -> Result<Line, WireError>
+) -> Result<Line, LineError>
     ensures { Gives (λ x. x) result (line_in (when.now ∷ place.now ∷ verb.now ∷ texts rest.now)) }
 {
-    let cycle = number(when)?;
+    let cycle = read_number(when)?;
     let link = parse_link(place)?;
     let said = parse_said(alloc, verb, rest)?;
     Ok(Line { cycle, link, said })
@@ -174,11 +174,11 @@ fn line_of(
 
 /// The line that some words write: `CYCLE LINK CHANNEL OPCODE FIELD..`, `CYCLE LINK load ADDR HEX` or `CYCLE LINK store ADDR HEX`.
 #[tactic(auto, unfolding(crate::specs::Line::line_in))]
-pub(crate) fn parse_line(alloc: Global, words: &[&str]) -> Result<Line, WireError>
+pub(crate) fn parse_line(alloc: Global, words: &[&str]) -> Result<Line, LineError>
     ensures { Gives (λ x. x) result (line_in (texts words.now)) }
 {
     match words {
-        [] | [_] | [_, _] => Err(WireError::Wrong(Fault::Words)),
+        [] | [_] | [_, _] => Err(LineError::Wrong(Cause::Words)),
         [when, place, verb, rest @ ..] => line_of(alloc, when, place, verb, rest),
     }
 }

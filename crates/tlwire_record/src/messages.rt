@@ -1,11 +1,10 @@
 //! What was seen, with the client and the block that its ids stand for.
 ghost use Rattle.std.specs.Prelude.{◌≡◌};
-ghost use Rattle.tlwire_record.specs.Fault.{Gives};
+ghost use Rattle.tlcheck_record.specs.Cause.{Gives};
 ghost use Rattle.tlwire_record.specs.declared.line.Said.TheVariants as its;
 ghost use Rattle.tlwire_record.specs.Messages.{began, has_own_source, is_there, owner_of, seen_on, wrong_in};
 
 use crate::code::{is_on_link, kind_of, role_of};
-use crate::fault::{Fault, WireError};
 use crate::fields::Fields;
 use crate::header::Setting;
 use crate::line::{Line, Link, Said};
@@ -14,6 +13,7 @@ use crate::tables::Tables;
 use std::alloc::Global;
 use std::marker::Model;
 use tl_types::{AccessBytes, BlockNo, Channel, ClientId, Kind};
+use tlcheck_record::{Cause, LineError};
 use tlcheck_rules::Shown;
 use tlwire_search::Seen;
 
@@ -37,24 +37,24 @@ fn wrong_in(
     channel: Channel,
     kind: &Kind,
     fields: &Fields,
-) -> Option<Fault>
+) -> Option<Cause>
     ensures { result ≡ wrong_in setting.now link.now channel kind.now fields.now }
 {
     let shape = setting.shape();
     if !is_on_link(kind, link) {
-        return Some(Fault::Profile);
+        return Some(Cause::Profile);
     }
     if has_other_fields(channel, fields) {
-        return Some(Fault::Extra);
+        return Some(Cause::Extra);
     }
     if !is_size(shape, fields.size) {
-        return Some(Fault::Size);
+        return Some(Cause::Size);
     }
     if !has_own_source(setting, link, fields.source) {
-        return Some(Fault::Source);
+        return Some(Cause::Source);
     }
     if !has_its_data(shape, kind, &fields.bytes) {
-        return Some(Fault::Data);
+        return Some(Cause::Data);
     }
     None
 }
@@ -80,12 +80,12 @@ fn is_there(clients: u32, link: &Link) -> bool
 }
 
 /// The client whose link it is.
-fn owner_of(link: &Link) -> Result<ClientId, Fault>
+fn owner_of(link: &Link) -> Result<ClientId, Cause>
     ensures { result ≡ owner_of link.now }
 {
     match link {
         Link::Client(client) => Ok(*client),
-        Link::Memory => Err(Fault::Client),
+        Link::Memory => Err(Cause::Client),
     }
 }
 
@@ -167,14 +167,14 @@ impl Messages {
         channel: Channel,
         opcode: u32,
         fields: Fields,
-    ) -> Result<Seen, WireError>
+    ) -> Result<Seen, LineError>
         ensures gives { Gives (λ seen. (seen, self.new.tables)) result
             (message_taken self.old.setting self.old.tables link.now channel opcode fields) }
         ensures kept { self.new ≡ record self.old { tables = self.new.tables } }
     {
         let kind = kind_of(channel, opcode, fields.param.unwrap_or(0))?;
-        if let Some(fault) = wrong_in(&self.setting, link, channel, &kind, &fields) {
-            return Err(WireError::Wrong(fault));
+        if let Some(cause) = wrong_in(&self.setting, link, channel, &kind, &fields) {
+            return Err(LineError::Wrong(cause));
         }
         let block = self
             .tables
@@ -188,7 +188,7 @@ impl Messages {
 
     /// What is seen of a load.
     #[tactic(auto, unfolding(crate::specs::Messages::said_taken))]
-    fn load(&self, link: &Link, address: u32, bytes: AccessBytes) -> Result<Seen, WireError>
+    fn load(&self, link: &Link, address: u32, bytes: AccessBytes) -> Result<Seen, LineError>
         ensures { Gives (λ seen. (seen, self.now.tables)) result
             (said_taken self.now.setting self.now.tables link.now (its.Load address bytes)) }
     {
@@ -199,7 +199,7 @@ impl Messages {
 
     /// What is seen of a store.
     #[tactic(auto, unfolding(crate::specs::Messages::said_taken))]
-    fn store(&self, link: &Link, address: u32, bytes: AccessBytes) -> Result<Seen, WireError>
+    fn store(&self, link: &Link, address: u32, bytes: AccessBytes) -> Result<Seen, LineError>
         ensures { Gives (λ seen. (seen, self.now.tables)) result
             (said_taken self.now.setting self.now.tables link.now (its.Store address bytes)) }
     {
@@ -210,7 +210,7 @@ impl Messages {
 
     /// What is seen of what a line says, on a link of a client that is there or of the memory.
     #[tactic(auto, unfolding(crate::specs::Messages::said_taken))]
-    fn said(&mut self, link: &Link, said: Said) -> Result<Seen, WireError>
+    fn said(&mut self, link: &Link, said: Said) -> Result<Seen, LineError>
         ensures gives { Gives (λ seen. (seen, self.new.tables)) result (said_taken self.old.setting self.old.tables link.now said) }
         ensures kept { self.new ≡ record self.old { tables = self.new.tables } }
     {
@@ -222,15 +222,15 @@ impl Messages {
     }
 
     /// Takes the line with this number.
-    pub(crate) fn take(&mut self, number: u64, line: Line) -> Result<(), WireError>
+    pub(crate) fn take(&mut self, number: u64, line: Line) -> Result<(), LineError>
         ensures { Gives (λ _. self.new) result (line_taken self.old number line) }
     {
         let Line { cycle, link, said } = line;
         if cycle < self.cycle {
-            return Err(WireError::Wrong(Fault::Backwards));
+            return Err(LineError::Wrong(Cause::Backwards));
         }
         if !is_there(self.setting.shape().clients, &link) {
-            return Err(WireError::Wrong(Fault::Client));
+            return Err(LineError::Wrong(Cause::Client));
         }
         let seen = self.said(&link, said)?;
         self.cycle = cycle;

@@ -4,25 +4,25 @@ ghost use Rattle.tl_types.specs.declared.kind.Kind.{Kind};
 ghost use Rattle.tlwire_record.specs.Place.{block_at, has_its_data, has_other_fields, is_size, offset_of};
 
 use crate::code::has_data;
-use crate::fault::Fault;
 use crate::fields::Fields;
 use tl_rules::Shape;
 use tl_types::{AccessBytes, BlockBytes, BlockNo, Channel, Kind};
+use tlcheck_record::Cause;
 
 /// The block whose first byte lies at an address.
-pub(crate) fn block_at(shape: Shape, base: u32, address: u32) -> Result<BlockNo, Fault>
+pub(crate) fn block_at(shape: Shape, base: u32, address: u32) -> Result<BlockNo, Cause>
     requires { 0 < shape.block_bytes }
     ensures { result ≡ block_at shape base address }
 {
     if address < base {
-        return Err(Fault::Outside);
+        return Err(Cause::Outside);
     }
     let offset = address - base;
     if offset / shape.block_bytes >= shape.blocks {
-        return Err(Fault::Outside);
+        return Err(Cause::Outside);
     }
     if offset % shape.block_bytes != 0 {
-        return Err(Fault::Unaligned);
+        return Err(Cause::Unaligned);
     }
     Ok(BlockNo::new(offset / shape.block_bytes))
 }
@@ -33,20 +33,20 @@ pub(crate) fn offset_of(
     base: u32,
     address: u32,
     bytes: &AccessBytes,
-) -> Result<u32, Fault>
+) -> Result<u32, Cause>
     requires { 0 < shape.block_bytes }
     ensures { result ≡ offset_of shape base address bytes.now }
 {
     if address < base {
-        return Err(Fault::Outside);
+        return Err(Cause::Outside);
     }
     let offset = address - base;
     if offset / shape.block_bytes >= shape.blocks {
-        return Err(Fault::Outside);
+        return Err(Cause::Outside);
     }
     let from = (offset % shape.block_bytes) as usize;
     if from + bytes.as_slice().len() > shape.block_bytes as usize {
-        return Err(Fault::Access);
+        return Err(Cause::Access);
     }
     Ok(offset)
 }

@@ -5,16 +5,16 @@ ghost use Rattle.tl_script_words.specs.Words.{texts};
 ghost use Rattle.tlwire_record.specs.Read.{IsAfter, IsRead, ending_of};
 ghost use Rattle.tlwire_record.specs.Reading.{lines_of};
 
-use crate::fault::{Fault, WireError};
 use crate::messages::Messages;
 use crate::stage::{Stage, take_line};
 use std::alloc::{AllocError, Global};
+use tlcheck_record::{Cause, LineError};
 
 /// Why a text is no record of messages.
 #[derive(Clone, Copy, Debug, PartialEq, Eq)]
 pub enum ReadFault {
     /// On this line, from 1 on, this is wrong.
-    Line(u64, Fault),
+    Line(u64, Cause),
     /// There is no shape, or neither image nor message.
     Empty,
     /// A request for memory was refused.
@@ -48,8 +48,8 @@ fn take_lines(alloc: Global, lines: &[&[u8]]) -> Result<Stage, ReadFault>
         number += 1;
         stage = match take_line(alloc, stage, number, line) {
             Ok(after) => after,
-            Err(WireError::Wrong(fault)) => return Err(ReadFault::Line(number, fault)),
-            Err(WireError::Memory) => return Err(ReadFault::Memory),
+            Err(LineError::Wrong(cause)) => return Err(ReadFault::Line(number, cause)),
+            Err(LineError::Memory) => return Err(ReadFault::Memory),
         };
     }
     Ok(stage)

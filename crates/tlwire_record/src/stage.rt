@@ -1,17 +1,16 @@
 //! What the lines of a record lead to, one after another.
 ghost use Rattle.std.specs.Prelude.{◌≡◌};
-ghost use Rattle.tlcheck_record.specs.Header.{is_blank};
+ghost use Rattle.tlcheck_record.specs.Words.{is_blank};
 ghost use Rattle.tl_script_words.specs.Words.{texts};
-ghost use Rattle.tlwire_record.specs.Fault.{Gives};
+ghost use Rattle.tlcheck_record.specs.Cause.{Gives};
 ghost use Rattle.tlwire_record.specs.Reading.{after_text, going, next, next_shaped, shaped_by, text_taken};
 
-use crate::fault::{Fault, WireError};
-use crate::header::{Setting, is_title, parse_image, parse_setting, take_sources};
+use crate::header::{Setting, is_title, parse_setting, take_sources};
 use crate::line::parse_line;
 use crate::messages::Messages;
 use std::alloc::Global;
 use tl_script_words::split_words;
-use tlcheck_record::is_blank;
+use tlcheck_record::{Cause, LineError, is_blank, read_image, read_text};
 
 /// Where a reader of a record is.
 #[derive(Drop)]
@@ -32,7 +31,7 @@ fn going(
     mut messages: Messages,
     number: u64,
     words: &[&str],
-) -> Result<Stage, WireError>
+) -> Result<Stage, LineError>
     ensures { Gives (λ s. s) result (going messages number (texts words.now)) }
 {
     let line = parse_line(alloc, words)?;
@@ -48,13 +47,13 @@ fn shaped_by(
     word: &str,
     rest: &[&str],
     words: &[&str],
-) -> Result<Stage, WireError>
+) -> Result<Stage, LineError>
     ensures { Gives (λ s. s) result (shaped_by setting number word.now (texts rest.now) (texts words.now)) }
 {
     match word {
         "source" => Ok(Stage::Shaped(take_sources(alloc, setting, rest)?)),
         "image" => {
-            let image = parse_image(alloc, rest)?;
+            let image = read_image(alloc, setting.shape(), rest)?;
             Ok(Stage::Going(Messages::begin(alloc, setting, image)))
         }
         _ => {
@@ -70,17 +69,17 @@ fn next_shaped(
     setting: Setting,
     number: u64,
     words: &[&str],
-) -> Result<Stage, WireError>
+) -> Result<Stage, LineError>
     ensures { Gives (λ s. s) result (next_shaped setting number (texts words.now)) }
 {
     match words {
-        [] => Err(WireError::Wrong(Fault::Words)),
+        [] => Err(LineError::Wrong(Cause::Words)),
         [word, rest @ ..] => shaped_by(alloc, setting, number, word, rest, words),
     }
 }
 
 /// A line that is not blank.
-fn next(alloc: Global, stage: Stage, number: u64, words: &[&str]) -> Result<Stage, WireError>
+fn next(alloc: Global, stage: Stage, number: u64, words: &[&str]) -> Result<Stage, LineError>
     ensures { Gives (λ s. s) result (next stage number (texts words.now)) }
 {
     match stage {
@@ -88,7 +87,7 @@ fn next(alloc: Global, stage: Stage, number: u64, words: &[&str]) -> Result<Stag
             if is_title(words) {
                 Ok(Stage::Titled)
             } else {
-                Err(WireError::Wrong(Fault::Title))
+                Err(LineError::Wrong(Cause::Title))
             }
         }
         Stage::Titled => Ok(Stage::Shaped(parse_setting(alloc, words)?)),
@@ -97,7 +96,7 @@ fn next(alloc: Global, stage: Stage, number: u64, words: &[&str]) -> Result<Stag
     }
 }
 
-fn text_taken(alloc: Global, stage: Stage, number: u64, text: &str) -> Result<Stage, WireError>
+fn text_taken(alloc: Global, stage: Stage, number: u64, text: &str) -> Result<Stage, LineError>
     ensures { Gives (λ s. s) result (text_taken stage number text.now) }
 {
     let words = split_words(alloc, text)?;
@@ -110,14 +109,14 @@ pub(crate) fn take_line(
     stage: Stage,
     number: u64,
     text: &[u8],
-) -> Result<Stage, WireError>
+) -> Result<Stage, LineError>
     ensures { Gives (λ s. s) result (after_text stage number text.now) }
 {
     if is_blank(text) {
         return Ok(stage);
     }
-    match std::str::from_utf8(text) {
+    match read_text(text) {
         Ok(text) => text_taken(alloc, stage, number, text),
-        Err(_) => Err(WireError::Wrong(Fault::Text)),
+        Err(cause) => Err(LineError::Wrong(cause)),
     }
 }

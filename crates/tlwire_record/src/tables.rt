@@ -1,10 +1,9 @@
 //! What is open on the links: requests and releases by their sources, grants by their sinks.
 ghost use Rattle.std.specs.Prelude.{◌≡◌};
-ghost use Rattle.tlwire_record.specs.Fault.{Gives};
+ghost use Rattle.tlcheck_record.specs.Cause.{Gives};
 ghost use Rattle.tlwire_record.specs.Tables.{at_address, block_of, closed, is_at, needed, opened};
 
 use crate::code::Role;
-use crate::fault::{Fault, WireError};
 use crate::fields::Fields;
 use crate::header::Setting;
 use crate::line::Link;
@@ -12,6 +11,7 @@ use crate::place::block_at;
 use std::alloc::Global;
 use std::marker::Model;
 use tl_types::BlockNo;
+use tlcheck_record::{Cause, LineError};
 
 /// What is open on a link under a source or a sink, and its block.
 #[derive(Clone, Copy, Debug, PartialEq, Eq)]
@@ -41,11 +41,11 @@ fn block_of(list: &[Open], link: &Link, id: u32) -> Option<BlockNo>
 }
 
 /// One more is open, unless its number is in use on its link.
-fn open_one(list: &mut Vec<Open>, one: Open, in_use: Fault) -> Result<(), WireError>
+fn open_one(list: &mut Vec<Open>, one: Open, in_use: Cause) -> Result<(), LineError>
     ensures { Gives (λ _. list.new.items) result (opened list.old.items one in_use) }
 {
     if block_of(list, &one.link, one.id).is_some() {
-        return Err(WireError::Wrong(in_use));
+        return Err(LineError::Wrong(in_use));
     }
     list.push(one)?;
     Ok(())
@@ -56,8 +56,8 @@ fn close_one(
     list: &mut Vec<Open>,
     link: &Link,
     id: u32,
-    unknown: Fault,
-) -> Result<BlockNo, WireError>
+    unknown: Cause,
+) -> Result<BlockNo, LineError>
     ensures { Gives (λ block. (block, list.new.items)) result (closed link.now id unknown list.old.items) }
 {
     match block_of(list, link, id) {
@@ -65,18 +65,18 @@ fn close_one(
             list.retain(|one| !one.is_at(link, id));
             Ok(block)
         }
-        None => Err(WireError::Wrong(unknown)),
+        None => Err(LineError::Wrong(unknown)),
     }
 }
 
-fn needed(field: Option<u32>) -> Result<u32, Fault>
+fn needed(field: Option<u32>) -> Result<u32, Cause>
     ensures { result ≡ needed field }
 {
-    field.ok_or(Fault::Missing)
+    field.ok_or(Cause::Missing)
 }
 
 /// The block at the address that stands.
-fn at_address(setting: &Setting, fields: &Fields) -> Result<BlockNo, Fault>
+fn at_address(setting: &Setting, fields: &Fields) -> Result<BlockNo, Cause>
     ensures { result ≡ at_address setting.now fields.now }
 {
     block_at(setting.shape(), setting.base(), needed(fields.address)?)
@@ -118,7 +118,7 @@ impl Tables {
         setting: &Setting,
         link: &Link,
         fields: &Fields,
-    ) -> Result<BlockNo, WireError>
+    ) -> Result<BlockNo, LineError>
         ensures { Gives (λ block. (block, self.new)) result (request_taken setting.now self.old link.now fields.now) }
     {
         let block = at_address(setting, fields)?;
@@ -130,7 +130,7 @@ impl Tables {
                 id,
                 block,
             },
-            Fault::SourceInUse,
+            Cause::SourceInUse,
         )?;
         Ok(block)
     }
@@ -141,7 +141,7 @@ impl Tables {
         setting: &Setting,
         link: &Link,
         fields: &Fields,
-    ) -> Result<BlockNo, WireError>
+    ) -> Result<BlockNo, LineError>
         ensures { Gives (λ block. (block, self.new)) result (release_taken setting.now self.old link.now fields.now) }
     {
         let block = at_address(setting, fields)?;
@@ -153,40 +153,40 @@ impl Tables {
                 id,
                 block,
             },
-            Fault::SourceInUse,
+            Cause::SourceInUse,
         )?;
         Ok(block)
     }
 
     #[tactic(auto, unfolding(crate::specs::Tables::alone_taken))]
-    fn alone(&self, setting: &Setting, fields: &Fields) -> Result<BlockNo, WireError>
+    fn alone(&self, setting: &Setting, fields: &Fields) -> Result<BlockNo, LineError>
         ensures { Gives (λ block. (block, self.now)) result (alone_taken setting.now self.now fields.now) }
     {
         Ok(at_address(setting, fields)?)
     }
 
     #[tactic(auto, unfolding(crate::specs::Tables::answer_taken))]
-    fn answer(&mut self, link: &Link, fields: &Fields) -> Result<BlockNo, WireError>
+    fn answer(&mut self, link: &Link, fields: &Fields) -> Result<BlockNo, LineError>
         ensures { Gives (λ block. (block, self.new)) result (answer_taken self.old link.now fields.now) }
     {
         let source = needed(fields.source)?;
-        close_one(&mut self.requests, link, source, Fault::NoRequest)
+        close_one(&mut self.requests, link, source, Cause::NoRequest)
     }
 
     #[tactic(auto, unfolding(crate::specs::Tables::release_answer_taken))]
-    fn release_answer(&mut self, link: &Link, fields: &Fields) -> Result<BlockNo, WireError>
+    fn release_answer(&mut self, link: &Link, fields: &Fields) -> Result<BlockNo, LineError>
         ensures { Gives (λ block. (block, self.new)) result (release_answer_taken self.old link.now fields.now) }
     {
         let source = needed(fields.source)?;
-        close_one(&mut self.releases, link, source, Fault::NoRequest)
+        close_one(&mut self.releases, link, source, Cause::NoRequest)
     }
 
     #[tactic(auto, unfolding(crate::specs::Tables::grant_taken))]
-    fn grant(&mut self, link: &Link, fields: &Fields) -> Result<BlockNo, WireError>
+    fn grant(&mut self, link: &Link, fields: &Fields) -> Result<BlockNo, LineError>
         ensures { Gives (λ block. (block, self.new)) result (grant_taken self.old link.now fields.now) }
     {
-        let (source, id) = fields.source.zip(fields.sink).ok_or(Fault::Missing)?;
-        let block = close_one(&mut self.requests, link, source, Fault::NoRequest)?;
+        let (source, id) = fields.source.zip(fields.sink).ok_or(Cause::Missing)?;
+        let block = close_one(&mut self.requests, link, source, Cause::NoRequest)?;
         open_one(
             &mut self.grants,
             Open {
@@ -194,17 +194,17 @@ impl Tables {
                 id,
                 block,
             },
-            Fault::SinkInUse,
+            Cause::SinkInUse,
         )?;
         Ok(block)
     }
 
     #[tactic(auto, unfolding(crate::specs::Tables::end_taken))]
-    fn end(&mut self, link: &Link, fields: &Fields) -> Result<BlockNo, WireError>
+    fn end(&mut self, link: &Link, fields: &Fields) -> Result<BlockNo, LineError>
         ensures { Gives (λ block. (block, self.new)) result (end_taken self.old link.now fields.now) }
     {
         let sink = needed(fields.sink)?;
-        close_one(&mut self.grants, link, sink, Fault::NoGrant)
+        close_one(&mut self.grants, link, sink, Cause::NoGrant)
     }
 
     /// The block of a message, by its address, its source or its sink; what it opens is open then, and what it closes is not.
@@ -214,7 +214,7 @@ impl Tables {
         role: Role,
         link: &Link,
         fields: &Fields,
-    ) -> Result<BlockNo, WireError>
+    ) -> Result<BlockNo, LineError>
         ensures { Gives (λ block. (block, self.new)) result (taken setting.now self.old role link.now fields.now) }
     {
         match role {

@@ -112,9 +112,10 @@ fn client_before(
     let c = client_of(event);
     let block = BlockNo::new(event.block(judge.plain().shape()));
     match rule {
-        Rule::WaitsForNothing | Rule::CopyIsReadable | Rule::CopyIsWritable => {
-            client_step(judge, wires, seen, k, c, block)
-        }
+        Rule::NoAcquireUnanswered
+        | Rule::NoReleaseBesideAcquire
+        | Rule::CopyIsReadable
+        | Rule::CopyIsWritable => client_step(judge, wires, seen, k, c, block),
         Rule::LoadHasItsBytes => on_channel(judge, wires, seen, c, Channel::C, block),
         Rule::StartsFromItsCopy => match event {
             Event::SendRelease(_, _, _) => on_channel(judge, wires, seen, c, Channel::A, block),
@@ -149,11 +150,15 @@ fn home_before(
     let block = BlockNo::new(event.block(judge.plain().shape()));
     match rule {
         Rule::ServesNoAcquire => Some(Event::TakeGrantAck(state.accepted()?.client, block)),
-        Rule::NoGrantIsPending => Some(Event::TakeGrantAck(
+        Rule::NoGrantIsPending | Rule::OneGrantIsPending => Some(Event::TakeGrantAck(
             in_way(state, clients, Which::Granted)?,
             block,
         )),
         Rule::NoProbeIsPending => Some(Event::TakeC(in_way(state, clients, Which::Probed)?, block)),
+        Rule::NothingIsPending => match in_way(state, clients, Which::Probed) {
+            Some(probed) => Some(Event::TakeC(probed, block)),
+            None => Some(Event::TakeGrantAck(in_way(state, clients, Which::Granted)?, block)),
+        },
         Rule::NobodyIsRecorded | Rule::CopyIsDirty => {
             Some(Event::TakeC(in_way(state, clients, Which::Recorded)?, block))
         }
@@ -255,7 +260,7 @@ pub(crate) fn remedy(
     let state = judge.plain().block(event.block(judge.plain().shape()))?;
     match breach {
         None => unlike(judge, wires, seen, event, state),
-        Some(Breach::NotAsShown) => None,
+        Some(Breach::NotAsShown(_)) => None,
         Some(Breach::OutOfOrder) => first_taken(judge, event),
         Some(Breach::NotPermitted(rule)) => {
             match home_before(judge, wires, seen, event, state, rule) {

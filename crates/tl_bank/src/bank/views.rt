@@ -201,7 +201,7 @@ impl Bank {
     }
 
     /// The block in a way of a set.
-    fn block_in(&self, set: Set, way: Way) -> Option<BlockNo>
+    pub(super) fn block_in(&self, set: Set, way: Way) -> Option<BlockNo>
         requires set { set < self.now.geometry.sets }
         requires way { way < self.now.geometry.ways }
         ensures { result ≡ slot_at self.now set way }

@@ -1,19 +1,19 @@
-use Rattle.std.proofs.Common.{◌≡◌, Some}
+use Rattle.std.proofs.Common.{◌≡◌, None, Ok, Some}
 use Rattle.tlcheck_record.specs.Header.{image_of}
-use Rattle.tlcheck_reader.proofs.Takes.{image, no_image, refused_at}
+use Rattle.tlcheck_reader.proofs.Takes.{image, no_image}
 use Rattle.tlcheck_reader.proofs.line.second_line.Goals as goal
 
 -- an image
-pub returns-in-Ok-new-clause-takes : goal.returns-in-Ok-new-clause-takes
-returns-in-Ok-new-clause-takes c =
-    let read = c.in-Ok.ensures {u = tt} in
+pub returns-in-Ok-clause-takes : goal.returns-in-Ok-clause-takes
+returns-in-Ok-clause-takes c =
+    let read = rw c.in-Ok-Some.field-0-is at c.in-Ok-Some.ensures in
     let same = c.deref.ensures.value in
-    let at : image_of c.args.text.now ≡ Some c.deref.result.now = cc in
-    image c.args.text.now c.deref.result.now c.args.shape c.in-Ok-new.judge at (c.in-Ok-new.ensures {u = tt})
+    let at : image_of c.args.shape c.args.text.now ≡ Ok (Some c.deref.result.now) = cc in
+    image c.args.text.now c.deref.result.now c.args.shape c.in-Ok.judge at (c.in-Ok.ensures {u = tt})
 
 -- the first entry, with no image
-pub returns-in-Ok-new-2-clause-takes : goal.returns-in-Ok-new-2-clause-takes
-returns-in-Ok-new-2-clause-takes c =
-    no_image c.args.text.now c.args.shape c.in-Ok-new-2.judge c.in-Ok-read_entry.entry c.judge_entry.result
-    (refused_at _ _ (c.in-Err-Malformed.ensures {u = tt}) c.in-Err-Malformed.field-0-is)
-    (c.in-Ok-read_entry.ensures {u = tt}) (c.in-Ok-new-2.ensures {u = tt}) c.judge_entry.ensures.judges
+pub returns-in-Ok-new-clause-takes : goal.returns-in-Ok-new-clause-takes
+returns-in-Ok-new-clause-takes c =
+    let read = rw c.in-Ok-None.field-0-is at c.in-Ok-None.ensures in
+    let at : image_of c.args.shape c.args.text.now ≡ Ok None = cc in
+    no_image c.args.text.now c.args.shape c.in-Ok-new.judge c.entry_line.result at (c.in-Ok-new.ensures {u = tt}) c.entry_line.ensures.takes

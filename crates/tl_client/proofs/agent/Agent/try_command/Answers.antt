@@ -2,6 +2,7 @@
 use Rattle.std.proofs.Common.{◌≡◌, [], ℕ, ◌<◌, length, List, ◌∷◌, ◌++◌, slice_index_or, arith, ap, sym, ◌∙◌}
 use Rattle.std.proofs.lemmas.List.{length_push}
 use Rattle.tl_text.specs.declared.report.Answered.{Answered}
+use Rattle.tl_client.specs.Agents.{ClientLinks}
 use Rattle.tl_client.specs.Answers.{AgentView, answered_of}
 use Rattle.tl_client.proofs.AnswerLaws.{answered-push, beginning-push, gains-one, length-answered}
 use Rattle.tl_client.proofs.agent.Agent.try_command.Goals as goal
@@ -16,7 +17,7 @@ invariant_of-self g c =
     let pushed = length_push c.self.inside.bytes.items c.in-Ok.done.bytes in
     let all = ap (λ (xs : List (List ℕ)). length xs) c.push_reserved.ensures.items in (
       beginning-push c.self.inside.bytes.items c.push_reserved.new.self.items c.self.inside.script.now c.in-Ok.done.bytes c.index-script-index.result
-          c.push_reserved.ensures.items short i n.0.1 c.in-Ok.ensures.2,
+          c.push_reserved.ensures.items short i n.0.1 c.in-Ok.ensures.gains.2,
       omega (arith, all, pushed, short),
       omega (arith, c.push_reserved.ensures.capacity, n.2),
       n.3,
@@ -33,12 +34,12 @@ returns-in-Ok-clause-gains g c =
     let answers : answered_of c.self.inside.bytes.items c.self.inside.script.now ≡ c.args.self.now.answered = ap (λ (t : AgentView). t.answered) v in
     let a : Answered = record { command = c.index-script-index.result; bytes = c.in-Ok.done.bytes } in
     let gained =
-    gains-one c.args.self.now c.self.inside.client c.self.inside.clock c.len-index.result c.in-Ok.done.clock c.index-script-index.result c.in-Ok.done.bytes
+    gains-one c.args.self.now c.client-client.result c.self.inside.clock c.len-index.result c.in-Ok.done.clock c.index-script-index.result c.in-Ok.done.bytes
     (g.P.Port.successes c.args.port.now) (g.P.Port.successes c.carry_out.new.port)
-    (sym (ap (λ (t : AgentView). t.client) v)) (sym (ap (λ (t : AgentView). t.clock) v))
+    (sym (c.client-client.ensures ∙ ap (λ (t : AgentView). t.links.client) v)) (sym (ap (λ (t : AgentView). t.clock) v))
     (ap (λ (xs : List Answered). length xs) (sym answers) ∙ length-answered c.self.inside.bytes.items c.self.inside.script.now n.1 ∙ sym l)
-    c.in-Ok.ensures.0 c.in-Ok.ensures.1 in (
-      ap (λ (t : AgentView). t.client) v,
+    c.in-Ok.ensures.gains.0 c.in-Ok.ensures.gains.1 in (
+      ap (λ (l : ClientLinks). l.client) c.succeed.ensures ∙ ap (λ (t : AgentView). t.links.client) v,
       ap (λ (t : AgentView). t.script) v,
       (
         a ∷ [],

@@ -1,6 +1,18 @@
-use Rattle.std.proofs.Common.{◌≡◌}
+use Rattle.std.proofs.Common.{◌≡◌, length}
+use Rattle.tl_client_mail.specs.Rounds.{all_of}
+use Rattle.tl_client.proofs.ServeLaws.{Went}
 use Rattle.tl_client.proofs.requester.Requester.serve_probes.Given as goal
 
--- the loop keeps what the port's list has
-abbrev pub invariant-loop : goal.invariant-loop
-invariant-loop g l = g.P.Port.successes l.port ≡ g.P.Port.successes l.fn.port
+-- how far the round has gone, and what stays
+abbrev pub invariant-loop-ticket : goal.invariant-loop-ticket
+invariant-loop-ticket g l = record {
+  client : l.self.client ≡ l.fn.self.client;
+  banks : l.self.banks ≡ l.fn.self.banks;
+  downward : l.self.downward ≡ l.fn.self.downward;
+  successes : g.P.Port.successes l.port ≡ g.P.Port.successes l.fn.port;
+  inbox : l.mail.inbox ≡ l.fn.mail.inbox;
+  went : Went (all_of l.fn.self.probes) (g.P.Port.asked l.fn.port) l.self.probes (g.P.Port.asked l.port);
+}
+
+abbrev pub decreases-loop-ticket : goal.decreases-loop-ticket
+decreases-loop-ticket g l = length l.self.probes.rest

@@ -1,0 +1,141 @@
+//! A client's port to no bank, at which tests see what an agent asks.
+ghost use Rattle.std.specs.Prelude.{◌≡◌, ◌++◌, ◌∷◌, [], MatchResult};
+ghost use Rattle.tl_bank_spec.specs.declared.refusal.Refusal.TheVariants.{Memory as NoMemory};
+ghost use Rattle.tl_client_ports.specs.Ports.{Asks, asked};
+
+use crate::counts::count;
+use std::alloc::Global;
+use std::cell::Cell;
+use tl_bank::{Loaded, Refusal, Share, When};
+use tl_client_ports::{Asked, Port, Success};
+use tl_types::{BankNo, BlockNo, Channel, ClientId, Grow, Perm, Prune, Ticket};
+
+/// A port to no bank: it counts its calls, and refuses all of them. The tickets that it is asked it keeps, and it serves Grants and
+/// Probes once it is told to.
+#[derive(Drop)]
+pub struct Recorder {
+    pub calls: Cell<u32>,
+    pub asked: Vec<Asked>,
+    pub refuses: bool,
+}
+
+impl Recorder {
+    /// A port that refuses, and was not called.
+    pub fn new(alloc: Global) -> Recorder {
+        Recorder {
+            calls: Cell::new(0),
+            asked: Vec::new(alloc),
+            refuses: true,
+        }
+    }
+
+    /// Keeps a ticket that was asked, and whether it was served; want of memory is a refusal.
+    fn note(&mut self, ticket: Ticket, served: bool) -> Result<(), Refusal>
+        ensures { MatchResult result (λ _. self.new.asked.items ≡ self.old.asked.items ++ asked ticket served ∷ []) (λ refusal. refusal ≡ NoMemory) }
+    {
+        count(&self.calls);
+        if self.asked.push(Asked { ticket, served }).is_err() {
+            return Err(Refusal::Memory);
+        }
+        Ok(())
+    }
+
+    /// Answers a ticket on a channel, or refuses.
+    fn answer(&mut self, ticket: Ticket, channel: Channel) -> Result<Ticket, Refusal>
+        ensures { Asks ticket result self.old.asked.items self.new.asked.items }
+    {
+        if self.refuses {
+            self.note(ticket, false)?;
+            return Err(Refusal::NotYet);
+        }
+        self.note(ticket, true)?;
+        Ok(Ticket {
+            bank: ticket.bank,
+            client: ticket.client,
+            channel,
+            serial: ticket.serial,
+        })
+    }
+}
+
+impl Port for Recorder {
+    ghost use Rattle.std.specs.Prelude.{[]};
+
+    ghost successes = { λ p. [] };
+
+    ghost asked = { λ p. p.asked.items };
+
+    fn begin(&mut self) {
+        self.asked.clear();
+    }
+
+    fn successes(&self) -> &[Success] {
+        &[]
+    }
+
+    fn load(
+        &mut self,
+        _client: ClientId,
+        _address: u32,
+        _len: usize,
+        _when: When,
+    ) -> Result<Loaded, Refusal> {
+        count(&self.calls);
+        Err(Refusal::NoPermission)
+    }
+
+    fn store(
+        &mut self,
+        _client: ClientId,
+        _address: u32,
+        _bytes: &[u8],
+        _when: When,
+    ) -> Result<u64, Refusal> {
+        count(&self.calls);
+        Err(Refusal::NoPermission)
+    }
+
+    fn acquire(
+        &mut self,
+        _client: ClientId,
+        _block: BlockNo,
+        _grow: Grow,
+    ) -> Result<Ticket, Refusal> {
+        count(&self.calls);
+        Err(Refusal::NotYet)
+    }
+
+    fn release(
+        &mut self,
+        _client: ClientId,
+        _block: BlockNo,
+        _prune: Prune,
+        _share: &mut Share,
+    ) -> Result<Ticket, Refusal> {
+        count(&self.calls);
+        Err(Refusal::NotYet)
+    }
+
+    fn answer_probe(&mut self, ticket: Ticket, _share: &mut Share) -> Result<Ticket, Refusal> {
+        self.answer(ticket, Channel::C)
+    }
+
+    fn take_grant(&mut self, ticket: Ticket, _share: &mut Share) -> Result<Ticket, Refusal> {
+        self.answer(ticket, Channel::E)
+    }
+
+    fn take_release_ack(&mut self, ticket: Ticket) -> Result<(), Refusal> {
+        self.note(ticket, false)?;
+        Err(Refusal::NotHead)
+    }
+
+    fn perm(&self, _client: ClientId, _block: BlockNo) -> Perm {
+        count(&self.calls);
+        Perm::None
+    }
+
+    fn oldest_copy(&self, _client: ClientId, _bank: BankNo) -> Option<BlockNo> {
+        count(&self.calls);
+        None
+    }
+}

@@ -1,0 +1,171 @@
+//! The states of a trace, told as changes.
+ghost use Rattle.std.specs.Prelude.{◌≡◌, ◌≤◌, ◌*◌, ◌++◌, [], IfOk, OnOk, length, map, option_to_list, string_bytes, vec_items};
+ghost use Rattle.tlchart_page.specs.Film.{AreFrames, IsChange, IsFilm, IsFrame, IsLonger, changed};
+ghost use Rattle.tlchart_page.specs.Parts.{cell_text, state_shown};
+
+use crate::parts::{Cell, push_cell};
+use std::alloc::{AllocError, Global};
+use tl_map::Geometry;
+use tl_script_words::{STEPS, Step};
+use tl_text::Answer;
+use tl_trace::Network;
+
+/// A cell shows another text, from here on.
+#[derive(Debug, Drop)]
+pub struct Change {
+    pub place: usize,
+    pub text: String,
+}
+
+/// What a step leaves: its answer, and which cells show another text after it.
+#[derive(Drop)]
+pub(crate) struct Frame {
+    pub(crate) answer: Answer,
+    pub(crate) changes: Vec<Change>,
+}
+
+/// What each cell shows at reset; and for each step its answer, and which cells show another text after it.
+#[derive(Debug, Drop)]
+pub struct Film {
+    pub start: Vec<String>,
+    pub answers: Vec<Answer>,
+    pub changes: Vec<Vec<Change>>,
+}
+
+/// What a cell shows.
+fn text_of(alloc: Global, network: &Network, cell: &Cell) -> Result<String, AllocError>
+    ensures { IfOk result (λ text. string_bytes text ≡ cell_text network.now cell.now) }
+{
+    let mut text = String::new(alloc);
+    push_cell(&mut text, network, cell)?;
+    Ok(text)
+}
+
+/// What each cell shows.
+fn state_of(alloc: Global, network: &Network, cells: &[Cell]) -> Result<Vec<String>, AllocError>
+    ensures { IfOk result (λ state. map string_bytes state.items ≡ state_shown network.now cells.now) }
+{
+    let mut state = Vec::new(alloc);
+    for cell in cells {
+        state.push(text_of(alloc, network, cell)?)?;
+    }
+    Ok(state)
+}
+
+/// The change of a cell, where it shows another text than before.
+fn change_at(
+    alloc: Global,
+    place: usize,
+    before: &str,
+    text: &str,
+) -> Result<Option<Change>, AllocError>
+    ensures { IfOk result (λ change. IsChange place before.now text.now change) }
+{
+    if before == text {
+        return Ok(None);
+    }
+    let text = String::from_str(alloc, text)?;
+    Ok(Some(Change { place, text }))
+}
+
+/// A change, where there is one, at the end of some.
+fn push_change(changes: &mut Vec<Change>, change: Option<Change>) -> Result<(), AllocError>
+    ensures { OnOk result (changes.new.items ≡ changes.old.items ++ option_to_list change) }
+{
+    match change {
+        Some(change) => Ok(changes.push(change)?),
+        None => Ok(()),
+    }
+}
+
+/// The changes that make one state of another.
+fn changes_between(
+    alloc: Global,
+    before: &[String],
+    after: &[String],
+) -> Result<Vec<Change>, AllocError>
+    requires { length before.now ≡ length after.now }
+    ensures { IfOk result (λ changes. changed (map string_bytes before.now) changes.items ≡ map string_bytes after.now) }
+{
+    let mut changes = Vec::new(alloc);
+    for (place, text) in after.iter().enumerate() {
+        let change = change_at(alloc, place, before[place].as_str(), text.as_str())?;
+        push_change(&mut changes, change)?;
+    }
+    Ok(changes)
+}
+
+/// A step's frame. `state` is what the cells show before the step, and then what they show after it.
+fn frame_of(
+    alloc: Global,
+    network: &mut Network,
+    index: u32,
+    step: &Step,
+    cells: &[Cell],
+    state: &mut Vec<String>,
+) -> Result<Frame, AllocError>
+    requires { map string_bytes state.old.items ≡ state_shown network.old cells.now }
+    ensures { IfOk result (λ frame. IsFrame cells.now index step.now network.old network.new (map string_bytes state.new.items) frame) }
+{
+    let answer = network.step(index, step)?;
+    let after = state_of(alloc, network, cells)?;
+    let changes = changes_between(alloc, state, &after)?;
+    *state = after;
+    Ok(Frame { answer, changes })
+}
+
+/// One more frame at the end of a film.
+fn push_frame(film: &mut Film, frame: Frame) -> Result<(), AllocError>
+    ensures { OnOk result (IsLonger film.old frame film.new) }
+{
+    film.answers.push(frame.answer)?;
+    film.changes.push(frame.changes)?;
+    Ok(())
+}
+
+/// Films each step, from the state that a film begins with.
+fn film_steps(
+    alloc: Global,
+    network: &mut Network,
+    steps: &[Step],
+    cells: &[Cell],
+    film: &mut Film,
+) -> Result<(), AllocError>
+    requires few { length steps.now ≤ STEPS }
+    requires answers { film.old.answers.items ≡ [] }
+    requires changes { film.old.changes.items ≡ [] }
+    requires start { map string_bytes film.old.start.items ≡ state_shown network.old cells.now }
+    ensures start { OnOk result (film.new.start ≡ film.old.start) }
+    ensures frames { OnOk result
+        (AreFrames cells.now 0 steps.now network.old film.new.answers.items (map vec_items film.new.changes.items) network.new) }
+{
+    let mut state = state_of(alloc, network, cells)?;
+    for (index, step) in steps.iter().enumerate() {
+        let frame = frame_of(alloc, network, index as u32, step, cells, &mut state)?;
+        push_frame(film, frame)?;
+    }
+    Ok(())
+}
+
+/// Plays steps, at most `STEPS`, over all banks of a geometry at reset over an image that is no longer than the memory, and films what
+/// the cells show. An error is a request for memory that was refused.
+pub fn film_of(
+    alloc: Global,
+    geometry: Geometry,
+    image: &[u8],
+    steps: &[Step],
+    cells: &[Cell],
+) -> Result<Film, AllocError>
+    requires image { length image.now ≤ geometry.memory_blocks * geometry.block_bytes }
+    requires few { length steps.now ≤ STEPS }
+    ensures { IfOk result (IsFilm geometry image.now steps.now cells.now) }
+{
+    let mut network = Network::new(alloc, geometry, image)?;
+    let mut film = Film {
+        start: state_of(alloc, &network, cells)?,
+        answers: Vec::new(alloc),
+        changes: Vec::new(alloc),
+    };
+    film_steps(alloc, &mut network, steps, cells, &mut film)?;
+    Ok(film)
+}

@@ -1,0 +1,16 @@
+//! A page that walks through a trace: the sequence chart and, beside it, the state of all banks at the step that is chosen. The states
+//! are what the banks' views answer after each step, told as changes.
+#![tactic(auto)]
+
+mod cells;
+mod film;
+mod json;
+mod page;
+mod parts;
+mod script;
+mod style;
+mod words;
+
+pub use film::{Change, Film, film_of};
+pub use page::page_script;
+pub use parts::{Cell, Part};

@@ -1,0 +1,3 @@
+pub mod Impossible
+pub mod Pins
+pub mod View
