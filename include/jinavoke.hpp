@@ -409,7 +409,6 @@ class Home {
         uint32_t d_beat = 0;
         std::set<uint32_t> acquires, releases;  // the sources of those that are not answered
         std::map<uint32_t, uint32_t> source_of; // by block: of the Acquire
-        std::set<uint32_t> dirty;               // the blocks that were stored to since their Grant
         std::map<uint32_t, uint64_t> probed;    // the blocks of which a Probe took a Branch, and when
     };
     struct Open { uint32_t block, bank; bool is_eviction; uint64_t stuck; };
@@ -480,8 +479,9 @@ class Home {
             uint64_t has = jv_perm(cache_, k, block).serial, recorded = jv_directory(cache_, k, block).serial;
             if (k != client && has == JV_NONE && recorded == JV_NONE) continue;
             std::string s = "client " + words::number(k) + " has " + words::perm(has);
-            if (has == JV_TIP && it.dirty.count(block)) s += " dirty";
-            if (has != JV_NONE) s += " " + copy_of(k, block);
+            jv_answer copy = jv_copy(cache_, k, block);
+            if (copy.serial == JV_COPY_DIRTY_TIP) s += " dirty";
+            if (copy.len) s += " " + words::hex(copy.bytes, copy.len);
             s += std::string(", home records ") + words::perm(recorded);
             for (const Probe &p : it.probes)
                 if (p.block == block) s += p.is_taken ? ", a Probe to answer" : ", a Probe on its way";
@@ -603,8 +603,7 @@ class Home {
             return what + " of " + words::hex(x.bytes.data(), x.len) + " at " + words::address(x.address);
         };
         if (got.status) refused(h.m, says(), got.status);
-        else if (x.is_store) me.dirty.insert(block);
-        else if (std::memcmp(got.bytes, x.bytes.data(), x.len))
+        else if (!x.is_store && std::memcmp(got.bytes, x.bytes.data(), x.len))
             fault(Cause::Load, h.m, says() + ", where the model has " + words::hex(got.bytes, x.len));
         return true;
     }
@@ -620,7 +619,7 @@ class Home {
     }
     bool make_acquire(Client &me, Held &h) {
         uint32_t block = block_of(h.m.address);
-        jv_answer a = saw(me, h.m, nullptr);
+        jv_answer a = saw(h.m);
         h.why = a.status;
         bool is_full = a.status == JV_COPIES_FULL || a.status == JV_LINK_FULL, is_wrong = a.status == JV_WRONG_FROM;
         bool waits = is_full || (is_wrong && probe_of(me, block)); // for a Release, or for an answer to a Probe
@@ -651,7 +650,7 @@ class Home {
             if (&it == p) break;
             if (it.ticket.bank == p->ticket.bank) return false;
         }
-        jv_answer a = saw(me, h.m, &p->ticket);
+        jv_answer a = saw(h.m);
         h.why = a.status;
         if (a.status == JV_LINK_FULL) return false;
         note(JV_EVENT_ANSWER_PROBE, h.m.bank, me.number, block, h.m.param, &h.m);
@@ -659,19 +658,17 @@ class Home {
         if (!own) return true;
         me.probes.erase(std::find_if(me.probes.begin(), me.probes.end(), [&](const Probe &it) { return &it == p; }));
         if (own->param == JV_REPORT_BTON) me.probed[block] = cycle_;
-        me.dirty.erase(block);
         me.to_c[own->bank].ups.push_back({jv_sent(&*own), block, h.m.source});
         return true;
     }
     bool make_release(Client &me, Held &h) {
         uint32_t block = block_of(h.m.address);
-        jv_answer a = saw(me, h.m, nullptr);
+        jv_answer a = saw(h.m);
         h.why = a.status;
         if (a.status == JV_LINK_FULL) return false;
         note(JV_EVENT_SEND_RELEASE, h.m.bank, me.number, block, h.m.param, &h.m);
         std::optional<jv_answer> own = sent(h.m, a, nullptr);
         if (!own) return true;
-        me.dirty.erase(block);
         me.to_c[own->bank].ups.push_back({jv_sent(&*own), block, h.m.source});
         return true;
     }
@@ -699,83 +696,39 @@ class Home {
 
     // ---- the model's client
 
-#if JV_VERSION >= 4
     // The answer of the model's client: it has sent what was seen; or nothing changed, and JV_DIFFERS tells what it
     // would send.
-    jv_answer saw(Client &me, const Message &m, const jv_ticket *) {
+    jv_answer saw(const Message &m) {
+        if (m.len) infer(m);
         jv_seen s;
         std::memset(&s, 0, sizeof s);
         s.channel = m.channel; s.opcode = m.opcode; s.param = m.param; s.client = m.client;
-        s.block = block_of(m.address); s.len = m.len; s.index = index_++;
-        s.options = options_.has_taps ? 0 : JV_STORES;
+        s.block = block_of(m.address); s.len = m.len;
         std::copy(m.bytes.begin(), m.bytes.end(), s.bytes);
-        if (!m.len) return jv_saw(cache_, &s);
-        jv_answer copy = jv_copy(cache_, m.client, s.block), a = jv_saw(cache_, &s);
-        bool same = copy.len == m.len && std::memcmp(copy.bytes, s.bytes, m.len) == 0;
-        if (a.status == JV_DIFFERS && copy.serial == JV_COPY_CLEAN_TIP && same) {
-            s.options = JV_STORES; // data of a clean copy, which TileLink allows
-            a = jv_saw(cache_, &s);
+        return jv_saw(cache_, &s);
+    }
+    // The stores that lead to the data of a Tip. Where nobody tells stores, those of each eight bytes that differ; and
+    // of a clean copy, whose data TileLink allows, one that changes nothing.
+    void infer(const Message &m) {
+        jv_answer copy = jv_copy(cache_, m.client, block_of(m.address));
+        bool is_clean = copy.serial == JV_COPY_CLEAN_TIP, is_tip = is_clean || copy.serial == JV_COPY_DIRTY_TIP;
+        bool same = std::memcmp(copy.bytes, m.bytes.data(), m.len) == 0;
+        if (!is_tip || (same ? !is_clean : options_.has_taps)) return;
+        for (uint32_t at = 0; at < m.len; at += 8) {
+            if (same ? at > 0 : std::memcmp(copy.bytes + at, &m.bytes[at], 8) == 0) continue;
+            Access x = {cycle_, m.bank, m.client, true, m.address + at, 8, {}};
+            std::copy_n(m.bytes.begin() + at, 8, x.bytes.begin());
+            uint32_t address = uint32_t(x.address - options_.base);
+            if (jv_store(cache_, x.client, address, x.bytes.data(), x.len, index_++).status) continue;
+            for (Watch *w : watches_) w->access(x);
+            note(JV_EVENT_STORE, x.bank, x.client, block_of(m.address), 0, nullptr, &x);
         }
-        for (uint32_t i = 0, left = a.status ? 0 : a.stores; left && i < m.len / 8; i++) {
-            if (!same && std::memcmp(copy.bytes + 8 * i, s.bytes + 8 * i, 8) == 0) continue;
-            inferred(me, m, i);
-            left--;
-        }
-        return a;
     }
     uint32_t bank_of(uint32_t block) const { return uint32_t(jv_bank_of(cache_, block).serial); }
-    std::string copy_of(uint32_t k, uint32_t block) const {
-        jv_answer copy = jv_copy(cache_, k, block);
-        return words::hex(copy.bytes, copy.len);
-    }
-    uint32_t dropped(const jv_answer &a, uint32_t) const { return a.place; }
-#else
-    // Before JV_VERSION 4 the archive has no jv_saw. The stores are made by themselves, and the client sends its own
-    // message, which is compared then.
-    enum : uint32_t { JV_DIFFERS = 29 };
-    jv_answer saw(Client &me, const Message &m, const jv_ticket *probe) {
-        uint32_t block = block_of(m.address);
-        if (m.len && jv_perm(cache_, m.client, block).serial == JV_TIP) {
-            uint32_t other = 0; // a bit for each eight bytes that differ
-            for (uint32_t i = 0; i < m.len; i++) if (byte_of(m.client, block, i) != m.bytes[i]) other |= 1u << i / 8;
-            if (other && options_.has_taps) other = 0;
-            else if (!other && !me.dirty.count(block)) other = 1; // data of a clean copy, which TileLink allows
-            for (uint32_t i = 0; i < m.len / 8; i++) if (other >> i & 1) {
-                uint32_t at = block * bus_.block_bytes + 8 * i;
-                if (!jv_store(cache_, m.client, at, &m.bytes[8 * i], 8, index_++).status) inferred(me, m, i);
-            }
-        }
-        return own_call(m, probe);
-    }
-    uint8_t byte_of(uint32_t k, uint32_t block, uint32_t at) const {
-        return uint8_t(jv_peek(cache_, k, block * bus_.block_bytes + at).serial);
-    }
-    std::string copy_of(uint32_t k, uint32_t block) const {
-        Bytes bytes{};
-        for (uint32_t i = 0; i < bus_.block_bytes; i++) bytes[i] = byte_of(k, block, i);
-        return words::hex(bytes.data(), bus_.block_bytes);
-    }
-    // The number's groups of bits, as wide as a bank's number, folded by exclusive or.
-    uint32_t bank_of(uint32_t block) const {
-        uint32_t bank = 0;
-        if (banks() > 1) for (uint32_t rest = block; rest; rest /= banks()) bank ^= rest % banks();
-        return bank;
-    }
-    uint32_t dropped(const jv_answer &, uint32_t bank) const {
-        return jv_event(cache_, bank, jv_events(cache_, bank).serial - 1).place;
-    }
-#endif
     jv_answer own_call(const Message &m, const jv_ticket *probe) {
         uint32_t block = block_of(m.address);
         if (m.channel == JV_A) return jv_acquire(cache_, m.client, block, jv_grow(m.param));
         return probe ? jv_answer_probe(cache_, *probe) : jv_release(cache_, m.client, block, jv_prune(m.param));
-    }
-    void inferred(Client &me, const Message &m, uint32_t eight) {
-        Access x = {cycle_, m.bank, m.client, true, m.address + 8 * eight, 8, {}};
-        std::copy_n(m.bytes.begin() + 8 * eight, 8, x.bytes.begin());
-        for (Watch *w : watches_) w->access(x);
-        me.dirty.insert(block_of(m.address));
-        note(JV_EVENT_STORE, x.bank, x.client, block_of(m.address), 0, nullptr, &x);
     }
 
     // ---- what clients take
@@ -793,7 +746,6 @@ class Home {
         g.is_taken = true;
         g.since = cycle_;
         g.ack = jv_sent(&a);
-        me.dirty.erase(g.block);
         me.probed.erase(g.block);
     }
     void take_release_ack(Client &me, const Down &down) {
@@ -851,11 +803,11 @@ class Home {
     bool acts(const Open &o, const jv_answer &a) {
         switch (a.what) {
         case JV_TELLS_DROPPED:
-            note(JV_EVENT_DROP, o.bank, 0, dropped(a, o.bank));
+            note(JV_EVENT_DROP, o.bank, 0, a.place);
             return o.is_eviction;
         case JV_TELLS_MEMORY: {
             bool is_put = a.opcode == JV_OP_PUT_FULL_DATA;
-            Outward out = {a.address / bus_.block_bytes, o.bank, cycle_ + options_.memory_cycles, is_put, false};
+            Outward out = {a.place, o.bank, cycle_ + options_.memory_cycles, is_put, false};
             outward_.push_back(out);
             note(out.is_put ? JV_EVENT_SEND_PUT : JV_EVENT_SEND_GET, o.bank, 0, out.block);
             to_memory(out, a, JV_A);

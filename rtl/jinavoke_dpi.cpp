@@ -2,6 +2,7 @@
 // words and pointers alone, since DPI takes no struct by value. A bit vector of SystemVerilog is its words of 32 bits,
 // the lowest first.
 #include "jinavoke.hpp"
+#include <iterator>
 #include <memory>
 
 namespace {
@@ -29,6 +30,15 @@ struct Links { // a home with its records, and the texts of the faults that were
     std::vector<std::unique_ptr<std::ofstream>> files;
     std::vector<std::unique_ptr<jinavoke::Watch>> records;
 };
+void tell(const jv_answer &a, int *status, int *what, uint32_t *told, long long *told_serial, uint32_t *data) {
+    const uint32_t words[] = {a.bank, a.client, a.channel, a.opcode, a.param, a.place, a.address, a.size, a.index,
+                              a.len};
+    std::copy(std::begin(words), std::end(words), told);
+    *status = int(a.status);
+    *what = int(a.what);
+    *told_serial = static_cast<long long>(a.serial);
+    std::memcpy(data, a.bytes, sizeof a.bytes);
+}
 jinavoke::Home &home_of(void *at) { return static_cast<Links *>(at)->home; }
 jinavoke::Beat beat_of(int opcode, int param, int size, int source, long long address) {
     jinavoke::Beat beat;
@@ -59,14 +69,14 @@ void jvd_call(void *cache, int call, int index, int client, int place, int param
     jv_request r = {uint32_t(call), uint32_t(index), uint32_t(client), uint32_t(place), uint32_t(param), uint32_t(bank),
         uint32_t(channel), uint32_t(len), uint64_t(serial), {}};
     std::memcpy(r.bytes, &bytes, sizeof r.bytes);
-    jv_answer a = jv_call(static_cast<jv_cache *>(cache), &r);
-    const uint32_t words[] = {a.bank, a.client, a.channel, a.opcode, a.param, a.place, a.address, a.size, a.index,
-                              a.len};
-    std::copy(std::begin(words), std::end(words), told);
-    *status = int(a.status);
-    *what = int(a.what);
-    *told_serial = static_cast<long long>(a.serial);
-    std::memcpy(data, a.bytes, sizeof a.bytes);
+    tell(jv_call(static_cast<jv_cache *>(cache), &r), status, what, told, told_serial, data);
+}
+void jvd_saw(void *cache, int client, int channel, int opcode, int param, int block, int len, const uint32_t *bytes,
+             int *status, int *what, uint32_t *told, long long *told_serial, uint32_t *data) {
+    jv_seen s = {uint32_t(channel), uint32_t(opcode), uint32_t(param), uint32_t(client), uint32_t(block), uint32_t(len),
+        0, 0, {}};
+    std::memcpy(s.bytes, bytes, sizeof s.bytes);
+    tell(jv_saw(static_cast<jv_cache *>(cache), &s), status, what, told, told_serial, data);
 }
 const char *jvd_status_name(int status) { return jv_status_name(uint32_t(status)); }
 
