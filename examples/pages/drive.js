@@ -227,7 +227,10 @@ async function large(browser) {
 // What the page says is permitted is what tlcache does: each such step succeeds, and each other one is refused.
 function answers(tlcache, script, steps) {
   const text = script.replace(/steps = \[[^]*\]/, () => "steps = [" + steps.map((step) => `"${step}"`).join(", ") + "]");
-  const { stdout } = spawnSync(tlcache, ["trace", "-"], { input: text, encoding: "utf8" });
+  const file = path.join(os.tmpdir(), `steps-${process.pid}.toml`);
+  fs.writeFileSync(file, text);
+  const { stdout } = spawnSync(tlcache, ["trace", file], { encoding: "utf8" });
+  fs.unlinkSync(file);
   return stdout.split("\n").slice(0, steps.length).map((line) => line.replace(/^\d+ /, ""));
 }
 function candidates(clients, blocks, blockBytes, tickets) {
