@@ -48,13 +48,10 @@ impl Recorder {
             self.note(ticket, false)?;
             return Err(Refusal::NotYet);
         }
+        let mut sent = ticket;
+        sent.channel = channel;
         self.note(ticket, true)?;
-        Ok(Ticket {
-            bank: ticket.bank,
-            client: ticket.client,
-            channel,
-            serial: ticket.serial,
-        })
+        Ok(sent)
     }
 }
 
