@@ -1,4 +1,4 @@
--- What is done for a message that was seen.
+-- What is done for a message that was seen (this project's own).
 use Rattle.std.specs.Prelude.{◌≡◌, ◌⊎◌, ℕ, Option, Some, None, Result, Ok, Err}
 use Rattle.tl_types.specs.Bodies.{body_bytes, body_kind}
 use Rattle.tl_types.specs.declared.channel.Channel.TheVariants.{C}

@@ -1,4 +1,4 @@
--- What a message that was seen asks of the banks.
+-- What a message that was seen asks of the banks (this project's own; codes by TileLink 1.8, section 6).
 use Rattle.std.specs.Prelude.{ℕ, ◌==◌, ◌||◌, Bool, true, false, List, take, min, nat_lt, Option, Some, None, Result, Ok, Err, if◌then◌else◌}
 use Rattle.std.specs.List.{list_any}
 use Rattle.std.specs.Option.{option_map}

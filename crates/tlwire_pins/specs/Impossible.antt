@@ -1,4 +1,4 @@
--- When no lawful run is seen so at a client's pins.
+-- When no lawful run is seen so at a client's pins (this project's own).
 use Rattle.std.specs.Prelude.{◌≡◌, ℕ, List, ◌∷◌, ◌++◌}
 use Rattle.tl_protocol.specs.declared.event.Event.{Event}
 use Rattle.tl_protocol.specs.declared.shape.Shape.{Shape}
