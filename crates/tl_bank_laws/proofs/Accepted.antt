@@ -1,12 +1,13 @@
 -- Where the open registers agree with the blocks, home serves just the Acquires that they were opened for.
 use Rattle.std.proofs.Common.{◌≡◌, ℕ, ◌==◌, true, false, List, [], ◌∷◌, None, refl, sym, ◌∙◌, ap, subst, inl, inr, eqb-true}
+use Rattle.std.specs.List.{AllByRecursion}
 use Rattle.std.proofs.lemmas.Bool.{cases_Bool, or_parts}
 use Rattle.tl_protocol.specs.declared.shape.Shape.{Shape}
 use Rattle.tl_protocol.specs.Protocol.{Block}
 use Rattle.tl_registers.specs.declared.register.Register.{Register}
 use Rattle.tl_registers.specs.declared.register.Task.{Task}
 use Rattle.tl_registers.specs.declared.register.Task.TheVariants.{Acquire, Replace, Evict}
-use Rattle.tl_registers.specs.Agree.{Agree, AreApart, Each}
+use Rattle.tl_registers.specs.Agree.{Agree, AreApart}
 use Rattle.tl_registers.specs.Fit.{Fits, TaskFits}
 use Rattle.tl_registers.specs.Register.{is_block, victim_in, victim_of, works_on}
 use Rattle.tl_registers.specs.Registers.{is_busy, register_of}
@@ -36,7 +37,7 @@ victim-free shape states r (Replace acquire victim) b h other is =
 victim-free shape states r Evict b h other is = let bad : true ≡ false = sym is ∙ other in cc
 
 -- home serves of a block the Acquire of its register in a list, if it serves none where none of the list works on the block
-accepted-of : (shape : Shape) (states : ℕ → Block) (registers : List Register) (b : ℕ) → Each (Fits shape states) registers
+accepted-of : (shape : Shape) (states : ℕ → Block) (registers : List Register) (b : ℕ) → AllByRecursion (Fits shape states) registers
     → AreApart registers → (is_busy b registers ≡ false → (states b).accepted ≡ None)
     → (states b).accepted ≡ accepted_by (register_of b registers)
 accepted-of shape states [] b fits apart free = free refl

@@ -6,7 +6,7 @@ use Rattle.std.specs.List.{list_any}
 use Rattle.tl_types.proofs.Lowest.{lowest-none, lowest-same, lowest-some, none-lowest}
 use Rattle.tl_types.specs.Lowest.{lowest}
 use Rattle.tl_registers.specs.Registers.{held_in, is_held}
-use Rattle.tl_registers.specs.VictimWay.{IsChosen, IsFreeOrOldest, IsInOrder, block_in, first_not_held, is_free, lowest_free}
+use Rattle.tl_registers.specs.VictimWay.{IsChosen, IsFreeOrOldest, IsInOrder, block_in, is_free, lowest_free}
 use Rattle.tl_registers.specs.declared.register.Register.{Register}
 use Rattle.tl_registers.proofs.Order.{first-in-order-is-oldest}
 use Rattle.tl_ways.specs.Orders.{chosen, is_busy, or_else, IsAmong}
@@ -41,16 +41,12 @@ filling-is-held v set way (r ∷ rest) h =
 
 -- what is found of an order is its first way that is not held
 find-first : (busy held : ℕ → Bool) (order : List ℕ) → ((way : ℕ) → busy way ≡ held way)
-    → find (λ way. not (busy way)) order ≡ first_not_held held order
+    → find (λ way. not (busy way)) order ≡ find (λ way. not (held way)) order
 find-first busy held [] same = refl
-find-first busy held (w ∷ rest) same = rw same (one (held w) (find-first busy held rest same))
-  where
-    one : (t : Bool) {x y : Option ℕ} → x ≡ y → (if not t then Some w else x) ≡ (if t then y else Some w)
-    one true e = e
-    one false e = refl
+find-first busy held (w ∷ rest) same = rw (same w, find-first busy held rest same) refl
 
 -- the first way of an order that is not held is one of it
-first-among : (held : ℕ → Bool) (order : List ℕ) (way : ℕ) → first_not_held held order ≡ Some way → IsAmong way order × (held way ≡ false)
+first-among : (held : ℕ → Bool) (order : List ℕ) (way : ℕ) → find (λ w. not (held w)) order ≡ Some way → IsAmong way order × (held way ≡ false)
 first-among held [] way h = cc
 first-among held (w ∷ rest) way h =
     elim (cases_Bool (held w)) [
@@ -59,7 +55,7 @@ first-among held (w ∷ rest) way h =
     ]
 
 -- where there is no such way, all of the order are held
-none-first : (held : ℕ → Bool) (order : List ℕ) (way : ℕ) → first_not_held held order ≡ None → IsAmong way order → held way ≡ true
+none-first : (held : ℕ → Bool) (order : List ℕ) (way : ℕ) → find (λ w. not (held w)) order ≡ None → IsAmong way order → held way ≡ true
 none-first held [] way h among = absurd among
 none-first held (w ∷ rest) way h among =
     elim (cases_Bool (held w)) [
@@ -71,7 +67,7 @@ none-first held (w ∷ rest) way h among =
 chosen-is : (free : ℕ → Bool) (order busy : List ℕ) (slots : List (Option ℕ)) (held : ℕ → Bool) (ways : ℕ)
     → length slots ≡ ways → ((way : ℕ) → way < ways → free way ≡ is_free (block_in slots way))
     → ((way : ℕ) → is_busy busy way ≡ held way)
-    → chosen free ways order busy ≡ or_else (lowest_free slots held) (first_not_held held order)
+    → chosen free ways order busy ≡ or_else (lowest_free slots held) (find (λ w. not (held w)) order)
 unfolding chosen
 chosen-is free order busy slots held ways long empty same =
     let lowest_is : lowest (λ way. free way && not (is_busy busy way)) ways ≡ lowest_free slots held =
@@ -97,7 +93,7 @@ free-is (Some block) = refl
 -- the lowest free way that no register holds, or where there is none the first of the order that none holds, is such a way
 picks-free : (v : View) (set way : ℕ) (order : List ℕ) (free : Option ℕ)
     → lowest_free (slots_at v set) (holds_way v set) ≡ free → IsInOrder (slots_at v set) (is_filling v set) v.log order
-    → or_else free (first_not_held (holds_way v set) order) ≡ Some way → Picks v set way
+    → or_else free (find (λ w. not (holds_way v set w)) order) ≡ Some way → Picks v set way
 picks-free v set way order (Some first) is ordered h =
     let same : first ≡ way = cc in
     let test : ℕ → Bool = λ w. is_free (block_in (slots_at v set) w) && not (holds_way v set w) in
@@ -120,7 +116,7 @@ picks-free v set way order None is ordered h =
 -- home chooses of a set the lowest free way that no register holds, else the first of the order that none holds
 chosen-of : (v : View) (home : HomeState) (set : ℕ) → WaysFit v home → set < v.geometry.sets
     → chosen (λ way. free_at home set way) v.geometry.ways (order_at home set) (held_in set v.registers)
-    ≡ or_else (lowest_free (slots_at v set) (holds_way v set)) (first_not_held (holds_way v set) (order_at home set))
+    ≡ or_else (lowest_free (slots_at v set) (holds_way v set)) (find (λ w. not (holds_way v set w)) (order_at home set))
 chosen-of v home set fit l =
     chosen-is (λ way. free_at home set way) (order_at home set) (held_in set v.registers) (slots_at v set) (holds_way v set) v.geometry.ways
     (slots-length v set)
@@ -150,7 +146,7 @@ none-held v home set fit l h =
     let none = sym (chosen-of v home set fit l) ∙ h in
     ap is_none (none-lowest (λ w. not (holds_way v set w)) v.geometry.ways
     (λ w k. ap not (none-first (holds_way v set) (order_at home set) w
-    (second (lowest_free (slots_at v set) (holds_way v set)) (first_not_held (holds_way v set) (order_at home set)) none)
+    (second (lowest_free (slots_at v set) (holds_way v set)) (find (λ w. not (holds_way v set w)) (order_at home set)) none)
     ((fit.orders set l).all w (let long = slots-length v set in omega (arith, long))))))
   where
     second : (x y : Option ℕ) → or_else x y ≡ None → y ≡ None

@@ -1,5 +1,6 @@
 -- Of fewer than eight blocks something passes between home and the memory, when a register that lets nothing pass is about to.
 use Rattle.std.proofs.Common.{◌≡◌, ◌≢◌, ℕ, ◌+◌, ◌<◌, ◌≤◌, ◌==◌, ◌||◌, not, true, false, List, [], ◌∷◌, length, Option, Some, None, if◌then◌else◌, refl, sym, ◌∙◌, ap, subst, arith, inl, inr, eqb-true, eq-eqb, nat_lt}
+use Rattle.std.specs.List.{AllByRecursion}
 use Rattle.tl_types.proofs.Booleans.{or-else}
 use Rattle.std.proofs.Math.Bool.{or-true}
 use Rattle.std.proofs.lemmas.Bool.{cases_Bool, eqb-false}
@@ -10,7 +11,6 @@ use Rattle.tl_protocol.specs.declared.home.Outward.TheVariants.{Quiet}
 use Rattle.tl_protocol.specs.declared.shape.Shape.{Shape}
 use Rattle.tl_protocol.specs.Protocol.{Block}
 use Rattle.tl_bank_home.specs.Homes.{EachHasHolder, outward_in}
-use Rattle.tl_registers.specs.Agree.{Each}
 use Rattle.tl_registers.specs.Fit.{Fits, TaskFits}
 use Rattle.tl_registers.specs.Register.{is_block, victim_in, victim_of, works_on}
 use Rattle.tl_registers.specs.Registers.{closed, is_busy, register_of}
@@ -104,7 +104,7 @@ OneOf states r =
     (a b : ℕ) → works_on r a ≡ true → works_on r b ≡ true → (states a).outward ≢ Quiet → (states b).outward ≢ Quiet → a ≡ b
 
 -- of such registers, two busy blocks of which something passes and whose places are one are one
-place-same : (states : ℕ → Block) (xs : List Register) (a b : ℕ) → Each (OneOf states) xs → is_busy a xs ≡ true → is_busy b xs ≡ true
+place-same : (states : ℕ → Block) (xs : List Register) (a b : ℕ) → AllByRecursion (OneOf states) xs → is_busy a xs ≡ true → is_busy b xs ≡ true
     → (states a).outward ≢ Quiet → (states b).outward ≢ Quiet → place xs a ≡ place xs b → a ≡ b
 place-same states [] a b each busy_a busy_b some_a some_b same = cc
 place-same states (q ∷ rest) a b each busy_a busy_b some_a some_b same =
@@ -143,7 +143,7 @@ closed-fewer own (q ∷ rest) r h =
     ]
 
 -- a block on which its register does not work, but one does, is busy without it
-closed-busy : (own : ℕ) (xs : List Register) (r : Register) (b : ℕ) → r.own ≡ own → Each (IsOneOf r) xs → works_on r b ≡ false
+closed-busy : (own : ℕ) (xs : List Register) (r : Register) (b : ℕ) → r.own ≡ own → AllByRecursion (IsOneOf r) xs → works_on r b ≡ false
     → is_busy b xs ≡ true → is_busy b (closed own xs) ≡ true
 closed-busy own [] r b here each off busy = cc
 closed-busy own (q ∷ rest) r b here each off busy =
@@ -206,10 +206,10 @@ crossings-few v h own r count m found here fits own_quiet victim_quiet most =
     let fewer : length others < length v.registers = closed-fewer own v.registers r found in
     let limit : v.geometry.registers ≤ 8 = m.geometry.registers.most in
     let few : length v.registers ≤ v.geometry.registers = m.registers.few in
-    let each : Each (OneOf (end_at v)) v.registers =
+    let each : AllByRecursion (OneOf (end_at v)) v.registers =
     each-follows (Fits shape (end_at v)) (OneOf (end_at v)) v.registers
     (λ q f a b. one-crosses shape (end_at v) q q.task f.task a b) m.registers.agree.fits in
-    let each_other : Each (OneOf (end_at v)) others =
+    let each_other : AllByRecursion (OneOf (end_at v)) others =
     each-filter (OneOf (end_at v)) (λ q. not (q.own == own)) v.registers
     (each-follows (OneOf (end_at v)) (λ q. not (q.own == own) ≡ true → OneOf (end_at v) q) v.registers (λ q f on. f) each) in
     let among = one-among own v.registers r m.registers.agree.apart found in

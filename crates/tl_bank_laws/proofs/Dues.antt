@@ -1,5 +1,6 @@
 -- What an action that a register has to do next shows of the bank.
 use Rattle.std.proofs.Common.{◌≡◌, ℕ, ◌+◌, ◌<◌, ◌≤◌, ◌==◌, ◌||◌, Bool, true, false, List, [], ◌∷◌, ◌++◌, Option, Some, None, refl, sym, ◌∙◌, ap, subst, arith, inl, inr, eqb-true, eq-eqb}
+use Rattle.std.specs.List.{AllByRecursion}
 use Rattle.std.proofs.Math.Bool.{or-true}
 use Rattle.std.proofs.lemmas.Bool.{cases_Bool}
 use Rattle.std.specs.Prelude.{slice_index_or}
@@ -15,7 +16,7 @@ use Rattle.tl_protocol.specs.declared.event.Event.{Event}
 use Rattle.tl_protocol.specs.Protocol.{block_of}
 use Rattle.tl_protocol.specs.Runs.{MayNext}
 use Rattle.tl_links.specs.Table.{lane_in}
-use Rattle.tl_registers.specs.Agree.{Each, IsOf, IsToProbe}
+use Rattle.tl_registers.specs.Agree.{IsOf, IsToProbe}
 use Rattle.tl_registers.specs.Fit.{Fits, event_of}
 use Rattle.tl_registers.specs.NextAction.{next_due}
 use Rattle.tl_registers.specs.Register.{is_block, victim_in, victim_of, works_on}
@@ -56,7 +57,7 @@ found-own own (q ∷ rest) r h =
     ]
 
 -- and one of which all holds that holds of each
-pub found-each : (P : Register → Type 0) (own : ℕ) (xs : List Register) (r : Register) → Each P xs → register_of own xs ≡ Some r → P r
+pub found-each : (P : Register → Type 0) (own : ℕ) (xs : List Register) (r : Register) → AllByRecursion P xs → register_of own xs ≡ Some r → P r
 found-each P own [] r each h = cc
 found-each P own (q ∷ rest) r each h =
     elim (cases_Bool (q.own == own)) [

@@ -1,9 +1,9 @@
 -- Registers that are gone leave the ways fit, if the ways that they held are not filling.
 use Rattle.std.proofs.Common.{◌≡◌, ℕ, ◌&&◌, ◌==◌, Bool, true, false, List, [], ◌∷◌, filter, Option, is_none, refl, sym, ◌∙◌, ap, subst, inl, inr}
+use Rattle.std.specs.List.{AllByRecursion}
 use Rattle.std.proofs.lemmas.Bool.{cases_Bool, or_parts}
 use Rattle.std.proofs.lemmas.Map.Views.{any-filter_same}
 use Rattle.tl_bank_home.specs.Homes.{HomeState, order_at}
-use Rattle.tl_registers.specs.Agree.{Each}
 use Rattle.tl_registers.specs.Registers.{is_held}
 use Rattle.tl_registers.specs.VictimWay.{IsInOrder}
 use Rattle.tl_registers.specs.declared.register.Register.{Register}
@@ -15,7 +15,7 @@ use Rattle.tl_bank_laws.proofs.Orders.{order-fills}
 use Rattle.tl_bank_laws.proofs.Ways.{each-holds-stay, same-work, slot-stays, slots-stay}
 
 -- it holds of each that is left
-each-left : (P : Register → Type 0) (test : Register → Bool) (xs : List Register) → Each P xs → Each P (filter test xs)
+each-left : (P : Register → Type 0) (test : Register → Bool) (xs : List Register) → AllByRecursion P xs → AllByRecursion P (filter test xs)
 each-left P test [] h = tt
 each-left P test (r ∷ rest) h =
     elim (cases_Bool (test r)) [

@@ -1,5 +1,6 @@
 -- A register that opens holds a way of its own.
 use Rattle.std.proofs.Common.{◌≡◌, ℕ, ◌<◌, ◌==◌, ◌&&◌, ◌||◌, Bool, true, false, List, [], ◌∷◌, ◌++◌, Option, Some, None, refl, sym, ◌∙◌, ap, subst, inl, inr, eqb-true, eq-eqb}
+use Rattle.std.specs.List.{AllByRecursion}
 use Rattle.std.proofs.lemmas.Bool.{cases_Bool, or_parts, and_parts, or_right, or_cases}
 use Rattle.std.specs.Prelude.{◌⊎◌, IfSome, is_none, is_some}
 use Rattle.std.specs.List.{list_any}
@@ -8,7 +9,7 @@ use Rattle.tl_map.specs.Places.{bank_of, set_of}
 use Rattle.tl_protocol.specs.declared.event.Event.{Event}
 use Rattle.tl_protocol.specs.declared.home.Accepted.{Accepted}
 use Rattle.tl_protocol.specs.declared.home.Line.{Line}
-use Rattle.tl_registers.specs.Agree.{Each, IsFreeVictim}
+use Rattle.tl_registers.specs.Agree.{IsFreeVictim}
 use Rattle.tl_registers.specs.Register.{acquire_task, opened, works_on}
 use Rattle.tl_registers.specs.Registers.{held_in, is_busy, is_held}
 use Rattle.tl_registers.specs.VictimWay.{IsInOrder}
@@ -41,7 +42,7 @@ slot-block : (v : View) (set way block : ℕ) → slot_at v set way ≡ Some blo
 slot-block v set way block h = let there = slot-lies v set way block h in (there.0.0, (there.0.1, there.1, there.2))
 
 -- a register holds a way where a block lies only if it works on that block
-held-works : (v : View) (set way block : ℕ) (xs : List Register) → Each (HoldsWay v) xs → block < v.geometry.memory_blocks
+held-works : (v : View) (set way block : ℕ) (xs : List Register) → AllByRecursion (HoldsWay v) xs → block < v.geometry.memory_blocks
     → Lies v set way block → is_busy block xs ≡ false → is_held (way_in_set set way) xs ≡ false
 held-works v set way block [] held l lies free = refl
 held-works v set way block (r ∷ rest) held l lies free =
@@ -62,7 +63,7 @@ held-works v set way block (r ∷ rest) held l lies free =
     ]
 
 -- a register works on a block that lies in a way only if it holds the way
-works-held : (v : View) (set way block : ℕ) (xs : List Register) → Each (HoldsWay v) xs → Lies v set way block
+works-held : (v : View) (set way block : ℕ) (xs : List Register) → AllByRecursion (HoldsWay v) xs → Lies v set way block
     → is_held (way_in_set set way) xs ≡ false → is_busy block xs ≡ false
 works-held v set way block [] held lies free = refl
 works-held v set way block (r ∷ rest) held lies free =
@@ -227,8 +228,8 @@ pub holds-still : (v : View) (log : List Event) (room : ℕ) (registers : List R
 holds-still v log room registers r h = record { inside = h.inside; own = h.own; lies = h.lies; alone = h.alone }
 
 -- one more register that holds a way
-pub each-holds : (v : View) (log : List Event) (room : ℕ) (r : Register) → Each (HoldsWay v) v.registers → HoldsWay v r
-    → Each (HoldsWay (record v { log = log; room = room; registers = v.registers ++ r ∷ [] })) (v.registers ++ r ∷ [])
+pub each-holds : (v : View) (log : List Event) (room : ℕ) (r : Register) → AllByRecursion (HoldsWay v) v.registers → HoldsWay v r
+    → AllByRecursion (HoldsWay (record v { log = log; room = room; registers = v.registers ++ r ∷ [] })) (v.registers ++ r ∷ [])
 each-holds v log room r held new =
     let later : View = record v { log = log; room = room; registers = v.registers ++ r ∷ [] } in
     each-follows (HoldsWay v) (HoldsWay later) (v.registers ++ r ∷ []) (λ q h. holds-still v log room (v.registers ++ r ∷ []) q h)

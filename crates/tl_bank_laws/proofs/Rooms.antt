@@ -1,6 +1,6 @@
 -- Room for more events, and how many of them are forgotten, are nothing that the layers hold.
 use Rattle.std.proofs.Common.{ℕ, List, [], ◌∷◌, Option, is_none, refl, sym, ◌∙◌, ap, subst}
-use Rattle.tl_registers.specs.Agree.{Each}
+use Rattle.std.specs.List.{AllByRecursion}
 use Rattle.tl_registers.specs.declared.register.Register.{Register}
 use Rattle.tl_registers.specs.VictimWay.{IsInOrder}
 use Rattle.tl_bank_home.specs.Homes.{HomeState, order_at}
@@ -56,8 +56,8 @@ means-room v room layers m = record {
 }
 
 -- each register holds its way as before, whatever is forgotten
-each-holds-forget : (v : View) (forgotten : ℕ) (registers : List Register) → Each (HoldsWay v) registers
-    → Each (HoldsWay (record v { forgotten = forgotten })) registers
+each-holds-forget : (v : View) (forgotten : ℕ) (registers : List Register) → AllByRecursion (HoldsWay v) registers
+    → AllByRecursion (HoldsWay (record v { forgotten = forgotten })) registers
 each-holds-forget v forgotten [] held = tt
 each-holds-forget v forgotten (r ∷ rest) held = (
   record { inside = held.0.inside; own = held.0.own; lies = held.0.lies; alone = held.0.alone },

@@ -1,5 +1,6 @@
 -- Home grants the Acquire that a register serves.
 use Rattle.std.proofs.Common.{◌≡◌, ◌≢◌, ℕ, ◌<◌, ◌≤◌, ◌==◌, ◌&&◌, not, true, false, List, [], ◌∷◌, ◌++◌, Option, Some, None, is_none, if◌then◌else◌, refl, sym, ◌∙◌, ap, subst, arith, inl, inr, eqb-true, eq-eqb}
+use Rattle.std.specs.List.{AllByRecursion}
 use Rattle.tl_types.proofs.Booleans.{or-else}
 use Rattle.std.proofs.Math.Bool.{or-true, and-false}
 use Rattle.std.specs.Prelude.{IsSome, slice_index_or}
@@ -28,7 +29,6 @@ use Rattle.tl_protocol_lanes.specs.Lanes.{Post, grant_post, sent_to}
 use Rattle.tl_links.specs.Table.{LinkTable, lane_in, SameSize as SameLinks}
 use Rattle.tl_bank_home.specs.Directories.{order_after}
 use Rattle.tl_bank_home.specs.Homes.{HomeState, SameBank, SameMemory, SameOutward, free_at, geometry_in, line_in, order_at, recorded_in, way_in}
-use Rattle.tl_registers.specs.Agree.{Each}
 use Rattle.tl_registers.specs.Pending.{grant_pending}
 use Rattle.tl_registers.specs.Register.{works_on}
 use Rattle.tl_registers.specs.VictimWay.{IsInOrder, StandsOnce}
@@ -178,7 +178,7 @@ pending-other v c own room ways b ne =
 
 -- a way that a register of another block fills is filled on
 fills-on : (v : View) (c own room : ℕ) (ways : List (Option ℕ)) (set way : ℕ) (xs : List Register)
-    → Each (λ r. r.own ≡ own → r.way.set ≡ set → r.way.way ≡ way → ⊥) xs
+    → AllByRecursion (λ r. r.own ≡ own → r.way.set ≡ set → r.way.way ≡ way → ⊥) xs
     → list_any (is_filling_by v set way) xs ≡ true
     → list_any (is_filling_by (next_view v (SendGrant c own) room v.registers ways) set way) xs ≡ true
 fills-on v c own room ways set way [] other h = cc

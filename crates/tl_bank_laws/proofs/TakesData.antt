@@ -1,5 +1,6 @@
 -- Home takes the bytes that it asked for, and places them into the way that the block's register holds.
 use Rattle.std.proofs.Common.{◌≡◌, ◌≢◌, ℕ, ◌<◌, ◌==◌, ◌&&◌, ◌||◌, Bool, true, false, List, [], ◌∷◌, ◌++◌, set, Option, Some, None, is_none, if◌then◌else◌, refl, sym, ◌∙◌, ap, subst, inl, inr, eqb-true, eq-eqb}
+use Rattle.std.specs.List.{AllByRecursion}
 use Rattle.tl_types.proofs.Booleans.{or-else}
 use Rattle.std.specs.Prelude.{◌⊎◌}
 use Rattle.std.proofs.lemmas.Bool.{cases_eq, and_parts, cases_Bool}
@@ -13,7 +14,7 @@ use Rattle.tl_protocol.specs.declared.home.Outward.{Outward}
 use Rattle.tl_protocol.specs.declared.home.Outward.TheVariants.{Quiet, Get, Data, Put, PutAck}
 use Rattle.tl_protocol.specs.declared.shape.Shape.{Shape}
 use Rattle.tl_registers.specs.declared.register.Register.{Register}
-use Rattle.tl_registers.specs.Agree.{Each, IsSteady}
+use Rattle.tl_registers.specs.Agree.{IsSteady}
 use Rattle.tl_registers.specs.Pending.{grant_pending}
 use Rattle.tl_registers.specs.Register.{works_on}
 use Rattle.tl_registers.specs.VictimWay.{IsInOrder}
@@ -182,7 +183,7 @@ data-held v room ways block way r q d c own way_is set_is holds only =
 
 -- so does each open register
 data-each : (v : View) (h : Layers) (room : ℕ) (ways : List (Option ℕ)) (block way : ℕ) → Means v h → DataComes v block way
-    → Comes v ways block way → Each (HoldsWay (next_view v (TakeData block) room v.registers ways)) v.registers
+    → Comes v ways block way → AllByRecursion (HoldsWay (next_view v (TakeData block) room v.registers ways)) v.registers
 data-each v h room ways block way m d c =
     let r : Register = d.register in
     let P : Register → Type 0 = λ q. ((q ≡ r) ⊎ IsOther r q) × ((q ≡ r) ⊎ HoldsOther r q) in

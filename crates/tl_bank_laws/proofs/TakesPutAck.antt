@@ -1,5 +1,6 @@
 -- Home takes the acknowledgement of a Put: the victim is gone.
 use Rattle.std.proofs.Common.{◌≡◌, ◌≢◌, ℕ, ◌≤◌, ◌==◌, ◌&&◌, ◌||◌, not, Bool, true, false, List, ◌∷◌, [], length, filter, Option, Some, None, is_none, if◌then◌else◌, refl, sym, ◌∙◌, ap, arith, inl, inr, eqb-true}
+use Rattle.std.specs.List.{AllByRecursion}
 use Rattle.tl_types.proofs.Booleans.{or-else}
 use Rattle.std.proofs.Math.Bool.{or-true}
 use Rattle.std.proofs.lemmas.Bool.{cases_Bool, or_parts, and_parts}
@@ -17,7 +18,6 @@ use Rattle.tl_registers.specs.declared.register.Register.{Register}
 use Rattle.tl_registers.specs.declared.register.Task.{Task}
 use Rattle.tl_registers.specs.declared.register.Task.TheVariants.{Acquire, Replace, Evict}
 use Rattle.tl_registers.specs.declared.way_of_set.WayOfSet.{WayOfSet}
-use Rattle.tl_registers.specs.Agree.{Each}
 use Rattle.tl_registers.specs.Register.{is_block, victim_in}
 use Rattle.tl_registers.specs.Registers.{ended, is_evict, is_held, task_without, without_evict, without_victim}
 use Rattle.tl_registers.proofs.Closing.{ending-keeps-agreement}
@@ -204,7 +204,7 @@ ended-apart block (q ∷ rest) h =
 
 -- a test that a register passes which evicts not the block, is passed by one of those that stay
 any-ended : (P Q : Register → Bool) (block : ℕ) (xs : List Register)
-    → Each (λ q. P q ≡ true → ((is_evict q.task && (q.own == block)) ≡ false) × (Q (without_victim block q) ≡ true)) xs
+    → AllByRecursion (λ q. P q ≡ true → ((is_evict q.task && (q.own == block)) ≡ false) × (Q (without_victim block q) ≡ true)) xs
     → list_any P xs ≡ true → list_any Q (ended block xs) ≡ true
 any-ended P Q block [] f h = cc
 any-ended P Q block (q ∷ rest) f h =
@@ -219,7 +219,7 @@ any-ended P Q block (q ∷ rest) f h =
     ]
 
 -- a way that a register fills, in which a block lies, is still filled
-ended-fills : (v : View) (block set way b : ℕ) → Each (HoldsWay v) v.registers → way_at v block ≡ None → slot_at v set way ≡ Some b
+ended-fills : (v : View) (block set way b : ℕ) → AllByRecursion (HoldsWay v) v.registers → way_at v block ≡ None → slot_at v set way ≡ Some b
     → is_filling v set way ≡ true → is_filling (ended_view v block) set way ≡ true
 ended-fills v block s way b held nowhere at fills =
     let slot = slot-lies v s way b at in

@@ -1,5 +1,6 @@
 -- What an event that moves no block and opens or closes no register leaves of the registers and of the ways that they hold.
 use Rattle.std.proofs.Common.{◌≡◌, ℕ, ◌<◌, ◌==◌, ◌&&◌, ◌||◌, Bool, true, false, List, [], ◌∷◌, Option, None, is_none, if◌then◌else◌, refl, sym, ◌∙◌, ap, subst, inl, inr}
+use Rattle.std.specs.List.{AllByRecursion}
 use Rattle.tl_types.proofs.Booleans.{or-else}
 use Rattle.std.proofs.Math.Bool.{or-true}
 use Rattle.std.proofs.lemmas.Bool.{and_parts, cases_Bool, not-true}
@@ -8,7 +9,7 @@ use Rattle.std.specs.List.{list_any}
 use Rattle.tl_map.specs.Places.{bank_of, set_of}
 use Rattle.tl_protocol.specs.Protocol.{Block}
 use Rattle.tl_protocol.specs.declared.event.Event.{Event}
-use Rattle.tl_registers.specs.Agree.{Each, IsSteady, LeavesRegisters}
+use Rattle.tl_registers.specs.Agree.{IsSteady, LeavesRegisters}
 use Rattle.tl_registers.specs.Pending.{grant_pending}
 use Rattle.tl_registers.specs.Register.{is_block, victim_in, works_on, with_probed}
 use Rattle.tl_registers.specs.Registers.{is_held, noted}
@@ -142,8 +143,8 @@ holds-stay v log room registers ways r q same own way task h =
 
 -- so does each register of a list of the same work
 pub each-holds-stay : (v : View) (log : List Event) (room : ℕ) (registers : List Register) (ways : List (Option ℕ))
-    (xs ys : List Register) → SameLies v ways → SameWork xs ys → Each (HoldsWay v) xs
-    → Each (HoldsWay (record v { log = log; room = room; registers = registers; ways = ways })) ys
+    (xs ys : List Register) → SameLies v ways → SameWork xs ys → AllByRecursion (HoldsWay v) xs
+    → AllByRecursion (HoldsWay (record v { log = log; room = room; registers = registers; ways = ways })) ys
 each-holds-stay v log room registers ways [] [] same work h = tt
 each-holds-stay v log room registers ways [] (q ∷ more) same work h = absurd work
 each-holds-stay v log room registers ways (r ∷ rest) [] same work h = absurd work

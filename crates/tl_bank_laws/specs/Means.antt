@@ -1,5 +1,6 @@
 -- What a bank's layers hold is what its log leaves (this project's own). No public clause cites this module.
 use Rattle.std.specs.Prelude.{◌≡◌, ℕ, ◌<◌, ◌≤◌, ◌==◌, ◌&&◌, not, Bool, true, false, List, [], ◌∷◌, length, Some, is_none}
+use Rattle.std.specs.List.{AllByRecursion}
 use Rattle.std.specs.List.{All, list_any}
 use Rattle.tl_types.specs.declared.channel.Channel.{Channel}
 use Rattle.tl_map.specs.Limits.{IsLawful}
@@ -10,7 +11,7 @@ use Rattle.tl_protocol_lanes.specs.Lawful.{Lawful}
 use Rattle.tl_links.specs.Table.{lane_in}
 use Rattle.tl_copies.specs.Copies.{held_at, clients_of}
 use Rattle.tl_registers.specs.declared.register.Register.{Register}
-use Rattle.tl_registers.specs.Agree.{Agree, Each}
+use Rattle.tl_registers.specs.Agree.{Agree}
 use Rattle.tl_registers.specs.Pending.{grant_pending}
 use Rattle.tl_registers.specs.Register.{works_on}
 use Rattle.tl_registers.specs.Registers.{is_held, register_of}
@@ -77,7 +78,7 @@ pub record WaysFit (v : View) (home : HomeState) : Type 0 where
   pub free :
       (set way : ℕ) → set < v.geometry.sets → way < v.geometry.ways → free_at home set way ≡ is_none (slot_at v set way)
   -- the registers hold ways of their own
-  pub held : Each (HoldsWay v) v.registers
+  pub held : AllByRecursion (HoldsWay v) v.registers
   pub apart : WaysApart v.registers
   -- the ways of a set stand in the order of their blocks' last Grants
   pub orders :

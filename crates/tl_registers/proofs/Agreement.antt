@@ -1,5 +1,6 @@
 -- The open registers and the protocol's state agree after each event that leaves the registers.
 use Rattle.std.proofs.Common.{◌≡◌, sym, ℕ, ◌==◌, ◌||◌, eq-eqb, true, false, List, [], ◌∷◌, Option, Some, None, refl, ◌∙◌, inl, inr}
+use Rattle.std.specs.List.{AllByRecursion}
 use Rattle.std.proofs.Math.Bool.{or-true}
 use Rattle.std.proofs.lemmas.Bool.{cases_Bool}
 use Rattle.tl_types.specs.declared.permission.ProbeCap.{ProbeCap}
@@ -12,7 +13,7 @@ use Rattle.tl_protocol.proofs.Pending.{every_run_keeps_messages, every_run_keeps
 use Rattle.tl_registers.specs.declared.register.Register.{Register}
 use Rattle.tl_registers.specs.declared.register.Task.{Task}
 use Rattle.tl_registers.specs.declared.register.Task.TheVariants.{Acquire, Replace, Evict}
-use Rattle.tl_registers.specs.Agree.{IsAtRest, Each, EventsLeaveRegisters, AgreeAtReset, EveryRunIsSteady}
+use Rattle.tl_registers.specs.Agree.{IsAtRest, EventsLeaveRegisters, AgreeAtReset, EveryRunIsSteady}
 use Rattle.tl_registers.specs.Fit.{ProbesFit, NobodyIsProbed, Leaves, IsServed, Awaits, TaskFits, Fits}
 use Rattle.tl_registers.specs.NextAction.{probes_before}
 use Rattle.tl_registers.specs.Register.{has_probed, is_other, works_on, is_block, victim_in}
@@ -116,7 +117,7 @@ fits-kept shape states later r k h =
 
 -- where every block is kept each register still fits
 each-kept : (shape : Shape) (states later : ℕ → Block) (registers : List Register)
-    → ((block : ℕ) → Keeps (states block) (later block)) → Each (Fits shape states) registers → Each (Fits shape later) registers
+    → ((block : ℕ) → Keeps (states block) (later block)) → AllByRecursion (Fits shape states) registers → AllByRecursion (Fits shape later) registers
 each-kept shape states later [] k h = tt
 each-kept shape states later (r ∷ rest) k h =
     (fits-kept shape states later r (λ block on. k block) h.0, each-kept shape states later rest k h.1)

@@ -1,5 +1,6 @@
 -- What a register carries out, and what closes it, keeps the agreement.
 use Rattle.std.proofs.Common.{◌≡◌, ◌≢◌, ℕ, ◌-◌, ◌<◌, ◌==◌, ◌&&◌, ◌||◌, not, Bool, true, false, List, [], ◌∷◌, map, filter, Option, Some, None, refl, sym, ◌∙◌, ap, subst, arith, inl, inr, eqb-true, eq-eqb}
+use Rattle.std.specs.List.{AllByRecursion}
 use Rattle.tl_types.proofs.Booleans.{or-else}
 use Rattle.std.specs.Prelude.{◌⊎◌}
 use Rattle.std.proofs.lemmas.Bool.{cases_eq, cases_Bool, or_parts, not-true, eqb-false}
@@ -20,7 +21,7 @@ use Rattle.tl_protocol.specs.declared.shape.Shape.{Shape}
 use Rattle.tl_registers.specs.declared.register.Register.{Register}
 use Rattle.tl_registers.specs.declared.register.Task.{Task}
 use Rattle.tl_registers.specs.declared.register.Task.TheVariants.{Acquire, Replace, Evict}
-use Rattle.tl_registers.specs.Agree.{IsAtRest, Each, Agree, GrantingKeepsAgreement, PuttingKeepsAgreement, DroppingKeepsAgreement, ClosingKeepsAgreement, EndingKeepsAgreement}
+use Rattle.tl_registers.specs.Agree.{IsAtRest, Agree, GrantingKeepsAgreement, PuttingKeepsAgreement, DroppingKeepsAgreement, ClosingKeepsAgreement, EndingKeepsAgreement}
 use Rattle.tl_registers.specs.Fit.{Ask, Answer, ProbeFits, Leaves, IsServed, Awaits, TaskFits, Fits}
 use Rattle.tl_registers.specs.NextAction.{probes_before}
 use Rattle.tl_registers.specs.Pending.{is_probed, has_grant_pending, grant_pending}
@@ -74,7 +75,7 @@ works-how shape states q Evict block h on =
     ]
 
 -- of a busy block, a register that works on it
-someone : (shape : Shape) (states : ℕ → Block) (registers : List Register) (block : ℕ) → Each (Fits shape states) registers
+someone : (shape : Shape) (states : ℕ → Block) (registers : List Register) (block : ℕ) → AllByRecursion (Fits shape states) registers
     → is_busy block registers ≡ true → (q : Register) × WorksHow shape states q block
 someone shape states [] block h busy = cc
 someone shape states (q ∷ rest) block h busy =
@@ -160,7 +161,7 @@ granted-fits shape states later q Evict c own grow line k accepted home is b sam
 -- a state in which a block that is at rest, or that a register works on, changed
 pub each-at : (shape : Shape) (states : ℕ → Block) (e : Event) (registers : List Register)
     → ((q : Register) → works_on q (block_of shape e) ≡ true → Fits shape states q → Fits shape (after_next shape states e) q)
-    → Each (Fits shape states) registers → Each (Fits shape (after_next shape states e)) registers
+    → AllByRecursion (Fits shape states) registers → AllByRecursion (Fits shape (after_next shape states e)) registers
 each-at shape states e registers on h =
     each-follows (Fits shape states) (Fits shape (after_next shape states e)) registers
     (λ q fits. elim (cases_Bool (works_on q (block_of shape e))) [
@@ -534,7 +535,7 @@ home-holds shape states registers own acquire agree accepted pending =
     ]
 
 -- a block that is not busy once a register is closed was not before, if that register did not work on it
-free-closed : (own block : ℕ) (registers : List Register) → Each (λ q. (q.own == own) ≡ true → works_on q block ≡ false) registers
+free-closed : (own block : ℕ) (registers : List Register) → AllByRecursion (λ q. (q.own == own) ≡ true → works_on q block ≡ false) registers
     → is_busy block (closed own registers) ≡ false → is_busy block registers ≡ false
 free-closed own block [] each h = refl
 free-closed own block (q ∷ rest) each h =

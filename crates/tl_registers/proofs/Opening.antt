@@ -1,5 +1,6 @@
 -- A register that opens fits the state, and the others still do.
 use Rattle.std.proofs.Common.{◌≡◌, ◌≢◌, ℕ, zero, suc, ◌<◌, ◌≤◌, ◌==◌, ◌||◌, true, false, List, [], ◌∷◌, replicate, get_or, Option, Some, None, refl, sym, ◌∙◌, ap, subst, inl, inr, eqb-true, eq-eqb}
+use Rattle.std.specs.List.{AllByRecursion}
 use Rattle.tl_types.proofs.Booleans.{or-else}
 use Rattle.std.proofs.lemmas.Bool.{cases_Bool, or_parts, ne_eqb}
 use Rattle.std.specs.Prelude.{◌⊎◌}
@@ -24,7 +25,7 @@ use Rattle.tl_registers.specs.declared.register.Register.{Register}
 use Rattle.tl_registers.specs.declared.register.Task.{Task}
 use Rattle.tl_registers.specs.declared.register.Task.TheVariants.{Acquire, Replace, Evict}
 use Rattle.tl_registers.specs.declared.way_of_set.WayOfSet.{WayOfSet}
-use Rattle.tl_registers.specs.Agree.{IsAtRest, Each, Agree, IsSteady, IsFreeVictim, EvictingKeepsAgreement, AcceptingKeepsAgreement}
+use Rattle.tl_registers.specs.Agree.{IsAtRest, Agree, IsSteady, IsFreeVictim, EvictingKeepsAgreement, AcceptingKeepsAgreement}
 use Rattle.tl_registers.specs.Fit.{Ask, Answer, ProbesFit, NobodyIsProbed, IsPutting, IsGetting, Leaves, IsServed, Awaits, Fits}
 use Rattle.tl_registers.specs.NextAction.{probes_before}
 use Rattle.tl_registers.specs.Pending.{has_first, has_grant_pending, grant_pending}
@@ -137,7 +138,7 @@ fits-elsewhere shape states e q free fits =
 
 -- no register works on a block that is not busy
 each-free : (block : ℕ) (registers : List Register) → is_busy block registers ≡ false
-    → Each (λ q. works_on q block ≡ false) registers
+    → AllByRecursion (λ q. works_on q block ≡ false) registers
 each-free block [] h = tt
 each-free block (q ∷ rest) h =
     let k = or_parts (works_on q block) (is_busy block rest) h in (k.0, each-free block rest k.1)

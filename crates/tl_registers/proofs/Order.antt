@@ -1,53 +1,78 @@
 -- The order of ways that Grants touch gives the way whose block was granted longest ago.
 use Rattle.std.proofs.Common.{◌≡◌, ◌≢◌, ℕ, zero, suc, ◌+◌, ◌≤◌, ◌==◌, ◌&&◌, ◌||◌, not, Bool, true, false, List, [], ◌∷◌, ◌++◌, length, Option, Some, None, if◌then◌else◌, refl, sym, ◌∙◌, ap, subst, arith, inl, inr, eq-eqb, set, length-set, get_or-set_other}
 use Rattle.std.proofs.Math.Bool.{or-true}
-use Rattle.std.specs.Prelude.{◌⊎◌}
+use Rattle.std.specs.Prelude.{◌⊎◌, find}
 use Rattle.std.proofs.lemmas.Bool.{cases_eq, cases_Bool, eqb-false, ne_eqb}
 use Rattle.tl_ways.proofs.OrderLaws.{among-end, among-front, among-either, among-without, without-among}
 use Rattle.tl_ways.specs.Orders.{IsAmong, without_way}
 use Rattle.tl_protocol.specs.declared.event.Event.{Event}
 use Rattle.tl_protocol.specs.declared.event.Event.TheVariants.{SendGrant}
-use Rattle.tl_registers.specs.VictimWay.{grants_block, last_grant_from, last_grant, block_in, first_not_held, IsNoLater, EachBefore, FirstInOrderIsOldest, FreeSetIsInOrder, GrantKeepsOrder, OtherEventsKeepOrder, PlacingKeepsOrder, ClearingKeepsOrder}
+use Rattle.tl_registers.specs.VictimWay.{grants_block, last_grant_from, last_grant, IsNotAfter, block_in, IsNoLater, EachBefore, FirstInOrderIsOldest, FreeSetIsInOrder, GrantKeepsOrder, OtherEventsKeepOrder, PlacingKeepsOrder, ClearingKeepsOrder}
 
 -- ## The last Grant of a block
 
--- counted on from some place in the log, one event more is the last Grant of its block, and leaves that of the others
-last-append : (block n found : ℕ) (es : List Event) (e : Event)
-    → last_grant_from block n found (es ++ e ∷ [])
-    ≡ (if grants_block block e then n + length es + 1 else last_grant_from block n found es)
-last-append block n found [] e =
-    elim (grants_block block e) as (λ t. (if t then n + 1 else found) ≡ (if t then n + 0 + 1 else found)) [ true ↦ omega arith | false ↦ refl ]
-last-append block n found (x ∷ es) e =
-    let z : n + 1 + length es + 1 ≡ n + length (x ∷ es) + 1 = omega arith in
-    rw (last-append block (n + 1) (if grants_block block x then n + 1 else found) es e, z) refl
+-- a place in a log as a number: counted from 1, and 0 for none
+abbrev place : Option ℕ → ℕ
+place None = 0
+place (Some n) = n + 1
 
--- one event more is the last Grant of its block, and leaves that of the others
-last_grant-append : (block : ℕ) (log : List Event) (e : Event)
-    → last_grant block (log ++ e ∷ []) ≡ (if grants_block block e then length log + 1 else last_grant block log)
-last_grant-append block log e =
-    let z : 0 + length log + 1 ≡ length log + 1 = omega arith in
-    last-append block 0 0 log e ∙ rw z refl
+-- where the last Grant of a block stands, as a number
+abbrev granted_at : ℕ → List Event → ℕ
+granted_at block log = place (last_grant block log)
+
+-- one place is no later than another just where its number is no greater
+not-after : (a b : Option ℕ) → place a ≤ place b → IsNotAfter a b
+not-after None b l = tt
+not-after (Some n) None l = omega (arith, l)
+not-after (Some n) (Some m) l = omega (arith, l)
+
+not-greater : (a b : Option ℕ) → IsNotAfter a b → place a ≤ place b
+not-greater None b l = omega arith
+not-greater (Some n) None l = absurd l
+not-greater (Some n) (Some m) l = omega (arith, l)
+
+-- counted on from some place in the log, one event more is the last Grant of its block, and leaves that of the others
+last-append : (block n : ℕ) (found : Option ℕ) (es : List Event) (e : Event)
+    → last_grant_from block n found (es ++ e ∷ [])
+    ≡ (if grants_block block e then Some (n + length es) else last_grant_from block n found es)
+last-append block n found [] e =
+    elim (grants_block block e) as (λ t. (if t then Some n else found) ≡ (if t then Some (n + 0) else found)) [
+      | true ↦ let z : n ≡ n + 0 = omega arith in ap Some z
+      | false ↦ refl
+    ]
+last-append block n found (x ∷ es) e =
+    let z : n + 1 + length es ≡ n + length (x ∷ es) = omega arith in
+    rw (last-append block (n + 1) (if grants_block block x then Some n else found) es e, z) refl
+
+-- one event more is the last Grant of its block
+granted_at-this : (block : ℕ) (log : List Event) (e : Event) → grants_block block e ≡ true
+    → granted_at block (log ++ e ∷ []) ≡ length log + 1
+granted_at-this block log e t =
+    let p : last_grant block (log ++ e ∷ []) ≡ Some (0 + length log) = last-append block 0 None log e ∙ rw t refl in
+    let q : granted_at block (log ++ e ∷ []) ≡ 0 + length log + 1 = ap place p in
+    omega (arith, q)
+
+-- and leaves that of the others
+last_grant-same : (block : ℕ) (log : List Event) (e : Event) → grants_block block e ≡ false
+    → granted_at block (log ++ e ∷ []) ≡ granted_at block log
+last_grant-same block log e n = ap place (last-append block 0 None log e ∙ rw n refl)
 
 -- a place within the log, or that of one event more, is within the longer log
-found-one : (t : Bool) (n found : ℕ) → found ≤ n → (if t then n + 1 else found) ≤ n + 1
+found-one : (t : Bool) (n : ℕ) (found : Option ℕ) → place found ≤ n → place (if t then Some n else found) ≤ n + 1
 found-one true n found l = omega arith
-found-one false n found l = omega arith
+found-one false n found l = omega (arith, l)
 
 -- counted on from a place within the log, the last Grant stands within it
-found-inside : (block n found : ℕ) (log : List Event) → found ≤ n → last_grant_from block n found log ≤ n + length log
-found-inside block n found [] l = omega arith
+found-inside : (block n : ℕ) (found : Option ℕ) (log : List Event) → place found ≤ n
+    → place (last_grant_from block n found log) ≤ n + length log
+found-inside block n found [] l = omega (arith, l)
 found-inside block n found (e ∷ es) l =
-    let k = found-inside block (n + 1) (if grants_block block e then n + 1 else found) es (found-one (grants_block block e) n found l) in
+    let k = found-inside block (n + 1) (if grants_block block e then Some n else found) es (found-one (grants_block block e) n found l) in
     omega (arith, k)
 
 -- no Grant stands past the end of the log
-last_grant-inside : (block : ℕ) (log : List Event) → last_grant block log ≤ length log
-last_grant-inside block log = omega (arith, found-inside block 0 0 log (omega arith))
-
--- an event that grants not this block leaves its last Grant
-last_grant-same : (block : ℕ) (log : List Event) (e : Event) → grants_block block e ≡ false
-    → last_grant block (log ++ e ∷ []) ≡ last_grant block log
-last_grant-same block log e n = last_grant-append block log e ∙ rw n refl
+last_grant-inside : (block : ℕ) (log : List Event) → granted_at block log ≤ length log
+last_grant-inside block log = omega (arith, found-inside block 0 None log (omega arith))
 
 -- ## What is among the ways
 
@@ -101,13 +126,13 @@ before-end R w (x ∷ rest) h last = (
 
 -- the first way that no register holds stands in the relation to each other way that none holds
 first-of : (R : ℕ → ℕ → Type 0) (held : ℕ → Bool) (order : List ℕ) (w : ℕ) → EachBefore R order
-    → first_not_held held order ≡ Some w
+    → find (λ v. not (held v)) order ≡ Some w
     → IsAmong w order × (held w ≡ false) × ((v : ℕ) → IsAmong v order → held v ≡ false → (v ≡ w) ⊎ R w v)
 first-of R held [] w r h = cc
 first-of R held (x ∷ rest) w r h =
     elim (cases_Bool (held x)) [
       | inl e ↦
-          let h2 : first_not_held held rest ≡ Some w = (rw e at h) in
+          let h2 : find (λ v. not (held v)) rest ≡ Some w = (rw e at h) in
           let k = first-of R held rest w r.1 h2 in
           (inr k.0, k.1, λ v. elim [ inl m ↦ λ n. let bad : true ≡ false = sym e ∙ (ap held (sym m) ∙ n) in cc | inr m ↦ λ n. k.2 v m n ])
       | inr e ↦
@@ -133,8 +158,8 @@ first-in-order-is-oldest slots held filling log order w ordered holds h =
             | inl e ↦
                 let both : Some block ≡ Some other = sym here ∙ (ap (block_in slots) (sym e) ∙ there) in
                 let same : block ≡ other = cc in
-                let q : last_grant block log ≡ last_grant other log = ap (λ b. last_grant b log) same in
-                omega (arith, q)
+                let q : granted_at block log ≡ granted_at other log = ap (λ b. granted_at b log) same in
+                not-after (last_grant block log) (last_grant other log) (omega (arith, q))
             | inr r ↦ r block other (full w k.1) (full v n) here there
           ];
     }
@@ -160,7 +185,8 @@ other-events-keep-order slots filling log order e ordered other = record {
       (λ w v m n r block later f g here there.
       let p = last_grant-same block log e (other w block here) in
       let q = last_grant-same later log e (other v later there) in
-      omega (arith, p, q, r block later f g here there))
+      let k = not-greater (last_grant block log) (last_grant later log) (r block later f g here there) in
+      not-after (last_grant block (log ++ e ∷ [])) (last_grant later (log ++ e ∷ [])) (omega (arith, p, q, k)))
       ordered.rises;
   all = ordered.all;
   only = ordered.only;
@@ -177,8 +203,7 @@ grant-keeps-order slots filling log order w block c ordered l is once =
     λ v b ne at. ne_eqb block b (λ q. ne (once w v is (at ∙ ap Some (sym q)))) in
     let was : (v : ℕ) → v ≢ w → later v ≡ false → filling v ≡ false =
     λ v ne f. let nv = ne_eqb v w ne in elim (cases_Bool (filling v)) [ inr q ↦ q | inl q ↦ let bad : later v ≡ true = rw (q, nv) refl in cc ] in
-    let granted : last_grant block (log ++ e ∷ []) ≡ length log + 1 =
-    let t : (block == block) ≡ true = eq-eqb block block refl in last_grant-append block log e ∙ rw t refl in
+    let granted : granted_at block (log ++ e ∷ []) ≡ length log + 1 = granted_at-this block log e (eq-eqb block block refl) in
     record {
       rises =
           before-end after w (without_way w order)
@@ -188,7 +213,8 @@ grant-keeps-order slots filling log order w block c ordered l is once =
           let nv = stays-apart w v order n in
           let p = last_grant-same b log e (not-this u b mu here) in
           let q = last_grant-same d log e (not-this v d nv there) in
-          omega (arith, p, q, r b d (was u mu f) (was v nv g) here there))
+          let k = not-greater (last_grant b log) (last_grant d log) (r b d (was u mu f) (was v nv g) here there) in
+          not-after (last_grant b (log ++ e ∷ [])) (last_grant d (log ++ e ∷ [])) (omega (arith, p, q, k)))
           (before-without before w order ordered.rises))
           (λ v m b d f g here there.
           let ne = stays-apart w v order m in
@@ -196,8 +222,8 @@ grant-keeps-order slots filling log order w block c ordered l is once =
           let in_log = last_grant-inside b log in
           let both : Some block ≡ Some d = sym is ∙ there in
           let same : block ≡ d = cc in
-          let q : last_grant d (log ++ e ∷ []) ≡ last_grant block (log ++ e ∷ []) = ap (λ y. last_grant y (log ++ e ∷ [])) (sym same) in
-          omega (arith, p, q, in_log, granted));
+          let q : granted_at d (log ++ e ∷ []) ≡ granted_at block (log ++ e ∷ []) = ap (λ y. granted_at y (log ++ e ∷ [])) (sym same) in
+          not-after (last_grant b (log ++ e ∷ [])) (last_grant d (log ++ e ∷ [])) (omega (arith, p, q, in_log, granted)));
       all = λ v m. elim (cases_eq v w) [
         | inl q ↦ subst (λ (y : ℕ). IsAmong y (without_way w order ++ w ∷ [])) (sym q) (among-end w (without_way w order))
         | inr q ↦ among-front v w (without_way w order) (among-without w v order q (ordered.all v m))

@@ -1,33 +1,34 @@
 -- Lists of registers of which no two work on one block.
 use Rattle.std.proofs.Common.{◌≡◌, ℕ, ◌==◌, Bool, true, false, List, [], ◌∷◌, ◌++◌, map, filter, Some, refl, sym, ◌∙◌, ap, inl, inr}
+use Rattle.std.specs.List.{AllByRecursion}
 use Rattle.std.proofs.lemmas.Bool.{cases_Bool, or_parts, or_from}
 use Rattle.std.specs.Prelude.{◌⊎◌}
 use Rattle.tl_registers.specs.declared.register.Register.{Register}
-use Rattle.tl_registers.specs.Agree.{Each, AreApart}
+use Rattle.tl_registers.specs.Agree.{AreApart}
 use Rattle.tl_registers.specs.Register.{works_on}
 use Rattle.tl_registers.specs.Registers.{is_busy, register_of}
 
 -- ## What holds of each register
 
 -- what follows from what holds of each holds of each
-pub each-follows : (P Q : Register → Type 0) (xs : List Register) → ((r : Register) → P r → Q r) → Each P xs → Each Q xs
+pub each-follows : (P Q : Register → Type 0) (xs : List Register) → ((r : Register) → P r → Q r) → AllByRecursion P xs → AllByRecursion Q xs
 each-follows P Q [] f h = tt
 each-follows P Q (r ∷ rest) f h = (f r h.0, each-follows P Q rest f h.1)
 
 -- and what follows from two things that hold of each
-pub each-both : (P Q R : Register → Type 0) (xs : List Register) → ((r : Register) → P r → Q r → R r) → Each P xs → Each Q xs
-    → Each R xs
+pub each-both : (P Q R : Register → Type 0) (xs : List Register) → ((r : Register) → P r → Q r → R r) → AllByRecursion P xs → AllByRecursion Q xs
+    → AllByRecursion R xs
 each-both P Q R [] f h g = tt
 each-both P Q R (r ∷ rest) f h g = (f r h.0 g.0, each-both P Q R rest f h.1 g.1)
 
 -- what holds of each once it is changed holds of those that are changed
-pub each-map : (P : Register → Type 0) (f : Register → Register) (xs : List Register) → Each (λ r. P (f r)) xs → Each P (map f xs)
+pub each-map : (P : Register → Type 0) (f : Register → Register) (xs : List Register) → AllByRecursion (λ r. P (f r)) xs → AllByRecursion P (map f xs)
 each-map P f [] h = tt
 each-map P f (r ∷ rest) h = (h.0, each-map P f rest h.1)
 
 -- of those that pass a test
-pub each-filter : (P : Register → Type 0) (test : Register → Bool) (xs : List Register) → Each (λ r. test r ≡ true → P r) xs
-    → Each P (filter test xs)
+pub each-filter : (P : Register → Type 0) (test : Register → Bool) (xs : List Register) → AllByRecursion (λ r. test r ≡ true → P r) xs
+    → AllByRecursion P (filter test xs)
 each-filter P test [] h = tt
 each-filter P test (r ∷ rest) h =
     elim (cases_Bool (test r)) [
@@ -36,7 +37,7 @@ each-filter P test (r ∷ rest) h =
     ]
 
 -- what holds of each, and of one put last, holds of all of them
-pub each-end : (P : Register → Type 0) (xs : List Register) (r : Register) → Each P xs → P r → Each P (xs ++ r ∷ [])
+pub each-end : (P : Register → Type 0) (xs : List Register) (r : Register) → AllByRecursion P xs → P r → AllByRecursion P (xs ++ r ∷ [])
 each-end P [] r h one = (one, tt)
 each-end P (x ∷ rest) r h one = (h.0, each-end P rest r h.1 one)
 
@@ -130,7 +131,7 @@ IsOneOf r q = (q ≡ r) ⊎ IsOther r q
 
 -- where none of a register's blocks is busy, each of these registers is that one or works on none of them
 all-other : (r : Register) (xs : List Register) → ((block : ℕ) → works_on r block ≡ true → is_busy block xs ≡ false)
-    → Each (IsOneOf r) xs
+    → AllByRecursion (IsOneOf r) xs
 all-other r [] free = tt
 all-other r (q ∷ rest) free = (
   inr (λ block on. (or_parts (works_on q block) (is_busy block rest) (free block on)).0),
@@ -153,7 +154,7 @@ found-busy own (q ∷ rest) r block h on free =
     ]
 
 -- each register is the one that is found, or works on none of its blocks
-pub one-among : (own : ℕ) (xs : List Register) (r : Register) → AreApart xs → register_of own xs ≡ Some r → Each (IsOneOf r) xs
+pub one-among : (own : ℕ) (xs : List Register) (r : Register) → AreApart xs → register_of own xs ≡ Some r → AllByRecursion (IsOneOf r) xs
 one-among own [] r apart h = cc
 one-among own (q ∷ rest) r apart h =
     elim (cases_Bool (q.own == own)) [

@@ -1,5 +1,6 @@
 -- When all open registers of a bank agree with the protocol's state (this project's own).
 use Rattle.std.specs.Prelude.{◌≡◌, ◌≢◌, ℕ, ◌<◌, ◌≤◌, true, false, List, [], ◌∷◌, ◌++◌, Option, Some, None}
+use Rattle.std.specs.List.{AllByRecursion}
 use Rattle.tl_protocol.specs.declared.event.Event.{Event}
 use Rattle.tl_protocol.specs.declared.event.Event.TheVariants.{AcceptAcquire, SendProbe, SendGrant, TakeGrantAck, SendGet, Drop, SendPut, TakePutAck}
 use Rattle.tl_protocol.specs.declared.home.Outward.TheVariants.{Quiet}
@@ -29,11 +30,6 @@ pub record IsAtRest (shape : Shape) (s : Block) : Type 0 where
   pub unprobed : NobodyIsProbed shape s.client
   pub quiet : s.outward ≡ Quiet
 
--- it holds of each register
-abbrev pub Each : (Register → Type 0) → List Register → Type 0
-Each P [] = Unit {0}
-Each P (r ∷ rest) = P r × Each P rest
-
 -- no two registers work on one block
 abbrev pub AreApart : List Register → Type 0
 AreApart [] = Unit {0}
@@ -41,7 +37,7 @@ AreApart (r ∷ rest) = ((block : ℕ) → works_on r block ≡ true → is_busy
 
 -- The open registers and the state agree.
 pub record Agree (shape : Shape) (states : ℕ → Block) (registers : List Register) : Type 0 where
-  pub fits : Each (Fits shape states) registers
+  pub fits : AllByRecursion (Fits shape states) registers
   pub at_rest : (block : ℕ) → is_busy block registers ≡ false → IsAtRest shape (states block)
   pub apart : AreApart registers
 

@@ -1,5 +1,5 @@
 -- Which way an Acquire takes whose block home lacks, and the order of a set's ways that gives it (this project's own).
-use Rattle.std.specs.Prelude.{◌≡◌, ℕ, ◌+◌, ◌<◌, ◌≤◌, ◌==◌, ◌&&◌, ◌||◌, not, Bool, true, false, List, [], ◌∷◌, ◌++◌, length, Option, Some, None, if◌then◌else◌, slice_index_or, slice_set}
+use Rattle.std.specs.Prelude.{◌≡◌, ℕ, ◌+◌, ◌<◌, ◌≤◌, ◌==◌, ◌&&◌, ◌||◌, not, Bool, true, false, List, [], ◌∷◌, ◌++◌, length, Option, Some, None, if◌then◌else◌, find, slice_index_or, slice_set}
 use Rattle.tl_ways.specs.Orders.{IsAmong, touched}
 use Rattle.tl_types.specs.Lowest.{lowest}
 use Rattle.tl_protocol.specs.declared.event.Event.{Event}
@@ -14,13 +14,19 @@ grants_block block (SendGrant c b) = b == block
 grants_block block e = false
 
 -- where the last Grant of a block stands among these events, counted on from n; `found` where there is none
-abbrev pub last_grant_from : ℕ → ℕ → ℕ → List Event → ℕ
+abbrev pub last_grant_from : ℕ → ℕ → Option ℕ → List Event → Option ℕ
 last_grant_from block n found [] = found
-last_grant_from block n found (e ∷ es) = last_grant_from block (n + 1) (if grants_block block e then n + 1 else found) es
+last_grant_from block n found (e ∷ es) = last_grant_from block (n + 1) (if grants_block block e then Some n else found) es
 
--- where in the log the last Grant of a block stands, counted from 1; 0 where none was sent
-abbrev pub last_grant : ℕ → List Event → ℕ
-last_grant block log = last_grant_from block 0 0 log
+-- where in the log the last Grant of a block stands, if one was sent
+abbrev pub last_grant : ℕ → List Event → Option ℕ
+last_grant block log = last_grant_from block 0 None log
+
+-- one place in a log is no later than another; what was never sent is no later than anything
+abbrev pub IsNotAfter : Option ℕ → Option ℕ → Type 0
+IsNotAfter None later = Unit {0}
+IsNotAfter (Some place) None = ⊥
+IsNotAfter (Some place) (Some later) = place ≤ later
 
 -- the block in a way of the set, where there is one
 abbrev pub block_in : List (Option ℕ) → ℕ → Option ℕ
@@ -37,7 +43,7 @@ pub record IsOldest (slots : List (Option ℕ)) (held : ℕ → Bool) (log : Lis
   pub not_held : held w ≡ false
   pub oldest :
       (v block other : ℕ) → v < length slots → held v ≡ false → block_in slots w ≡ Some block → block_in slots v ≡ Some other
-      → last_grant block log ≤ last_grant other log
+      → IsNotAfter (last_grant block log) (last_grant other log)
 
 -- the lowest free way that no register holds
 abbrev pub lowest_free : List (Option ℕ) → (ℕ → Bool) → Option ℕ
@@ -55,16 +61,11 @@ IsChosen slots held log w = IsFreeOrOldest (lowest_free slots held) slots held l
 -- ## The order in which a set's ways were granted
 -- `filling` says which ways have a block that was not granted since it came there. Registers hold them.
 
--- the first way of an order that no register holds, where there is one
-abbrev pub first_not_held : (ℕ → Bool) → List ℕ → Option ℕ
-first_not_held held [] = None
-first_not_held held (w ∷ rest) = if held w then first_not_held held rest else Some w
-
 -- the block of a way was granted no later than that of another, where both have been
 abbrev pub IsNoLater : List (Option ℕ) → (ℕ → Bool) → List Event → ℕ → ℕ → Type 0
 IsNoLater slots filling log w v =
     (block other : ℕ) → filling w ≡ false → filling v ≡ false → block_in slots w ≡ Some block → block_in slots v ≡ Some other
-    → last_grant block log ≤ last_grant other log
+    → IsNotAfter (last_grant block log) (last_grant other log)
 
 -- each stands in a relation to all that come after it
 abbrev pub EachBefore : (ℕ → ℕ → Type 0) → List ℕ → Type 0
@@ -87,7 +88,7 @@ StandsOnce slots block = (w v : ℕ) → block_in slots w ≡ Some block → blo
 abbrev pub FirstInOrderIsOldest : Type 0
 FirstInOrderIsOldest =
     (slots : List (Option ℕ)) (held filling : ℕ → Bool) (log : List Event) (order : List ℕ) (w : ℕ)
-    → IsInOrder slots filling log order → ((v : ℕ) → filling v ≡ true → held v ≡ true) → first_not_held held order ≡ Some w
+    → IsInOrder slots filling log order → ((v : ℕ) → filling v ≡ true → held v ≡ true) → find (λ v. not (held v)) order ≡ Some w
     → IsOldest slots held log w
 
 -- A set whose ways are all free is in any order that has just its ways.

@@ -1,5 +1,6 @@
 -- Each step on a bell's word keeps its rule.
 use Rattle.std.proofs.Common.{◌≡◌, ◌≢◌, ℕ, zero, suc, ◌+◌, ◌-◌, ◌*◌, ◌%◌, ◌^◌, ◌<◌, ◌≤◌, List, [], ◌∷◌, ◌++◌, length, set, get_or, sym, refl, ap, ◌∙◌, subst, ⊎_elim, arith}
+use Rattle.std.specs.List.{AllByRecursion}
 use Rattle.std.specs.List.{All, sum_by}
 use Rattle.std.proofs.lemmas.List.Sums.{sum_by-cons, sum_by_push}
 use mathlib.Core.Option.{some, some-injective, some-ne-none}
@@ -8,10 +9,9 @@ use Rattle.atomic_table.specs.Table.{Me, Allows, Splits, Joins, opening}
 use Rattle.atomic_table.specs.Table.Act.{keeps}
 use Rattle.crossbeam_queue.proofs.Lists.{at_set, set_again}
 use Rattle.tl_tickets.specs.declared.tally.Tally.{Tally}
-use Rattle.tl_tickets.specs.Lists.{Each}
 use Rattle.tl_tickets.specs.Bell.{SeatView, rings_of, most_rings}
 use Rattle.tl_tickets.specs.Ringing.{tally, fewer, one_seat, both_tallies, gathered_tallies, all_rung, CountsRings, RungOnce, Hears, HearsAll}
-use Rattle.tl_tickets.proofs.Each.{Each-weaker, Each-append, Each-left, Each-right, All-from_each, Each-from_all}
+use Rattle.tl_tickets.proofs.Each.{AllByRecursion-weaker, AllByRecursion-append, AllByRecursion-left, AllByRecursion-right, All-from_each, AllByRecursion-from_all}
 
 module _ {X : Type 0} where
   -- the sum, after a change of one element
@@ -27,16 +27,16 @@ module _ {X : Type 0} where
       let c = sum_set f zs i x y e in omega arith
 
   -- each element, after a change of one
-  Each-set : (P : X → Type 0) (xs : List X) (i : ℕ) (y : X) → P y → Each P xs → Each P (set xs i y)
-  Each-set P [] i y h each = tt
-  Each-set P (x ∷ xs) zero y h each = (h, each.1)
-  Each-set P (x ∷ xs) (suc i) y h each = (each.0, Each-set P xs i y h each.1)
+  AllByRecursion-set : (P : X → Type 0) (xs : List X) (i : ℕ) (y : X) → P y → AllByRecursion P xs → AllByRecursion P (set xs i y)
+  AllByRecursion-set P [] i y h each = tt
+  AllByRecursion-set P (x ∷ xs) zero y h each = (h, each.1)
+  AllByRecursion-set P (x ∷ xs) (suc i) y h each = (each.0, AllByRecursion-set P xs i y h each.1)
 
   -- what holds of each holds of the one at a place
-  Each-at : (P : X → Type 0) (xs : List X) (i : ℕ) (x : X) → get_elem? xs i ≡ some x → Each P xs → P x
-  Each-at P [] i x e each = absurd (some-ne-none x (sym e))
-  Each-at P (z ∷ zs) zero x e each = subst P (some-injective z x e) each.0
-  Each-at P (z ∷ zs) (suc i) x e each = Each-at P zs i x e each.1
+  AllByRecursion-at : (P : X → Type 0) (xs : List X) (i : ℕ) (x : X) → get_elem? xs i ≡ some x → AllByRecursion P xs → P x
+  AllByRecursion-at P [] i x e each = absurd (some-ne-none x (sym e))
+  AllByRecursion-at P (z ∷ zs) zero x e each = subst P (some-injective z x e) each.0
+  AllByRecursion-at P (z ∷ zs) (suc i) x e each = AllByRecursion-at P zs i x e each.1
 
   -- one summand is within the sum
   sum_at : (f : X → ℕ) (xs : List X) (i : ℕ) (x : X) → get_elem? xs i ≡ some x → f x ≤ sum_by f xs
@@ -61,7 +61,7 @@ abbrev Below : ℕ → Tally → Type 0
 Below n v = v.seen ≤ n
 
 -- all seats together rang within their parts
-all_bounded : (vs : List Tally) → Each Bound vs → all_rung vs ≤ most_rings * sum_by parts vs
+all_bounded : (vs : List Tally) → AllByRecursion Bound vs → all_rung vs ≤ most_rings * sum_by parts vs
 all_bounded [] h = omega arith
 all_bounded (v ∷ vs) h =
     let a = sum_by-cons rung v vs in
@@ -70,7 +70,7 @@ all_bounded (v ∷ vs) h =
     let d = h.0 in omega arith
 
 -- what the others rang is within their parts
-others_bounded : (vs : List Tally) (i : ℕ) (v : Tally) → get_elem? vs i ≡ some v → Each Bound vs → all_rung vs + most_rings * v.parts ≤ v.rung + most_rings * sum_by parts vs
+others_bounded : (vs : List Tally) (i : ℕ) (v : Tally) → get_elem? vs i ≡ some v → AllByRecursion Bound vs → all_rung vs + most_rings * v.parts ≤ v.rung + most_rings * sum_by parts vs
 others_bounded [] i v e h = absurd (some-ne-none v (sym e))
 others_bounded (z ∷ zs) zero v e h =
     let is = some-injective z v e in
@@ -100,7 +100,7 @@ rings n slots id me one short s rule len at small =
     let c = all_bounded s.views rule.bound in
     let d = rule.parts in
     let f = rule.few in
-    let mine : v.seen ≤ all_rung s.views = Each-at (Below (all_rung s.views)) s.views id v at rule.seen in
+    let mine : v.seen ≤ all_rung s.views = AllByRecursion-at (Below (all_rung s.views)) s.views id v at rule.seen in
     let next : (all_rung s.views + 1) % 2 ^ 64 ≡ all_rung vs = omega arith in (
       w,
       keeps,
@@ -108,8 +108,8 @@ rings n slots id me one short s rule len at small =
       record {
         word = ap (λ l. set l 0 ((get_or l 0 0 + 1) % 2 ^ 64)) rule.word ∙ ap (λ k. k ∷ []) next;
         parts = omega arith;
-        bound = Each-set Bound s.views id w (omega arith) rule.bound;
-        seen = Each-set (Below (all_rung vs)) s.views id w (omega arith) (Each-weaker (Below (all_rung s.views)) (Below (all_rung vs)) (λ u h. omega arith) s.views rule.seen);
+        bound = AllByRecursion-set Bound s.views id w (omega arith) rule.bound;
+        seen = AllByRecursion-set (Below (all_rung vs)) s.views id w (omega arith) (AllByRecursion-weaker (Below (all_rung s.views)) (Below (all_rung vs)) (λ u h. omega arith) s.views rule.seen);
         few = f;
       },
       refl,
@@ -126,7 +126,7 @@ hears n slots id me s rule len at small =
     let a : all_rung vs + v.rung ≡ all_rung s.views + v.rung = sum_set rung s.views id v w at in
     let b : sum_by parts vs + v.parts ≡ sum_by parts s.views + v.parts = sum_set parts s.views id v w at in
     let same : all_rung s.views ≡ all_rung vs = omega arith in
-    let mine = Each-at (Below (all_rung s.views)) s.views id v at rule.seen in
+    let mine = AllByRecursion-at (Below (all_rung s.views)) s.views id v at rule.seen in
     let own = sum_at rung s.views id v at in (
       w,
       keeps,
@@ -134,8 +134,8 @@ hears n slots id me s rule len at small =
       record {
         word = ap (λ l. set l 0 (get_or l 0 0)) rule.word ∙ ap (λ k. k ∷ []) same;
         parts = let p = rule.parts in omega arith;
-        bound = Each-set Bound s.views id w (Each-at Bound s.views id v at rule.bound) rule.bound;
-        seen = Each-set (Below (all_rung vs)) s.views id w (omega arith) (Each-weaker (Below (all_rung s.views)) (Below (all_rung vs)) (λ u h. omega arith) s.views rule.seen);
+        bound = AllByRecursion-set Bound s.views id w (AllByRecursion-at Bound s.views id v at rule.bound) rule.bound;
+        seen = AllByRecursion-set (Below (all_rung vs)) s.views id w (omega arith) (AllByRecursion-weaker (Below (all_rung s.views)) (Below (all_rung vs)) (λ u h. omega arith) s.views rule.seen);
         few = rule.few;
       },
       (omega arith, omega arith, refl),
@@ -149,7 +149,7 @@ hears_all n slots id me all s rule len at small =
     let is : found ≡ all_rung s.views = ap (λ l. get_or l 0 0) rule.word in
     let vs = set s.views id v in
     let same : s.views ≡ vs = sym (set_again s.views id v at) in
-    let mine = Each-at (Below (all_rung s.views)) s.views id v at rule.seen in
+    let mine = AllByRecursion-at (Below (all_rung s.views)) s.views id v at rule.seen in
     let own = sum_at rung s.views id v at in
     let others = others_bounded s.views id v at rule.bound in
     let p = rule.parts in (
@@ -159,8 +159,8 @@ hears_all n slots id me all s rule len at small =
       record {
         word = ap (λ l. set l 0 (get_or l 0 0)) rule.word ∙ ap (λ us. all_rung us ∷ []) same;
         parts = subst (λ us. sum_by parts us ≡ n) same p;
-        bound = subst (Each Bound) same rule.bound;
-        seen = subst (λ us. Each (Below (all_rung us)) us) same rule.seen;
+        bound = subst (AllByRecursion Bound) same rule.bound;
+        seen = subst (λ us. AllByRecursion (Below (all_rung us)) us) same rule.seen;
         few = rule.few;
       },
       (omega arith, omega arith, refl),
@@ -177,13 +177,13 @@ splits n id v silent some_parts s rule at =
     let c : all_rung vs ≡ all_rung us + 0 = sum_by_push rung us one_seat in
     let d : sum_by parts vs ≡ sum_by parts us + 1 = sum_by_push parts us one_seat in
     let same : all_rung s.views ≡ all_rung vs = omega arith in
-    let mine = Each-at (Below (all_rung s.views)) s.views id v at rule.seen in
+    let mine = AllByRecursion-at (Below (all_rung s.views)) s.views id v at rule.seen in
     let p = rule.parts in
     record {
       word = rule.word ∙ ap (λ k. k ∷ []) same;
       parts = omega arith;
-      bound = Each-append Bound us (one_seat ∷ []) (Each-set Bound s.views id w (omega arith) rule.bound) (omega arith, tt);
-      seen = Each-append (Below (all_rung vs)) us (one_seat ∷ []) (Each-set (Below (all_rung vs)) s.views id w (omega arith) (Each-weaker (Below (all_rung s.views)) (Below (all_rung vs)) (λ u h. omega arith) s.views rule.seen)) (omega arith, tt);
+      bound = AllByRecursion-append Bound us (one_seat ∷ []) (AllByRecursion-set Bound s.views id w (omega arith) rule.bound) (omega arith, tt);
+      seen = AllByRecursion-append (Below (all_rung vs)) us (one_seat ∷ []) (AllByRecursion-set (Below (all_rung vs)) s.views id w (omega arith) (AllByRecursion-weaker (Below (all_rung s.views)) (Below (all_rung vs)) (λ u h. omega arith) s.views rule.seen)) (omega arith, tt);
       few = rule.few;
     }
 
@@ -200,16 +200,16 @@ joins n id v other w s rule at apart at' =
     let c : all_rung vs + w.rung ≡ all_rung us + 0 = sum_set rung us other w y at' in
     let d : sum_by parts vs + w.parts ≡ sum_by parts us + 0 = sum_set parts us other w y at' in
     let same : all_rung s.views ≡ all_rung vs = omega arith in
-    let mine = Each-at (Below (all_rung s.views)) s.views id v at rule.seen in
-    let theirs = Each-at (Below (all_rung s.views)) s.views other w was rule.seen in
-    let e = Each-at Bound s.views id v at rule.bound in
-    let f = Each-at Bound s.views other w was rule.bound in
+    let mine = AllByRecursion-at (Below (all_rung s.views)) s.views id v at rule.seen in
+    let theirs = AllByRecursion-at (Below (all_rung s.views)) s.views other w was rule.seen in
+    let e = AllByRecursion-at Bound s.views id v at rule.bound in
+    let f = AllByRecursion-at Bound s.views other w was rule.bound in
     let p = rule.parts in
     record {
       word = rule.word ∙ ap (λ k. k ∷ []) same;
       parts = omega arith;
-      bound = Each-set Bound us other y (omega arith) (Each-set Bound s.views id x (omega arith) rule.bound);
-      seen = Each-set (Below (all_rung vs)) us other y (omega arith) (Each-set (Below (all_rung vs)) s.views id x (omega arith) (Each-weaker (Below (all_rung s.views)) (Below (all_rung vs)) (λ u h. omega arith) s.views rule.seen));
+      bound = AllByRecursion-set Bound us other y (omega arith) (AllByRecursion-set Bound s.views id x (omega arith) rule.bound);
+      seen = AllByRecursion-set (Below (all_rung vs)) us other y (omega arith) (AllByRecursion-set (Below (all_rung vs)) s.views id x (omega arith) (AllByRecursion-weaker (Below (all_rung s.views)) (Below (all_rung vs)) (λ u h. omega arith) s.views rule.seen));
       few = rule.few;
     }
 
@@ -224,9 +224,9 @@ gathered_rung [] = refl
 gathered_rung (s ∷ ss) = let a = gathered_rung ss in let b = sum_by-cons (λ (t : SeatView). t.rung) s ss in omega arith
 
 -- none has seen more than all
-gathered_seen : (ss : List SeatView) → Each (λ (s : SeatView). s.seen ≤ (gathered_tallies ss).seen) ss
+gathered_seen : (ss : List SeatView) → AllByRecursion (λ (s : SeatView). s.seen ≤ (gathered_tallies ss).seen) ss
 gathered_seen [] = tt
-gathered_seen (s ∷ ss) = (omega arith, Each-weaker (λ (t : SeatView). t.seen ≤ (gathered_tallies ss).seen) (λ (t : SeatView). t.seen ≤ (gathered_tallies (s ∷ ss)).seen) (λ t h. omega arith) ss (gathered_seen ss))
+gathered_seen (s ∷ ss) = (omega arith, AllByRecursion-weaker (λ (t : SeatView). t.seen ≤ (gathered_tallies ss).seen) (λ (t : SeatView). t.seen ≤ (gathered_tallies (s ∷ ss)).seen) (λ t h. omega arith) ss (gathered_seen ss))
 
 -- the seats together have as many parts as there are seats
 pub all_parts : (ss : List SeatView) (me : Me (Unit {0}) Tally) (n : ℕ) → me ≡ (gathered_tallies ss, []) → length ss ≡ n → me.0.parts ≡ n
@@ -239,10 +239,10 @@ none_more ss me found total is sum after heard =
     let b : me.0.rung ≡ rings_of ss = ap (λ m. m.0.rung) is ∙ gathered_rung ss in
     let c = heard.0 in
     let d = heard.1 in
-    All-from_each (λ (s : SeatView). s.seen ≤ total) ss (Each-weaker (λ (s : SeatView). s.seen ≤ (gathered_tallies ss).seen) (λ (s : SeatView). s.seen ≤ total) (λ s h. omega arith) ss (gathered_seen ss))
+    All-from_each (λ (s : SeatView). s.seen ≤ total) ss (AllByRecursion-weaker (λ (s : SeatView). s.seen ≤ (gathered_tallies ss).seen) (λ (s : SeatView). s.seen ≤ total) (λ s h. omega arith) ss (gathered_seen ss))
 
 -- the last seat before those that are done
 pub last_of : (P : SeatView → Type 0) (all rest new done : List SeatView) (s : SeatView) → All P all → all ≡ rest ++ done → rest ≡ new ++ s ∷ [] → P s
 last_of P all rest new done s each is more =
-    let whole = Each-from_all P all each in
-    (Each-right P new (s ∷ []) (subst (Each P) more (Each-left P rest done (subst (Each P) is whole)))).0
+    let whole = AllByRecursion-from_all P all each in
+    (AllByRecursion-right P new (s ∷ []) (subst (AllByRecursion P) more (AllByRecursion-left P rest done (subst (AllByRecursion P) is whole)))).0

@@ -1,7 +1,7 @@
 -- Each step on an inbox's queue keeps its rule.
 use Rattle.std.proofs.Common.{◌≡◌, ◌≢◌, ◌⊎◌, inl, inr, lit≤, ℕ, zero, suc, ◌+◌, ◌<◌, ◌≤◌, ◌==◌, ◌||◌, Bool, true, false, true≢false, cond, List, [], ◌∷◌, ◌++◌, length, set, sym, refl, ap, ◌∙◌, subst, ⊎_elim, eq-eqb, ne_eqb, append-nil, append_assoc, length-append, arith}
-use Rattle.tl_tickets.specs.Lists.{Each}
-use Rattle.tl_tickets.proofs.Each.{Each-weaker, Each-append, Each-right}
+use Rattle.std.specs.List.{AllByRecursion}
+use Rattle.tl_tickets.proofs.Each.{AllByRecursion-weaker, AllByRecursion-append, AllByRecursion-right}
 use mathlib.Core.Option.{some, some-injective, some-ne-none}
 use lib.ListN.{get_elem?}
 use Rattle.crossbeam_queue.specs.Fifo.{Pushes, Pops, Forks, Merges, Learns, Held}
@@ -50,11 +50,11 @@ pushes n pass among s ts t small items views room rule at =
         taken = taken;
         room = omega (arith, length-append items (x ∷ []));
         few = rule.few;
-        senders = subst (AreFrom rule.given) (append_assoc taken items (x ∷ [])) (Each-append (λ (y : Sent). (0 < y.sender) × (y.sender ≤ rule.given)) (taken ++ items) (x ∷ []) rule.senders ((mine.1, mine.2), tt));
+        senders = subst (AreFrom rule.given) (append_assoc taken items (x ∷ [])) (AllByRecursion-append (λ (y : Sent). (0 < y.sender) × (y.sender ≤ rule.given)) (taken ++ items) (x ∷ []) rule.senders ((mine.1, mine.2), tt));
         fits = all_set (λ j u. FitsPuts owner rule.made rule.given taken waiting j u × FitsTaker rule.taker rule.made rule.given taken waiting j u) views pass w
             (((mine.0, mine.1, mine.2, mine.3, waits_own taken items (put_by among s ts) t mine.4), tt), λ takes. absurd (true≢false (sym takes)))
             (λ j u apart e. (
-              Each-weaker (λ (p : Put). (owner p.sender ≡ j) × (0 < p.sender) × (p.sender ≤ rule.given) × (p.among ≡ rule.made) × Agrees taken items p) (λ (p : Put). (owner p.sender ≡ j) × (0 < p.sender) × (p.sender ≤ rule.given) × (p.among ≡ rule.made) × Agrees taken waiting p)
+              AllByRecursion-weaker (λ (p : Put). (owner p.sender ≡ j) × (0 < p.sender) × (p.sender ≤ rule.given) × (p.among ≡ rule.made) × Agrees taken items p) (λ (p : Put). (owner p.sender ≡ j) × (0 < p.sender) × (p.sender ≤ rule.given) × (p.among ≡ rule.made) × Agrees taken waiting p)
                   (λ p h. (h.0, h.1, h.2, h.3, waits_other taken items p x (λ same. apart (sym h.0 ∙ ap owner (sym same) ∙ mine.0)) h.4)) u.puts (rule.fits j u e).0,
               λ takes. let m = (rule.fits j u e).1 takes in let behind = m.4 in (m.0, m.1, m.2, m.3, omega (arith, length-append items (x ∷ []))),
             ));
@@ -76,7 +76,7 @@ pops pass v takes none x items views rule at =
     let owner = rule.owner in
     let taken = rule.taken ++ x ∷ [] in
     let theirs : AreFrom rule.given (taken ++ items) = subst (AreFrom rule.given) (sym (append_assoc rule.taken (x ∷ []) items)) rule.senders in
-    let here = (Each-right (λ (y : Sent). (0 < y.sender) × (y.sender ≤ rule.given)) rule.taken (x ∷ items) rule.senders).0 in
+    let here = (AllByRecursion-right (λ (y : Sent). (0 < y.sender) × (y.sender ≤ rule.given)) rule.taken (x ∷ items) rule.senders).0 in
     let Old : ℕ → Put → Type 0 = λ j p. (owner p.sender ≡ j) × (0 < p.sender) × (p.sender ≤ rule.given) × (p.among ≡ rule.made) × Agrees rule.taken (x ∷ items) p in
     let New : ℕ → Put → Type 0 = λ j p. (owner p.sender ≡ j) × (0 < p.sender) × (p.sender ≤ rule.given) × (p.among ≡ rule.made) × Agrees taken items p in (
       w,
@@ -90,9 +90,9 @@ pops pass v takes none x items views rule at =
         few = rule.few;
         senders = theirs;
         fits = all_set (λ j u. FitsPuts owner rule.made rule.given taken items j u × FitsTaker rule.taker rule.made rule.given taken items j u) views pass w
-            (subst (Each (New pass)) (sym none) tt, λ _. (mine.0, mine.1, mine.2, ap (λ l. l ++ x ∷ []) mine.3, omega arith))
+            (subst (AllByRecursion (New pass)) (sym none) tt, λ _. (mine.0, mine.1, mine.2, ap (λ l. l ++ x ∷ []) mine.3, omega arith))
             (λ j u apart e. (
-              Each-weaker (Old j) (New j) (λ p h. (h.0, h.1, h.2, h.3, moves rule.taken items x p h.4)) u.puts (rule.fits j u e).0,
+              AllByRecursion-weaker (Old j) (New j) (λ p h. (h.0, h.1, h.2, h.3, moves rule.taken items x p h.4)) u.puts (rule.fits j u e).0,
               λ h. absurd (apart (sym ((rule.fits j u e).1 h).0 ∙ mine.0)),
             ));
       },
@@ -104,9 +104,9 @@ pub learns : (pass : ℕ) (v : Known) → Learns Delivers pass v (Shows v)
 learns pass v items views rule at =
     let mine = rule.fits pass v at in
     let whole = rule.taken ++ items in
-    let from : AreFrom rule.made whole = Each-weaker (λ (x : Sent). (0 < x.sender) × (x.sender ≤ rule.given)) (λ (x : Sent). (0 < x.sender) × (x.sender ≤ rule.made)) (λ x h. let few = rule.few in (h.0, omega (arith, h.1))) whole rule.senders in (
+    let from : AreFrom rule.made whole = AllByRecursion-weaker (λ (x : Sent). (0 < x.sender) × (x.sender ≤ rule.given)) (λ (x : Sent). (0 < x.sender) × (x.sender ≤ rule.made)) (λ x h. let few = rule.few in (h.0, omega (arith, h.1))) whole rule.senders in (
       rule.taken,
-      Each-weaker (λ (p : Put). (rule.owner p.sender ≡ pass) × (0 < p.sender) × (p.sender ≤ rule.given) × (p.among ≡ rule.made) × Agrees rule.taken items p) (λ (p : Put). Agrees rule.taken items p × AreFrom p.among whole)
+      AllByRecursion-weaker (λ (p : Put). (rule.owner p.sender ≡ pass) × (0 < p.sender) × (p.sender ≤ rule.given) × (p.among ≡ rule.made) × Agrees rule.taken items p) (λ (p : Put). Agrees rule.taken items p × AreFrom p.among whole)
           (λ p h. (h.4, subst (λ n. AreFrom n whole) (sym h.3) from)) v.puts mine.0,
       λ takes. ((mine.1 takes).3, rule.room, subst (λ n. AreFrom n whole) (sym (mine.1 takes).2) rule.senders, (mine.1 takes).4),
     )
@@ -132,7 +132,7 @@ pub was_full : (n : ℕ) (inbox : InboxView) (p : PassView) (v : Known) → know
 was_full n inbox p v is some_number senders capacity held =
     let shown = held.2 in
     let Right : Put → Type 0 = λ q. Agrees shown.0 held.0 q × AreFrom q.among (shown.0 ++ held.0) in
-    let account = subst (λ (u : Known). Each Right u.puts) (sender_known p v is some_number) shown.1 in
+    let account = subst (λ (u : Known). AllByRecursion Right u.puts) (sender_known p v is some_number) shown.1 in
     (shown.0, held.0, held.1 ∙ sym capacity, subst (λ k. AreFrom k (shown.0 ++ held.0)) senders account.0.1, account.0.0)
 
 -- an element of a longer list is an old one or the last
@@ -187,8 +187,8 @@ counts pass v takes none early items views rule at =
     let Fits : ℕ → Known → Type 0 = λ j u. FitsPuts owner made given taken items j u × FitsTaker rule.taker made given taken items j u in
     let kept : (j : ℕ) (p : Put) → Old j p → New j p = λ j p h. let some_number : 0 < p.sender = h.1 in let below : p.sender ≤ given = h.2 in absurd (omega arith) in
     let old : (j : ℕ) (u : Known) → get_elem? vs j ≡ some u → Fits j u = all_set Fits views pass left
-    (subst (Each (New pass)) (sym none) tt, λ _. (mine.0, ap (λ n. n + 1) mine.1, mine.2, mine.3, mine.4))
-    (λ j u apart e. (Each-weaker (Old j) (New j) (kept j) u.puts (rule.fits j u e).0, λ h. absurd (apart (sym ((rule.fits j u e).1 h).0 ∙ mine.0)))) in
+    (subst (AllByRecursion (New pass)) (sym none) tt, λ _. (mine.0, ap (λ n. n + 1) mine.1, mine.2, mine.3, mine.4))
+    (λ j u apart e. (AllByRecursion-weaker (Old j) (New j) (kept j) u.puts (rule.fits j u e).0, λ h. absurd (apart (sym ((rule.fits j u e).1 h).0 ∙ mine.0)))) in
     let fresh : Fits (length vs) nothing = (tt, λ h. absurd (true≢false (sym h))) in
     record {
       owner = owner;
@@ -219,8 +219,8 @@ forks pass v takes none more items views rule at =
     let Fits : ℕ → Known → Type 0 = λ j u. FitsPuts owner rule.made given taken items j u × FitsTaker rule.taker rule.made given taken items j u in
     let kept : (j : ℕ) (p : Put) → Old j p → New j p = λ j p h. let below : p.sender ≤ rule.given = h.2 in (else_number rule.owner number (length vs) p.sender (λ e. absurd (omega arith)) ∙ h.0, h.1, omega arith, h.3, h.4) in
     let old : (j : ℕ) (u : Known) → get_elem? vs j ≡ some u → Fits j u = all_set Fits views pass left
-    (subst (Each (New pass)) (sym none) tt, λ _. (mine.0, mine.1, same, mine.3, mine.4))
-    (λ j u apart e. (Each-weaker (Old j) (New j) (kept j) u.puts (rule.fits j u e).0, λ h. absurd (apart (sym ((rule.fits j u e).1 h).0 ∙ mine.0)))) in
+    (subst (AllByRecursion (New pass)) (sym none) tt, λ _. (mine.0, mine.1, same, mine.3, mine.4))
+    (λ j u apart e. (AllByRecursion-weaker (Old j) (New j) (kept j) u.puts (rule.fits j u e).0, λ h. absurd (apart (sym ((rule.fits j u e).1 h).0 ∙ mine.0)))) in
     let none_yet : tickets_of number taken ++ tickets_of number items ≡ [] = sym (tickets_of-append number taken items) ∙ no_tickets rule.given number (taken ++ items) (omega arith) rule.senders in
     let fresh : Fits (length vs) right = (((at_number rule.owner number (length vs) number refl, omega arith, omega arith, mine.1, sym none_yet), tt), λ h. absurd (true≢false (sym h))) in
     let all : v.made ≡ rule.made = mine.1 in
@@ -232,7 +232,7 @@ forks pass v takes none more items views rule at =
       taken = taken;
       room = rule.room;
       few = omega arith;
-      senders = Each-weaker (λ (x : Sent). (0 < x.sender) × (x.sender ≤ rule.given)) (λ (x : Sent). (0 < x.sender) × (x.sender ≤ given)) (λ x h. (h.0, omega (arith, h.1))) (taken ++ items) rule.senders;
+      senders = AllByRecursion-weaker (λ (x : Sent). (0 < x.sender) × (x.sender ≤ rule.given)) (λ (x : Sent). (0 < x.sender) × (x.sender ≤ given)) (λ x h. (h.0, omega (arith, h.1))) (taken ++ items) rule.senders;
       fits = λ j u e. ⊎_elim (old j u) (λ (is : (j ≡ length vs) × (right ≡ u)). subst (λ (y : ℕ × Known). Fits y.0 y.1) (λ i. (sym is.0 i, is.1 i)) fresh) (at_end vs right u j e);
     }
 
@@ -262,12 +262,12 @@ merges pass v other w items views rule at apart at' =
     let Fits : ℕ → Known → Type 0 = λ j u. FitsPuts owner rule.made rule.given taken items j u × FitsTaker taker rule.made rule.given taken items j u in
     let still : pass ≢ other = λ e. apart (sym e) in
     let joined : Fits pass both = (
-      Each-append (New pass) w.puts v.puts (Each-weaker (Old other) (New pass) (λ p h. (from_other (rule.owner p.sender) h.0, h.1, h.2, h.3, h.4)) w.puts theirs.0) (Each-weaker (Old pass) (New pass) (λ p h. (stays (rule.owner p.sender) pass h.0 still, h.1, h.2, h.3, h.4)) v.puts mine.0),
+      AllByRecursion-append (New pass) w.puts v.puts (AllByRecursion-weaker (Old other) (New pass) (λ p h. (from_other (rule.owner p.sender) h.0, h.1, h.2, h.3, h.4)) w.puts theirs.0) (AllByRecursion-weaker (Old pass) (New pass) (λ p h. (stays (rule.owner p.sender) pass h.0 still, h.1, h.2, h.3, h.4)) v.puts mine.0),
       takes_together v.takes w.takes v.made w.made rule.made v.given w.given rule.given v.taken w.taken taken v.behind w.behind (length items) (taker ≡ pass) (λ h. let m = mine.1 h in (stays rule.taker pass m.0 still, m.1, m.2, m.3, m.4)) (λ h. let m = theirs.1 h in (from_other rule.taker m.0, m.1, m.2, m.3, m.4)),
     ) in
     let now : (j : ℕ) (u : Known) → get_elem? vs j ≡ some u → j ≢ other → Fits j u = all_set (λ j u. j ≢ other → Fits j u) views pass both (λ _. joined)
     (λ j u _ e n. (
-      Each-weaker (Old j) (New j) (λ p h. (stays (rule.owner p.sender) j h.0 n, h.1, h.2, h.3, h.4)) u.puts (rule.fits j u e).0,
+      AllByRecursion-weaker (Old j) (New j) (λ p h. (stays (rule.owner p.sender) j h.0 n, h.1, h.2, h.3, h.4)) u.puts (rule.fits j u e).0,
       λ h. let m = (rule.fits j u e).1 h in (stays rule.taker j m.0 n, m.1, m.2, m.3, m.4),
     )) in
     record {

@@ -1,5 +1,6 @@
 -- Where each pass is there once, all passes together settle each sender's account.
 use Rattle.std.proofs.Common.{◌≡◌, ◌≢◌, ℕ, ◌+◌, ◌^◌, ◌<◌, ◌≤◌, ◌==◌, ◌||◌, Bool, true, false, cond, List, [], ◌∷◌, ◌++◌, length, count_by, sym, refl, ap, ◌∙◌, subst, eq-eqb, ne_eqb, length-append, arith}
+use Rattle.std.specs.List.{AllByRecursion}
 use Rattle.std.specs.List.{All, sum_by}
 use Rattle.std.proofs.lemmas.List.Sums.{sum_by-cons}
 use mathlib.Core.Logic.{dite}
@@ -7,10 +8,9 @@ use native.Mathlib.Decide.{ℕ_discrete}
 use Rattle.tl_tickets.specs.declared.sent.Sent.{Sent}
 use Rattle.tl_tickets.specs.declared.sent.Put.{Put}
 use Rattle.tl_tickets.specs.declared.sent.Known.{Known}
-use Rattle.tl_tickets.specs.Lists.{Each}
 use Rattle.tl_tickets.specs.Inbox.{InboxView, PassView, tickets_of, AreFrom, Accounts, IsPassOf, IsEachOnce, Settles}
 use Rattle.tl_tickets.specs.Delivery.{put_by, receiver, sender, known, gathered, Agrees, Shows, put_count, taken_count, IsTotal}
-use Rattle.tl_tickets.proofs.Each.{Each-weaker, Each-both, Each-left, Each-right, All-from_each, Each-from_all}
+use Rattle.tl_tickets.proofs.Each.{AllByRecursion-weaker, AllByRecursion-both, AllByRecursion-left, AllByRecursion-right, All-from_each, AllByRecursion-from_all}
 use Rattle.tl_tickets.proofs.Filters.{tickets_of-append}
 
 -- how often a number is there
@@ -42,7 +42,7 @@ joined b v w = record { takes = b || w.takes; made = cond b v.made w.made; given
 -- passes without the receiver's: what they know together
 record NoTaker (ps : List PassView) : Type 0 where
   idle : (gathered ps).takes ≡ false
-  others : Each (λ (p : PassView). p.number ≢ 0) ps
+  others : AllByRecursion (λ (p : PassView). p.number ≢ 0) ps
   count : sum_by taken_count ps ≡ 0
 
 -- so it is where no pass has the receiver's number
@@ -66,11 +66,11 @@ record OneTaker (senders : ℕ) (ps : List PassView) : Type 0 where
   takes : (gathered ps).takes ≡ true
   given : (gathered ps).given ≡ senders
   count : sum_by taken_count ps ≡ length (gathered ps).taken
-  same : Each (λ (p : PassView). p.number ≡ 0 → p.taken ≡ (gathered ps).taken) ps
-  behind : Each (λ (p : PassView). p.number ≡ 0 → p.behind ≡ (gathered ps).behind) ps
+  same : AllByRecursion (λ (p : PassView). p.number ≡ 0 → p.taken ≡ (gathered ps).taken) ps
+  behind : AllByRecursion (λ (p : PassView). p.number ≡ 0 → p.behind ≡ (gathered ps).behind) ps
 
 -- so it is where one pass has the receiver's number
-one_taker : (senders : ℕ) (ps : List PassView) → Each (λ (p : PassView). p.senders ≡ senders) ps → numbered 0 ps ≡ 1 → OneTaker senders ps
+one_taker : (senders : ℕ) (ps : List PassView) → AllByRecursion (λ (p : PassView). p.senders ≡ senders) ps → numbered 0 ps ≡ 1 → OneTaker senders ps
 one_taker senders [] all one = absurd (omega arith)
 one_taker senders (p ∷ ps) all one = dite (ℕ_discrete p.number 0)
     (λ here.
@@ -85,8 +85,8 @@ one_taker senders (p ∷ ps) all one = dite (ℕ_discrete p.number 0)
       takes = ap (λ (v : Known). v.takes) is;
       given = ap (λ (v : Known). v.given) is ∙ all.0;
       count = omega arith;
-      same = ((λ _. sym (ap (λ (v : Known). v.taken) is)), Each-weaker (λ (q : PassView). q.number ≢ 0) (λ (q : PassView). q.number ≡ 0 → q.taken ≡ (gathered (p ∷ ps)).taken) (λ q n e. absurd (n e)) ps rest.others);
-      behind = ((λ _. sym (ap (λ (v : Known). v.behind) is)), Each-weaker (λ (q : PassView). q.number ≢ 0) (λ (q : PassView). q.number ≡ 0 → q.behind ≡ (gathered (p ∷ ps)).behind) (λ q n e. absurd (n e)) ps rest.others);
+      same = ((λ _. sym (ap (λ (v : Known). v.taken) is)), AllByRecursion-weaker (λ (q : PassView). q.number ≢ 0) (λ (q : PassView). q.number ≡ 0 → q.taken ≡ (gathered (p ∷ ps)).taken) (λ q n e. absurd (n e)) ps rest.others);
+      behind = ((λ _. sym (ap (λ (v : Known). v.behind) is)), AllByRecursion-weaker (λ (q : PassView). q.number ≢ 0) (λ (q : PassView). q.number ≡ 0 → q.behind ≡ (gathered (p ∷ ps)).behind) (λ q n e. absurd (n e)) ps rest.others);
     })
     (λ else.
     let rest = one_taker senders ps all.1 (sym (numbered_else 0 p ps else) ∙ one) in
@@ -99,16 +99,16 @@ one_taker senders (p ∷ ps) all one = dite (ℕ_discrete p.number 0)
       takes = ap (λ (v : Known). v.takes) is;
       given = ap (λ (v : Known). v.given) is ∙ rest.given;
       count = omega arith;
-      same = ((λ e. absurd (else e)), Each-weaker (λ (q : PassView). q.number ≡ 0 → q.taken ≡ (gathered ps).taken) (λ (q : PassView). q.number ≡ 0 → q.taken ≡ (gathered (p ∷ ps)).taken) (λ q f e. f e ∙ sym (ap (λ (v : Known). v.taken) is)) ps rest.same);
-      behind = ((λ e. absurd (else e)), Each-weaker (λ (q : PassView). q.number ≡ 0 → q.behind ≡ (gathered ps).behind) (λ (q : PassView). q.number ≡ 0 → q.behind ≡ (gathered (p ∷ ps)).behind) (λ q f e. f e ∙ sym (ap (λ (v : Known). v.behind) is)) ps rest.behind);
+      same = ((λ e. absurd (else e)), AllByRecursion-weaker (λ (q : PassView). q.number ≡ 0 → q.taken ≡ (gathered ps).taken) (λ (q : PassView). q.number ≡ 0 → q.taken ≡ (gathered (p ∷ ps)).taken) (λ q f e. f e ∙ sym (ap (λ (v : Known). v.taken) is)) ps rest.same);
+      behind = ((λ e. absurd (else e)), AllByRecursion-weaker (λ (q : PassView). q.number ≡ 0 → q.behind ≡ (gathered ps).behind) (λ (q : PassView). q.number ≡ 0 → q.behind ≡ (gathered (p ∷ ps)).behind) (λ q f e. f e ∙ sym (ap (λ (v : Known). v.behind) is)) ps rest.behind);
     })
 
 -- what holds of each put that is known together holds of each sender's
-each_sender : (Q : Put → Type 0) (ps : List PassView) → Each Q (gathered ps).puts → Each (λ (p : PassView). 0 < p.number → Q (put_by p.senders p.number p.put)) ps
+each_sender : (Q : Put → Type 0) (ps : List PassView) → AllByRecursion Q (gathered ps).puts → AllByRecursion (λ (p : PassView). 0 < p.number → Q (put_by p.senders p.number p.put)) ps
 each_sender Q [] h = tt
 each_sender Q (p ∷ ps) h = (
-  (λ some_number. (subst (λ (v : Known). Each Q v.puts) (is_sender p (λ e. absurd (omega arith))) (Each-left Q (known p).puts (gathered ps).puts h)).0),
-  each_sender Q ps (Each-right Q (known p).puts (gathered ps).puts h),
+  (λ some_number. (subst (λ (v : Known). AllByRecursion Q v.puts) (is_sender p (λ e. absurd (omega arith))) (AllByRecursion-left Q (known p).puts (gathered ps).puts h)).0),
+  each_sender Q ps (AllByRecursion-right Q (known p).puts (gathered ps).puts h),
 )
 
 -- how many tickets of a sender there are
@@ -157,7 +157,7 @@ all_shares senders ps (x ∷ xs) once from =
     let c = all_shares senders ps xs once from.1 in omega arith
 
 -- where the accounts are right, as many were put as there are tickets
-puts_are_shares : (xs : List Sent) (ps : List PassView) → Each (λ (p : PassView). 0 < p.number → p.put ≡ tickets_of p.number xs) ps → sum_by put_count ps ≡ sum_by (share xs) ps
+puts_are_shares : (xs : List Sent) (ps : List PassView) → AllByRecursion (λ (p : PassView). 0 < p.number → p.put ≡ tickets_of p.number xs) ps → sum_by put_count ps ≡ sum_by (share xs) ps
 puts_are_shares xs [] h = refl
 puts_are_shares xs (p ∷ ps) h =
     let a = sum_by-cons put_count p ps in
@@ -175,11 +175,11 @@ settles inbox ps v total is all once balance small moment =
     let waiting = moment.0 in
     let shown : Shows (gathered ps) waiting = subst (λ u. Shows u waiting) is moment.1 in
     let taken = shown.0 in
-    let mine = one_taker n ps (Each-weaker (IsPassOf inbox) (λ (p : PassView). p.senders ≡ n) (λ p h. h.1) ps (Each-from_all (IsPassOf inbox) ps all)) (once.1 0 (omega arith)) in
+    let mine = one_taker n ps (AllByRecursion-weaker (IsPassOf inbox) (λ (p : PassView). p.senders ≡ n) (λ p h. h.1) ps (AllByRecursion-from_all (IsPassOf inbox) ps all)) (once.1 0 (omega arith)) in
     let end = shown.2 mine.takes in
     let from : AreFrom n (taken ++ waiting) = subst (λ k. AreFrom k (taken ++ waiting)) mine.given end.2 in
-    let right : Each (λ (p : PassView). 0 < p.number → Accounts taken waiting p) ps = each_sender (Agrees taken waiting) ps (Each-weaker (λ (q : Put). Agrees taken waiting q × AreFrom q.among (taken ++ waiting)) (Agrees taken waiting) (λ q h. h.0) (gathered ps).puts shown.1) in
-    let whole = puts_are_shares (taken ++ waiting) ps (Each-weaker (λ (p : PassView). 0 < p.number → Accounts taken waiting p) (λ (p : PassView). 0 < p.number → p.put ≡ tickets_of p.number (taken ++ waiting)) (λ p f h. f h ∙ sym (tickets_of-append p.number taken waiting)) ps right) in
+    let right : AllByRecursion (λ (p : PassView). 0 < p.number → Accounts taken waiting p) ps = each_sender (Agrees taken waiting) ps (AllByRecursion-weaker (λ (q : Put). Agrees taken waiting q × AreFrom q.among (taken ++ waiting)) (Agrees taken waiting) (λ q h. h.0) (gathered ps).puts shown.1) in
+    let whole = puts_are_shares (taken ++ waiting) ps (AllByRecursion-weaker (λ (p : PassView). 0 < p.number → Accounts taken waiting p) (λ (p : PassView). 0 < p.number → p.put ≡ tickets_of p.number (taken ++ waiting)) (λ p f h. f h ∙ sym (tickets_of-append p.number taken waiting)) ps right) in
     let spread = all_shares n ps (taken ++ waiting) once.1 from in
     let lengths = length-append taken waiting in
     let took = mine.count in
@@ -188,9 +188,9 @@ settles inbox ps v total is all once balance small moment =
     let counted : length waiting ≡ total = omega arith in (
       waiting,
       counted,
-      Each-right (λ (x : Sent). (0 < x.sender) × (x.sender ≤ n)) taken waiting from,
+      AllByRecursion-right (λ (x : Sent). (0 < x.sender) × (x.sender ≤ n)) taken waiting from,
       All-from_each (λ (r : PassView). r.number ≡ 0 → (r.behind ≤ total) × All (λ (p : PassView). 0 < p.number → Accounts r.taken waiting p) ps) ps
-          (Each-both (λ (r : PassView). r.number ≡ 0 → r.taken ≡ (gathered ps).taken) (λ (r : PassView). r.number ≡ 0 → r.behind ≡ (gathered ps).behind)
+          (AllByRecursion-both (λ (r : PassView). r.number ≡ 0 → r.taken ≡ (gathered ps).taken) (λ (r : PassView). r.number ≡ 0 → r.behind ≡ (gathered ps).behind)
           (λ (r : PassView). r.number ≡ 0 → (r.behind ≤ total) × All (λ (p : PassView). 0 < p.number → Accounts r.taken waiting p) ps)
           (λ r f k h. (
             (let known = k h in let few = end.3 in omega arith),

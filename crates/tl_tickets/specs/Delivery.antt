@@ -1,7 +1,7 @@
 -- The rule of an inbox's queue: what was taken of each sender, followed by what waits of it, is what it put. This is the project's own.
 use Rattle.std.specs.Prelude.{◌≡◌, ℕ, ◌+◌, ◌<◌, ◌≤◌, ◌==◌, ◌%◌, ◌^◌, true, false, ◌||◌, cond, List, [], ◌∷◌, ◌++◌, length, map}
+use Rattle.std.specs.List.{AllByRecursion}
 use Rattle.std.specs.List.{sum_by}
-use Rattle.tl_tickets.specs.Lists.{Each}
 use mathlib.Core.Option.{some}
 use lib.ListN.{get_elem?}
 use Rattle.atomic_table.specs.Seated.{TableId}
@@ -69,7 +69,7 @@ Agrees taken waiting p = p.tickets ≡ tickets_of p.sender taken ++ tickets_of p
 
 -- each sender's puts are known with one pass, its owner, which knows how many senders there are
 abbrev pub FitsPuts : (ℕ → ℕ) → ℕ → ℕ → List Sent → List Sent → ℕ → Known → Type 0
-FitsPuts owner made given taken waiting pass v = Each (λ (p : Put). (owner p.sender ≡ pass) × (0 < p.sender) × (p.sender ≤ given) × (p.among ≡ made) × Agrees taken waiting p) v.puts
+FitsPuts owner made given taken waiting pass v = AllByRecursion (λ (p : Put). (owner p.sender ≡ pass) × (0 < p.sender) × (p.sender ≤ given) × (p.among ≡ made) × Agrees taken waiting p) v.puts
 
 -- one pass takes, and what it knows to wait does
 abbrev pub FitsTaker : ℕ → ℕ → ℕ → List Sent → List Sent → ℕ → Known → Type 0
@@ -102,7 +102,7 @@ Takes v x w = (rest : ℕ) × (0 < x.sender) × (x.sender ≤ v.given) × (v.beh
 
 -- what a pass shows of one moment
 abbrev pub Shows : Known → List Sent → Type 0
-Shows v waiting = (taken : List Sent) × Each (λ (p : Put). Agrees taken waiting p × AreFrom p.among (taken ++ waiting)) v.puts
+Shows v waiting = (taken : List Sent) × AllByRecursion (λ (p : Put). Agrees taken waiting p × AreFrom p.among (taken ++ waiting)) v.puts
     × (v.takes ≡ true → (v.taken ≡ taken) × (length waiting ≤ 4096) × AreFrom v.given (taken ++ waiting) × (v.behind ≤ length waiting))
 
 -- the tickets of the first

@@ -1,7 +1,7 @@
 -- An inbox and its passes, as their callers see them. This is the project's own: TileLink leaves open how a receiver learns of a message.
 use Rattle.std.specs.Prelude.{◌≡◌, ℕ, zero, suc, ◌+◌, ◌<◌, ◌≤◌, ◌==◌, cond, List, [], ◌∷◌, ◌++◌, length, count_by}
+use Rattle.std.specs.List.{AllByRecursion}
 use Rattle.std.specs.List.{All}
-use Rattle.tl_tickets.specs.Lists.{Each}
 use Rattle.atomic_table.specs.Seated.{TableId}
 use Rattle.tl_tickets.specs.declared.sent.Sent.{Sent}
 use Rattle.tl_types.specs.declared.ticket.Ticket.{Ticket}
@@ -57,7 +57,7 @@ tickets_of s (x ∷ xs) = cond (x.sender == s) (x.ticket ∷ tickets_of s xs) (t
 
 -- each ticket is of one of n senders
 abbrev pub AreFrom : ℕ → List Sent → Type 0
-AreFrom n xs = Each (λ (x : Sent). (0 < x.sender) × (x.sender ≤ n)) xs
+AreFrom n xs = AllByRecursion (λ (x : Sent). (0 < x.sender) × (x.sender ≤ n)) xs
 
 -- what was taken of a sender, followed by what waits of it, is what it put
 abbrev pub Accounts : List Sent → List Sent → PassView → Type 0

@@ -1,4 +1,3 @@
-pub mod Lists
 pub mod Inbox
 pub mod Delivery
 pub mod Bell

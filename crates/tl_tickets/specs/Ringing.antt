@@ -1,9 +1,9 @@
 -- The rule of a bell's word: it is the sum of what all seats rang. This is the project's own. No public clause cites this module.
 use Rattle.std.specs.Prelude.{◌≡◌, ℕ, ◌+◌, ◌-◌, ◌*◌, ◌≤◌, max, List, [], ◌∷◌}
+use Rattle.std.specs.List.{AllByRecursion}
 use Rattle.std.specs.List.{sum_by}
 use Rattle.atomic_table.specs.Table.{State, Me}
 use Rattle.tl_tickets.specs.declared.tally.Tally.{Tally}
-use Rattle.tl_tickets.specs.Lists.{Each}
 use Rattle.tl_tickets.specs.Bell.{SeatView, most_rings}
 
 -- what so many seats know together: how often they rang, and the most that one of them has seen
@@ -30,8 +30,8 @@ all_rung views = sum_by (λ (v : Tally). v.rung) views
 pub record CountsRings (seats : ℕ) (s : State (Unit {0}) Tally) : Type 0 where
   pub word : s.words ≡ all_rung s.views ∷ []
   pub parts : sum_by (λ (v : Tally). v.parts) s.views ≡ seats
-  pub bound : Each (λ (v : Tally). v.rung ≤ most_rings * v.parts) s.views
-  pub seen : Each (λ (v : Tally). v.seen ≤ all_rung s.views) s.views
+  pub bound : AllByRecursion (λ (v : Tally). v.rung ≤ most_rings * v.parts) s.views
+  pub seen : AllByRecursion (λ (v : Tally). v.seen ≤ all_rung s.views) s.views
   pub few : seats ≤ 64
 
 -- the seat rang once more
