@@ -1,4 +1,4 @@
-use Rattle.std.proofs.Common.{List, subst}
+use Rattle.std.proofs.Common.{List, subst, rules}
 use Rattle.std.specs.List.{All}
 use Rattle.std.proofs.lemmas.List.Elements.{All-head}
 use Rattle.tl_types.specs.declared.channel.Channel.TheVariants.{A}
@@ -19,3 +19,9 @@ opening-requires c =
     let (rest, first) = c.in_ok-message.ensures.first in
     All-head Own c.in_ok-message.message.now rest
     (subst (λ (xs : List Message). All Own xs) first (m.inside c.args.ticket.now.client A))
+
+pub returns-in_default-clause-refused : goal.returns-in_default-clause-refused
+returns-in_default-clause-refused c = search rules
+
+pub returns-clause-permitted : goal.returns-clause-permitted
+returns-clause-permitted c = search rules

@@ -15,3 +15,9 @@ read_in-bytes-requires-clause-inside c =
     let allowed : first_of (load_cases c.args.self.now c.args.client c.args.address c.args.len c.args.clock) ≡ None = search rules in
     let fits = load-fits c.args.self.now (layers c.self.inside) c.args.client c.args.address c.args.len c.args.clock m allowed in
     rw (c.offset.ensures.is, c.entry-held.ensures.bytes, c.block_at-block.ensures, g) fits.0
+
+pub returns-then-is_clock_full-clause-refused : goal.returns-then-is_clock_full-clause-refused
+returns-then-is_clock_full-clause-refused c = search rules
+
+pub returns-clause-permitted : goal.returns-clause-permitted
+returns-clause-permitted c = search rules

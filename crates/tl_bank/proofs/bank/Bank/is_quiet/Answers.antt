@@ -23,3 +23,6 @@ returns c =
     let each : (x : ℕ) → x < c.args.self.now.geometry.clients → HasNoMessage c.args.self.now x × AwaitsNothing c.args.self.now x =
     λ x lt. c.loop-number.invariant x (search rules) in
     ((λ _. quiet-is c.args.self.now (layers c.self.inside) m none each), (λ _. refl))
+
+pub returns-then-not-is_empty : goal.returns-then-not-is_empty
+returns-then-not-is_empty c = search rules

@@ -1,4 +1,4 @@
-use Rattle.std.proofs.Common.{◌∙◌, refl}
+use Rattle.std.proofs.Common.{◌∙◌, refl, rules}
 use Rattle.tl_bank_home.specs.Homes.{way_in}
 use Rattle.tl_bank_laws.specs.Layers.{Layers}
 use Rattle.tl_bank_laws.proofs.Fresh.{lies-nowhere, means-fresh}
@@ -24,3 +24,6 @@ invariant_of-bank c =
 pub returns-clause-empty : goal.returns-clause-empty
 returns-clause-empty c =
     lies-nowhere (way_in c.in_ok-new-3.field-0) c.args.geometry.memory_blocks c.in_ok-new-3.ensures.ways
+
+pub returns-clause-bank : goal.returns-clause-bank
+returns-clause-bank c = search rules

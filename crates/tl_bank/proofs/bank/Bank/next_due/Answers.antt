@@ -1,4 +1,4 @@
-use Rattle.std.proofs.Common.{subst}
+use Rattle.std.proofs.Common.{subst, rules}
 use Rattle.std.specs.Prelude.{IfSome}
 use Rattle.tl_registers.specs.Register.{IsKnown}
 use Rattle.tl_registers.specs.Registers.{register_of}
@@ -12,3 +12,9 @@ next_action-requires-clause-known c =
     let v : View = shown c.self.inside in
     let Known : View → Type 0 = λ w. IfSome (register_of c.args.block v.registers) (IsKnown w.geometry.memory_blocks) in
     subst Known c.self.view_is (known-of v (layers c.self.inside) c.args.block c.self.invariant)
+
+pub returns-clause-refused : goal.returns-clause-refused
+returns-clause-refused c = tt
+
+pub returns-clause-due : goal.returns-clause-due
+returns-clause-due c = search rules

@@ -1,4 +1,4 @@
-use Rattle.std.proofs.Common.{Option, Some, None, IsSome, option_copied, Bor, refl, sym, subst}
+use Rattle.std.proofs.Common.{Option, Some, None, IsSome, option_copied, Bor, refl, sym, subst, rules}
 use Rattle.tl_protocol.specs.Home.{IsData}
 use Rattle.tl_registers.specs.declared.register.Register.{Register}
 use Rattle.tl_bank_spec.specs.View.{View, end_at}
@@ -19,3 +19,6 @@ unwrap-register-requires c =
     copied-some c.of_block.result
     (subst (λ (o : Option Register). IsSome o) (sym c.of_block.ensures)
     (data-register v (layers c.self.inside) c.args.block c.self.invariant came))
+
+pub returns : goal.returns
+returns c = search rules

@@ -1,4 +1,4 @@
-use Rattle.std.proofs.Common.{◌≡◌, ◌∙◌, ◌∷◌, ◌++◌, [], List, length, Some, None, ap, sym, arith, slice_index_or, slice_set}
+use Rattle.std.proofs.Common.{◌≡◌, ◌∙◌, ◌∷◌, ◌++◌, [], List, length, Some, None, ap, sym, arith, slice_index_or, slice_set, rules}
 use Rattle.std.specs.List.{remove}
 use Rattle.std.proofs.lemmas.List.{get_or_default, get_or-set_same, length-set}
 use Rattle.tl_copies.specs.declared.held.Held.{Held}
@@ -52,3 +52,6 @@ returns-clause-full c =
     let is : found c.args.block c.args.self.now ≡ Some (slice_index_or c.args.self.now c.in-Some.place new).held =
     found-place c.args.block c.args.self.now c.in-Some.place new c.in-Some.ensures in
     (λ h. cc, λ h. let none : found c.args.block c.args.self.now ≡ None = h.0 in cc)
+
+pub returns-in_default-clause-full : goal.returns-in_default-clause-full
+returns-in_default-clause-full c = search rules
