@@ -1,3 +1,4 @@
 pub mod Fault
+pub mod Progress
 pub mod Words
 pub mod Written

@@ -1,12 +1,15 @@
-//! What the programs read and write: the words of a command line, a file whole, the whole text or a prefix of it, and the line of a fault.
+//! What the programs read and write: the words of a command line, a file whole, the whole text or a prefix of it, the
+//! line of a fault, and how far long work is.
 #![tactic(auto)]
 
 mod command_line;
 mod fault;
+mod progress;
 mod reading;
 mod writing;
 
 pub use command_line::{WordsError, words};
 pub use fault::ProgramFault;
+pub use progress::{Progress, Watched, Watcher};
 pub use reading::{ReadError, read_whole};
 pub use writing::{tell, write_whole};
