@@ -1,4 +1,4 @@
-use Rattle.std.proofs.Common.{sym, ◌∙◌, ap, subst}
+use Rattle.std.proofs.Common.{sym, ◌∙◌, ap, subst, rules}
 use Rattle.tl_types.specs.Lane.{Lane}
 use Rattle.tl_bank_spec.specs.View.{View}
 use Rattle.tl_bank_laws.specs.Means.{Means}
@@ -18,3 +18,6 @@ returns-clause-inside c =
     subst (λ (v : View). Means v (layers c.self.inside)) c.self.view_is c.self.invariant in
     first-inside c.args.self.now (layers c.self.inside) c.args.ticket.now.client c.args.channel c.in-Some.message.now c.in-Some.ensures.0 m
     c.requires c.in-Some.ensures.1
+
+pub returns-clause-permitted : goal.returns-clause-permitted
+returns-clause-permitted c = search rules
