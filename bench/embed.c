@@ -30,7 +30,7 @@ int main(int argc, char **argv) {
     uint32_t calls = argc > 1 ? (uint32_t)strtoul(argv[1], NULL, 10) : 200000, i;
     jv_cache *c = fresh(16, (uint64_t)calls * 4 + 100);
     uint8_t bytes[8] = {0}; uint64_t cursor = 0, sum = 0; size_t n; double from;
-    jv_answer events[32];
+    static jv_answer events[32];
     take(c, 0, 1);
     from = now();
     for (i = 0; i < calls; i++) { jv_accessed a = jv_load(c, 0, 0, 4, i); wrong += a.status != JV_OK; sum += a.bytes[0]; }

@@ -12,9 +12,11 @@
  *                      is told only where the log had no room, and nothing changed. A view changes nothing.
  *   jv_access          what jv_call does of a load or a store, and what it answers, without what these never tell (`Accesses`).
  *   jv_look            what jv_call answers of a view of a number, likewise (`Looks`).
+ *   jv_calls           calls one after another, each as jv_call carries it out, until one is not answered with 0 (`CallsMany`).
+ *   jv_read            the events of a bank's log from a place on, each as jv_call tells it (`Reads`).
  *   jv_saw             the client's call that sends a message which was seen, done only where it sends just that one; or what the
  *                      client would send, and nothing changed (`Saws`).
- *   jv_echo            the request again (`echoed`); jv_echo_seen likewise (`seen_echoed`); jv_version the number 4.
+ *   jv_echo            the request again (`echoed`); jv_echo_seen likewise (`seen_echoed`); jv_version the number 5.
  * The functions that are `static inline` are C: they fill in a request and call one of these, and are tested (examples/c), not
  * proved. After any sequence of calls of an opened cache, each of which met its contract, each bank's log is a run of the protocol
  * over the image, in which every load got the bytes last stored before it; what the bank shows is what that log leaves; and the
@@ -27,7 +29,8 @@
  *   3. Nothing but these functions reads or writes the room, nor does a request lie in it.
  *   4. One call of a cache runs at a time, on the thread that opened it: no second thread, no signal handler, no fork of a
  *      process with threads in between. Two caches share nothing but malloc.
- *   5. `numbers` and `request` point to initialised structs, `image` to `image_len` bytes, at most 2^63 - 1.
+ *   5. `numbers` and `request` point to initialised structs, `image` to `image_len` bytes, at most 2^63 - 1; `requests`, `answers` and
+ *      `events` to as many initialised structs as the number behind them says. None of them is NULL, also where the number is 0.
  *   6. malloc, realloc and free are one allocator's, which aligns to 16. The stack has some 64 kilobytes left.
  *
  * WHAT A WRONG CALL GETS that keeps these:
@@ -49,7 +52,7 @@
 extern "C" {
 #endif
 
-#define JV_VERSION 4u
+#define JV_VERSION 5u
 
 typedef struct jv_cache jv_cache; /* all banks with their clients; opaque */
 
@@ -236,6 +239,16 @@ void jv_open(const jv_numbers *numbers, const uint8_t *image, size_t image_len, 
 jv_answer jv_call(jv_cache *cache, const jv_request *request);      /* any call and any view */
 jv_accessed jv_access(jv_cache *cache, const jv_request *request);  /* JV_CALL_LOAD and JV_CALL_STORE alone; 16 of another */
 jv_number jv_look(jv_cache *cache, const jv_request *request);      /* a view of a number alone; 16 of another */
+
+/* Many calls and views at once, each as jv_call: request after request is answered in its place, until an answer has another status than
+   0, or the requests or the places end. How many were called: the last of them is the one that was refused, where there are more; the
+   places behind it are as they were. */
+size_t jv_calls(jv_cache *cache, const jv_request *requests, size_t requests_len, jv_answer *answers, size_t answers_len);
+
+/* Many events of the log of the bank `request->bank`, from the place `request->serial` on: as many as there are and have places, each
+   as jv_event tells it. `serial` of the answer is how many (JV_TELLS_NUMBER); status 10 where there is no such bank, 19 where the first
+   is forgotten, 18 of a closed cache. jv_read_events asks it. */
+jv_number jv_read(jv_cache *cache, const jv_request *request, jv_answer *events, size_t events_len);
 
 /* A message that was seen on A, C or E of a client. The cache's own client then does what sends such a message, and does it only where
    it sends just that one, by opcode, param and bytes:
@@ -484,11 +497,15 @@ static inline jv_answer jv_event(const jv_cache *c, uint32_t bank, uint64_t plac
     return jv_of_bank_(c, JV_VIEW_EVENT, bank, 0, place);
 }
 /* The events from the place *cursor on, at most `most` of them, into `out`; *cursor is then the place behind the last. How many
-   there were: fewer than `most` where the log ends. A place of `out` behind them may be written over. */
+   there were: fewer than `most` where the log ends, and none where the first is forgotten. */
 static inline size_t jv_read_events(const jv_cache *c, uint32_t bank, uint64_t *cursor, jv_answer *out, size_t most) {
-    size_t n = 0;
-    while (n < most && (out[n] = jv_event(c, bank, *cursor)).status == JV_OK) { n++; ++*cursor; }
-    return n;
+    jv_request r = jv_asks_(JV_VIEW_EVENT); jv_number n;
+    r.bank = bank; r.serial = *cursor;
+    if (!most) return 0;
+    n = jv_read((jv_cache *)c, &r, out, most);
+    if (n.status) return 0;
+    *cursor += n.serial;
+    return (size_t)n.serial;
 }
 /* How many of the bank's first events are forgotten. */
 static inline jv_number jv_forgotten(const jv_cache *c, uint32_t bank) { return jv_number_of_bank_(c, JV_VIEW_FORGOTTEN, bank, 0); }

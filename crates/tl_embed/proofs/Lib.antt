@@ -1,4 +1,5 @@
 mod Histories
+pub mod InTurn
 mod Later
 pub mod Waits
 pub mod Widths

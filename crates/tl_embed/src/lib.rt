@@ -7,6 +7,7 @@ mod cache;
 mod events;
 mod export;
 mod history;
+mod many;
 mod request;
 mod saw;
 mod seen;
