@@ -129,7 +129,7 @@ pub fn played(network: &mut Network, index: u32, step: &Step) -> Answer
 }
 
 /// Makes room in a bank's log for `count` more events.
-fn reserve(network: &mut Network, bank: BankNo, count: u64) -> Answer
+pub fn reserve(network: &mut Network, bank: BankNo, count: u64) -> Answer
     ensures { Reserves bank count network.old network.new result }
 {
     if bank.number() >= network.geometry().banks() {

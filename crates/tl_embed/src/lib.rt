@@ -11,5 +11,6 @@ mod many;
 mod request;
 mod saw;
 mod seen;
+mod stores;
 mod tell;
 mod views;
