@@ -142,6 +142,7 @@ enum jv_limits { /* the most of each number; a log has no limit but the memory *
 enum jv_outward { JV_QUIET, JV_GET, JV_DATA, JV_PUT, JV_PUT_ACK };     /* what passes of a block to or from the memory */
 enum jv_home { JV_HOME_NONE, JV_HOME_CLEAN, JV_HOME_DIRTY };
 enum jv_copy_kind { JV_COPY_NONE, JV_COPY_BRANCH, JV_COPY_CLEAN_TIP, JV_COPY_DIRTY_TIP };
+enum jv_option { JV_STORES = 1 };                                      /* of a message that was seen */
 enum jv_awaited { JV_WAITS_FOR_NOTHING, JV_WAITS_FOR_GRANT, JV_WAITS_FOR_RELEASE_ACK };
 
 typedef struct { /* what a call does not use it takes no notice of */
@@ -169,7 +170,7 @@ typedef struct { /* what is not told is 0 */
     uint32_t size;    /* of a message between home and the memory: the base-2 logarithm of a block's bytes */
     uint32_t index;   /* of an access: the one that its call was given */
     uint32_t len;     /* how many bytes there are */
-    uint32_t stores;  /* 0 in this version */
+    uint32_t stores;  /* of a message that was seen: how many stores were made before it (JV_STORES) */
     uint32_t reserved; /* 0 */
     uint64_t serial;  /* of a ticket; a view's number; the stamp of an access, which rises over all of a bank's log */
     uint8_t bytes[64];
@@ -182,8 +183,8 @@ typedef struct { /* a message that was seen on a client's link: what a device se
     uint32_t client;
     uint32_t block;   /* of an E: that of the Grant whose sink it names */
     uint32_t len;     /* how many bytes it carries: those of a block with ProbeAckData and ReleaseData, else 0 */
-    uint32_t options; /* 0 */
-    uint32_t index;   /* no notice is taken of it */
+    uint32_t options; /* 0 or JV_STORES */
+    uint32_t index;   /* of the stores that JV_STORES makes: their events in the log have it */
     uint8_t bytes[64];
 } jv_seen;
 
@@ -262,7 +263,7 @@ jv_number jv_read(jv_cache *cache, const jv_request *request, jv_answer *events,
 
    B and D are those of the bank where the block lies. What is answered, the first that holds:
      JV_CLOSED, as of any call
-     JV_BAD_ARGUMENT    another channel, or an option that there is not
+     JV_BAD_ARGUMENT    another channel, or another option than JV_STORES
      JV_OUTSIDE         the profile has no such opcode or param there, as AcquirePerm, or a Release TtoT
      JV_BAD_ARGUMENT    `len` is another than the opcode carries: the bytes of a block with ProbeAckData and ReleaseData, else 0
      JV_OUT_OF_RANGE    there is no such client or block
@@ -273,7 +274,14 @@ jv_number jv_read(jv_cache *cache, const jv_request *request, jv_answer *events,
                         opcode, param, place, bytes, len), without a serial: it has no ticket
      JV_NO_MEMORY       the log has no room for the events
      JV_OK              the call is done, and answered as it answers: with the ticket, by which home takes the message.
-   Nothing is changed unless it is JV_OK. */
+   Nothing is changed unless it is JV_OK.
+
+   JV_STORES: nobody tells the cache what the device's core stores. Where ProbeAckData or ReleaseData was seen and the client would send a
+   message of the same param from a copy at Tip, the stores that lead there are made first: of each eight bytes that differ from the
+   copy, at their address, in rising order; or, where the copy has these bytes and is clean, one store of its first eight bytes, since
+   TileLink allows data of a clean copy. `stores` of the answer is how many, and their events stand before the call's in the log. Room
+   for all of them and the call is got first, so that JV_NO_MEMORY changed nothing. Should one of them be refused nevertheless, as
+   JV_CLOCK_FULL after 2^64 - 1 accesses, its status is told with how many were made before it. */
 jv_answer jv_saw(jv_cache *cache, const jv_seen *seen);
 
 /* ---- a status in words */

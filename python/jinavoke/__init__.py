@@ -20,6 +20,7 @@ import re
 NUMBERS = "version clients banks block_bytes sets ways registers copies memory_blocks".split()
 ASKED = "call index client place param bank channel len".split()
 TOLD = "status what bank client channel opcode param place address size index len stores reserved".split()
+SEEN = "channel opcode param client block len options index".split()
 # What a ticket is made of.
 TICKET = "bank client channel serial".split()
 
@@ -42,6 +43,11 @@ class Answer(c.Structure):
     def data(self):
         """The bytes that it tells."""
         return bytes(self.bytes[:self.len])
+
+
+class Seen(c.Structure):
+    """A message that was seen on a client's link (jv_seen)."""
+    _fields_ = [(name, c.c_uint32) for name in SEEN] + [("bytes", c.c_uint8 * 64)]
 
 
 class Number(c.Structure):
@@ -109,10 +115,14 @@ def library(path):
     lib.jv_open.argtypes, lib.jv_open.restype = [c.POINTER(Numbers), c.c_char_p, c.c_size_t, c.c_void_p], None
     lib.jv_call.argtypes, lib.jv_call.restype = [c.c_void_p, c.POINTER(Request)], Answer
     lib.jv_read.argtypes, lib.jv_read.restype = [c.c_void_p, c.POINTER(Request), c.c_void_p, c.c_size_t], Number
+    lib.jv_echo_seen.argtypes, lib.jv_echo_seen.restype = [c.POINTER(Seen)], Answer
+    lib.jv_saw.argtypes, lib.jv_saw.restype = [c.c_void_p, c.POINTER(Seen)], Answer
     lib.jv_calls.restype = c.c_size_t  # a Batch hands over what needs no conversion
     back = lib.jv_echo(Request(101, 102, 103, 104, 105, 106, 107, 108, 109))
     told = [back.what, back.index, back.client, back.place, back.param, back.bank, back.channel, back.opcode, back.serial]
-    if told != [*range(101, 110)] or lib.jv_version() != enums()["version"]["JV_VERSION"]:
+    back = lib.jv_echo_seen(Seen(*range(110, 118)))
+    told += [back.channel, back.opcode, back.param, back.client, back.place, back.size, back.what, back.index]
+    if told != [*range(101, 118)] or lib.jv_version() != enums()["version"]["JV_VERSION"]:
         raise OSError(f"{path}: the library is of another version than {header_file()}")
     return lib
 
@@ -174,6 +184,10 @@ class Cache:
         """The answers of calls that are made one after another, until one is refused, whose answer is the last."""
         batch = self.batch(*calls)
         return batch.answers[:batch.run()]
+
+    def saw(self, bytes=b"", **words):
+        """The answer to a message that was seen on A, C or E (jv_saw): channel, opcode, param, client, block, and options (JV_STORES)."""
+        return self.lib.jv_saw(self.at, Seen(len=len(bytes), bytes=(c.c_uint8 * 64)(*bytes[:64]), **words))
 
     def step(self, call, **words):
         """The answer of a call that is done; Refused where it is not."""
