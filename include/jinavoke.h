@@ -27,8 +27,9 @@
  *   1. `room` has jv_size() bytes at an address that jv_align() divides, and lies still: do not copy or move a cache.
  *   2. `cache` points to room where jv_open put a cache. After jv_free, and before jv_open, there is none.
  *   3. Nothing but these functions reads or writes the room, nor does a request lie in it.
- *   4. One call of a cache runs at a time, on the thread that opened it: no second thread, no signal handler, no fork of a
- *      process with threads in between. Two caches share nothing but malloc.
+ *   4. One call of a cache runs at a time, on whichever thread: that a cache may go to another thread is proved (`cache_send`); that its
+ *      calls are in an order is the caller's, by a lock, a thread's start or its join. No signal handler, and no fork of a process
+ *      with threads in between. Two caches share nothing but malloc, which then has to serve several threads.
  *   5. `numbers` and `request` point to initialised structs, `image` to `image_len` bytes, at most 2^63 - 1; `requests`, `answers` and
  *      `events` to as many initialised structs as the number behind them says. None of them is NULL, also where the number is 0.
  *   6. malloc, realloc and free are one allocator's, which aligns to 16. The stack has some 64 kilobytes left.

@@ -39,6 +39,13 @@ pub struct Numbers {
     pub memory_blocks: i64,
 }
 
+/// What lies in the room of a caller in C may go to another thread: each call then is of one thread, and the calls are in an order.
+pub fn may_move(cache: &Cache) {
+    crosses(cache);
+}
+
+fn crosses<T: Send>(_value: &T) {}
+
 /// A cache at reset over an image; one that is closed where the numbers make no geometry (20 to 28), the image is longer than the
 /// memory (10) or there is no memory (14).
 pub fn opened(alloc: Global, numbers: &Numbers, image: &[u8]) -> Cache
