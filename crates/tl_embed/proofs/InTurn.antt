@@ -1,11 +1,11 @@
 -- Calls that are made one after another, and events that are told one after another.
-use Rattle.std.proofs.Common.{◌≡◌, ◌≢◌, inl, ℕ, zero, suc, ◌+◌, ◌<◌, List, [], ◌∷◌, ◌++◌, length, map, take, drop, get_or, set, Some, slice_get, refl, sym, ◌∙◌, ap, subst, append_assoc, arith}
+use Rattle.std.proofs.Common.{◌≡◌, ◌≢◌, inl, ℕ, zero, suc, ◌+◌, ◌<◌, ◌≤◌, min, List, [], ◌∷◌, ◌++◌, length, map, take, drop, get_or, set, Some, slice_get, refl, sym, ◌∙◌, ap, subst, append_assoc, arith}
 use Rattle.std.proofs.lemmas.List.{drop-set-lt, length-map, length-take, map_more}
 use Rattle.std.proofs.lemmas.Option.{same_Some}
 use Rattle.std.proofs.Math.Seq.{drop-cons, set-append_seam}
 use Rattle.tl_embed.specs.Calls.{Calls}
 use Rattle.tl_embed.specs.Histories.{AreCalls}
-use Rattle.tl_embed.specs.Many.{askings, status_at}
+use Rattle.tl_embed.specs.Many.{CallsMany, askings, status_at}
 use Rattle.tl_embed.specs.declared.answer.Answer.{Answer}
 use Rattle.tl_embed.specs.declared.cache.Cache.{Cache}
 use Rattle.tl_embed.specs.declared.request.Request.{Request}
@@ -75,6 +75,35 @@ so-far-next old mid new requests before answers place r told so_far at inside wi
   calls = calls-next old mid new requests answers place r told so_far.calls at inside call;
   behind = behind-next answers before place told inside within so_far.behind;
   done = done-next answers place told inside zero_told so_far.done;
+}
+
+-- one that was answered otherwise ends them
+pub ends-early : (old mid new : Cache) (requests : List Request) (before answers : List Answer) (place : ℕ) (r : Request) (told : Answer)
+    → SoFar old requests before mid answers place → slice_get requests place ≡ Some r → place < length answers
+    → place < min (length requests) (length before) → Calls mid r new told → told.status ≢ 0
+    → CallsMany old requests before new (set answers place told) (place + 1)
+ends-early old mid new requests before answers place r told so_far at inside within call refused =
+    let next : suc place ≡ place + 1 = omega arith in
+    let there : place < length before = omega arith in
+    subst (λ (n : ℕ). CallsMany old requests before new (set answers place told) n) next
+    (record {
+      calls = calls-next old mid new requests answers place r told so_far.calls at inside call;
+      within = omega arith;
+      behind = behind-next answers before place told inside there so_far.behind;
+      went_on = λ k less.
+          let below : k < place = omega (arith, less) in status-before answers k place told below ∙ so_far.done k below;
+      ended = λ more. (place, next, λ zero_told. refused (sym (status-here answers place told inside) ∙ zero_told));
+    })
+
+-- all were answered with 0
+pub ends-all : (old now : Cache) (requests : List Request) (before answers : List Answer) (made : ℕ)
+    → SoFar old requests before now answers made → made ≡ min (length requests) (length before) → CallsMany old requests before now answers made
+ends-all old now requests before answers made so_far all = record {
+  calls = so_far.calls;
+  within = omega arith;
+  behind = so_far.behind;
+  went_on = λ k less. so_far.done k (omega (arith, less));
+  ended = λ more. absurd (omega (arith, more, all));
 }
 
 -- ## Events
