@@ -1,7 +1,7 @@
 //! A message that was seen, and the client's call that sends it.
 ghost use Rattle.std.specs.Prelude.{◌≡◌, ◌↔◌, ◌<◌, ◌^◌, IsTrue};
 ghost use Rattle.tl_trace.specs.Would.{WouldComeTo};
-ghost use Rattle.tl_embed.specs.Saw.{Compared, IsAsSeen, SeenDoes, Saws, SendsOnC, StoresAndSends, StoresFirst, differs, number_of, step_on_c};
+ghost use Rattle.tl_embed.specs.Saw.{AsCompared, IsAsSeen, SeenDoes, Saws, SendsOnC, StoresAndSends, StoresFirst, differs, number_of, step_on_c};
 ghost use Rattle.tl_embed.specs.Seen.{seen_asks};
 ghost use Rattle.tl_embed.specs.Views.{home_of};
 
@@ -129,8 +129,7 @@ fn compare(
     step: &Step,
     would: Result<Message, Refusal>,
 ) -> Answer
-    requires { WouldComeTo network.old step.now would }
-    ensures { Compared kind seen.now step.now network.old network.new result }
+    ensures { AsCompared would kind seen.now step.now network.old network.new result }
 {
     match would {
         Ok(message) => {

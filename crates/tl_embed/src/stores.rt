@@ -78,18 +78,19 @@ fn led_from(copy: Option<CachedCopy>, first: u32, seen: &[u8]) -> Option<Inferre
     ensures low { IfSome result (λ i. i.first < 2 ^ 31) }
 {
     match copy {
+        None | Some(CachedCopy::Absent) | Some(CachedCopy::Readable(_)) => None,
         Some(CachedCopy::Writable(own, dirty)) => {
-            let is_same = own.as_slice() == seen;
-            if is_same && dirty {
-                return None;
+            let is_alone = own.as_slice() == seen;
+            if is_alone && dirty {
+                None
+            } else {
+                Some(Inferred {
+                    own,
+                    first,
+                    is_alone,
+                })
             }
-            Some(Inferred {
-                own,
-                first,
-                is_alone: is_same,
-            })
         }
-        _ => None,
     }
 }
 
@@ -161,5 +162,6 @@ fn piece(bytes: &[u8], place: u32) -> &[u8]
 {
     let from = (8 * place as usize).min(bytes.len());
     let rest = &bytes[from..];
-    &rest[..rest.len().min(8)]
+    let most = 8usize.min(rest.len());
+    &rest[..most]
 }
