@@ -1,7 +1,7 @@
 -- Calls that are made one after another, and events that are told one after another.
 use Rattle.std.proofs.Common.{◌≡◌, ◌≢◌, inl, ℕ, zero, suc, ◌+◌, ◌<◌, ◌≤◌, min, List, [], ◌∷◌, ◌++◌, length, map, take, drop, get_or, set, Some, slice_get, refl, sym, ◌∙◌, ap, subst, append_assoc, arith}
 use Rattle.std.proofs.lemmas.List.{drop-set-lt, length-map, length-take, map_more}
-use Rattle.std.proofs.lemmas.Option.{same_Some}
+use Rattle.std.proofs.lemmas.Option.{same_Some, slice_get-get_or}
 use Rattle.std.proofs.Math.Seq.{drop-cons, set-append_seam}
 use Rattle.tl_embed.specs.Calls.{Calls}
 use Rattle.tl_embed.specs.Histories.{AreCalls}
@@ -68,32 +68,42 @@ done-next (a ∷ answers) (suc place) told inside zero_told done (suc k) below =
     done-next answers place told (omega (arith, inside)) zero_told (λ j less. done (suc j) (omega (arith, less))) k (omega (arith, below))
 
 -- the calls so far, and one more that was answered with 0
-pub so-far-next : (old mid new : Cache) (requests : List Request) (before answers : List Answer) (place : ℕ) (r : Request) (told : Answer)
-    → SoFar old requests before mid answers place → slice_get requests place ≡ Some r → place < length answers → place < length before
-    → Calls mid r new told → told.status ≡ 0 → SoFar old requests before new (set answers place told) (suc place)
-so-far-next old mid new requests before answers place r told so_far at inside within call zero_told = record {
-  calls = calls-next old mid new requests answers place r told so_far.calls at inside call;
-  behind = behind-next answers before place told inside within so_far.behind;
-  done = done-next answers place told inside zero_told so_far.done;
-}
+pub so-far-next : (old mid new : Cache) (requests : List Request) (before answers : List Answer) (place : ℕ) (d : Request) (told : Answer)
+    → SoFar old requests before mid answers place → place < length requests → place < length answers → place < length before
+    → Calls mid (get_or requests place d) new told → told.status ≡ 0 → SoFar old requests before new (set answers place told) (place + 1)
+so-far-next old mid new requests before answers place d told so_far asked inside within call zero_told =
+    let next : suc place ≡ place + 1 = omega arith in
+    subst (λ (n : ℕ). SoFar old requests before new (set answers place told) n) next
+    (record {
+      calls =
+          calls-next old mid new requests answers place (get_or requests place d) told so_far.calls (slice_get-get_or requests place d asked)
+          inside call;
+      behind = behind-next answers before place told inside within so_far.behind;
+      done = done-next answers place told inside zero_told so_far.done;
+    })
 
 -- one that was answered otherwise ends them
-pub ends-early : (old mid new : Cache) (requests : List Request) (before answers : List Answer) (place : ℕ) (r : Request) (told : Answer)
-    → SoFar old requests before mid answers place → slice_get requests place ≡ Some r → place < length answers
-    → place < min (length requests) (length before) → Calls mid r new told → told.status ≢ 0
+pub ends-early : (old mid new : Cache) (requests : List Request) (before answers : List Answer) (place : ℕ) (d : Request) (told : Answer)
+    → SoFar old requests before mid answers place → place < length answers → place < min (length requests) (length before)
+    → Calls mid (get_or requests place d) new told → told.status ≢ 0
     → CallsMany old requests before new (set answers place told) (place + 1)
-ends-early old mid new requests before answers place r told so_far at inside within call refused =
+ends-early old mid new requests before answers place d told so_far inside within call refused =
     let next : suc place ≡ place + 1 = omega arith in
+    let asked : place < length requests = omega arith in
     let there : place < length before = omega arith in
-    subst (λ (n : ℕ). CallsMany old requests before new (set answers place told) n) next
-    (record {
-      calls = calls-next old mid new requests answers place r told so_far.calls at inside call;
+    record {
+      calls =
+          subst (λ (n : ℕ). AreCalls old (askings (take n requests) (take n (set answers place told))) new) next
+          (calls-next old mid new requests answers place (get_or requests place d) told so_far.calls (slice_get-get_or requests place d asked)
+          inside call);
       within = omega arith;
-      behind = behind-next answers before place told inside there so_far.behind;
+      behind =
+          subst (λ (n : ℕ). drop n (set answers place told) ≡ drop n before) next
+          (behind-next answers before place told inside there so_far.behind);
       went_on = λ k less.
           let below : k < place = omega (arith, less) in status-before answers k place told below ∙ so_far.done k below;
-      ended = λ more. (place, next, λ zero_told. refused (sym (status-here answers place told inside) ∙ zero_told));
-    })
+      ended = λ more. (place, refl, λ zero_told. refused (sym (status-here answers place told inside) ∙ zero_told));
+    }
 
 -- all were answered with 0
 pub ends-all : (old now : Cache) (requests : List Request) (before answers : List Answer) (made : ℕ)
@@ -116,7 +126,7 @@ told-next tell events before answers place e inside within so_far =
     let x : Answer = tell (get_or events place e) in
     let front : List Answer = map tell (take place events) in
     let rest : List Answer = drop (suc place) before in
-    let count : length front ≡ place = omega (arith, length-map tell (take place events), length-take place events) in
+    let count : length front ≡ place = omega (arith, length-map (take place events) tell, length-take place events) in
     let next : suc place ≡ place + 1 = omega arith in
     ap (λ (l : List Answer). set l place x) (so_far ∙ ap (λ (l : List Answer). front ++ l) (drop-cons before place x within))
     ∙ (subst (λ (n : ℕ). set (front ++ get_or before place x ∷ rest) n x ≡ front ++ x ∷ rest) count

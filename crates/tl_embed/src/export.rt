@@ -102,11 +102,7 @@ pub unsafe extern "C" fn jv_calls(
 
 /// Tells events of the cache at a pointer where `jv_open` put one.
 #[unsafe(no_mangle)]
-pub unsafe extern "C" fn jv_read(
-    cache: *mut u8,
-    request: &Request,
-    events: &mut [Answer],
-) -> Number
+pub unsafe extern "C" fn jv_read(cache: *mut u8, request: &Request, events: &mut [Answer]) -> Number
     ghost before: { Cache }
     requires* { sem 𝓛 (lies_at the_row full_share cache before) }
     ensures* { ∃ₛ (λ (after : Cache). sem 𝓛 (lies_at the_row full_share cache after)

@@ -8,7 +8,7 @@ ghost use Rattle.tl_embed.specs.Views.{home_of};
 use crate::answer::Answer;
 use crate::cache::{Cache, played, reserve};
 use crate::seen::{OnC, Seen, SeenAsks};
-use crate::stores::{Inferred, inferred};
+use crate::stores::{Inferred, stores_before};
 use crate::tell::message_told;
 use crate::views::home_of;
 use tl_bank::Refusal;
@@ -45,7 +45,7 @@ fn send(network: &mut Network, seen: &Seen, call: &OnC, kind: Kind) -> Answer
     ensures { SendsOnC kind call.now seen.now network.old network.new result }
 {
     let would = would(network, seen, call);
-    match inferred(network, kind, seen, &would) {
+    match stores_before(network, kind, seen, &would) {
         None => compare(network, seen, kind, &step_on_c(seen, call), would),
         Some(stores) => store_first(network, seen, &stores, call, kind),
     }
@@ -68,11 +68,16 @@ fn step_on_c(seen: &Seen, call: &OnC) -> Step
     ensures { result ≡ step_on_c seen.now call.now }
 {
     match call {
-        OnC::Release(prune) => Step::Release {
-            client: ClientId::new(seen.client),
-            block: BlockNo::new(seen.block),
-            prune: *prune,
-        },
+        OnC::Release(prune) => {
+            let client = ClientId::new(seen.client);
+            let block = BlockNo::new(seen.block);
+            let prune = *prune;
+            Step::Release {
+                client,
+                block,
+                prune,
+            }
+        }
         OnC::Answer(ticket) => Step::Ticket(TicketCall::AnswerProbe, *ticket),
     }
 }

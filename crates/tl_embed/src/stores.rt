@@ -28,7 +28,7 @@ pub struct Inferred {
 }
 
 /// The stores that are made before a call on C, where it would come to this.
-pub fn inferred(
+pub fn stores_before(
     network: &Network,
     kind: Kind,
     seen: &Seen,
@@ -105,7 +105,8 @@ impl Inferred {
 
     /// How many stores there are.
     pub fn count(&self, seen: &[u8]) -> u32
-        ensures { result ≡ count_below (is_stored self.now seen.now) 8 }
+        ensures is { result ≡ count_below (is_stored self.now seen.now) 8 }
+        ensures few { result ≤ 8 }
     {
         let mut count = 0;
         for place in 0..8 {
