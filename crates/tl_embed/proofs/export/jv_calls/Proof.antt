@@ -1,6 +1,6 @@
 -- `jv_calls` meets its contract: the value behind the pointer is lent to `calls` for a lifetime that is made for the call, and comes back as that
 -- leaves it; the places for the answers are handed on, with what they then hold.
-use Rattle.std.proofs.Common.{◌≡◌, ℕ, List, [], ◌∷◌, ◌++◌, refl, sym, ap, w64}
+use Rattle.std.proofs.Common.{ℕ, [], ◌∷◌, ◌++◌, refl, w64}
 use Rattle.std.proofs.raw_atomic.Walks.{proved}
 use base.Fraction.{full_share}
 use base.Logic.{SProp, sep, ex, id⊢}

@@ -1,4 +1,4 @@
-use Rattle.std.proofs.Common.{◌≡◌, ◌<◌, length, set, ap, ◌∙◌, arith}
+use Rattle.std.proofs.Common.{◌<◌, length, set, ap, ◌∙◌, arith}
 use Rattle.tl_bank_spec.specs.View.{shape_of}
 use Rattle.tl_embed.specs.Events.{event_told}
 use Rattle.tl_embed.proofs.InTurn.{told-next}

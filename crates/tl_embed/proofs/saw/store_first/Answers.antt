@@ -1,4 +1,4 @@
-use Rattle.std.proofs.Common.{◌≡◌, inl, inr, ℕ, ◌+◌, List, refl, ◌∙◌, ap, subst, arith}
+use Rattle.std.proofs.Common.{◌≡◌, inl, inr, ℕ, ◌+◌, List, refl, ◌∙◌, ap, subst}
 use Rattle.tl_types.specs.Count.{count_below}
 use Rattle.tl_trace.specs.NetworkState.{NetworkState}
 use Rattle.tl_embed.specs.Events.{Reserves}

@@ -1,4 +1,4 @@
-use Rattle.std.proofs.Common.{◌≡◌, ◌≤◌, ℕ, ◌+◌, Bool, true, false, List, sym, ◌∙◌, ap, subst, arith}
+use Rattle.std.proofs.Common.{◌≡◌, ℕ, ◌+◌, List, sym, ◌∙◌, ap, subst, arith}
 use Rattle.tl_trace.specs.NetworkState.{NetworkState}
 use Rattle.tl_embed.specs.Saw.{StoresUpTo, is_stored}
 use Rattle.tl_embed.specs.Seen.{bytes_seen}
