@@ -59,7 +59,11 @@ static jv_answer short_call(jv_cache *c, const jv_request *r) {
 /* The same requests by calls of many, each of which ends at the first that is refused. */
 enum { MANY = 16 };
 static jv_request asked[MANY]; static jv_answer told[MANY];
-static int is_filled(const jv_answer *a, size_t n) { const uint8_t *p = (const uint8_t *)a; size_t i; for (i = 0; i < n * sizeof *a; i++) if (p[i] != 0x5a) return 0; return 1; }
+static int is_filled(const jv_answer *a, size_t n) {
+    const uint8_t *p = (const uint8_t *)a; size_t i;
+    for (i = 0; i < n * sizeof *a; i++) if (p[i] != 0x5a) return 0;
+    return 1;
+}
 static void by_many(jv_cache *c, size_t n) {
     size_t at = 0, i;
     while (at < n) {
@@ -86,11 +90,15 @@ static void read_some(jv_cache *c) {
     else {
         uint64_t left = r.serial < events ? events - r.serial : 0;
         ok = n.status == 0 && n.what == JV_TELLS_NUMBER && n.serial == (left < most ? left : most);
-        for (i = 0; ok && i < n.serial; i++) { one = jv_event(c, r.bank, r.serial + i); ok = !memcmp(&one, out + i, sizeof one) && !one.status; }
+        for (i = 0; ok && i < n.serial; i++) {
+            one = jv_event(c, r.bank, r.serial + i);
+            ok = !memcmp(&one, out + i, sizeof one) && !one.status;
+        }
     }
     if (n.status && (n.what || n.serial)) ok = 0;
     if (!is_filled(out + (n.status ? 0 : n.serial), MANY - (n.status ? 0 : n.serial))) ok = 0;
-    if (!ok && ++wrong < 10) printf("events of bank %u from %llu: status %u, %llu\n", r.bank, (unsigned long long)r.serial, n.status, (unsigned long long)n.serial);
+    if (!ok && ++wrong < 10) printf("events of bank %u from %llu: status %u, %llu\n", r.bank, (unsigned long long)r.serial, n.status,
+        (unsigned long long)n.serial);
 }
 static void feed(jv_cache *c, jv_cache *twin, jv_cache *third, long steps) {
     jv_ticket last = {0, 0, 5, 0};

@@ -78,7 +78,7 @@ static jv_answer reserve(jv_cache *c, uint32_t bank, uint64_t events) {
 enum { MOST_ROUNDS = 100 };
 static void at_once(jv_cache *c, uint32_t client, uint32_t block, uint32_t rounds) {
     static jv_request requests[2 * MOST_ROUNDS]; static jv_answer answers[2 * MOST_ROUNDS];
-    size_t n = 2 * (size_t)rounds, at = 0, made; uint32_t i;
+    size_t n = 2 * (size_t)rounds, at = 0, made; uint32_t i, bank = (uint32_t)jv_bank_of(c, block).serial;
     for (i = 0; i < n; i++) {
         requests[i] = jv_asks_(i % 2 ? JV_CALL_LOAD : JV_CALL_STORE);
         requests[i].client = client; requests[i].place = block * 8; requests[i].len = i % 2 ? 8 : 1; requests[i].bytes[0] = 0xaa;
@@ -90,10 +90,13 @@ static void at_once(jv_cache *c, uint32_t client, uint32_t block, uint32_t round
         after = look_at(c);
         if (answers[at + made - 1].status == JV_NO_MEMORY) made--;
         else expect(at + made == n && answers[n - 1].status == 0, "not done");
-        expect(after.events[jv_bank_of(c, block).serial] == before.events[jv_bank_of(c, block).serial] + made, "other events than calls that were done");
+        expect(after.events[bank] == before.events[bank] + made, "other events than calls that were done");
         at += made;
     }
-    for (i = 0; i < n; i++) expect(answers[i].status == 0 && answers[i].len == (i % 2 ? 8u : 0u) && (i % 2 == 0 || answers[i].bytes[0] == 0xaa), "a load of other bytes");
+    for (i = 0; i < n; i++) {
+        uint8_t first = i % 2 ? 0xaa : 0;
+        expect(answers[i].status == 0 && answers[i].len == (i % 2 ? 8u : 0u) && answers[i].bytes[0] == first, "a load of other bytes");
+    }
 }
 /* A Release was seen with bytes that no store told: the store that leads there is made with it, or nothing is. */
 static jv_answer seen_release(jv_cache *c, uint32_t client, uint32_t block) {

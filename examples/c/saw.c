@@ -46,8 +46,8 @@ static void read_stores(const jv_seen *s, const jv_answer *b) {
     if (jv_read_events(model, b->bank, &at, e, b->stores) != b->stores) otherwise("the events of stores", b);
     for (i = 0; i < b->stores; i++) {
         uint32_t from = e[i].address - s->block * BYTES;
-        if (e[i].opcode != JV_EVENT_STORE || e[i].client != s->client || e[i].len != 8 || e[i].index != s->index || from % 8 || from >= BYTES
-            || (i && from <= last) || memcmp(e[i].bytes, s->bytes + from, 8)) otherwise("a store", b);
+        if (e[i].opcode != JV_EVENT_STORE || e[i].client != s->client || e[i].len != 8 || e[i].index != s->index || from % 8
+            || from >= BYTES || (i && from <= last) || memcmp(e[i].bytes, s->bytes + from, 8)) otherwise("a store", b);
         last = from;
     }
 }
