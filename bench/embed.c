@@ -28,9 +28,9 @@ static void show(const char *work, double nanos, int calls) { printf("%s c %.0f 
 
 int main(int argc, char **argv) {
     uint32_t calls = argc > 1 ? (uint32_t)strtoul(argv[1], NULL, 10) : 200000, i;
-    jv_cache *c = fresh(16, (uint64_t)calls * 4 + 100);
+    jv_cache *c = fresh(16, (uint64_t)calls * 4 + 200);
     uint8_t bytes[8] = {0}; uint64_t cursor = 0, sum = 0; size_t n; double from;
-    jv_answer events[32];
+    static jv_answer events[32], answers[64]; static jv_request many[64];
     take(c, 0, 1);
     from = now();
     for (i = 0; i < calls; i++) { jv_accessed a = jv_load(c, 0, 0, 4, i); wrong += a.status != JV_OK; sum += a.bytes[0]; }
@@ -44,6 +44,10 @@ int main(int argc, char **argv) {
     from = now();
     for (i = 0; i < calls; i++) wrong += jv_perm(c, 0, 0).serial != JV_TIP;
     show("views", now() - from, 1);
+    for (i = 0; i < 64; i++) { many[i] = jv_asks_(JV_CALL_LOAD); many[i].len = 4; }
+    from = now();
+    for (i = 0; i < calls; i += 64) { n = jv_calls(c, many, 64, answers, 64); wrong += n != 64; sum += answers[63].bytes[0]; }
+    show("many", (now() - from) * calls / i, 1);
     from = now();
     for (i = 0; i < calls && (n = jv_read_events(c, 0, &cursor, events, 32)) != 0; i += (uint32_t)n) sum += events[0].serial;
     show("events", (now() - from) * calls / i, 1);

@@ -27,5 +27,6 @@ done | awk -v calls="$calls" '
         print "| ns a call | from C | from Rattle | C / Rattle |"; print "|---|---|---|---|"
         row("loads", "load"); row("stores", "store"); row("refused", "a refused advance"); row("views", "a permission")
         row("ping-pong", "a block goes from one client to the other and back, nine calls each time")
-        printf "| an event read | %.1f | | |\n", least["events c"]
+        printf "| a load of 64 at once (jv_calls) | %.1f | | |\n", least["many c"]
+        printf "| an event of 32 read at once (jv_read) | %.1f | | |\n", least["events c"]
     }'

@@ -12,9 +12,11 @@
  *                      is told only where the log had no room, and nothing changed. A view changes nothing.
  *   jv_access          what jv_call does of a load or a store, and what it answers, without what these never tell (`Accesses`).
  *   jv_look            what jv_call answers of a view of a number, likewise (`Looks`).
+ *   jv_calls           calls one after another, each as jv_call carries it out, until one is not answered with 0 (`CallsMany`).
+ *   jv_read            the events of a bank's log from a place on, each as jv_call tells it (`Reads`).
  *   jv_saw             the client's call that sends a message which was seen, done only where it sends just that one; or what the
  *                      client would send, and nothing changed (`Saws`).
- *   jv_echo            the request again (`echoed`); jv_echo_seen likewise (`seen_echoed`); jv_version the number 4.
+ *   jv_echo            the request again (`echoed`); jv_echo_seen likewise (`seen_echoed`); jv_version the number 5.
  * The functions that are `static inline` are C: they fill in a request and call one of these, and are tested (examples/c), not
  * proved. After any sequence of calls of an opened cache, each of which met its contract, each bank's log is a run of the protocol
  * over the image, in which every load got the bytes last stored before it; what the bank shows is what that log leaves; and the
@@ -25,9 +27,11 @@
  *   1. `room` has jv_size() bytes at an address that jv_align() divides, and lies still: do not copy or move a cache.
  *   2. `cache` points to room where jv_open put a cache. After jv_free, and before jv_open, there is none.
  *   3. Nothing but these functions reads or writes the room, nor does a request lie in it.
- *   4. One call of a cache runs at a time, on the thread that opened it: no second thread, no signal handler, no fork of a
- *      process with threads in between. Two caches share nothing but malloc.
- *   5. `numbers` and `request` point to initialised structs, `image` to `image_len` bytes, at most 2^63 - 1.
+ *   4. One call of a cache runs at a time, on whichever thread: that a cache may go to another thread is proved (`cache_send`); that its
+ *      calls are in an order is the caller's, by a lock, a thread's start or its join. No signal handler, and no fork of a process
+ *      with threads in between. Two caches share nothing but malloc, which then has to serve several threads.
+ *   5. `numbers` and `request` point to initialised structs, `image` to `image_len` bytes, at most 2^63 - 1; `requests`, `answers` and
+ *      `events` to as many initialised structs as the number behind them says. None of them is NULL, also where the number is 0.
  *   6. malloc, realloc and free are one allocator's, which aligns to 16. The stack has some 64 kilobytes left.
  *
  * WHAT A WRONG CALL GETS that keeps these:
@@ -49,7 +53,7 @@
 extern "C" {
 #endif
 
-#define JV_VERSION 4u
+#define JV_VERSION 5u
 
 typedef struct jv_cache jv_cache; /* all banks with their clients; opaque */
 
@@ -139,6 +143,7 @@ enum jv_limits { /* the most of each number; a log has no limit but the memory *
 enum jv_outward { JV_QUIET, JV_GET, JV_DATA, JV_PUT, JV_PUT_ACK };     /* what passes of a block to or from the memory */
 enum jv_home { JV_HOME_NONE, JV_HOME_CLEAN, JV_HOME_DIRTY };
 enum jv_copy_kind { JV_COPY_NONE, JV_COPY_BRANCH, JV_COPY_CLEAN_TIP, JV_COPY_DIRTY_TIP };
+enum jv_option { JV_STORES = 1 };                                      /* of a message that was seen */
 enum jv_awaited { JV_WAITS_FOR_NOTHING, JV_WAITS_FOR_GRANT, JV_WAITS_FOR_RELEASE_ACK };
 
 typedef struct { /* what a call does not use it takes no notice of */
@@ -166,7 +171,7 @@ typedef struct { /* what is not told is 0 */
     uint32_t size;    /* of a message between home and the memory: the base-2 logarithm of a block's bytes */
     uint32_t index;   /* of an access: the one that its call was given */
     uint32_t len;     /* how many bytes there are */
-    uint32_t stores;  /* 0 in this version */
+    uint32_t stores;  /* of a message that was seen: how many stores were made before it (JV_STORES) */
     uint32_t reserved; /* 0 */
     uint64_t serial;  /* of a ticket; a view's number; the stamp of an access, which rises over all of a bank's log */
     uint8_t bytes[64];
@@ -179,8 +184,8 @@ typedef struct { /* a message that was seen on a client's link: what a device se
     uint32_t client;
     uint32_t block;   /* of an E: that of the Grant whose sink it names */
     uint32_t len;     /* how many bytes it carries: those of a block with ProbeAckData and ReleaseData, else 0 */
-    uint32_t options; /* 0 */
-    uint32_t index;   /* no notice is taken of it */
+    uint32_t options; /* 0 or JV_STORES */
+    uint32_t index;   /* of the stores that JV_STORES makes: their events in the log have it */
     uint8_t bytes[64];
 } jv_seen;
 
@@ -237,6 +242,16 @@ jv_answer jv_call(jv_cache *cache, const jv_request *request);      /* any call 
 jv_accessed jv_access(jv_cache *cache, const jv_request *request);  /* JV_CALL_LOAD and JV_CALL_STORE alone; 16 of another */
 jv_number jv_look(jv_cache *cache, const jv_request *request);      /* a view of a number alone; 16 of another */
 
+/* Many calls and views at once, each as jv_call: request after request is answered in its place, until an answer has another status than
+   0, or the requests or the places end. How many were called: the last of them is the one that was refused, where there are more; the
+   places behind it are as they were. */
+size_t jv_calls(jv_cache *cache, const jv_request *requests, size_t requests_len, jv_answer *answers, size_t answers_len);
+
+/* Many events of the log of the bank `request->bank`, from the place `request->serial` on: as many as there are and have places, each
+   as jv_event tells it. `serial` of the answer is how many (JV_TELLS_NUMBER); status 10 where there is no such bank, 19 where the first
+   is forgotten, 18 of a closed cache. jv_read_events asks it. */
+jv_number jv_read(jv_cache *cache, const jv_request *request, jv_answer *events, size_t events_len);
+
 /* A message that was seen on A, C or E of a client. The cache's own client then does what sends such a message, and does it only where
    it sends just that one, by opcode, param and bytes:
 
@@ -249,7 +264,7 @@ jv_number jv_look(jv_cache *cache, const jv_request *request);      /* a view of
 
    B and D are those of the bank where the block lies. What is answered, the first that holds:
      JV_CLOSED, as of any call
-     JV_BAD_ARGUMENT    another channel, or an option that there is not
+     JV_BAD_ARGUMENT    another channel, or another option than JV_STORES
      JV_OUTSIDE         the profile has no such opcode or param there, as AcquirePerm, or a Release TtoT
      JV_BAD_ARGUMENT    `len` is another than the opcode carries: the bytes of a block with ProbeAckData and ReleaseData, else 0
      JV_OUT_OF_RANGE    there is no such client or block
@@ -260,7 +275,14 @@ jv_number jv_look(jv_cache *cache, const jv_request *request);      /* a view of
                         opcode, param, place, bytes, len), without a serial: it has no ticket
      JV_NO_MEMORY       the log has no room for the events
      JV_OK              the call is done, and answered as it answers: with the ticket, by which home takes the message.
-   Nothing is changed unless it is JV_OK. */
+   Nothing is changed unless it is JV_OK.
+
+   JV_STORES: nobody tells the cache what the device's core stores. Where ProbeAckData or ReleaseData was seen and the client would send a
+   message of the same param from a copy at Tip, the stores that lead there are made first: of each eight bytes that differ from the
+   copy, at their address, in rising order; or, where the copy has these bytes and is clean, one store of its first eight bytes, since
+   TileLink allows data of a clean copy. `stores` of the answer is how many, and their events stand before the call's in the log. Room
+   for all of them and the call is got first, so that JV_NO_MEMORY changed nothing. Should one of them be refused nevertheless, as
+   JV_CLOCK_FULL after 2^64 - 1 accesses, its status is told with how many were made before it. */
 jv_answer jv_saw(jv_cache *cache, const jv_seen *seen);
 
 /* ---- a status in words */
@@ -484,11 +506,15 @@ static inline jv_answer jv_event(const jv_cache *c, uint32_t bank, uint64_t plac
     return jv_of_bank_(c, JV_VIEW_EVENT, bank, 0, place);
 }
 /* The events from the place *cursor on, at most `most` of them, into `out`; *cursor is then the place behind the last. How many
-   there were: fewer than `most` where the log ends. A place of `out` behind them may be written over. */
+   there were: fewer than `most` where the log ends, and none where the first is forgotten. */
 static inline size_t jv_read_events(const jv_cache *c, uint32_t bank, uint64_t *cursor, jv_answer *out, size_t most) {
-    size_t n = 0;
-    while (n < most && (out[n] = jv_event(c, bank, *cursor)).status == JV_OK) { n++; ++*cursor; }
-    return n;
+    jv_request r = jv_asks_(JV_VIEW_EVENT); jv_number n;
+    r.bank = bank; r.serial = *cursor;
+    if (!most) return 0;
+    n = jv_read((jv_cache *)c, &r, out, most);
+    if (n.status) return 0;
+    *cursor += n.serial;
+    return (size_t)n.serial;
 }
 /* How many of the bank's first events are forgotten. */
 static inline jv_number jv_forgotten(const jv_cache *c, uint32_t bank) { return jv_number_of_bank_(c, JV_VIEW_FORGOTTEN, bank, 0); }

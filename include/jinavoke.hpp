@@ -697,32 +697,35 @@ class Home {
     // ---- the model's client
 
     // The answer of the model's client: it has sent what was seen; or nothing changed, and JV_DIFFERS tells what it
-    // would send.
+    // would send. Where nobody tells stores, those that lead to the data of a Tip are made first; with taps only the one
+    // of a clean copy, whose data TileLink allows.
     jv_answer saw(const Message &m) {
-        if (m.len) infer(m);
         jv_seen s;
         std::memset(&s, 0, sizeof s);
         s.channel = m.channel; s.opcode = m.opcode; s.param = m.param; s.client = m.client;
-        s.block = block_of(m.address); s.len = m.len;
+        s.block = block_of(m.address); s.len = m.len; s.index = index_;
         std::copy(m.bytes.begin(), m.bytes.end(), s.bytes);
-        return jv_saw(cache_, &s);
+        if (m.len && (!options_.has_taps || has_bytes(m))) s.options = JV_STORES;
+        jv_answer a = jv_saw(cache_, &s);
+        if (a.stores) tell_stores(m, a);
+        return a;
     }
-    // The stores that lead to the data of a Tip. Where nobody tells stores, those of each eight bytes that differ; and
-    // of a clean copy, whose data TileLink allows, one that changes nothing.
-    void infer(const Message &m) {
-        jv_answer copy = jv_copy(cache_, m.client, block_of(m.address));
-        bool is_clean = copy.serial == JV_COPY_CLEAN_TIP, is_tip = is_clean || copy.serial == JV_COPY_DIRTY_TIP;
-        bool same = std::memcmp(copy.bytes, m.bytes.data(), m.len) == 0;
-        if (!is_tip || (same ? !is_clean : options_.has_taps)) return;
-        for (uint32_t at = 0; at < m.len; at += 8) {
-            if (same ? at > 0 : std::memcmp(copy.bytes + at, &m.bytes[at], 8) == 0) continue;
-            Access x = {cycle_, m.bank, m.client, true, m.address + at, 8, {}};
-            std::copy_n(m.bytes.begin() + at, 8, x.bytes.begin());
-            uint32_t address = uint32_t(x.address - options_.base);
-            if (jv_store(cache_, x.client, address, x.bytes.data(), x.len, index_++).status) continue;
+    bool has_bytes(const Message &m) const {
+        return std::memcmp(jv_copy(cache_, m.client, block_of(m.address)).bytes, m.bytes.data(), m.len) == 0;
+    }
+    // The stores that were made for a message stand before its event in the log.
+    void tell_stores(const Message &m, const jv_answer &a) {
+        std::array<jv_answer, JV_MOST_BLOCK_BYTES / 8> made{};
+        uint64_t at = jv_events(cache_, m.bank).serial - (a.status == JV_OK) - a.stores;
+        size_t n = jv_read_events(cache_, m.bank, &at, made.data(), a.stores);
+        for (size_t i = 0; i < n; i++) {
+            const jv_answer &e = made[i];
+            Access x = {cycle_, m.bank, m.client, true, options_.base + e.address, e.len, {}};
+            std::copy_n(e.bytes, e.len, x.bytes.begin());
             for (Watch *w : watches_) w->access(x);
-            note(JV_EVENT_STORE, x.bank, x.client, block_of(m.address), 0, nullptr, &x);
+            note(JV_EVENT_STORE, m.bank, m.client, e.place, 0, nullptr, &x);
         }
+        index_++;
     }
     uint32_t bank_of(uint32_t block) const { return uint32_t(jv_bank_of(cache_, block).serial); }
     jv_answer own_call(const Message &m, const jv_ticket *probe) {

@@ -120,7 +120,7 @@ static void compare_home(const jv_cache *c, Board &board) {
 // The log of a bank by itself: each load in it got what was stored last before it, the stamps rise, and there are as many events as
 // the bank says.
 static void compare_log(const jv_cache *c, Board &board, std::vector<uint8_t> bytes, uint32_t bank) {
-    jv_answer out[7];
+    jv_answer out[7] = {};
     uint64_t cursor = 0, stamp = 0;
     for (size_t n; (n = jv_read_events(c, bank, &cursor, out, 7)) != 0;) for (size_t i = 0; i < n; i++) {
         const jv_answer &e = out[i];

@@ -41,15 +41,27 @@ def race(cache):
     return (early.status, waits.status, loaded.data) == (jv.JV_RELEASE_PENDING, jv.JV_NOT_YET, b"\xaa" + bytes(7))
 
 
+def at_once(cache):
+    """Calls of one batch: they end at the one that is refused, and answer as one by one."""
+    load, store = jv.asked("load", client=1, place=0, len=8), jv.asked("store", client=1, place=0, bytes=b"\xbb")
+    refused = jv.asked("store", client=0, place=0, bytes=b"\xcc")
+    told = cache.many(load, store, load, refused, load)
+    return [(it.status, it.data) for it in told] == [
+        (0, b"\xaa" + bytes(7)), (0, b""), (0, b"\xbb" + bytes(7)), (jv.JV_NO_PERMISSION, b"")]
+
+
 def main():
     path = sys.argv[1] if len(sys.argv) > 1 else None
     with jv.Cache(path=path, clients=2, banks=1, block_bytes=8, sets=1, ways=2, registers=2, copies=2, memory_blocks=4) as cache:
         is_well = race(cache)
-        start = time.perf_counter()
-        request = jv.Request(call=jv.JV_CALL_LOAD, client=1, place=0, len=8)
-        for _ in range(100000):
-            cache.lib.jv_call(cache.at, request)
-        print(f"load from Python: {(time.perf_counter() - start) * 1e4:.0f} ns a call", file=sys.stderr)
+        is_well = at_once(cache) and is_well
+        load = jv.asked("load", client=1, place=0, len=8)
+        for text, batch, rounds in ("one call", cache.batch(load), 100000), ("a call of 64", cache.batch(*[load] * 64), 2000):
+            start = time.perf_counter()
+            for _ in range(rounds):
+                batch.run()
+            nanos = (time.perf_counter() - start) * 1e9 / rounds / len(batch.requests)
+            print(f"a load from Python, {text}: {nanos:.0f} ns", file=sys.stderr)
     return 0 if is_well else 1
 
 

@@ -1,6 +1,7 @@
 /* Requests of random numbers, and numbers and images at the edges of what opens: each answer has a status of the table, tells
  * nothing where it is refused, and a view or a refused call leaves the counts of the banks as they were. A second cache is asked the
- * same by the calls that tell less (jv_access, jv_look), and answers the same. Status 1 where one does not. */
+ * same by the calls that tell less (jv_access, jv_look), a third by calls of many (jv_calls), and they answer the same; and many events
+ * (jv_read) are those that are told one by one. Status 1 where something is otherwise. */
 #include "jinavoke.h"
 #include <stdio.h>
 
@@ -55,9 +56,53 @@ static jv_answer short_call(jv_cache *c, const jv_request *r) {
     memset(&a, 0, sizeof a); a.status = n.status; a.what = n.what; a.serial = n.serial;
     return a;
 }
-static void feed(jv_cache *c, jv_cache *twin, long steps) {
+/* The same requests by calls of many, each of which ends at the first that is refused. */
+enum { MANY = 16 };
+static jv_request asked[MANY]; static jv_answer told[MANY];
+static int is_filled(const jv_answer *a, size_t n) {
+    const uint8_t *p = (const uint8_t *)a; size_t i;
+    for (i = 0; i < n * sizeof *a; i++) if (p[i] != 0x5a) return 0;
+    return 1;
+}
+static void by_many(jv_cache *c, size_t n) {
+    size_t at = 0, i;
+    while (at < n) {
+        jv_answer out[MANY]; size_t places = 1 + next() % (n - at), made; int ok;
+        memset(out, 0x5a, sizeof out);
+        made = jv_calls(c, asked + at, n - at, out, places);
+        ok = made >= 1 && made <= places && (made == places || out[made - 1].status) && is_filled(out + made, MANY - made);
+        for (i = 0; ok && i < made; i++) ok = !memcmp(out + i, told + at + i, sizeof *out) && (i + 1 == made || !out[i].status);
+        if (!ok && ++wrong < 10) printf("%u of %u calls at once, in %u places\n", (uint32_t)made, (uint32_t)(n - at), (uint32_t)places);
+        at += made ? made : n;
+    }
+}
+/* Many events at once, from a place on. */
+static void read_some(jv_cache *c) {
+    jv_answer out[MANY], one; jv_request r = jv_asks_(JV_VIEW_EVENT); jv_number n; size_t most = next() % (MANY + 1), i; int ok = 1;
+    uint64_t events, forgotten;
+    r.bank = (uint32_t)some(3);
+    events = jv_events(c, r.bank).serial; forgotten = jv_forgotten(c, r.bank).serial;
+    r.serial = next() % 4 ? events - next() % (MANY + 4) : some(64);
+    memset(out, 0x5a, sizeof out);
+    n = jv_read(c, &r, out, most);
+    if (r.bank >= 2) ok = n.status == JV_OUT_OF_RANGE;
+    else if (r.serial < forgotten) ok = n.status == JV_FORGOTTEN;
+    else {
+        uint64_t left = r.serial < events ? events - r.serial : 0;
+        ok = n.status == 0 && n.what == JV_TELLS_NUMBER && n.serial == (left < most ? left : most);
+        for (i = 0; ok && i < n.serial; i++) {
+            one = jv_event(c, r.bank, r.serial + i);
+            ok = !memcmp(&one, out + i, sizeof one) && !one.status;
+        }
+    }
+    if (n.status && (n.what || n.serial)) ok = 0;
+    if (!is_filled(out + (n.status ? 0 : n.serial), MANY - (n.status ? 0 : n.serial))) ok = 0;
+    if (!ok && ++wrong < 10) printf("events of bank %u from %llu: status %u, %llu\n", r.bank, (unsigned long long)r.serial, n.status,
+        (unsigned long long)n.serial);
+}
+static void feed(jv_cache *c, jv_cache *twin, jv_cache *third, long steps) {
     jv_ticket last = {0, 0, 5, 0};
-    long i; int k;
+    long i; int k; size_t n = 0;
     for (i = 0; i < steps; i++) {
         jv_request r; jv_answer a, b; uint64_t before = events(c);
         r.call = 1 + (uint32_t)some(40); r.index = (uint32_t)some(9); r.client = (uint32_t)some(4); r.place = (uint32_t)some(64);
@@ -72,6 +117,8 @@ static void feed(jv_cache *c, jv_cache *twin, long steps) {
         b = short_call(twin, &r);
         if (memcmp(&a, &b, sizeof a) && ++wrong < 10) printf("call %u: status %u, and %u told shortly\n", r.call, a.status, b.status);
         if (a.status == 0 && a.what == JV_TELLS_MESSAGE) last = jv_sent(&a);
+        asked[n] = r; told[n] = a;
+        if (++n == MANY || i + 1 == steps) { by_many(third, n); read_some(third); n = 0; }
     }
 }
 static void edges(void) { /* numbers and images that do not open */
@@ -95,15 +142,22 @@ static void edges(void) { /* numbers and images that do not open */
 }
 int main(int argc, char **argv) {
     const jv_numbers n = {1, 4, 2, 8, 1, 2, 2, 4, 8};
-    uint32_t why; jv_cache *c, *twin; jv_request r; jv_answer a; jv_ticket t; int i;
+    uint32_t why; jv_cache *c, *twin, *third; jv_request r; jv_answer a; jv_ticket t; int i;
     state = argc > 1 ? (uint64_t)atol(argv[1]) * 2654435761u + 1 : 1;
     if (!jv_fits()) { printf("the header is not the archive's\n"); return 1; }
     edges();
     c = jv_new(&n, NULL, 0, &why);
     twin = jv_new(&n, NULL, 0, &why);
-    if (!c || !twin) { printf("jv_new: %u\n", why); return 1; }
-    feed(c, twin, argc > 2 ? atol(argv[2]) : 100000);
+    third = jv_new(&n, NULL, 0, &why);
+    if (!c || !twin || !third) { printf("jv_new: %u\n", why); return 1; }
+    feed(c, twin, third, argc > 2 ? atol(argv[2]) : 100000);
     jv_free(twin);
+    jv_close(third);
+    memset(told, 0, sizeof told);
+    asked[0] = jv_asks_(JV_CALL_LOAD); told[0].status = JV_CLOSED; told[0].serial = JV_CLOSED;
+    by_many(third, 1);
+    if (jv_read(third, asked, told, 1).status != JV_CLOSED) { printf("events of a closed cache\n"); wrong++; }
+    jv_free(third);
     memset(&a, 0, sizeof a); a.status = 3; t = jv_sent(&a);
     if (jv_accept(c, t).status != JV_BAD_ARGUMENT || jv_store(c, 0, 0, NULL, 0, 0).status != JV_OUT_OF_RANGE) { printf("a bad ticket is taken\n"); wrong++; }
     jv_close(c); jv_close(c);

@@ -73,18 +73,61 @@ static jv_answer of_client(jv_cache *c, uint32_t call, uint32_t client, uint32_t
 static jv_answer reserve(jv_cache *c, uint32_t bank, uint64_t events) {
     jv_request r = jv_asks_(JV_CALL_RESERVE); r.bank = bank; r.serial = events; return ask(c, &r);
 }
+/* A client writes and reads a block, so many times, in calls of many: one that ends for want of memory changed nothing at its last
+   request, which is asked again with those behind it. */
+enum { MOST_ROUNDS = 100 };
+static void at_once(jv_cache *c, uint32_t client, uint32_t block, uint32_t rounds) {
+    static jv_request requests[2 * MOST_ROUNDS]; static jv_answer answers[2 * MOST_ROUNDS];
+    size_t n = 2 * (size_t)rounds, at = 0, made; uint32_t i, bank = (uint32_t)jv_bank_of(c, block).serial;
+    for (i = 0; i < n; i++) {
+        requests[i] = jv_asks_(i % 2 ? JV_CALL_LOAD : JV_CALL_STORE);
+        requests[i].client = client; requests[i].place = block * 8; requests[i].len = i % 2 ? 8 : 1; requests[i].bytes[0] = 0xaa;
+    }
+    while (at < n) {
+        look before = look_at(c), after;
+        made = jv_calls(c, requests + at, n - at, answers + at, n - at);
+        expect(made >= 1 && made <= n - at, "so many calls were not asked for");
+        after = look_at(c);
+        if (answers[at + made - 1].status == JV_NO_MEMORY) made--;
+        else expect(at + made == n && answers[n - 1].status == 0, "not done");
+        expect(after.events[bank] == before.events[bank] + made, "other events than calls that were done");
+        at += made;
+    }
+    for (i = 0; i < n; i++) {
+        uint8_t first = i % 2 ? 0xaa : 0;
+        expect(answers[i].status == 0 && answers[i].len == (i % 2 ? 8u : 0u) && answers[i].bytes[0] == first, "a load of other bytes");
+    }
+}
+/* A Release was seen with bytes that no store told: the store that leads there is made with it, or nothing is. */
+static jv_answer seen_release(jv_cache *c, uint32_t client, uint32_t block) {
+    jv_seen s; jv_answer a, zero; look before = look_at(c), after;
+    memset(&s, 0, sizeof s);
+    s.channel = JV_C; s.opcode = JV_OP_RELEASE_DATA; s.param = JV_TTON; s.client = client; s.block = block; s.len = 8; s.options = JV_STORES;
+    s.bytes[0] = 0xaa; s.bytes[7] = (uint8_t)(jv_copy(c, client, block).bytes[7] + 1);
+    a = jv_saw(c, &s);
+    if (a.status == JV_NO_MEMORY) {
+        memset(&zero, 0, sizeof zero); zero.status = JV_NO_MEMORY;
+        after = look_at(c);
+        expect(!memcmp(&a, &zero, sizeof a), "more than the status is told");
+        expect(!memcmp(&before, &after, sizeof after), "something changed");
+        a = jv_saw(c, &s);
+    }
+    expect(a.status == 0 && a.stores == 1 && jv_events(c, a.bank).serial == before.events[a.bank] + 2, "a store and a Release");
+    return a;
+}
 /* A client gets a block, writes and reads it, and gives it up; then home sends it to the memory. */
 static void play(jv_cache *c, uint32_t client, uint32_t block, uint32_t rounds) {
     jv_answer a; uint32_t i;
     a = of_client(c, JV_CALL_ACQUIRE, client, block, JV_NTOT, 0); by_answer(c, JV_CALL_ACCEPT, &a);
     by_block(c, JV_CALL_ADVANCE, block); by_block(c, JV_CALL_SERVE_MEMORY, block); by_block(c, JV_CALL_TAKE_MEMORY, block);
     a = by_block(c, JV_CALL_ADVANCE, block); a = by_answer(c, JV_CALL_TAKE_GRANT, &a); by_answer(c, JV_CALL_TAKE_GRANT_ACK, &a);
-    for (i = 0; i < rounds; i++) {
+    if (client == 1) at_once(c, client, block, rounds);
+    else for (i = 0; i < rounds; i++) {
         of_client(c, JV_CALL_STORE, client, block * 8, 0, 1);
         a = of_client(c, JV_CALL_LOAD, client, block * 8, 0, 8);
         expect(a.len == 8 && a.bytes[0] == 0xaa, "a load of other bytes");
     }
-    a = of_client(c, JV_CALL_RELEASE, client, block, JV_TTON, 0); a = by_answer(c, JV_CALL_TAKE_C, &a);
+    a = client == 1 ? seen_release(c, client, block) : of_client(c, JV_CALL_RELEASE, client, block, JV_TTON, 0); a = by_answer(c, JV_CALL_TAKE_C, &a);
     by_answer(c, JV_CALL_TAKE_RELEASE_ACK, &a);
     by_block(c, JV_CALL_EVICT, block); by_block(c, JV_CALL_ADVANCE, block); by_block(c, JV_CALL_SERVE_MEMORY, block);
     by_block(c, JV_CALL_TAKE_MEMORY, block);

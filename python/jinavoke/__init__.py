@@ -20,6 +20,7 @@ import re
 NUMBERS = "version clients banks block_bytes sets ways registers copies memory_blocks".split()
 ASKED = "call index client place param bank channel len".split()
 TOLD = "status what bank client channel opcode param place address size index len stores reserved".split()
+SEEN = "channel opcode param client block len options index".split()
 # What a ticket is made of.
 TICKET = "bank client channel serial".split()
 
@@ -42,6 +43,16 @@ class Answer(c.Structure):
     def data(self):
         """The bytes that it tells."""
         return bytes(self.bytes[:self.len])
+
+
+class Seen(c.Structure):
+    """A message that was seen on a client's link (jv_seen)."""
+    _fields_ = [(name, c.c_uint32) for name in SEEN] + [("bytes", c.c_uint8 * 64)]
+
+
+class Number(c.Structure):
+    """What `jv_read` answers (jv_number)."""
+    _fields_ = [("status", c.c_uint32), ("what", c.c_uint32), ("serial", c.c_uint64)]
 
 
 class Refused(Exception):
@@ -103,11 +114,48 @@ def library(path):
     lib.jv_echo.argtypes, lib.jv_echo.restype = [c.POINTER(Request)], Answer
     lib.jv_open.argtypes, lib.jv_open.restype = [c.POINTER(Numbers), c.c_char_p, c.c_size_t, c.c_void_p], None
     lib.jv_call.argtypes, lib.jv_call.restype = [c.c_void_p, c.POINTER(Request)], Answer
+    lib.jv_read.argtypes, lib.jv_read.restype = [c.c_void_p, c.POINTER(Request), c.c_void_p, c.c_size_t], Number
+    lib.jv_echo_seen.argtypes, lib.jv_echo_seen.restype = [c.POINTER(Seen)], Answer
+    lib.jv_saw.argtypes, lib.jv_saw.restype = [c.c_void_p, c.POINTER(Seen)], Answer
+    lib.jv_calls.restype = c.c_size_t  # a Batch hands over what needs no conversion
     back = lib.jv_echo(Request(101, 102, 103, 104, 105, 106, 107, 108, 109))
     told = [back.what, back.index, back.client, back.place, back.param, back.bank, back.channel, back.opcode, back.serial]
-    if told != [*range(101, 110)] or lib.jv_version() != enums()["version"]["JV_VERSION"]:
+    back = lib.jv_echo_seen(Seen(*range(110, 118)))
+    told += [back.channel, back.opcode, back.param, back.client, back.place, back.size, back.what, back.index]
+    if told != [*range(101, 118)] or lib.jv_version() != enums()["version"]["JV_VERSION"]:
         raise OSError(f"{path}: the library is of another version than {header_file()}")
     return lib
+
+
+def asked(call, bytes=b"", **words):
+    """The request of a call or a view, named as in the header (JV_CALL_.., JV_VIEW_..) in small letters."""
+    words.setdefault("len", len(bytes))
+    return Request(call=number_of_call(call), bytes=(c.c_uint8 * 8)(*bytes[:8]), **words)
+
+
+@functools.lru_cache(maxsize=None)
+def number_of_call(call):
+    """The number of a call or a view; ValueError where there is none of that name."""
+    numbers = enums()["jv_call_number"]
+    number = next((numbers[it + call.upper()] for it in ("JV_CALL_", "JV_VIEW_") if it + call.upper() in numbers), None)
+    if number is None:
+        raise ValueError(f"there is no call or view {call!r}")
+    return number
+
+
+class Batch:
+    """Calls and views that are made at once (jv_calls), as often as `run` is called.
+
+    `requests` and `answers` are arrays of as many as there are: change a request's fields between two runs. `run` answers how many
+    were made: it ends at the first that is answered with another status than 0, whose answer is the last one.
+    """
+
+    def __init__(self, cache, requests):
+        self.cache = cache  # its room has to stay
+        self.requests = (Request * len(requests))(*requests)
+        self.answers = (Answer * len(requests))()
+        many = c.c_size_t(len(requests))
+        self.run = functools.partial(cache.lib.jv_calls, cache.at, c.byref(self.requests), many, c.byref(self.answers), many)
 
 
 class Cache:
@@ -126,12 +174,20 @@ class Cache:
 
     def ask(self, call, bytes=b"", **words):
         """The answer of a call or a view, named as in the header (JV_CALL_.., JV_VIEW_..) in small letters, refused or not."""
-        numbers = enums()["jv_call_number"]
-        number = next((numbers[it + call.upper()] for it in ("JV_CALL_", "JV_VIEW_") if it + call.upper() in numbers), None)
-        if number is None:
-            raise ValueError(f"there is no call or view {call!r}")
-        words.setdefault("len", len(bytes))
-        return self.lib.jv_call(self.at, Request(call=number, bytes=(c.c_uint8 * 8)(*bytes[:8]), **words))
+        return self.lib.jv_call(self.at, asked(call, bytes, **words))
+
+    def batch(self, *calls):
+        """A Batch of requests, each made by `asked`."""
+        return Batch(self, calls)
+
+    def many(self, *calls):
+        """The answers of calls that are made one after another, until one is refused, whose answer is the last."""
+        batch = self.batch(*calls)
+        return batch.answers[:batch.run()]
+
+    def saw(self, bytes=b"", **words):
+        """The answer to a message that was seen on A, C or E (jv_saw): channel, opcode, param, client, block, and options (JV_STORES)."""
+        return self.lib.jv_saw(self.at, Seen(len=len(bytes), bytes=(c.c_uint8 * 64)(*bytes[:64]), **words))
 
     def step(self, call, **words):
         """The answer of a call that is done; Refused where it is not."""
@@ -149,13 +205,14 @@ class Cache:
 
     def events(self, bank=0):
         """The events of a bank's log that are not forgotten, oldest first."""
-        place = self.step("forgotten", bank=bank).serial
+        request = asked("event", bank=bank, serial=self.step("forgotten", bank=bank).serial)
         while True:
-            event = self.ask("event", bank=bank, serial=place)
-            if event.status:
+            read = (Answer * 256)()
+            count = self.lib.jv_read(self.at, request, read, len(read)).serial
+            if not count:
                 return
-            yield event
-            place += 1
+            yield from read[:count]
+            request.serial += count
 
     def close(self):
         """Gives all that the cache holds back; a closed one is closed again without harm."""

@@ -1,6 +1,6 @@
 -- What a sequence of calls leaves of the logs of all banks.
 use Rattle.std.proofs.Common.{◌≡◌, ◌≢◌, ◌⊎◌, inl, inr, ℕ, zero, suc, ◌+◌, ◌*◌, ◌<◌, ◌≤◌, List, [], ◌∷◌, length, Option, Some, None, Result, Ok, Err, slice_get, slice_set, refl, sym, ◌∙◌, ap, subst, arith}
-use Rattle.std.specs.Prelude.{IfSome}
+use Rattle.std.specs.Prelude.{IfSome, MatchResult}
 use Rattle.std.specs.Option.{option_map}
 use Rattle.std.proofs.lemmas.Option.{same_Some}
 use Rattle.tl_map.specs.Numbers.{Numbers as Shape}
@@ -19,7 +19,7 @@ use Rattle.tl_embed.specs.Asked.{asked}
 use Rattle.tl_embed.specs.Calls.{AsksFor, Calls, CallsOn, GoesOn, IsPlayed, IsStarved}
 use Rattle.tl_embed.specs.Events.{Forgets, Reserves}
 use Rattle.tl_embed.specs.Histories.{AreCalls, Asking, EveryHistory, IsAsked, IsLater, IsRunning, RunsOn}
-use Rattle.tl_embed.specs.Saw.{AsCompared, SawsOn, SeenDoes, SeesOn}
+use Rattle.tl_embed.specs.Saw.{AreStored, AsCompared, AsLed, Compared, SawsOn, SeenDoes, SeesOn, Stores, inferred, step_on_c, store_of}
 use Rattle.tl_embed.specs.Seen.{seen_asks}
 use Rattle.tl_embed.specs.Told.{only}
 use Rattle.tl_embed.specs.Opens.{OpensBy, OpensOver, as_given, closed}
@@ -30,7 +30,8 @@ use Rattle.tl_embed.specs.declared.request.Asked.TheVariants as a
 use Rattle.tl_embed.specs.declared.request.Request.{Request}
 use Rattle.tl_embed.specs.declared.seen.Seen.{Seen}
 use Rattle.tl_embed.specs.declared.seen.SeenAsks.{SeenAsks}
-use Rattle.tl_embed.specs.declared.seen.SeenAsks.TheVariants.{Tells, Plays, Releases, Answers}
+use Rattle.tl_embed.specs.declared.seen.SeenAsks.TheVariants.{Tells, Plays, Sends}
+use Rattle.tl_embed.specs.declared.stores.Inferred.{Inferred}
 use Rattle.tl_embed.proofs.Later.{later-twice, same-later, step-later}
 
 -- equal options hold equal values
@@ -168,12 +169,46 @@ compared-later (Err refusal) kind s step old new told h = none-later old new h.0
 compared-later (Ok message) kind s step old new told (inl same) = made-later 0 step old new told same.1
 compared-later (Ok message) kind s step old new told (inr other) = none-later old new other.1
 
+-- stores that were done
+stored-later : (i : Inferred) (s : Seen) (places : List ℕ) (old new : NetworkState) → AreStored i s places old new → AreLater old new
+stored-later i s [] old new h = none-later old new h
+stored-later i s (place ∷ places) old new h =
+    later-then old h.0 new (made-later s.index (store_of i s place) old h.0 h.1 h.2) (stored-later i s places h.0 new h.4)
+
+-- all of them, or up to one that was not done
+stores-later : (made : Result ℕ Answer) (i : Inferred) (s : Seen) (old new : NetworkState) → Stores i s old new made → AreLater old new
+stores-later (Ok count) i s old new h = stored-later i s _ old new h.stored
+stores-later (Err told) i s old new h =
+    later-then old h.2 new (stored-later i s _ old h.2 h.3.stored) (made-later s.index (store_of i s h.0) h.2 new h.4.last h.4.asked)
+
+-- the call after them
+call-after : (made : Result ℕ Answer) (kind : Kind) (s : Seen) (step : Step) (mid new : NetworkState) (told : Answer)
+    → MatchResult made (λ count. (last : Answer) × Compared kind s step mid new last × (told ≡ record last { stores = count }))
+    (λ last. (new ≡ mid) × (told ≡ last))
+    → AreLater mid new
+call-after (Ok count) kind s step mid new told h = compared-later h.1.outcome kind s step mid new h.0 h.1.does
+call-after (Err last) kind s step mid new told h = none-later mid new h.0
+
+-- a call on C, with the stores before it
+led-later : (wanted : Option Inferred) (outcome : Result Message Refusal) (kind : Kind) (s : Seen) (step : Step) (old new : NetworkState)
+    (told : Answer) → AsLed wanted outcome kind s step old new told → AreLater old new
+led-later None outcome kind s step old new told h = compared-later outcome kind s step old new told h
+led-later (Some i) outcome kind s step old new told h =
+    let first : AreLater old h.ready = room-asked _ _ old h.ready h.room h.reserves in
+    elim h.does [
+      | inl short ↦ subst (λ (x : NetworkState). AreLater old x) (sym short.1) first
+      | inr goes ↦
+          later-then old h.ready new first
+          (later-then h.ready goes.1.mid new (stores-later goes.1.made i s h.ready goes.1.mid goes.1.stores)
+          (call-after goes.1.made kind s step goes.1.mid new told goes.1.ends))
+    ]
+
 -- what a message that was seen asks
 seen-later : (what : SeenAsks) (old new : NetworkState) (s : Seen) (told : Answer) → SeenDoes what old s new told → AreLater old new
 seen-later (Tells status) old new s told h = none-later old new h.0
 seen-later (Plays step) old new s told h = made-later 0 step old new told h
-seen-later (Releases prune kind) old new s told h = compared-later h.outcome kind s _ old new told h.does
-seen-later (Answers ticket kind) old new s told h = compared-later h.outcome kind s _ old new told h.does
+seen-later (Sends call kind) old new s told h =
+    led-later (inferred old kind s h.outcome) h.outcome kind s (step_on_c s call) old new told h.does
 
 -- A cache was open before, and its banks are later now.
 record IsOpenSince (old : Option NetworkState) (now : NetworkState) : Type 0 where

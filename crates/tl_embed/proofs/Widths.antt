@@ -1,5 +1,5 @@
 -- What is told in few bytes is what an answer tells.
-use Rattle.std.proofs.Common.{◌≡◌, ◌≢◌, ◌⊎◌, inl, inr, ℕ, ◌≤◌, ◌-◌, ◌+◌, List, ◌++◌, length, replicate, refl, sym, ◌∙◌, ap, append_assoc, arith}
+use Rattle.std.proofs.Common.{◌≡◌, ◌⊎◌, inl, inr, ℕ, ◌≤◌, ◌-◌, ◌+◌, List, ◌++◌, length, replicate, refl, ◌∙◌, ap, append_assoc, arith}
 use Rattle.std.proofs.lemmas.List.{replicate-append-replicate}
 use Rattle.tl_bank_spec.specs.Refusal.{refusal_number}
 use Rattle.tl_bank_spec.specs.declared.refusal.Refusal.{Refusal}

@@ -2,6 +2,7 @@ pub mod Asked
 pub mod Calls
 pub mod Events
 pub mod Histories
+pub mod Many
 pub mod Opens
 pub mod Saw
 pub mod Seen

@@ -19,7 +19,8 @@ use Rattle.tl_trace.specs.NetworkState.{NetworkState}
 use Rattle.tl_embed.specs.Views.{bank_for}
 use Rattle.tl_embed.specs.declared.seen.Seen.{Seen}
 use Rattle.tl_embed.specs.declared.seen.SeenAsks.{SeenAsks}
-use Rattle.tl_embed.specs.declared.seen.SeenAsks.TheVariants.{Tells, Plays, Releases, Answers}
+use Rattle.tl_embed.specs.declared.seen.SeenAsks.TheVariants.{Tells, Plays, Sends}
+use Rattle.tl_embed.specs.declared.seen.OnC.TheVariants.{Release, Answer}
 
 -- ## The message
 
@@ -82,7 +83,7 @@ first_of_block network s channel = first_in (bank_for network s.client s.block) 
 -- the answer to the first Probe
 abbrev pub answers_probe : Kind → Result Ticket ℕ → SeenAsks
 answers_probe seen (Err status) = Tells status
-answers_probe seen (Ok ticket) = Answers ticket seen
+answers_probe seen (Ok ticket) = Sends (Answer ticket) seen
 
 -- the taking of the first Grant, whose GrantAck was seen
 abbrev pub takes_grant : Result Ticket ℕ → SeenAsks
@@ -97,8 +98,8 @@ kind_asks (kind.AcquireBlock grow) network s = Plays (step.Acquire s.client s.bl
 kind_asks (kind.ProbeBlock cap) network s = Tells 30
 kind_asks (kind.ProbeAck report) network s = answers_probe (kind.ProbeAck report) (first_of_block network s B)
 kind_asks (kind.ProbeAckData prune) network s = answers_probe (kind.ProbeAckData prune) (first_of_block network s B)
-kind_asks (kind.Release prune) network s = Releases prune (kind.Release prune)
-kind_asks (kind.ReleaseData prune) network s = Releases (dirty_prune prune) (kind.ReleaseData prune)
+kind_asks (kind.Release prune) network s = Sends (Release prune) (kind.Release prune)
+kind_asks (kind.ReleaseData prune) network s = Sends (Release (dirty_prune prune)) (kind.ReleaseData prune)
 kind_asks kind.AccessAck network s = Tells 30
 kind_asks kind.AccessAckData network s = Tells 30
 kind_asks (kind.Grant cap) network s = Tells 30
@@ -115,4 +116,4 @@ message_asks (Some seen) network s =
 -- what a message that was seen asks; 17 of another channel, or an option that there is not
 abbrev pub seen_asks : NetworkState → Seen → SeenAsks
 seen_asks network s =
-    if is_of_client s.channel then (if nat_lt 0 s.options then Tells 17 else message_asks (kind_seen s) network s) else Tells 17
+    if is_of_client s.channel then (if nat_lt 1 s.options then Tells 17 else message_asks (kind_seen s) network s) else Tells 17

@@ -39,6 +39,13 @@ pub struct Numbers {
     pub memory_blocks: i64,
 }
 
+/// What lies in the room of a caller in C may go to another thread: each call then is of one thread, and the calls are in an order.
+pub fn may_move(cache: &Cache) {
+    crosses(cache);
+}
+
+fn crosses<T: Send>(_value: &T) {}
+
 /// A cache at reset over an image; one that is closed where the numbers make no geometry (20 to 28), the image is longer than the
 /// memory (10) or there is no memory (14).
 pub fn opened(alloc: Global, numbers: &Numbers, image: &[u8]) -> Cache
@@ -129,7 +136,7 @@ pub fn played(network: &mut Network, index: u32, step: &Step) -> Answer
 }
 
 /// Makes room in a bank's log for `count` more events.
-fn reserve(network: &mut Network, bank: BankNo, count: u64) -> Answer
+pub fn reserve(network: &mut Network, bank: BankNo, count: u64) -> Answer
     ensures { Reserves bank count network.old network.new result }
 {
     if bank.number() >= network.geometry().banks() {

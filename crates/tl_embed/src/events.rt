@@ -2,7 +2,8 @@
 ghost use Rattle.std.specs.Prelude.{◌≡◌};
 ghost use Rattle.tl_types.specs.Codes.{code_of};
 ghost use Rattle.tl_bank_spec.specs.View.{shape_of};
-ghost use Rattle.tl_embed.specs.Events.{carried, event_number, event_shown, of_access, of_client};
+ghost use Rattle.tl_protocol.specs.Protocol.{block_of};
+ghost use Rattle.tl_embed.specs.Events.{carried, event_number, event_shown, event_told, of_access, of_client};
 
 use crate::answer::Answer;
 use tl_bank::Bank;
@@ -19,13 +20,30 @@ pub fn event_told(bank: &Bank, place: u64) -> Answer
         return Answer::only(19);
     }
     match bank.log().get((place - forgotten) as usize) {
-        Some(event) => Answer {
-            what: 6,
-            opcode: event_number(event),
-            place: event.block(shape_of(bank.geometry())),
-            ..carried(event)
-        },
+        Some(event) => event_of(bank.geometry(), event),
         None => Answer::only(4),
+    }
+}
+
+/// A whole event.
+pub fn event_of(geometry: Geometry, event: &Event) -> Answer
+    ensures { result ≡ event_told (shape_of geometry) event.now }
+{
+    Answer {
+        what: 6,
+        opcode: event_number(event),
+        place: block_of(geometry, event),
+        ..carried(event)
+    }
+}
+
+/// The block that an event is of.
+fn block_of(geometry: Geometry, event: &Event) -> u32
+    ensures { result ≡ block_of (shape_of geometry) event.now }
+{
+    match event {
+        Event::Load(access) | Event::Store(access) => geometry.block_at(access.address).number(),
+        _ => event.block(shape_of(geometry)),
     }
 }
 

@@ -5,6 +5,7 @@ ghost use Rattle.std.specs.Borrow.{full_share, sem};
 ghost use Rattle.std.specs.Mem.{type_size};
 ghost use Rattle.std.specs.Ptr.{lies_at, room_at};
 ghost use Rattle.tl_embed.specs.Calls.{Accesses, Calls, Looks};
+ghost use Rattle.tl_embed.specs.Many.{CallsMany, Reads};
 ghost use Rattle.tl_embed.specs.Opens.{Opens};
 ghost use Rattle.tl_embed.specs.Saw.{Saws};
 ghost use Rattle.tl_embed.specs.Told.{echoed, seen_echoed};
@@ -14,6 +15,7 @@ ghost use Rattle.tl_embed.specs.declared.cache.Cache.{Cache};
 use crate::access::access;
 use crate::answer::{Accessed, Answer, Number};
 use crate::cache::{Cache, Numbers, call, opened};
+use crate::many::{calls, read};
 use crate::request::Request;
 use crate::saw::saw;
 use crate::seen::Seen;
@@ -21,12 +23,12 @@ use crate::views::look;
 use std::alloc::Global;
 
 /// Which interface this is: it rises with each change of a struct, a number or a meaning.
-const VERSION: u32 = 4;
+const VERSION: u32 = 5;
 
 /// Which interface this is.
 #[unsafe(no_mangle)]
 pub extern "C" fn jv_version() -> u32
-    ensures { result ≡ 4 }
+    ensures { result ≡ 5 }
 {
     VERSION
 }
@@ -81,6 +83,32 @@ pub unsafe extern "C" fn jv_call(cache: *mut u8, request: &Request) -> Answer
     ensures* { ∃ₛ (λ (after : Cache). sem 𝓛 (lies_at the_row full_share cache after) ∗ ⌜ Calls before request.now after result ⌝) }
 {
     call(unsafe { &mut *(cache as *mut Cache) }, request)
+}
+
+/// Carries out calls one after another, of the cache at a pointer where `jv_open` put one, until one is refused.
+#[unsafe(no_mangle)]
+pub unsafe extern "C" fn jv_calls(
+    cache: *mut u8,
+    requests: &[Request],
+    answers: &mut [Answer],
+) -> usize
+    ghost before: { Cache }
+    requires* { sem 𝓛 (lies_at the_row full_share cache before) }
+    ensures* { ∃ₛ (λ (after : Cache). sem 𝓛 (lies_at the_row full_share cache after)
+        ∗ ⌜ CallsMany before requests.now answers.old after answers.new result ⌝) }
+{
+    calls(unsafe { &mut *(cache as *mut Cache) }, requests, answers)
+}
+
+/// Tells events of the cache at a pointer where `jv_open` put one.
+#[unsafe(no_mangle)]
+pub unsafe extern "C" fn jv_read(cache: *mut u8, request: &Request, events: &mut [Answer]) -> Number
+    ghost before: { Cache }
+    requires* { sem 𝓛 (lies_at the_row full_share cache before) }
+    ensures* { ∃ₛ (λ (after : Cache). sem 𝓛 (lies_at the_row full_share cache after)
+        ∗ ⌜ Reads before request.now events.old after events.new result ⌝) }
+{
+    read(unsafe { &mut *(cache as *mut Cache) }, request, events)
 }
 
 /// Carries out a load or a store of the cache at a pointer where `jv_open` put one.

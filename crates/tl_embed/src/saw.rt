@@ -1,21 +1,20 @@
 //! A message that was seen, and the client's call that sends it.
-ghost use Rattle.std.specs.Prelude.{◌≡◌, ◌↔◌, ◌⊎◌, IsTrue};
-ghost use Rattle.tl_script_words.specs.declared.step.Step.{Step};
-ghost use Rattle.tl_script_words.specs.declared.step.TicketCall.{TicketCall};
+ghost use Rattle.std.specs.Prelude.{◌≡◌, ◌↔◌, ◌<◌, ◌^◌, IsTrue};
 ghost use Rattle.tl_trace.specs.Would.{WouldComeTo};
-ghost use Rattle.tl_embed.specs.Saw.{Compared, IsAsSeen, SeenDoes, Saws, differs, number_of};
+ghost use Rattle.tl_embed.specs.Saw.{AsCompared, IsAsSeen, SeenDoes, Saws, SendsOnC, StoresAndSends, StoresFirst, differs, number_of, step_on_c};
 ghost use Rattle.tl_embed.specs.Seen.{seen_asks};
 ghost use Rattle.tl_embed.specs.Views.{home_of};
 
 use crate::answer::Answer;
-use crate::cache::{Cache, played};
-use crate::seen::{Seen, SeenAsks};
+use crate::cache::{Cache, played, reserve};
+use crate::seen::{OnC, Seen, SeenAsks};
+use crate::stores::{Inferred, stores_before};
 use crate::tell::message_told;
 use crate::views::home_of;
 use tl_bank::Refusal;
 use tl_script_words::{Step, TicketCall};
 use tl_trace::Network;
-use tl_types::{BankNo, BlockNo, Body, Channel, ClientId, Kind, Message, Prune, Ticket};
+use tl_types::{BankNo, BlockNo, Body, Channel, ClientId, Kind, Message, Ticket};
 
 /// Carries out what a message that was seen asks.
 pub fn saw(cache: &mut Cache, seen: &Seen) -> Answer
@@ -37,34 +36,94 @@ fn see(network: &mut Network, seen: &Seen) -> Answer
     match seen.asks(network) {
         SeenAsks::Tells(status) => Answer::only(status),
         SeenAsks::Plays(step) => played(network, 0, &step),
-        SeenAsks::Releases(prune, kind) => release(network, seen, prune, kind),
-        SeenAsks::Answers(ticket, kind) => answer_probe(network, seen, ticket, kind),
+        SeenAsks::Sends(call, kind) => send(network, seen, &call, kind),
     }
 }
 
-/// A Release, if that is what was seen.
-fn release(network: &mut Network, seen: &Seen, prune: Prune, kind: Kind) -> Answer
-    ensures { Compared kind seen.now (Step.Release seen.now.client seen.now.block prune) network.old network.new result }
+/// A call on C, if that sends what was seen; after the stores that lead there, where they are asked for.
+fn send(network: &mut Network, seen: &Seen, call: &OnC, kind: Kind) -> Answer
+    ensures { SendsOnC kind call.now seen.now network.old network.new result }
 {
-    let client = ClientId::new(seen.client);
-    let block = BlockNo::new(seen.block);
-    let step = Step::Release {
-        client,
-        block,
-        prune,
-    };
-    let would = network.would_release(client, block, prune);
-    compare(network, seen, kind, &step, would)
+    let would = would(network, seen, call);
+    match stores_before(network, kind, seen, &would) {
+        None => compare(network, seen, kind, &step_on_c(seen, call), would),
+        Some(stores) => store_first(network, seen, &stores, call, kind),
+    }
 }
 
-/// The answer to a Probe, if that is what was seen.
-fn answer_probe(network: &mut Network, seen: &Seen, ticket: Ticket, kind: Kind) -> Answer
-    ensures { Compared kind seen.now (Step.Ticket TicketCall.AnswerProbe ticket) network.old network.new result }
+/// What a call on C would come to.
+fn would(network: &Network, seen: &Seen, call: &OnC) -> Result<Message, Refusal>
+    ensures { WouldComeTo network.now (step_on_c seen.now call.now) result }
 {
-    let named = ticket;
-    let step = Step::Ticket(TicketCall::AnswerProbe, ticket);
-    let would = network.would_answer(named);
-    compare(network, seen, kind, &step, would)
+    match call {
+        OnC::Release(prune) => {
+            network.would_release(ClientId::new(seen.client), BlockNo::new(seen.block), *prune)
+        }
+        OnC::Answer(ticket) => network.would_answer(*ticket),
+    }
+}
+
+/// The step that a call on C is.
+fn step_on_c(seen: &Seen, call: &OnC) -> Step
+    ensures { result ≡ step_on_c seen.now call.now }
+{
+    match call {
+        OnC::Release(prune) => {
+            let client = ClientId::new(seen.client);
+            let block = BlockNo::new(seen.block);
+            let prune = *prune;
+            Step::Release {
+                client,
+                block,
+                prune,
+            }
+        }
+        OnC::Answer(ticket) => Step::Ticket(TicketCall::AnswerProbe, *ticket),
+    }
+}
+
+/// The same after the stores, once there is room for all of it.
+fn store_first(
+    network: &mut Network,
+    seen: &Seen,
+    stores: &Inferred,
+    call: &OnC,
+    kind: Kind,
+) -> Answer
+    requires { stores.now.first < 2 ^ 31 }
+    ensures { StoresFirst stores.now kind seen.now (step_on_c seen.now call.now) network.old network.new result }
+{
+    let bank = bank_of(network, BlockNo::new(seen.block));
+    let events = stores.count(seen.bytes()) + 1;
+    let room = reserve(network, bank, u64::from(events));
+    if room.status != 0 {
+        return room;
+    }
+    store_and_send(network, seen, stores, call, kind)
+}
+
+/// The stores, and then the call.
+fn store_and_send(
+    network: &mut Network,
+    seen: &Seen,
+    stores: &Inferred,
+    call: &OnC,
+    kind: Kind,
+) -> Answer
+    requires { stores.now.first < 2 ^ 31 }
+    ensures { StoresAndSends stores.now kind seen.now (step_on_c seen.now call.now) network.old network.new result }
+{
+    match stores.make(network, seen) {
+        Ok(made) => {
+            let would = would(network, seen, call);
+            let told = compare(network, seen, kind, &step_on_c(seen, call), would);
+            Answer {
+                stores: made,
+                ..told
+            }
+        }
+        Err(told) => told,
+    }
 }
 
 /// A step that sends a message on C, if that is what was seen.
@@ -75,8 +134,7 @@ fn compare(
     step: &Step,
     would: Result<Message, Refusal>,
 ) -> Answer
-    requires { WouldComeTo network.old step.now would }
-    ensures { Compared kind seen.now step.now network.old network.new result }
+    ensures { AsCompared would kind seen.now step.now network.old network.new result }
 {
     match would {
         Ok(message) => {

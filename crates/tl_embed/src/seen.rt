@@ -30,12 +30,21 @@ pub struct Seen {
     pub block: u32,
     /// How many bytes it carries.
     pub len: u32,
-    /// 0.
+    /// 1 where the stores that lead to the bytes are to be made before, else 0.
     pub options: u32,
     /// The index of the stores that are made for it.
     pub index: u32,
     /// The bytes, the first `len` of them.
     pub bytes: [u8; 64],
+}
+
+/// A client's call that sends a message on C.
+#[derive(Drop)]
+pub enum OnC {
+    /// A Release of the block.
+    Release(Prune),
+    /// The answer to the Probe of a ticket.
+    Answer(Ticket),
 }
 
 /// What a message that was seen asks.
@@ -45,10 +54,8 @@ pub enum SeenAsks {
     Tells(u32),
     /// A step that sends just such a message.
     Plays(Step),
-    /// The block's Release, if that sends a message of this kind with the same bytes.
-    Releases(Prune, Kind),
-    /// The answer to the Probe of a ticket, likewise.
-    Answers(Ticket, Kind),
+    /// A call on C, if that sends a message of this kind with the same bytes.
+    Sends(OnC, Kind),
 }
 
 impl Seen {
@@ -56,7 +63,7 @@ impl Seen {
     pub fn asks(&self, network: &Network) -> SeenAsks
         ensures { result ≡ seen_asks network.now self.now }
     {
-        if !is_of_client(self.channel) || self.options > 0 {
+        if !is_of_client(self.channel) || self.options > 1 {
             return SeenAsks::Tells(17);
         }
         match self.kind() {
@@ -93,11 +100,11 @@ impl Seen {
                 block,
                 grow,
             }),
-            Kind::Release(prune) => SeenAsks::Releases(prune, kind),
-            Kind::ReleaseData(prune) => SeenAsks::Releases(prune.prune(), kind),
+            Kind::Release(prune) => SeenAsks::Sends(OnC::Release(prune), kind),
+            Kind::ReleaseData(prune) => SeenAsks::Sends(OnC::Release(prune.prune()), kind),
             Kind::ProbeAck(_) | Kind::ProbeAckData(_) => {
                 match self.first_of_block(network, Channel::B) {
-                    Ok(ticket) => SeenAsks::Answers(ticket, kind),
+                    Ok(ticket) => SeenAsks::Sends(OnC::Answer(ticket), kind),
                     Err(status) => SeenAsks::Tells(status),
                 }
             }
@@ -223,7 +230,7 @@ fn is_of_client(channel: u32) -> bool
 }
 
 /// Whether a message of a kind carries the bytes of a block.
-fn carries_bytes(kind: Kind) -> bool
+pub fn carries_bytes(kind: Kind) -> bool
     ensures { result ≡ carries_bytes kind }
 {
     match kind {
