@@ -8,6 +8,7 @@ use Rattle.tlchart_model.specs.Change.{changes_of}
 use Rattle.tlchart_model.specs.Turn.{turns_of}
 use Rattle.tlchart_model.specs.declared.arrow.Arrow.{Arrow}
 use Rattle.tlchart_model.specs.declared.chart.Chart.{Chart}
+use Rattle.tlchart_model.specs.declared.turn.Turn.{Turn}
 
 -- the block that was asked for, or else that of the first message; block 0 where there is none
 abbrev pub chosen : Option ℕ → List Arrow → ℕ
@@ -15,12 +16,16 @@ chosen (Some block) arrows = block
 chosen None [] = 0
 chosen None (first ∷ rest) = first.message.block
 
--- A chart has a lifeline for each client and each bank, what each step did, each message of the trace once as an arrow, and the
--- changes of permissions to its block.
-pub record IsChart (g : Numbers) (steps : List Step) (trace : Trace) (asked : Option ℕ) (chart : Chart) : Type 0 where
-  pub clients : chart.clients ≡ g.clients
-  pub banks : chart.banks ≡ g.banks
-  pub turns : chart.turns.items ≡ turns_of g steps trace.answers.items
-  pub arrows : chart.arrows.items ≡ arrows_of (turns_of g steps trace.answers.items)
-  pub block : chart.block ≡ chosen asked (arrows_of (turns_of g steps trace.answers.items))
-  pub changes : chart.changes.items ≡ changes_of chart.block (arrows_of (turns_of g steps trace.answers.items))
+-- A chart of what was done in turns between c clients and b banks: a lifeline for each client and each bank, the turns, each message of a
+-- turn once as an arrow, and the changes of permissions to its block.
+pub record IsChartOf (c b : ℕ) (done : List Turn) (asked : Option ℕ) (chart : Chart) : Type 0 where
+  pub clients : chart.clients ≡ c
+  pub banks : chart.banks ≡ b
+  pub turns : chart.turns.items ≡ done
+  pub arrows : chart.arrows.items ≡ arrows_of done
+  pub block : chart.block ≡ chosen asked (arrows_of done)
+  pub changes : chart.changes.items ≡ changes_of chart.block (arrows_of done)
+
+-- A chart of a trace is that of what each of its steps did, over the clients and the banks of its geometry.
+abbrev pub IsChart : Numbers → List Step → Trace → Option ℕ → Chart → Type 0
+IsChart g steps trace asked chart = IsChartOf g.clients g.banks (turns_of g steps trace.answers.items) asked chart

@@ -1,6 +1,6 @@
 //! The chart of a trace.
 ghost use Rattle.std.specs.Prelude.{◌≡◌, IfOk};
-ghost use Rattle.tlchart_model.specs.Chart.{IsChart, chosen};
+ghost use Rattle.tlchart_model.specs.Chart.{IsChart, IsChartOf, chosen};
 
 use crate::arrow::{Arrow, arrows};
 use crate::change::{Change, changes};
@@ -34,6 +34,30 @@ fn chosen(block: Option<BlockNo>, arrows: &[Arrow]) -> BlockNo
     }
 }
 
+/// The chart of what was done in turns between so many clients and banks, with the permissions to the block that is asked for, or else to
+/// that of the first message. An error is a request for memory that was refused.
+pub fn chart_of_turns(
+    alloc: Global,
+    clients: u32,
+    banks: u32,
+    turns: Vec<Turn>,
+    block: Option<BlockNo>,
+) -> Result<Chart, AllocError>
+    ensures { IfOk result (IsChartOf clients banks turns.items block) }
+{
+    let arrows = arrows(alloc, &turns)?;
+    let block = chosen(block, &arrows);
+    let changes = changes(alloc, block, &arrows)?;
+    Ok(Chart {
+        clients,
+        banks,
+        block,
+        turns,
+        arrows,
+        changes,
+    })
+}
+
 /// The chart of the trace of some steps, with the permissions to the block that is asked for, or else to that of the first message.
 /// An error is a request for memory that was refused.
 pub fn chart_of(
@@ -46,15 +70,5 @@ pub fn chart_of(
     ensures { IfOk result (IsChart geometry steps.now trace.now block) }
 {
     let turns = turns(alloc, geometry, steps, &trace.answers)?;
-    let arrows = arrows(alloc, &turns)?;
-    let block = chosen(block, &arrows);
-    let changes = changes(alloc, block, &arrows)?;
-    Ok(Chart {
-        clients: geometry.clients(),
-        banks: geometry.banks(),
-        block,
-        turns,
-        arrows,
-        changes,
-    })
+    chart_of_turns(alloc, geometry.clients(), geometry.banks(), turns, block)
 }

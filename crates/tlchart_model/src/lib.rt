@@ -11,7 +11,7 @@ mod turn;
 
 pub use arrow::Arrow;
 pub use change::Change;
-pub use chart::{Chart, chart_of};
+pub use chart::{Chart, chart_of, chart_of_turns};
 pub use lifeline::{Lifeline, Place};
-pub use message::ShownMessage;
+pub use message::{ShownMessage, link_message};
 pub use turn::{Mark, Turn};

@@ -47,8 +47,8 @@ fn copied_bytes(bytes: Option<&BlockBytes>) -> Option<BlockBytes>
     }
 }
 
-/// A message to or from a client.
-fn link_message(ticket: &Ticket, block: BlockNo, body: &Body) -> ShownMessage
+/// A message to or from a client, at the place of a ticket.
+pub fn link_message(ticket: &Ticket, block: BlockNo, body: &Body) -> ShownMessage
     ensures { result ≡ link_message ticket.now block body.now }
 {
     let from = sender(ticket);

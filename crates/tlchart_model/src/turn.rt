@@ -24,6 +24,8 @@ pub enum Mark {
     Evicting(BlockNo),
     /// The step was refused.
     Refused(Refusal),
+    /// The entry of a record is not permitted.
+    Unlawful,
 }
 
 /// What a step did: who made it, the message that it sent, the place of the message that it took, and its mark.

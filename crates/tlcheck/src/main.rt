@@ -1,22 +1,46 @@
-//! `tlcheck FILE`: whether a record of events is a lawful run. `-` stands for standard input.
+//! `tlcheck [--progress] FILE`: whether a record of events is a lawful run. `-` stands for standard input.
 #![tactic(auto)]
 
-use std::fs::File;
-use std::io::{BufReader, Read};
-use std::process::ExitCode;
-use tl_streams::words;
-use tlcheck_reader::{Ending, answer, show};
+mod asked;
 
-/// Checks what a reader has.
-fn judge<R: Read + Drop>(rt: &HostRuntime, reader: R) -> u8 {
-    match BufReader::with_capacity(rt.alloc(), 65_536, reader) {
-        Ok(mut reader) => answer(rt.alloc(), &mut reader, &mut rt.stdout(), &mut rt.stderr()),
+use asked::{Asked, asked_by};
+use std::fs::File;
+use std::io::{BufReader, IsTerminal, Read};
+use std::process::ExitCode;
+use tl_streams::{Progress, Watched, words};
+use tlcheck_reader::{Ending, check_record, show, tell_ending};
+
+fn refuse(rt: &HostRuntime, ending: Ending) -> u8 {
+    show(&mut rt.stderr(), &ending)
+}
+
+/// Checks what a reader has, of so many bytes where they are known, and tells how far it is where that is asked for, or
+/// where faults go to a terminal.
+fn judge<R: Read + Drop>(rt: &HostRuntime, asked: &Asked<'_>, reader: R, size: Option<u64>) -> u8 {
+    let is_terminal = rt.stderr().is_terminal();
+    let progress = if asked.progress || is_terminal {
+        Progress::begin(rt.stderr(), rt, is_terminal, size)
+    } else {
+        None
+    };
+    match BufReader::with_capacity(rt.alloc(), 65_536, Watched::new(reader, progress)) {
+        Ok(mut reader) => {
+            let ending = check_record(rt.alloc(), &mut reader);
+            if let Some(progress) = reader.into_inner().into_watcher() {
+                progress.end();
+            }
+            tell_ending(rt.alloc(), &ending, &mut rt.stdout(), &mut rt.stderr())
+        }
         Err(_) => refuse(rt, Ending::Memory),
     }
 }
 
-fn refuse(rt: &HostRuntime, ending: Ending) -> u8 {
-    show(&mut rt.stderr(), &ending)
+/// How many bytes a file has, where it says that it has some.
+fn size_of(file: &File) -> Option<u64> {
+    match file.metadata() {
+        Ok(known) if known.len() > 0 => Some(known.len()),
+        _ => None,
+    }
 }
 
 fn status(rt: &HostRuntime) -> u8 {
@@ -24,17 +48,18 @@ fn status(rt: &HostRuntime) -> u8 {
         Ok(words) => words,
         Err(error) => return refuse(rt, Ending::from(error)),
     };
-    match words.as_slice() {
-        [name] => {
-            if name.as_str() == "-" {
-                return judge(rt, rt.reader());
-            }
-            match File::open(rt, name.as_str()) {
-                Ok(file) => judge(rt, file),
-                Err(_) => refuse(rt, Ending::File),
-            }
+    let Some(asked) = asked_by(&words) else {
+        return refuse(rt, Ending::Usage);
+    };
+    if asked.file == "-" {
+        return judge(rt, &asked, rt.reader(), None);
+    }
+    match File::open(rt, asked.file) {
+        Ok(file) => {
+            let size = size_of(&file);
+            judge(rt, &asked, file, size)
         }
-        _ => refuse(rt, Ending::Usage),
+        Err(_) => refuse(rt, Ending::File),
     }
 }
 

@@ -11,6 +11,8 @@ use Rattle.tl_streams.specs.Written.{AppendsBeginning}
 use Rattle.tl_streams.specs.declared.command_line.WordsError.{WordsError}
 use Rattle.tl_streams.specs.declared.command_line.WordsError.TheVariants as words
 use Rattle.tl_streams.specs.declared.fault.ProgramFault.TheVariants as program
+use Rattle.tl_streams.specs.declared.reading.ReadError.{ReadError}
+use Rattle.tl_streams.specs.declared.reading.ReadError.TheVariants as read
 use Rattle.tlcheck_record.specs.State.{end_lines, state_lines}
 use Rattle.tlcheck_reader.specs.declared.ending.Ending.{Ending}
 use Rattle.tlcheck_reader.specs.declared.ending.Ending.TheVariants.{Usage, Judged, Memory, File}
@@ -33,6 +35,11 @@ status_of File = 5
 abbrev pub ending_of_words : WordsError → Ending
 ending_of_words words.Usage = Usage
 ending_of_words words.Memory = Memory
+
+-- a file that is not read to its end ends as a file, or for want of memory
+abbrev pub ending_of_read : ReadError → Ending
+ending_of_read read.Memory = Memory
+ending_of_read read.File = File
 
 -- what was said of a record
 abbrev pub outcome_text : Outcome → List ℕ
@@ -73,6 +80,13 @@ MayEnd known Usage = ⊥
 MayEnd known (Judged outcome) = IfSome known (λ text. IsOutcome text outcome)
 MayEnd known Memory = Unit {0}
 MayEnd known File = Unit {0}
+
+-- What is told of an ending: it, or that there was no memory for its lines, or that they could not be written.
+abbrev pub Tells : Ending → Ending → Type 0
+Tells ending Usage = Usage ≡ ending
+Tells ending (Judged outcome) = Judged outcome ≡ ending
+Tells ending Memory = Unit {0}
+Tells ending File = Unit {0}
 
 -- A verdict stands in the output, with the state beside it, and nothing in the faults.
 pub record IsVerdict (ending : Ending) (output output_new faults faults_new : Option (List ℕ)) : Type 0 where

@@ -1,13 +1,13 @@
 //! What the program ends with, and how it is told.
 ghost use Rattle.std.specs.Prelude.{◌≡◌, ◌++◌, Some, IfOk, OnOk, string_bytes};
 ghost use Rattle.tl_streams.specs.Written.{AppendsBeginning};
-ghost use Rattle.tlcheck_reader.specs.Ending.{beside, ending_of_words, ending_line, ending_lines, ending_text, outcome_text, status_of};
+ghost use Rattle.tlcheck_reader.specs.Ending.{beside, ending_of_read, ending_of_words, ending_line, ending_lines, ending_text, outcome_text, status_of};
 
 use crate::outcome::Outcome;
 use std::alloc::{AllocError, Global};
 use std::fmt;
 use std::io::Write;
-use tl_streams::{ProgramFault, WordsError, tell};
+use tl_streams::{ProgramFault, ReadError, WordsError, tell};
 use tlcheck_record::{Reason, push_end, push_state};
 
 /// What the program ends with. It prints as its first line.
@@ -71,6 +71,17 @@ impl From<WordsError> for Ending {
     }
 }
 
+impl From<ReadError> for Ending {
+    ghost from_gives = { λ error ending. ending ≡ ending_of_read error };
+
+    fn from(error: ReadError) -> Ending {
+        match error {
+            ReadError::Memory => Ending::Memory,
+            ReadError::File => Ending::File,
+        }
+    }
+}
+
 impl Ending {
     /// The status that the program ends with: 0 and 1 are verdicts, the others faults.
     pub fn status(&self) -> u8
@@ -99,7 +110,7 @@ fn push_beside(text: &mut String, outcome: &Outcome) -> Result<(), AllocError>
 }
 
 /// The lines of what the program ends with: its first line, and what stands beside it. Err is a refused request for memory.
-pub(crate) fn lines(alloc: Global, ending: &Ending) -> Result<String, AllocError>
+pub fn lines(alloc: Global, ending: &Ending) -> Result<String, AllocError>
     ensures { IfOk result (λ text. string_bytes text ≡ ending_lines ending.now) }
 {
     let mut text = format!(in alloc; "{ending}\n")?;

@@ -4,7 +4,7 @@ ghost use Rattle.std.specs.Option.{option_map};
 ghost use Rattle.tl_protocol.specs.declared.event.Event.{Event};
 ghost use Rattle.tl_protocol.specs.declared.shape.Shape.{Shape};
 ghost use Rattle.tlcheck_rules.specs.Judged.{EveryLawfulRecordIsALawfulLog, NoBrokenEntryIsPermitted};
-ghost use Rattle.tlcheck_rules.specs.declared.judge.Refusal.TheVariants.{Broken};
+ghost use Rattle.tlcheck_rules.specs.declared.judge.Refusal.TheVariants.{Broken, Memory};
 ghost use Rattle.tlcheck_rules.specs.declared.judge.Breach.{Breach};
 
 use crate::difference::{Difference, difference_of};
@@ -36,6 +36,14 @@ pub enum Refusal {
     Broken(Breach),
     /// A request for memory was refused.
     Memory,
+}
+
+impl From<AllocError> for Refusal {
+    ghost from_gives = { λ _ refusal. refusal ≡ Memory };
+
+    fn from(_error: AllocError) -> Refusal {
+        Refusal::Memory
+    }
 }
 
 /// Where the entries so far lead. It takes memory for blocks, clients and the messages that wait, and none for the entries.

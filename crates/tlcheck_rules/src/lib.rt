@@ -14,3 +14,4 @@ pub use entry::{Entry, Shown};
 pub use judge::{Breach, Judge, Refusal, every_record};
 pub use keeps::broken_rule;
 pub use rule::{Rule, client_of, rules_of};
+pub use sent::taken_channel;

@@ -11,7 +11,7 @@ use tl_rules::{BlockState, Client, Event, Shape};
 use tl_types::{Body, Channel, ClientId, Downward, Perm, ProbeAnswer, Surrender, Upward};
 
 /// The channel of which an event takes the first message.
-pub(crate) fn taken_channel(event: &Event) -> Option<Channel>
+pub fn taken_channel(event: &Event) -> Option<Channel>
     ensures { option_map (place_at (client_of event.now)) result ≡ take_of event.now }
 {
     match event {
