@@ -283,6 +283,7 @@ impl Home {
     }
 
     /// What comes of a register that was asked for its step.
+    #[inline(always)]
     fn answered<P: HomePort, R: Wait>(
         &mut self,
         rt: &R,
