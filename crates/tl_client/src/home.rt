@@ -14,7 +14,7 @@ use std::sync::Wait;
 use std::time::Clock;
 use tl_bank::{Action, Refusal};
 use tl_client_mail::{BATCH, Links, Mail, Rest, Waiting};
-use tl_client_ports::{Gate, HomePort};
+use tl_client_ports::{FirstStep, Gate, HomePort};
 use tl_types::{BankNo, BlockNo, Channel, Ticket};
 
 /// A bank's home. Contracts see its bank, and the tickets that wait.
@@ -249,9 +249,17 @@ impl Home {
         if !self.may_be_open {
             return Ok(());
         }
-        let open = port.open_blocks();
+        mail.make_room()?;
+        let FirstStep { open, answer } = port.advance_first();
         self.may_be_open = !open.is_empty();
-        for block in open.as_slice() {
+        let Some(answer) = answer else {
+            return Ok(());
+        };
+        let Some((first, later)) = open.as_slice().split_first() else {
+            return Ok(());
+        };
+        self.answered(rt, port, mail, *first, answer)?;
+        for block in later {
             self.advance(rt, port, mail, *block)?;
         }
         Ok(())
@@ -270,7 +278,26 @@ impl Home {
         ensures inbox { mail.new.inbox ≡ mail.old.inbox }
     {
         mail.make_room()?;
-        match port.advance(block) {
+        let answer = port.advance(block);
+        self.answered(rt, port, mail, block, answer)
+    }
+
+    /// What comes of a register that was asked for its step.
+    #[inline(always)]
+    fn answered<P: HomePort, R: Wait>(
+        &mut self,
+        rt: &R,
+        port: &mut P,
+        mail: &mut Mail<'_>,
+        block: BlockNo,
+        answer: Result<Action, Refusal>,
+    ) -> Result<(), AllocError>
+        requires { All HasRoom mail.old.ways }
+        ensures asked { P.asked port.new ≡ P.asked port.old }
+        ensures same { self.new ≡ self.old }
+        ensures inbox { mail.new.inbox ≡ mail.old.inbox }
+    {
+        match answer {
             Ok(action) => {
                 self.progress.succeed();
                 self.follow(rt, port, mail, block, action)
@@ -309,10 +336,7 @@ impl Home {
         ensures asked { P.asked port.new ≡ P.asked port.old }
         ensures same { self.new ≡ self.old }
     {
-        if let Err(refusal) = port.serve_memory(block) {
-            return self.progress.refuse(refusal);
-        }
-        match port.take_memory(block) {
+        match port.pass_memory(block) {
             Ok(()) => Ok(()),
             Err(refusal) => self.progress.refuse(refusal),
         }

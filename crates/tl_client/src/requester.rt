@@ -15,7 +15,7 @@ use tl_client_mail::{BATCH, Links, Mail, Waiting};
 use tl_client_ports::Port;
 use tl_map::Geometry;
 use tl_script_words::Command;
-use tl_types::{BankNo, BlockNo, Channel, ClientId, Grow, Perm, Prune, Ticket};
+use tl_types::{BankNo, BlockNo, Channel, ClientId, Grow, Prune, Ticket};
 
 /// A kind of answer of home to a client.
 #[derive(Clone, Copy, Debug, PartialEq, Eq)]
@@ -371,13 +371,7 @@ impl Requester {
             Command::Store {
                 address: _,
                 bytes: _,
-            } => {
-                let grow = match port.perm(self.client, block) {
-                    Perm::Branch => Grow::BtoT,
-                    _ => Grow::NtoT,
-                };
-                self.acquire(rt, port, mail, block, grow)
-            }
+            } => self.acquire(rt, port, mail, block, Grow::NtoT),
             Command::Drop { address: _ } => self.give_up(rt, port, mail, block),
         }
     }
@@ -397,7 +391,7 @@ impl Requester {
         ensures inbox { mail.new.inbox ≡ mail.old.inbox }
     {
         mail.make_room()?;
-        match port.acquire(self.client, block, grow) {
+        match ask_acquire(port, self.client, block, grow) {
             Ok(ticket) => {
                 self.progress.succeed();
                 self.awaited = Some(Answer::Grant);
@@ -440,18 +434,13 @@ impl Requester {
         ensures inbox { mail.new.inbox ≡ mail.old.inbox }
     {
         mail.make_room()?;
-        let prune = match port.perm(self.client, block) {
-            Perm::None => return Ok(()),
-            Perm::Branch => Prune::BtoN,
-            Perm::Tip => Prune::TtoN,
-        };
         let Some(bank) = self.bank_of(block) else {
             return Ok(());
         };
         let Some(share) = self.shares.get_mut(bank.index()) else {
             return Ok(());
         };
-        match port.release(self.client, block, prune, share) {
+        match ask_release(port, self.client, block, share) {
             Ok(ticket) => {
                 self.progress.succeed();
                 self.awaited = Some(Answer::ReleaseAck);
@@ -460,5 +449,37 @@ impl Requester {
             }
             Err(refusal) => self.progress.refuse(refusal),
         }
+    }
+}
+
+/// A bank is asked for a better copy: as from None, and where the client has a copy that is to become a Tip, from Branch.
+fn ask_acquire<P: Port>(
+    port: &mut P,
+    client: ClientId,
+    block: BlockNo,
+    grow: Grow,
+) -> Result<Ticket, Refusal>
+    ensures asked { P.asked port.new ≡ P.asked port.old }
+    ensures successes { P.successes port.new ≡ P.successes port.old }
+{
+    match port.acquire(client, block, grow) {
+        Err(Refusal::WrongFrom) if grow == Grow::NtoT => port.acquire(client, block, Grow::BtoT),
+        answer => answer,
+    }
+}
+
+/// A bank is told that a copy is given up to None: as from Tip, and where it is not that, from Branch.
+fn ask_release<P: Port>(
+    port: &mut P,
+    client: ClientId,
+    block: BlockNo,
+    share: &mut Share,
+) -> Result<Ticket, Refusal>
+    ensures asked { P.asked port.new ≡ P.asked port.old }
+    ensures successes { P.successes port.new ≡ P.successes port.old }
+{
+    match port.release(client, block, Prune::TtoN, share) {
+        Err(Refusal::WrongFrom) => port.release(client, block, Prune::BtoN, share),
+        answer => answer,
     }
 }

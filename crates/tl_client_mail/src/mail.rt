@@ -27,6 +27,8 @@ pub struct Mail<'a> {
     heard: u64,
     /// Whether a ticket may have been handed back.
     has_back: bool,
+    /// Whether each way is known to have room for one more ticket that is handed back.
+    has_room: bool,
 }
 
 impl<'a> Model for Mail<'a> {
@@ -35,6 +37,12 @@ impl<'a> Model for Mail<'a> {
     ghost Value = { Post };
 
     ghost view = { λ m. record { inbox = m.inbox; bell = m.bell; ways = m.sending.items; done = m.done } };
+
+    ghost use Rattle.std.specs.Prelude.{◌≡◌, true};
+    ghost use Rattle.std.specs.List.{All};
+    ghost use Rattle.tl_client_mail.specs.Ways.{HasRoom};
+
+    ghost invariant = { λ m. m.has_room ≡ true → All HasRoom m.sending.items };
 }
 
 impl<'a> Mail<'a> {
@@ -56,6 +64,7 @@ impl<'a> Mail<'a> {
             parker,
             heard: 0,
             has_back: false,
+            has_room: false,
         }
     }
 
@@ -87,6 +96,7 @@ impl<'a> Mail<'a> {
             return;
         }
         self.has_back = false;
+        self.has_room = false;
         for to in 0..self.sending.len() {
             self.sending[to].send_again(rt);
             self.has_back = self.has_back || self.sending[to].has_back();
@@ -99,9 +109,13 @@ impl<'a> Mail<'a> {
         ensures sent { sent_by self.new ≡ sent_by self.old }
         ensures inbox { self.new.inbox ≡ self.old.inbox }
     {
+        if self.has_room {
+            return Ok(());
+        }
         for to in 0..self.sending.len() {
             self.sending[to].make_room()?;
         }
+        self.has_room = true;
         Ok(())
     }
 
@@ -115,7 +129,10 @@ impl<'a> Mail<'a> {
             return;
         }
         self.sending[to].send(rt, ticket);
-        self.has_back = self.has_back || self.sending[to].has_back();
+        if !self.sending[to].has_none_back() {
+            self.has_back = true;
+            self.has_room = false;
+        }
     }
 
     /// Whether the worker's own bell rang since it was last read.

@@ -64,11 +64,19 @@ impl Rest {
         self.barren > PATIENCE && self.barren % BETWEEN == 0
     }
 
-    /// Yields the processor, and notes whether that took long.
+    /// Yields the processor, and from the second barren turn of a row on notes whether that took long: most rows are of one.
     fn give_way<R: Clock>(&mut self, rt: &R) {
+        if self.barren < 2 {
+            thread::yield_now();
+            return;
+        }
+        let before = match self.yielded {
+            Some(yielded) => Some(yielded),
+            None => Instant::now(rt).ok(),
+        };
         thread::yield_now();
         let now = Instant::now(rt).ok();
-        if let (Some(before), Some(now)) = (self.yielded, now) {
+        if let (Some(before), Some(now)) = (before, now) {
             if now.saturating_duration_since(before) > Duration::from_micros(SLOW_YIELD) {
                 self.crowded = CROWDED;
             }

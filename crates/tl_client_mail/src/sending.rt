@@ -100,6 +100,7 @@ impl<'a> Sending<'a> {
     pub fn send<R: Wait>(&mut self, rt: &R, ticket: Ticket)
         requires { HasRoom self.old }
         ensures sent { sent_on self.new ≡ sent_on self.old ++ ticket ∷ [] }
+        ensures room { self.new.room ≡ self.old.room }
         ensures rings { RingsAsItPuts self.old self.new }
     {
         let back = if self.back.is_empty() {

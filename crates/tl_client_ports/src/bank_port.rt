@@ -5,7 +5,7 @@ ghost use Rattle.tl_client_ports.specs.Ports.{asked};
 use crate::gate::{Gate, Who};
 use crate::history::History;
 use crate::locked::LockedBank;
-use crate::port::{Asked, HomePort};
+use crate::port::{Asked, FirstStep, HomePort};
 use arrayvec::ArrayVec;
 use std::marker::Model;
 use std::sync::{MutexGuard, Wait};
@@ -131,6 +131,27 @@ impl<'a, R: Wait, G: Gate> HomePort for BankPort<'a, R, G> {
         let blocks = bank.open_blocks();
         self.leave(bank);
         blocks
+    }
+
+    fn advance_first(&mut self) -> FirstStep {
+        let mut bank = self.enter();
+        let open = bank.open_blocks();
+        let answer = match open.as_slice().first() {
+            Some(block) => Some(bank.advance(*block)),
+            None => None,
+        };
+        self.leave(bank);
+        FirstStep { open, answer }
+    }
+
+    fn pass_memory(&mut self, block: BlockNo) -> Result<(), Refusal> {
+        let mut bank = self.enter();
+        let answer = match bank.serve_memory(block) {
+            Ok(_) => bank.take_memory(block),
+            Err(refusal) => Err(refusal),
+        };
+        self.leave(bank);
+        answer
     }
 
     fn is_quiet(&self) -> bool {

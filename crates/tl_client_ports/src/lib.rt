@@ -12,4 +12,4 @@ pub use bank_port::BankPort;
 pub use client_port::ClientPort;
 pub use gate::{Free, Gate, Who};
 pub use locked::Locked;
-pub use port::{Asked, HomePort, Port, Success};
+pub use port::{Asked, FirstStep, HomePort, Port, Success};

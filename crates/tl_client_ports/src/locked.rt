@@ -27,12 +27,21 @@ pub(crate) struct LockedBank {
 
 impl LockedBank {
     /// Takes the bank's lock: asks for it some times before it sleeps at it.
+    #[inline(always)]
     pub(crate) fn lock<R: Wait>(&self, rt: &R) -> MutexGuard<'_, Bank> {
+        match self.bank.try_lock() {
+            Some(bank) => bank,
+            None => self.wait_for_lock(rt),
+        }
+    }
+
+    /// Takes the bank's lock, which somebody has.
+    fn wait_for_lock<R: Wait>(&self, rt: &R) -> MutexGuard<'_, Bank> {
         for _ in 0..LOOKS {
+            hint::spin_loop();
             if let Some(bank) = self.bank.try_lock() {
                 return bank;
             }
-            hint::spin_loop();
         }
         self.bank.lock(rt)
     }

@@ -38,6 +38,13 @@ pub struct Asked {
     pub served: bool,
 }
 
+/// The own blocks of open registers, by rising number, and what the first one's register did.
+#[derive(Drop)]
+pub struct FirstStep {
+    pub open: ArrayVec<BlockNo, 8>,
+    pub answer: Option<Result<Action, Refusal>>,
+}
+
 /// A client's calls. `asked` is the list of the tickets that were asked in a turn, in order, each with whether the call served it.
 pub trait Port {
     ghost successes: { Self → List Success };
@@ -142,6 +149,27 @@ pub trait HomePort {
 
     /// The own blocks of open registers, by rising number.
     fn open_blocks(&self) -> ArrayVec<BlockNo, 8>;
+
+    /// Those blocks, and one step of the first one's register: `open_blocks` and then `advance`, for a port that can ask both at once.
+    fn advance_first(&mut self) -> FirstStep
+        ensures { asked self.new ≡ asked self.old }
+    {
+        let open = self.open_blocks();
+        let answer = match open.as_slice().first() {
+            Some(block) => Some(self.advance(*block)),
+            None => None,
+        };
+        FirstStep { open, answer }
+    }
+
+    /// The memory serves what was asked of a block, and home takes its answer: `serve_memory` and then `take_memory`, for a port that
+    /// can ask both at once.
+    fn pass_memory(&mut self, block: BlockNo) -> Result<(), Refusal>
+        ensures { asked self.new ≡ asked self.old }
+    {
+        self.serve_memory(block)?;
+        self.take_memory(block)
+    }
 
     /// Whether nothing is under way in the bank.
     fn is_quiet(&self) -> bool;

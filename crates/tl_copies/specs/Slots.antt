@@ -1,5 +1,5 @@
 -- How a table keeps its entries: keys in order, and for each a slot with what is held. No public clause cites this module.
-use Rattle.std.specs.Prelude.{◌≡◌, ℕ, ◌+◌, ◌≤◌, ◌==◌, List, [], length, map, count_by, slice_index_or, false}
+use Rattle.std.specs.Prelude.{◌≡◌, ◌≢◌, ℕ, ◌<◌, ◌+◌, ◌≤◌, ◌==◌, List, [], length, map, count_by, slice_index_or, false}
 use Rattle.tl_types.specs.declared.permission.Perm.TheVariants.{None as p_None}
 use Rattle.tl_types.specs.declared.wait.Awaited.TheVariants.{Nothing}
 use Rattle.tl_copies.specs.declared.held.Held.{Held}
@@ -19,6 +19,10 @@ entry_at slots key = record { block = key.block; held = slice_index_or slots key
 -- the entries of keys, in their order
 abbrev pub entries_of : List Held → List Key → List Entry
 entries_of slots keys = map (λ (key : Key). entry_at slots key) keys
+
+-- none of the first keys is a block's
+abbrev pub IsNotBefore : ℕ → List Key → ℕ → Type 0
+IsNotBefore block keys places = (k : ℕ) (d : Key) → k < places → (slice_index_or keys k d).block ≢ block
 
 -- how many keys have a slot, or list it as free
 abbrev pub uses : List Key → List ℕ → ℕ → ℕ

@@ -1,7 +1,8 @@
 //! One client's table: keys in the order of age, beside the slots with what the client holds.
-ghost use Rattle.std.specs.Prelude.{◌≡◌, ◌↔◌, ◌≤◌, ◌<◌, ◌+◌, ◌∷◌, ◌++◌, [], length, count_by, not, None, Some, IfErr, IsErr, OnErr, OnOk, MatchOption, option_copied, slice_index_or, slice_set, if◌then◌else◌};
+ghost use Rattle.std.specs.Prelude.{◌≡◌, ◌↔◌, ◌≤◌, ◌<◌, ◌+◌, ◌∷◌, ◌++◌, [], false, length, count_by, not, None, Some, IfErr, IsErr, OnErr, OnOk, MatchOption, option_copied, slice_index_or, slice_set, if◌then◌else◌};
 ghost use Rattle.std.specs.List.{list_all, remove};
 ghost use Rattle.tl_copies.specs.declared.held.Held.{Held};
+ghost use Rattle.tl_copies.specs.Slots.{IsNotBefore};
 
 use crate::held::Held;
 use arrayvec::ArrayVec;
@@ -143,8 +144,9 @@ impl Table {
     fn search(&self, block: BlockNo) -> Option<usize>
         ensures { MatchOption result (found block self.now ≡ None) (λ place. IsPlace block self.now place) }
     {
-        for (place, key) in self.keys.as_slice().iter().enumerate() {
-            if key.block == block {
+        let keys = self.keys.as_slice();
+        for place in passed(keys, block)..keys.len() {
+            if keys[place].block == block {
                 return Some(place);
             }
         }
@@ -360,6 +362,32 @@ impl Table {
     }
 }
 
+/// How many keys a search compares at once.
+const GROUP: usize = 8;
+
+/// A place before which no key is a block's: a multiple of eight, and the key's own eight where it has one.
+fn passed(keys: &[Key], block: BlockNo) -> usize
+    ensures inside { result ≤ length keys.now }
+    ensures none { IsNotBefore block keys.now result }
+{
+    let mut place = 0;
+    while keys.len() - place >= GROUP && !has(&keys[place..place + GROUP], block) {
+        place += GROUP;
+    }
+    place
+}
+
+/// Whether one of some keys is a block's. It looks at all of them, so that they are compared at once.
+fn has(keys: &[Key], block: BlockNo) -> bool
+    ensures { result ≡ false → IsNotBefore block keys.now (length keys.now) }
+{
+    let mut has = false;
+    for key in keys {
+        has |= key.block == block;
+    }
+    has
+}
+
 /// Which hint a block has.
 fn hint_of(block: BlockNo) -> usize
     ensures { result < 64 }
@@ -370,8 +398,6 @@ fn hint_of(block: BlockNo) -> usize
 /// Lowers by one each number above a bound.
 fn lower(numbers: &mut [u8], bound: u8) {
     for number in numbers.iter_mut() {
-        if *number > bound {
-            *number -= 1;
-        }
+        *number -= u8::from(*number > bound);
     }
 }

@@ -1,5 +1,5 @@
 -- How many messages wait on each channel, as one channel of one client changes.
-use Rattle.std.proofs.Common.{◌≡◌, ◌≢◌, ℕ, zero, suc, ◌+◌, ◌-◌, ◌*◌, ◌<◌, ◌≤◌, false, true, List, [], ◌∷◌, length, slice_index_or, refl, sym, ◌∙◌, ap, arith, inl, inr}
+use Rattle.std.proofs.Common.{◌≡◌, ◌≢◌, ℕ, zero, suc, ◌+◌, ◌-◌, ◌*◌, ◌<◌, ◌≤◌, false, true, List, [], ◌∷◌, length, slice_index_or, refl, sym, ◌∙◌, ap, arith, add-one, inl, inr}
 use Rattle.std.proofs.Math.Bool.{or-true}
 use Rattle.std.specs.Prelude.{slice_index, slice_set}
 use Rattle.std.specs.List.{list_any}
@@ -54,13 +54,37 @@ none-found : (messages : List Message) (block : ℕ) (wanted : Wanted) → lengt
     → list_any (is_wanted wanted) (bodies_of block messages) ≡ false
 none-found messages block wanted h = rw (nil_from_length messages h) refl
 
-none-below : (t : LinkTable) (l : Channel) (block : ℕ) (wanted : Wanted) (n : ℕ) → waiting_below t l n ≡ 0
-    → some_has t l block wanted n ≡ false
-none-below t l block wanted zero h = refl
-none-below t l block wanted (suc n) h =
-    let before : some_has t l block wanted n ≡ false = none-below t l block wanted n (omega arith) in
-    let here : waits_at t n l ≡ 0 = omega arith in
-    rw (before, none-found (lane_in t n l).messages block wanted here) refl
+-- at more clients as many wait, or more
+waiting-more : (t : LinkTable) (l : Channel) (m n : ℕ) → m ≤ n → waiting_below t l m ≤ waiting_below t l n
+waiting-more t l m zero h = let none : m ≡ 0 = omega arith in omega (arith, ap (λ x. waiting_below t l x) none)
+waiting-more t l m (suc n) h =
+    elim (cases_eq m (suc n)) [
+      | inl e ↦ omega (arith, ap (λ x. waiting_below t l x) e)
+      | inr e ↦ let before = waiting-more t l m n (omega arith) in omega arith
+    ]
+
+-- one client more
+pub waiting-next : (t : LinkTable) (l : Channel) (n : ℕ) → waiting_below t l (n + 1) ≡ waiting_below t l n + waits_at t n l
+waiting-next t l n = rw add-one refl
+
+-- a client at which none waits
+pub none-next : (t : LinkTable) (l : Channel) (block : ℕ) (wanted : Wanted) (n : ℕ) → some_has t l block wanted n ≡ false → waits_at t n l ≡ 0
+    → some_has t l block wanted (n + 1) ≡ false
+none-next t l block wanted n none here = rw (add-one, none, none-found (lane_in t n l).messages block wanted here) refl
+
+-- where as many wait at the clients below m as at those below n, the later ones have none
+none-later : (t : LinkTable) (l : Channel) (block : ℕ) (wanted : Wanted) (m n : ℕ) → m ≤ n → waiting_below t l m ≡ waiting_below t l n
+    → some_has t l block wanted m ≡ false → some_has t l block wanted n ≡ false
+none-later t l block wanted m zero h same none = refl
+none-later t l block wanted m (suc n) h same none =
+    elim (cases_eq m (suc n)) [
+      | inl e ↦ sym (ap (λ x. some_has t l block wanted x) e) ∙ none
+      | inr e ↦
+          let more = waiting-more t l m n (omega arith) in
+          let before : some_has t l block wanted n ≡ false = none-later t l block wanted m n (omega arith) (omega arith) none in
+          let here : waits_at t n l ≡ 0 = omega arith in
+          rw (before, none-found (lane_in t n l).messages block wanted here) refl
+    ]
 
 -- where one client below n has a message that is looked for, some has
 pub some-has : (t : LinkTable) (l : Channel) (block : ℕ) (wanted : Wanted) (n x : ℕ) → x < n
@@ -170,10 +194,14 @@ module _ {t : LinkTable} {numbers : List ℕ} (counted : IsCounted t numbers) wh
   pub number-most : (k : Channel) → slice_index numbers (channel_index k) ≤ 1024
   number-most k = omega (arith, counted.numbered k, waiting-most t k counted.most t.clients, counted.few)
 
-  -- where a number is 0, no client has a message that is looked for
-  pub none-has : (k : Channel) (block : ℕ) (wanted : Wanted) → slice_index numbers (channel_index k) ≡ 0
-      → some_has t k block wanted t.clients ≡ false
-  none-has k block wanted h = none-below t k block wanted t.clients (sym (counted.numbered k) ∙ h)
+  -- where all that wait are passed, no client has one that is looked for but those before
+  pub none-has : (k : Channel) (block : ℕ) (wanted : Wanted) (n : ℕ) → n ≤ t.clients → waiting_below t k n ≡ slice_index numbers (channel_index k)
+      → some_has t k block wanted n ≡ false → some_has t k block wanted t.clients ≡ false
+  none-has k block wanted n h all none = none-later t k block wanted n t.clients h (all ∙ counted.numbered k) none
+
+  -- no more than 64 wait at each client
+  pub waiting-few : (k : Channel) (n : ℕ) → waiting_below t k n ≤ 64 * n
+  waiting-few k n = waiting-most t k counted.most n
 
   -- a channel changes, and its number with it
   pub IsCounted-placed : (c : ℕ) (k : Channel) (lane : Lane) (number : ℕ) → c < t.clients → length lane.messages ≤ 64

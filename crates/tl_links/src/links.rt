@@ -133,13 +133,21 @@ impl Links {
     pub fn some_has(&self, channel: Channel, block: BlockNo, wanted: Wanted) -> bool
         ensures { result ≡ some_has self.now channel block wanted self.now.clients }
     {
-        if self.waiting[channel.index()] == 0 {
-            return false;
-        }
+        let all = self.waiting[channel.index()] as usize;
+        let mut passed = 0;
         for number in 0..self.clients {
-            if self.has(ClientId::new(number), channel, block, wanted) {
+            if passed == all {
+                return false;
+            }
+            let client = ClientId::new(number);
+            let waiting = self.waiting(client, channel);
+            if waiting == 0 {
+                continue;
+            }
+            if self.has(client, channel, block, wanted) {
                 return true;
             }
+            passed += waiting;
         }
         false
     }

@@ -28,12 +28,13 @@ impl Bank {
         self.copies.held(client, block)
     }
 
-    /// Where a client's table has its entry of a block; 0 where it has none.
-    pub(super) fn place(&self, client: ClientId, block: BlockNo) -> usize
+    /// Where a client's table has its entry of a block. Without one it may do nothing.
+    pub(super) fn place(&self, client: ClientId, block: BlockNo) -> Option<usize>
         requires client { client < self.now.geometry.clients }
         requires block { block < self.now.geometry.memory_blocks }
+        ensures { result ≡ None → perm_at self.now client block ≡ Perm.None }
     {
-        self.copies.place(client, block).unwrap_or(0)
+        self.copies.place(client, block)
     }
 
     /// What a client may do with a block, whose entry is looked for at `place` first.

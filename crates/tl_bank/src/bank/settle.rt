@@ -102,7 +102,9 @@ impl Bank {
         if self.is_elsewhere(block) {
             return Err(Refusal::WrongBank);
         }
-        let place = self.place(client, block);
+        let Some(place) = self.place(client, block) else {
+            return Err(Refusal::NoPermission);
+        };
         if self.perm_near(client, block, place) != Perm::Tip {
             return Err(Refusal::NoPermission);
         }

@@ -287,6 +287,11 @@ fn blocks_of(numbers: &[u32]) -> ArrayVec<BlockNo, 8>
     ensures { result.items ≡ numbers.now }
 {
     let mut blocks = ArrayVec::new();
+    // Mostly one register is open, and a loop over it would be compiled to a call.
+    if let [number] = numbers {
+        blocks.push(BlockNo::new(*number));
+        return blocks;
+    }
     for number in numbers {
         blocks.push(BlockNo::new(*number));
     }

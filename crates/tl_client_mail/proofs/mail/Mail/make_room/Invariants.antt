@@ -1,4 +1,4 @@
-use Rattle.std.proofs.Common.{◌≡◌, vec_len, map}
+use Rattle.std.proofs.Common.{◌≡◌, false, vec_len, map}
 use Rattle.std.specs.List.{AllWithin}
 use Rattle.tl_client_mail.specs.Ways.{HasRoom, sent_on}
 use Rattle.tl_client_mail.proofs.mail.Mail.make_room.Given as goal
@@ -10,3 +10,4 @@ invariant-loop-to l =
     × (vec_len l.self-inside.sending ≡ vec_len l.initial.self-inside.sending)
     × AllWithin HasRoom l.self-inside.sending.items 0 l.to
     × (l.self-inside.inbox ≡ l.initial.self-inside.inbox)
+    × (l.self-inside.has_room ≡ false)

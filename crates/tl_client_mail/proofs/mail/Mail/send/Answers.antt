@@ -5,7 +5,12 @@ use Rattle.tl_client_mail.specs.Ways.{sent_by}
 use Rattle.tl_client_mail.proofs.WayLaws.{sent-more}
 use Rattle.tl_client_mail.proofs.mail.Mail.send.Goals as goal
 
-pub returns-clause-sent : goal.returns-clause-sent
-returns-clause-sent g c =
+pub returns-then-not-has_none_back-clause-sent : goal.returns-then-not-has_none_back-clause-sent
+returns-then-not-has_none_back-clause-sent g c =
+    sent-more c.self.inside.sending.items c.args.to c.index_mut.result.now c.send.new.self _ c.args.ticket (grind (arith, common_steps)) c.send.ensures.sent c.index_mut.ensures.value
+    ∙ ap (λ (s : List (List Ticket)). slice_set s c.args.to (slice_index_or s c.args.to [] ++ c.args.ticket ∷ [])) (ap sent_by c.self.view_is)
+
+pub returns-else-not-has_none_back-clause-sent : goal.returns-else-not-has_none_back-clause-sent
+returns-else-not-has_none_back-clause-sent g c =
     sent-more c.self.inside.sending.items c.args.to c.index_mut.result.now c.send.new.self _ c.args.ticket (grind (arith, common_steps)) c.send.ensures.sent c.index_mut.ensures.value
     ∙ ap (λ (s : List (List Ticket)). slice_set s c.args.to (slice_index_or s c.args.to [] ++ c.args.ticket ∷ [])) (ap sent_by c.self.view_is)

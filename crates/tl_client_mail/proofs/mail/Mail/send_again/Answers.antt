@@ -7,4 +7,5 @@ loop-to-preserved g c = (
   sent-same c.loop-to.self-inside.sending.items c.loop-to.to c.index_mut.result.now c.send_again.new.self _ c.send_again.ensures.sent c.index_mut.ensures.value ∙ c.loop-to.invariant.0,
   c.loop-to.invariant.1,
   c.loop-to.invariant.2,
+  c.loop-to.invariant.3,
 )

@@ -1,4 +1,4 @@
-use Rattle.std.proofs.Common.{◌≡◌, vec_len, map}
+use Rattle.std.proofs.Common.{◌≡◌, false, vec_len, map}
 use Rattle.tl_client_mail.specs.Ways.{sent_on}
 use Rattle.tl_client_mail.proofs.mail.Mail.send_again.Given as goal
 
@@ -8,3 +8,4 @@ invariant-loop-to g l =
     (map sent_on l.self-inside.sending.items ≡ map sent_on l.initial.self-inside.sending.items)
     × (vec_len l.self-inside.sending ≡ vec_len l.initial.self-inside.sending)
     × (l.self-inside.inbox ≡ l.initial.self-inside.inbox)
+    × (l.self-inside.has_room ≡ false)

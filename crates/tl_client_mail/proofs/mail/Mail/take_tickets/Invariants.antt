@@ -11,6 +11,7 @@ invariant-loop g l = record {
   room : vec_len l.taken + 64 ≤ vec_capacity l.taken + l.counter;
   few : length l.taken.items ≤ length l.fn.taken.items + l.counter;
   sending : l.self-inside.sending ≡ l.initial.self-inside.sending;
+  known : l.self-inside.has_room ≡ l.initial.self-inside.has_room;
   inbox : l.self-inside.inbox.inbox ≡ l.initial.self-inside.inbox.inbox;
   took : (popped : List Sent) × (length popped ≤ l.counter)
       × (l.self-inside.inbox.pass.taken ≡ l.initial.self-inside.inbox.pass.taken ++ popped)

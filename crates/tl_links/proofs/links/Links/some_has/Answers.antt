@@ -1,17 +1,45 @@
-use Rattle.std.proofs.Common.{◌≡◌, ◌<◌, ◌∙◌, ℕ, Bool, false, true, ap, subst, sym}
+use Rattle.std.proofs.Common.{◌≡◌, ◌<◌, ◌≤◌, ◌∙◌, ℕ, Bool, List, false, true, ap, arith, subst, sym}
 use Rattle.std.specs.Prelude.{slice_index}
 use Rattle.std.specs.List.{list_any}
+use Rattle.tl_types.specs.Channel.{channel_index}
 use Rattle.tl_types.specs.Lane.{bodies_of}
-use Rattle.tl_links.specs.Table.{LinkTable, lane_in, some_has}
+use Rattle.tl_types.specs.declared.channel.Channel.{Channel}
+use Rattle.tl_links.specs.declared.wanted.Wanted.{Wanted}
+use Rattle.tl_links.specs.Table.{LinkTable, IsCounted, lane_in, some_has, waiting_below}
 use Rattle.tl_links.specs.Wanted.{is_wanted}
-use Rattle.tl_links.proofs.Counts.{none-has, some-has}
+use Rattle.tl_links.proofs.Counts.{none-has, some-has, waiting-few}
 use Rattle.tl_links.proofs.links.Links.some_has.Goals as goal
 
-pub returns-then-self-index-eq0 : goal.returns-then-self-index-eq0
-returns-then-self-index-eq0 c =
-    let number = ap (λ p. slice_index c.self.inside.waiting p) (sym c.index.ensures.value) ∙ c.if-self-index-eq0.true in
-    subst (λ (t : LinkTable). false ≡ some_has t c.args.channel c.args.block c.args.wanted t.clients) c.self.view_is
-    (sym (none-has c.self.invariant c.args.channel c.args.block c.args.wanted number))
+-- all that wait are passed, and none of them is looked for
+all-passed : (s t : LinkTable) (numbers : List ℕ) (k : Channel) (block : ℕ) (wanted : Wanted) (n passed : ℕ) → s ≡ t → IsCounted s numbers
+    → n < s.clients → passed ≡ waiting_below t k n → passed ≡ slice_index numbers (channel_index k) → some_has t k block wanted n ≡ false
+    → false ≡ some_has t k block wanted t.clients
+all-passed s t numbers k block wanted n passed e counted below here all none =
+    let sound : IsCounted t numbers = subst (λ (w : LinkTable). IsCounted w numbers) e counted in
+    let few : n < t.clients = subst (λ (w : LinkTable). n < w.clients) e below in
+    sym (none-has sound k block wanted n (omega arith) (sym here ∙ all) none)
+
+-- at most 1,024 are passed
+few-passed : (s t : LinkTable) (numbers : List ℕ) (k : Channel) (n : ℕ) → s ≡ t → IsCounted s numbers → n < s.clients → waiting_below t k n ≤ 1024
+few-passed s t numbers k n e counted below =
+    let sound : IsCounted t numbers = subst (λ (w : LinkTable). IsCounted w numbers) e counted in
+    let few : n < t.clients = subst (λ (w : LinkTable). n < w.clients) e below in
+    omega (arith, waiting-few sound k n, sound.few)
+
+pub returns-then-passed-all : goal.returns-then-passed-all
+returns-then-passed-all c =
+    all-passed _ c.args.self.now c.self.inside.waiting c.args.channel c.args.block c.args.wanted c.loop-number.number c.loop-number.passed c.self.view_is
+    c.self.invariant c.loop-number-test.true c.loop-number.invariant.1
+    (c.if-passed-all.true ∙ ap (λ p. slice_index c.self.inside.waiting p) c.index.ensures.value) c.loop-number.invariant.0
+
+pub overflow_add-passed : goal.overflow_add-passed
+overflow_add-passed c =
+    omega (
+      arith,
+      few-passed _ c.args.self.now c.self.inside.waiting c.args.channel c.loop-number.number c.self.view_is c.self.invariant c.loop-number-test.true,
+      c.loop-number.invariant.1,
+      c.waiting-waiting.ensures.few,
+    )
 
 pub returns-then-has : goal.returns-then-has
 returns-then-has c =
@@ -21,5 +49,5 @@ returns-then-has c =
     let below : c.loop-number.number < t.clients =
     subst (λ (w : LinkTable). c.loop-number.number < w.clients) c.self.view_is c.loop-number-test.true in
     let passes : test c.loop-number.number ≡ true =
-    subst (λ (x : ℕ). test x ≡ true) c.new.ensures (sym c.has.ensures ∙ c.if-has.true) in
+    subst (λ (x : ℕ). test x ≡ true) c.new-client.ensures (sym c.has.ensures ∙ c.if-has.true) in
     sym (some-has t k c.args.block c.args.wanted t.clients c.loop-number.number below passes)
