@@ -1,4 +1,4 @@
-use Rattle.std.proofs.Common.{ℕ, List, Result, Ok, false, true, sym, ap, ◌∙◌}
+use Rattle.std.proofs.Common.{ℕ, List, Result, Ok, false, true, sym, ap, ◌∙◌, rules}
 use Rattle.std.proofs.lemmas.Str.{is_utf8-from_IsUtf8}
 use Rattle.tlcheck_record.specs.declared.cause.Cause.{Cause}
 use Rattle.tlcheck_record.proofs.Texts.{not_utf8, tested}
@@ -15,3 +15,6 @@ pub returns-in-Err : goal.returns-in-Err
 returns-in-Err c =
     tested c.args.line.now false false false (sym (c.if-has_mark.ensures {u = tt})) (sym (c.if-has_return.ensures {u = tt}))
     (not_utf8 c.args.line.now (c.in-Err.ensures {u = tt}).cases.0)
+
+pub returns-then-has_return : goal.returns-then-has_return
+returns-then-has_return c = search rules
