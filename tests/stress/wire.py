@@ -2,10 +2,13 @@
 """wire.py TLCACHE TLWIRE [TRACES] [SEED] [--tlgen TLGEN] [--tlcheck TLCHECK] [--damages N]: the messages of random traces, given to tlwire.
 
 Each bank of a trace is a record of messages: each message that was sent, with a cycle, a source and a sink, and each load and store. Each
-record is given to tlwire twice: with each message at its sending, and with each one later, as buffers would delay it: somewhere before it
-is taken, the messages of a channel in their order. Both must be explained; with --tlcheck the run that `tlwire --run` prints must be lawful.
-Then N damages of each record (10): a line dropped, a byte or a parameter changed, two lines of a channel of a link exchanged. Prints how
-many of these are explained, not explained, and faults, and ends with status 1 where an answer was another.
+record is given to tlwire twice as `whole`: with each message at its sending, and with each one later, as buffers would delay it: somewhere
+before it is taken, the messages of a channel in their order. Both must be explained; with --tlcheck the run that `tlwire --run` prints must
+be lawful. Then it is given as it is seen at the clients' pins (what a client has not taken is not seen), whole and cut at some line, with
+all that is seen, without the memory's link, without the cores, without both: none of these may be impossible. Then N damages (10) of the
+record that is whole, and N of the one at the clients' pins: a line dropped, a byte or a parameter changed, two lines of a channel of a
+link exchanged. Prints how many of these are explained, impossible, not decided, and faults, and ends with status 1 where an answer was
+another.
 """
 import os
 import random
@@ -155,6 +158,15 @@ class Monitor:
         waiting.remove(message)
         message["to"] = time
 
+    def at_pins(self):
+        """What is seen at the clients' pins, in order of time: what comes from home as it is taken, all else as it is sent."""
+        timed = []
+        for place, it in enumerate(self.seen):
+            at = it["to"] if it["channel"] in "BD" and it["link"] != "m" else it["from"]
+            if at is not None:
+                timed.append((at, place, it))
+        return [[str(at * 10), it["link"], *it["words"]] for at, place, it in sorted(timed, key=lambda one: one[:2])]
+
     def lines(self, delayed):
         """The messages in the order in which a monitor sees them, each with its cycle."""
         last = self.seen[-1]["from"] + 1 if self.seen else 0
@@ -181,6 +193,18 @@ def record(trace, entries, rng, delayed, monitor=None):
     head += [f"source client={c} from={c * monitor.each} to={c * monitor.each + monitor.each - 1}" for c in range(numbers["clients"])]
     head += [f"image {trace.image.hex()}"] if trace.image else []
     return head, monitor.lines(delayed)
+
+
+def headed(head, *premises):
+    """The head with lines that say how the record was seen, which stand before the image."""
+    at = len(head) - head[-1].startswith("image ")
+    return [*head[:at], *premises, *head[at:]]
+
+
+def without(lines, memory, cores):
+    """The lines that are left where nobody watched the memory's link, or the cores; and the premises that say so."""
+    premises = ["memory unseen"] * memory + ["cores unseen"] * cores
+    return premises, [line for line in lines if not (memory and line[1] == "m" or cores and line[2] in ("load", "store"))]
 
 
 def text(head, lines):
@@ -276,23 +300,49 @@ class Wire:
             entries = [line for line in given.splitlines() if not line.startswith(("clients", "image"))]
             for delayed in (False, True):
                 head, lines = record(trace, entries, rng, delayed)
-                wrong = self.explained(head, lines)
+                wrong = self.explained(headed(head, "whole"), lines)
                 records, messages = records + 1, messages + len(lines)
                 if wrong:
                     said.append(f"trace {seed}, bank {bank}, delayed {delayed}: {wrong}")
             for _ in range(self.damages):
-                self.damage(rng, head, lines, counts)
+                self.damage(rng, headed(head, "whole"), lines, counts, "whole, ")
+            monitor = Monitor(trace.numbers, rng)
+            for time, line in enumerate(entries):
+                monitor.event(time, line.split(" "))
+            head, lines = record(trace, entries, rng, False, monitor)
+            said += [f"trace {seed}, bank {bank}: {it}" for it in self.at_pins(rng, head, monitor.at_pins(), counts)]
         return said, records, messages, counts
 
-    def damage(self, rng, head, lines, counts):
+    def at_pins(self, rng, head, lines, counts):
+        """What is wrong with the answers to a record at the clients' pins, cut or not, of which some may not have been seen."""
+        said = []
+        for cut in (False, True):
+            some = lines[:rng.randrange(len(lines) + 1)] if cut else lines
+            for memory, cores in ((False, False), (True, False), (False, True), (True, True)):
+                premises, left = without(some, memory, cores)
+                what = " ".join(["seen at clients", *(["cut"] if cut else []), *premises])
+                given = text(headed(head, "seen at clients", *premises), left)
+                status, output, fault = self.ask([self.tlwire], given)
+                told = {0: "explained", 6: "not decided"}.get(status, f"status {status}")
+                # (a record of no line over no image is no record)
+                if status == 3 and fault.startswith(b"error 51"):
+                    continue
+                counts[what, told] = counts.get((what, told), 0) + 1
+                if status not in (0, 6):
+                    said.append(f"{what}: status {status}: {output.decode()}{fault.decode()}")
+        for _ in range(self.damages):
+            self.damage(rng, headed(head, "seen at clients"), lines, counts, "seen at clients, ")
+        return said
+
+    def damage(self, rng, head, lines, counts, what):
         if not lines:
             return
         changed = damaged(rng, lines)
         if changed is None:
             return
         status, output, fault = self.ask([self.tlwire], text(head, changed[1]))
-        told = {0: "explained", 6: "not explained", 3: fault.decode()[:8]}.get(status, f"status {status}")
-        counts[changed[0], told] = counts.get((changed[0], told), 0) + 1
+        told = {0: "explained", 1: "impossible", 6: "not decided", 3: fault.decode()[:8]}.get(status, f"status {status}")
+        counts[what + changed[0], told] = counts.get((what + changed[0], told), 0) + 1
 
 
 def option(words, name):
@@ -318,7 +368,7 @@ def main():
             wrong, records, messages = wrong + said, records + some, messages + more
             for key, count in told.items():
                 counts[key] = counts.get(key, 0) + count
-    print(f"{traces} traces: {records} records of {messages} lines, {len(wrong)} of them not explained")
+    print(f"{traces} traces: {records} records of {messages} lines, whole; {len(wrong)} wrong answers")
     for (what, told), count in sorted(counts.items()):
         print(f"{what}: {count} {told}")
     for it in wrong[:20]:

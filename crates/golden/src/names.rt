@@ -67,11 +67,19 @@ pub const DRAWN: &[&str] = &[
 /// Records of messages.
 pub const RECORDS: &[&str] = &[
     "a-miss.txt",
+    "a-premise-that-is-none.txt",
+    "answers-before-its-release-ack.txt",
+    "asks-before-its-release-ack.txt",
     "delayed.txt",
+    "gives-dirty-bytes-up-without-them.txt",
     "grants-old-bytes.txt",
+    "keeps-a-stale-copy.txt",
     "no-such-sink.txt",
+    "nobody-watched-the-cores.txt",
+    "nobody-watched-the-memory.txt",
     "outside-the-profile.txt",
     "release-crosses-probe.txt",
     "two-readers-and-a-writer.txt",
     "two-writers.txt",
+    "was-cut.txt",
 ];

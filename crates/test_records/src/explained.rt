@@ -6,7 +6,7 @@ use tl_types::{
     AccessBytes, BlockBytes, BlockNo, ClientId, DirtyPrune, GrantCap, Grow, Kind, ProbeCap,
 };
 use tlcheck_rules::Shown;
-use tlwire_search::{Explanation, Seen, explain};
+use tlwire_search::{Explanation, Premise, Seen, explain};
 
 /// What is said of a record, without the run.
 #[derive(Clone, Copy, Debug, PartialEq, Eq)]
@@ -86,10 +86,12 @@ fn answer_to(alloc: Global, damage: Damage, order: &[usize]) -> Result<Said, All
         block_bytes: 8,
         blocks: 1,
     };
-    Ok(match explain(alloc, shape, &[], &seen)? {
-        Explanation::Explained(run) => Said::Explained(run.len()),
-        Explanation::NotExplained(place) => Said::NotExplained(place),
-    })
+    Ok(
+        match explain(alloc, shape, &[Premise::Whole], &[], &seen)? {
+            Explanation::Explained(run) => Said::Explained(run.len()),
+            Explanation::NotExplained(place, _) => Said::NotExplained(place),
+        },
+    )
 }
 
 /// The lines of a whole record, in order.

@@ -63,9 +63,9 @@ impl fmt::Display for PermName {
     }
 }
 
-// A client's copy.
+/// A client's copy. It prints as `None`, or as its permission and its bytes.
 #[derive(Clone, Copy)]
-struct Held<'a>(&'a CachedCopy);
+pub struct Held<'a>(pub &'a CachedCopy);
 
 impl fmt::Display for Held<'_> {
     ghost output = { λ x. Some (copy_text x.0.now) };
@@ -80,9 +80,9 @@ impl fmt::Display for Held<'_> {
     }
 }
 
-// What a client waits for.
+/// What a client waits for. It prints as what stands behind the copy: nothing, or `, waits for` and the answer.
 #[derive(Clone, Copy)]
-struct Waits(Awaited);
+pub struct Waits(pub Awaited);
 
 impl fmt::Display for Waits {
     ghost output = { λ x. Some (wait_text x.0) };

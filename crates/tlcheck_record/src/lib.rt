@@ -14,6 +14,7 @@ mod words;
 mod written;
 
 pub use cause::{Cause, LineError};
+pub use client::{Held, Waits};
 pub use entries::read_entry;
 pub use header::{read_image_line, read_shape};
 pub use reason::{Place, Reason, Source};

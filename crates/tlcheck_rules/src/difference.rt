@@ -99,8 +99,8 @@ fn other_data(body: &Body, shown: &Shown) -> Option<Difference>
     }
 }
 
-/// How what is shown differs from a message, if it does.
-fn other_message(body: &Body, shown: &Shown) -> Option<Difference>
+/// How what is shown differs from a message, if it does: in its name, its parameter, its data or its bytes.
+pub fn other_message(body: &Body, shown: &Shown) -> Option<Difference>
     ensures { MatchOption result (IsMessage body.now shown.now) (λ d. DiffersFrom body.now shown.now d) }
 {
     let sent = body.kind();

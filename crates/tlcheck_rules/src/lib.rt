@@ -9,7 +9,7 @@ mod order;
 mod rule;
 mod sent;
 
-pub use difference::{Difference, Name};
+pub use difference::{Difference, Name, other_message};
 pub use entry::{Entry, Shown};
 pub use judge::{Breach, Judge, Refusal, every_record};
 pub use keeps::broken_rule;

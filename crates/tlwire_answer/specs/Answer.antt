@@ -1,18 +1,72 @@
 -- What the answer to a record of messages ends with.
-use Rattle.std.specs.Prelude.{◌≡◌, ℕ, List, Ok, Err}
-use Rattle.tlwire_search.specs.Explained.{IsExplanation}
+use Rattle.std.specs.Prelude.{◌≡◌, ◌<◌, ◌&&◌, not, ℕ, Bool, true, false, List, length, Ok, Err}
+use Rattle.std.specs.List.{list_any}
+use Rattle.tlwire_search.specs.Explained.{Explains}
+use Rattle.tlwire_search.specs.Premises.{is_seen_at_pins, is_unseen_on}
+use Rattle.tlwire_search.specs.declared.premise.Premise.{Premise}
+use Rattle.tlwire_search.specs.declared.seen.Wire.TheVariants.{Core}
+use Rattle.tl_protocol.specs.Runs.{at_reset}
+use Rattle.tl_protocol.specs.declared.event.Event.{Event}
+use Rattle.tlwire_search.specs.declared.seen.Seen.{Seen}
+use Rattle.tlwire_pins.specs.Impossible.{IsImpossible}
+use Rattle.tlwire_pins.specs.Pins.{KeepsOrder, lines_from}
+use Rattle.tlwire_pins.specs.Walk.{IsWrong}
+use Rattle.tlwire_pins.specs.declared.pass.Wrong.{Wrong}
 use Rattle.tlwire_record.specs.Messages.{MessagesState}
 use Rattle.tlwire_record.specs.Read.{IsRead}
 use Rattle.tlwire_record.specs.declared.record.ReadFault.TheVariants as read
 use Rattle.tlwire_answer.specs.declared.ending.Ending.{Ending}
-use Rattle.tlwire_answer.specs.declared.ending.Ending.TheVariants.{Usage, Answered, Wrong, Empty, Memory, File}
+use Rattle.tlwire_answer.specs.declared.ending.Ending.TheVariants.{Usage, Answered, Wrong as WrongLine, Empty, Memory, File}
+use Rattle.tlwire_answer.specs.declared.verdict.Verdict.{Verdict}
+use Rattle.tlwire_answer.specs.declared.verdict.Verdict.TheVariants.{Explained, Impossible, NotDecided, OtherOrder}
+
+-- the header says that a client's link was seen at the client's pins, and not that nobody watched the cores
+abbrev pub is_told_at_pins : List Premise → ℕ → Bool
+is_told_at_pins premises client = is_seen_at_pins premises client && not (list_any (is_unseen_on (Core client)) premises)
+
+-- The header says that a client's link and core were seen at the client's pins; there this is the first line of the client's that may not be seen,
+-- and no lawful run over any image is seen so.
+pub record IsNo (m : MessagesState) (w : Wrong) : Type 0 where
+  pub client : ℕ
+  pub premise : is_told_at_pins m.setting.premises client ≡ true
+  pub wrong : IsWrong m.setting.shape client m.seen w
+  pub impossible : IsImpossible m.setting.shape client m.seen
+
+-- lines at the pins of clients have the record's in their order, of a client, where it was seen there
+abbrev pub ClientKeepsOrder : MessagesState → List Seen → ℕ → Type 0
+ClientKeepsOrder m lines client = is_told_at_pins m.setting.premises client ≡ true → KeepsOrder m.setting.shape client lines m.seen
+
+-- and of each
+abbrev pub EachKeepsOrder : MessagesState → List Seen → Type 0
+EachKeepsOrder m lines = (client : ℕ) → client < m.setting.shape.clients → ClientKeepsOrder m lines client
+
+-- A run is seen so at the pins of each client that the header names.
+abbrev pub IsInOrder : MessagesState → List Event → Type 0
+IsInOrder m run = EachKeepsOrder m (lines_from m.setting.shape (at_reset m.setting.shape m.image) run)
+
+-- no client was seen there
+abbrev pub NobodyIsTold : MessagesState → Type 0
+NobodyIsTold m = (client : ℕ) → client < m.setting.shape.clients → is_told_at_pins m.setting.premises client ≡ false
+
+-- A run explains a record: it has what was seen on each wire; and the lines at the pins of each client that the header names in their
+-- order of time, so that it is seen so there (`IsSeenAt`).
+pub record IsExplained (m : MessagesState) (run : List Event) : Type 0 where
+  pub wires : Explains m.setting.premises m.setting.shape m.image m.seen run
+  pub pins : IsInOrder m run
+
+-- What may be said of what was seen: a run that explains it; or that there is none; or a place in it, of which nothing else is claimed.
+abbrev pub IsVerdict : MessagesState → Verdict → Type 0
+IsVerdict m (Explained run) = IsExplained m run.items
+IsVerdict m (Impossible w) = IsNo m w
+IsVerdict m (NotDecided place limit) = place < length m.seen
+IsVerdict m OtherOrder = Unit {0}
 
 -- What may be said of a record's lines: what was seen is what they say, and what is said of it holds; or the first line that is outside
 -- the format, and what is wrong with it; or that there is nothing seen.
 abbrev pub MayEnd : List (List ℕ) → Ending → Type 0
 MayEnd lines Usage = ⊥
-MayEnd lines (Answered m explanation) = IsRead lines (Ok m) × IsExplanation m.setting.shape m.image m.seen explanation
-MayEnd lines (Wrong line cause) = IsRead lines (Err (read.Line line cause))
+MayEnd lines (Answered m verdict) = IsRead lines (Ok m) × IsVerdict m verdict
+MayEnd lines (WrongLine line cause) = IsRead lines (Err (read.Line line cause))
 MayEnd lines Empty = IsRead lines (Err read.Empty)
 MayEnd lines Memory = Unit {0}
 MayEnd lines File = Unit {0}
@@ -20,8 +74,8 @@ MayEnd lines File = Unit {0}
 -- what may be said of what was seen
 abbrev pub IsEnding : MessagesState → Ending → Type 0
 IsEnding seen Usage = ⊥
-IsEnding seen (Answered m explanation) = (m ≡ seen) × IsExplanation m.setting.shape m.image m.seen explanation
-IsEnding seen (Wrong line cause) = ⊥
+IsEnding seen (Answered m verdict) = (m ≡ seen) × IsVerdict m verdict
+IsEnding seen (WrongLine line cause) = ⊥
 IsEnding seen Empty = ⊥
 IsEnding seen Memory = Unit {0}
 IsEnding seen File = ⊥

@@ -10,27 +10,36 @@ use Rattle.tl_streams.specs.declared.fault.ProgramFault.TheVariants as program
 use Rattle.tl_streams.specs.Written.{AppendsBeginning}
 use Rattle.tl_streams.specs.declared.reading.ReadError.{ReadError}
 use Rattle.tl_streams.specs.declared.reading.ReadError.TheVariants as read
-use Rattle.tlwire_search.specs.declared.answer.Explanation.{Explanation}
-use Rattle.tlwire_search.specs.declared.answer.Explanation.TheVariants.{Explained, NotExplained}
+use Rattle.tlcheck_rules.specs.declared.judge.Breach.{Breach}
+use Rattle.tlcheck_record.specs.Reason.{reason_text}
+use Rattle.tlcheck_record.specs.State.{copy_text, wait_text}
+use Rattle.tlwire_search.specs.declared.search.Limit.{Limit}
+use Rattle.tlwire_search.specs.declared.search.Limit.TheVariants.{NoWay, Depth, Events}
+use Rattle.tlwire_pins.specs.declared.pass.Wrong.{Wrong}
+use Rattle.tlwire_pins.specs.declared.view.View.{View}
 use Rattle.tlcheck_record.specs.Cause.{is_outside, sentence}
 use Rattle.tlwire_record.specs.Messages.{MessagesState}
 use Rattle.tlcheck_record.specs.declared.cause.Cause.{Cause}
 use Rattle.tlwire_answer.specs.Run.{run_text}
 use Rattle.tlwire_answer.specs.declared.ending.Ending.{Ending}
-use Rattle.tlwire_answer.specs.declared.ending.Ending.TheVariants.{Usage, Answered, Wrong, Empty, Memory, File}
+use Rattle.tlwire_answer.specs.declared.ending.Ending.TheVariants.{Usage, Answered, Wrong as WrongLine, Empty, Memory, File}
+use Rattle.tlwire_answer.specs.declared.verdict.Verdict.{Verdict}
+use Rattle.tlwire_answer.specs.declared.verdict.Verdict.TheVariants.{Explained, Impossible, NotDecided, OtherOrder}
 use Rattle.tlwire_answer.specs.declared.ending.Form.{Form}
 use Rattle.tlwire_answer.specs.declared.ending.Form.TheVariants.{Summary, Run}
 
--- explained ends with 0, not explained with 6
-abbrev pub explanation_status : Explanation → ℕ
-explanation_status (Explained events) = 0
-explanation_status (NotExplained place) = 6
+-- explained ends with 0, impossible with 1, not decided with 6
+abbrev pub verdict_status : Verdict → ℕ
+verdict_status (Explained events) = 0
+verdict_status (Impossible wrong) = 1
+verdict_status (NotDecided place limit) = 6
+verdict_status OtherOrder = 6
 
 -- usage ends with 2, what is no record of messages with 3, want of memory with 4, the file with 5
 abbrev pub status_of : Ending → ℕ
 status_of Usage = 2
-status_of (Answered messages explanation) = explanation_status explanation
-status_of (Wrong line cause) = 3
+status_of (Answered messages verdict) = verdict_status verdict
+status_of (WrongLine line cause) = 3
 status_of Empty = 3
 status_of Memory = 4
 status_of File = 5
@@ -44,8 +53,8 @@ wrong_text line cause =
 -- a fault as it prints
 abbrev pub fault_text : Ending → List ℕ
 fault_text Usage = program_fault_text program.Usage
-fault_text (Answered messages explanation) = []
-fault_text (Wrong line cause) = wrong_text line cause
+fault_text (Answered messages verdict) = []
+fault_text (WrongLine line cause) = wrong_text line cause
 fault_text Empty = codes "error 51 empty"
 fault_text Memory = program_fault_text program.Memory
 fault_text File = program_fault_text program.File
@@ -99,11 +108,38 @@ lent_line (Some line) = line.now
 abbrev pub text_at : List (List ℕ) → ℕ → List ℕ
 text_at lines number = if number == 0 then [] else line_or_none (slice_get lines (number - 1))
 
--- the line that no attempt reached
-abbrev pub not_explained_text : ℕ → List ℕ → List ℕ
-not_explained_text number line =
-    codes "not explained: line " ++ decimal number ++ codes ": " ++ line
-    ++ codes "\nno attempt reached it; this is no verdict that it is unlawful\n"
+-- what ended an attempt
+abbrev pub limit_text : Limit → List ℕ
+limit_text NoWay = codes "no event that was tried leads there"
+limit_text Depth = codes "each of a row of 96 events asks for another one first"
+limit_text Events = codes "4096 events did not lead there"
+
+-- and that nothing more is said
+abbrev pub limit_line : Limit → List ℕ
+limit_line limit = codes "\n" ++ limit_text limit ++ codes "; this is no verdict that it is unlawful\n"
+
+-- the line that no attempt reached, and what ended it
+abbrev pub not_decided_text : ℕ → List ℕ → Limit → List ℕ
+not_decided_text number line limit =
+    codes "not decided: line " ++ decimal number ++ codes ": " ++ line ++ limit_line limit
+
+-- a run that was found is seen in another order at the pins
+abbrev pub other_order_text : List ℕ
+other_order_text =
+    codes "not decided: the run that was found has another order at a client's pins; this is no verdict that it is unlawful\n"
+
+-- what a line breaks that may not be seen at its client's pins
+abbrev pub rule_line : ℕ → Breach → List ℕ
+rule_line number breach = codes "impossible: line " ++ decimal number ++ codes ": " ++ reason_text breach ++ codes "\n"
+
+-- what the client holds of the block there, and waits for
+abbrev pub view_line : ℕ → ℕ → View → List ℕ
+view_line block client v =
+    codes "\nblock " ++ decimal block ++ codes ", client " ++ decimal client ++ codes ": " ++ copy_text v.held ++ wait_text v.wait ++ codes "\n"
+
+-- the rule, the line, and the client's state
+abbrev pub impossible_text : ℕ → List ℕ → Wrong → List ℕ
+impossible_text number line w = rule_line number w.breach ++ line ++ view_line w.block w.client w.view
 
 -- what is written of a run that was found
 abbrev pub explained_text : Form → MessagesState → List Event → List ℕ
@@ -111,16 +147,18 @@ explained_text Summary m events = summary_line m events
 explained_text Run m events = run_of m events
 
 -- what is written of what was said
-abbrev pub answer_text : Form → List (List ℕ) → MessagesState → Explanation → List ℕ
+abbrev pub answer_text : Form → List (List ℕ) → MessagesState → Verdict → List ℕ
 answer_text form lines m (Explained events) = explained_text form m events.items
-answer_text form lines m (NotExplained place) =
-    not_explained_text (number_at m.lines place) (text_at lines (number_at m.lines place))
+answer_text form lines m (Impossible w) = impossible_text (number_at m.lines w.place) (text_at lines (number_at m.lines w.place)) w
+answer_text form lines m (NotDecided place limit) =
+    not_decided_text (number_at m.lines place) (text_at lines (number_at m.lines place)) limit
+answer_text form lines m OtherOrder = other_order_text
 
 -- what is written of an ending that is an answer
 abbrev pub ending_text : Form → List (List ℕ) → Ending → List ℕ
-ending_text form lines (Answered messages explanation) = answer_text form lines messages explanation
+ending_text form lines (Answered messages verdict) = answer_text form lines messages verdict
 ending_text form lines Usage = []
-ending_text form lines (Wrong line cause) = []
+ending_text form lines (WrongLine line cause) = []
 ending_text form lines Empty = []
 ending_text form lines Memory = []
 ending_text form lines File = []
@@ -138,5 +176,6 @@ pub record IsFault (ending : Ending) (output output_new faults faults_new : Opti
 -- which of the two stands for a status
 pub record IsTold (status : ℕ) (form : Form) (lines : List (List ℕ)) (ending : Ending) (output output_new faults faults_new : Option (List ℕ)) : Type 0 where
   pub explained : status ≡ 0 → IsAnswer (ending_text form lines ending) output output_new faults faults_new
-  pub not_explained : status ≡ 6 → IsAnswer (ending_text form lines ending) output output_new faults faults_new
-  pub fault : status ≢ 0 → status ≢ 6 → IsFault ending output output_new faults faults_new
+  pub impossible : status ≡ 1 → IsAnswer (ending_text form lines ending) output output_new faults faults_new
+  pub not_decided : status ≡ 6 → IsAnswer (ending_text form lines ending) output output_new faults faults_new
+  pub fault : status ≢ 0 → status ≢ 1 → status ≢ 6 → IsFault ending output output_new faults faults_new

@@ -2,18 +2,22 @@
 ghost use Rattle.std.specs.Prelude.{◌≡◌, ◌++◌, Some, IfOk, OnOk, slice_get, string_bytes};
 ghost use Rattle.tl_streams.specs.Written.{AppendsBeginning};
 ghost use Rattle.tl_script_words.specs.Words.{texts};
-ghost use Rattle.tlwire_answer.specs.Ending.{answer_text, ending_of_read, ending_of_words, explained_text, fault_line, fault_text, lent_line, not_explained_text, number_at, run_of, status_of, summary_line, summary_text, text_at};
+ghost use Rattle.tlwire_answer.specs.Ending.{answer_text, ending_of_read, ending_of_words, explained_text, fault_line, fault_text, impossible_text, lent_line, limit_line, limit_text, not_decided_text, number_at, other_order_text, rule_line, run_of, status_of, summary_line, summary_text, text_at, view_line};
 
 use crate::run::RunText;
+use crate::verdict::Verdict;
 use std::alloc::{AllocError, Global};
 use std::fmt;
 use std::fmt::Write as WriteText;
 use std::io::Write;
 use tl_rules::Event;
 use tl_streams::{ProgramFault, ReadError, WordsError, tell};
-use tlcheck_record::Cause;
+use tl_types::{BlockNo, ClientId};
+use tlcheck_record::{Cause, Held, Reason, Waits};
+use tlcheck_rules::Breach;
+use tlwire_pins::{View, Wrong};
 use tlwire_record::Messages;
-use tlwire_search::Explanation;
+use tlwire_search::Limit;
 
 /// What is written of a run that was found.
 #[derive(Clone, Copy, Debug, PartialEq, Eq)]
@@ -30,7 +34,7 @@ pub enum Ending {
     /// The words of the command line are not an option and one file.
     Usage,
     /// What was said of what was seen.
-    Answered(Messages, Explanation),
+    Answered(Messages, Verdict),
     /// On this line, from 1 on, this is wrong.
     Wrong(u64, Cause),
     /// There is no shape, or neither image nor message.
@@ -85,13 +89,15 @@ impl From<ReadError> for Ending {
 }
 
 impl Ending {
-    /// The status of it: 0 and 6 are answers, the others faults.
+    /// The status of it: 0, 1 and 6 are answers, the others faults.
     pub fn status(&self) -> u8
         ensures { result ≡ status_of self.now }
     {
         match self {
-            Ending::Answered(_, Explanation::Explained(_)) => 0,
-            Ending::Answered(_, Explanation::NotExplained(_)) => 6,
+            Ending::Answered(_, Verdict::Explained(_)) => 0,
+            Ending::Answered(_, Verdict::Impossible(_)) => 1,
+            Ending::Answered(_, Verdict::NotDecided(_, _)) => 6,
+            Ending::Answered(_, Verdict::OtherOrder) => 6,
             Ending::Usage => 2,
             Ending::Wrong(_, _) | Ending::Empty => 3,
             Ending::Memory => 4,
@@ -185,13 +191,118 @@ fn explained(
     Ok(text.into_bytes())
 }
 
-fn not_explained(alloc: Global, number: u64, line: &[u8]) -> Result<Vec<u8>, AllocError>
-    ensures { IfOk result (λ text. text.items ≡ not_explained_text number line.now) }
+// What ended an attempt.
+#[derive(Clone, Copy)]
+struct LimitText(Limit);
+
+impl fmt::Display for LimitText {
+    ghost output = { λ x. Some (limit_text x.0) };
+
+    fn fmt<W: fmt::Write>(&self, f: &mut fmt::Formatter<W>) -> fmt::Result {
+        match self.0 {
+            Limit::NoWay => f.write_str("no event that was tried leads there"),
+            Limit::Depth => f.write_str("each of a row of 96 events asks for another one first"),
+            Limit::Events => f.write_str("4096 events did not lead there"),
+        }
+    }
+}
+
+// What ended an attempt, behind the line that it did not reach.
+#[derive(Clone, Copy)]
+struct LimitLine(Limit);
+
+impl fmt::Display for LimitLine {
+    ghost output = { λ x. Some (limit_line x.0) };
+
+    fn fmt<W: fmt::Write>(&self, f: &mut fmt::Formatter<W>) -> fmt::Result {
+        write!(
+            f,
+            "\n{}; this is no verdict that it is unlawful\n",
+            LimitText(self.0)
+        )
+    }
+}
+
+fn not_decided(alloc: Global, number: u64, line: &[u8], limit: Limit) -> Result<Vec<u8>, AllocError>
+    ensures { IfOk result (λ text. text.items ≡ not_decided_text number line.now limit) }
 {
-    let head = format!(in alloc; "not explained: line {number}: ")?;
+    let ended = LimitLine(limit);
+    let head = format!(in alloc; "not decided: line {number}: ")?;
+    let tail = format!(in alloc; "{ended}")?;
     let mut text = head.into_bytes();
     text.extend_from_slice(line)?;
-    text.extend_from_slice(b"\nno attempt reached it; this is no verdict that it is unlawful\n")?;
+    text.extend_from_slice(tail.as_bytes())?;
+    Ok(text)
+}
+
+fn other_order(alloc: Global) -> Result<Vec<u8>, AllocError>
+    ensures { IfOk result (λ text. text.items ≡ other_order_text) }
+{
+    let text =
+        "not decided: the run that was found has another order at a client's pins; this is no verdict that it is unlawful\n";
+    text.as_bytes().to_vec(alloc)
+}
+
+// What a line breaks that may not be seen at its client's pins.
+#[derive(Clone, Copy)]
+struct RuleLine<'a> {
+    number: u64,
+    breach: &'a Breach,
+}
+
+impl fmt::Display for RuleLine<'_> {
+    ghost output = { λ x. Some (rule_line x.number x.breach.now) };
+
+    fn fmt<W: fmt::Write>(&self, f: &mut fmt::Formatter<W>) -> fmt::Result {
+        write!(
+            f,
+            "impossible: line {}: {}\n",
+            self.number,
+            Reason(self.breach)
+        )
+    }
+}
+
+// What the client holds of the block there, and waits for.
+#[derive(Clone, Copy)]
+struct ViewLine<'a> {
+    block: BlockNo,
+    client: ClientId,
+    view: &'a View,
+}
+
+impl fmt::Display for ViewLine<'_> {
+    ghost output = { λ x. Some (view_line x.block x.client x.view.now) };
+
+    fn fmt<W: fmt::Write>(&self, f: &mut fmt::Formatter<W>) -> fmt::Result {
+        write!(
+            f,
+            "\nblock {}, client {}: {}{}\n",
+            self.block,
+            self.client,
+            Held(&self.view.held),
+            Waits(self.view.wait)
+        )
+    }
+}
+
+fn impossible(alloc: Global, number: u64, line: &[u8], wrong: &Wrong) -> Result<Vec<u8>, AllocError>
+    ensures { IfOk result (λ text. text.items ≡ impossible_text number line.now wrong.now) }
+{
+    let rule = RuleLine {
+        number,
+        breach: &wrong.breach,
+    };
+    let state = ViewLine {
+        block: wrong.block,
+        client: wrong.client,
+        view: &wrong.view,
+    };
+    let head = format!(in alloc; "{rule}")?;
+    let tail = format!(in alloc; "{state}")?;
+    let mut text = head.into_bytes();
+    text.extend_from_slice(line)?;
+    text.extend_from_slice(tail.as_bytes())?;
     Ok(text)
 }
 
@@ -201,16 +312,21 @@ pub(crate) fn text_of(
     form: Form,
     lines: &[&[u8]],
     messages: &Messages,
-    explanation: &Explanation,
+    verdict: &Verdict,
 ) -> Result<Vec<u8>, AllocError>
-    ensures { IfOk result (λ text. text.items ≡ answer_text form (texts lines.now) messages.now explanation.now) }
+    ensures { IfOk result (λ text. text.items ≡ answer_text form (texts lines.now) messages.now verdict.now) }
 {
-    match explanation {
-        Explanation::Explained(events) => explained(alloc, form, messages, events),
-        Explanation::NotExplained(place) => {
-            let number = number_at(messages, *place);
-            not_explained(alloc, number, text_at(lines, number))
+    match verdict {
+        Verdict::Explained(events) => explained(alloc, form, messages, events),
+        Verdict::Impossible(wrong) => {
+            let number = number_at(messages, wrong.place);
+            impossible(alloc, number, text_at(lines, number), wrong)
         }
+        Verdict::NotDecided(place, limit) => {
+            let number = number_at(messages, *place);
+            not_decided(alloc, number, text_at(lines, number), *limit)
+        }
+        Verdict::OtherOrder => other_order(alloc),
     }
 }
 

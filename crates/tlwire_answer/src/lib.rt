@@ -1,9 +1,11 @@
-//! The answer to a record of messages: a run that has just what was seen, or the first line that no attempt reached.
+//! The answer to a record of messages: a run that explains it, that no lawful run is seen so, or the first line that no attempt reached.
 #![tactic(auto)]
 
 mod ending;
 mod reply;
 mod run;
+mod verdict;
 
 pub use ending::{Ending, Form, show};
 pub use reply::answer;
+pub use verdict::Verdict;

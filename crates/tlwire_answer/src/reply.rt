@@ -7,19 +7,18 @@ ghost use Rattle.tlwire_answer.specs.Ending.{IsTold, status_of};
 ghost use Rattle.tlwire_answer.specs.declared.ending.Ending.{Ending};
 
 use crate::ending::{Ending, Form, show, text_of};
+use crate::verdict::judge;
 use std::alloc::Global;
 use std::io::Write;
 use tl_streams::write_whole;
 use tlwire_record::{Messages, ReadFault, read, split_lines};
-use tlwire_search::explain;
 
 /// What the answer to what was seen ends with.
-fn explained(alloc: Global, messages: Messages) -> Ending
+fn answered(alloc: Global, messages: Messages) -> Ending
     ensures { IsEnding messages result }
 {
-    let shape = messages.setting().shape();
-    match explain(alloc, shape, messages.image(), messages.seen()) {
-        Ok(explanation) => Ending::Answered(messages, explanation),
+    match judge(alloc, &messages) {
+        Ok(verdict) => Ending::Answered(messages, verdict),
         Err(_) => Ending::Memory,
     }
 }
@@ -29,7 +28,7 @@ fn ending(alloc: Global, lines: &[&[u8]]) -> Ending
     ensures { MayEnd (texts lines.now) result }
 {
     match read(alloc, lines) {
-        Ok(messages) => explained(alloc, messages),
+        Ok(messages) => answered(alloc, messages),
         Err(ReadFault::Line(line, cause)) => Ending::Wrong(line, cause),
         Err(ReadFault::Empty) => Ending::Empty,
         Err(ReadFault::Memory) => Ending::Memory,
@@ -53,8 +52,8 @@ fn write_ending<W: Write, E: Write>(
         × IsTold result form (texts lines.now) told (W.contents output.old) (W.contents output.new) (E.contents faults.old) (E.contents faults.new) }
 {
     match ending {
-        Ending::Answered(messages, explanation) => {
-            match text_of(alloc, form, lines, messages, explanation) {
+        Ending::Answered(messages, verdict) => {
+            match text_of(alloc, form, lines, messages, verdict) {
                 Ok(text) => match write_whole(output, &text) {
                     Ok(()) => ending.status(),
                     Err(_) => show(faults, &Ending::File),
@@ -83,9 +82,9 @@ fn reply<W: Write, E: Write>(
     write_ending(alloc, form, lines, &ending, output, faults)
 }
 
-/// Reads a record of messages, looks for a run that has just what was seen, and writes what it found: an answer to `output`, a fault to
-/// `faults`. It answers the status: 0 where a run explains it, 6 where no attempt found one, 3 where it cannot be read, 4 for want of
-/// memory, 5 where the answer could not be written. A failing `faults` does not change it.
+/// Reads a record of messages, says what it found of it, and writes that: an answer to `output`, a fault to `faults`. It answers the
+/// status: 0 where a run explains it, 1 where no lawful run is seen so, 6 where neither was found, 3 where it cannot be read, 4 for want
+/// of memory, 5 where the answer could not be written. A failing `faults` does not change it.
 pub fn answer<W: Write, E: Write>(
     alloc: Global,
     form: Form,

@@ -40,7 +40,7 @@ use Rattle.tlwire_search.specs.Explained.{as_list, link_seen, shown_as}
 use Rattle.tlwire_search.specs.declared.seen.Seen.{Seen}
 use Rattle.tlwire_search.specs.declared.seen.Seen.TheVariants.{OnLink}
 use Rattle.tlwire_pins.specs.Pins.{is_own, is_told, line_of, lines_from, own, taken_seen}
-use Rattle.tlwire_pins.specs.View.{MayLine, MaySee, after_line, after_message, led_by, view_of}
+use Rattle.tlwire_pins.specs.View.{MayLine, MaySeeAs, after_line, after_message, led_by, view_of}
 use Rattle.tlwire_pins.specs.declared.view.View.{View}
 
 -- ## One event
@@ -60,7 +60,7 @@ at_other s c x k ne = ap (λ (t : Bool). view_of (cond t k (s.client x))) (ne_eq
 
 -- a message that is seen leads from a view to another
 abbrev Sees : View → View → Body → Type 0
-Sees v w message = MaySee v (body_kind message) (body_bytes message) × (w ≡ after_message v (body_kind message) (body_bytes message))
+Sees v w message = MaySeeAs v (shown_as message) (body_kind message) × (w ≡ after_message v (body_kind message) (body_bytes message))
 
 abbrev view : CachedCopy → Awaited → View
 view held wait = record { held = held; wait = wait }
@@ -73,25 +73,25 @@ release_sees Absent wait TtoN w p = cc
 release_sees Absent wait BtoN w p = cc
 release_sees (Readable bytes) wait TtoB w p = cc
 release_sees (Readable bytes) wait TtoN w p = cc
-release_sees (Readable bytes) wait BtoN w p = ((w, refl, refl), refl)
-release_sees (Writable bytes true) wait TtoB w p = ((w, refl, refl), refl)
-release_sees (Writable bytes true) wait TtoN w p = ((w, refl, refl), refl)
+release_sees (Readable bytes) wait BtoN w p = ((w, refl, (refl, refl)), refl)
+release_sees (Writable bytes true) wait TtoB w p = ((w, refl, (refl, refl)), refl)
+release_sees (Writable bytes true) wait TtoN w p = ((w, refl, (refl, refl)), refl)
 release_sees (Writable bytes true) wait BtoN w p = cc
-release_sees (Writable bytes false) wait TtoB w p = ((w, refl, refl), refl)
-release_sees (Writable bytes false) wait TtoN w p = ((w, refl, refl), refl)
+release_sees (Writable bytes false) wait TtoB w p = ((w, refl, (refl, refl)), refl)
+release_sees (Writable bytes false) wait TtoN w p = ((w, refl, (refl, refl)), refl)
 release_sees (Writable bytes false) wait BtoN w p = cc
 
 -- an answer to a Probe
 answer_sees : (held : CachedCopy) (wait : Awaited) (asked : ProbeCap) → wait ≢ ForReleaseAck
     → Sees (view held wait) (view (reduced held (probe_perm asked)) wait) (body.Upward (ProbeAck (probe_answer (perm_of held) asked (dirty_bytes held))))
-answer_sees Absent wait ToB n = ((n, refl, refl), refl)
-answer_sees Absent wait ToN n = ((n, refl, refl), refl)
-answer_sees (Readable bytes) wait ToB n = ((n, refl, refl), refl)
-answer_sees (Readable bytes) wait ToN n = ((n, refl, refl), refl)
-answer_sees (Writable bytes true) wait ToB n = ((n, refl, refl), refl)
-answer_sees (Writable bytes true) wait ToN n = ((n, refl, refl), refl)
-answer_sees (Writable bytes false) wait ToB n = ((n, refl, refl), refl)
-answer_sees (Writable bytes false) wait ToN n = ((n, refl, refl), refl)
+answer_sees Absent wait ToB n = ((n, (refl, refl)), refl)
+answer_sees Absent wait ToN n = ((n, (refl, refl)), refl)
+answer_sees (Readable bytes) wait ToB n = ((n, (refl, refl)), refl)
+answer_sees (Readable bytes) wait ToN n = ((n, (refl, refl)), refl)
+answer_sees (Writable bytes true) wait ToB n = ((n, (refl, refl)), refl)
+answer_sees (Writable bytes true) wait ToN n = ((n, (refl, refl)), refl)
+answer_sees (Writable bytes false) wait ToB n = ((n, (refl, refl)), refl)
+answer_sees (Writable bytes false) wait ToN n = ((n, (refl, refl)), refl)
 
 answer_leads : (shape : Shape) (c b : ℕ) (k : Client) (probes : List ProbeCap) → HasFirst probes → k.wait ≢ ForReleaseAck
     → Leads shape (view_of k) (view_of (answered k probes)) (link_seen b (answer_post c k probes))

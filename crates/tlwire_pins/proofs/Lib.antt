@@ -1,2 +1,5 @@
 pub mod Impossible
 pub mod Leads
+pub mod Ordered
+pub mod Replayed
+pub mod Walk

@@ -1,3 +1,4 @@
 pub mod Impossible
 pub mod Pins
 pub mod View
+pub mod Walk

@@ -62,11 +62,21 @@ abbrev pub own : Shape → ℕ → ℕ → List Seen → List Seen
 own shape c block [] = []
 own shape c block (x ∷ rest) = if is_own shape c block x then x ∷ own shape c block rest else own shape c block rest
 
+-- this is seen at the pins of a client
+abbrev pub is_of_client : ℕ → Seen → Bool
+is_of_client c (OnLink x b message) = (x == c) && is_told (channel_of message.kind)
+is_of_client c (OnMemory b message) = false
+is_of_client c (Load x address bytes) = x == c
+is_of_client c (Store x address bytes) = x == c
+
+-- of each block, lines at a client's pins are the record's in order, and maybe more behind them
+abbrev pub KeepsOrder : Shape → ℕ → List Seen → List Seen → Type 0
+KeepsOrder shape c lines seen =
+    (block : ℕ) → (unseen : List Seen) × (own shape c block lines ≡ own shape c block seen ++ unseen)
+
 -- A run is seen so at the pins of a client: it is lawful, and of each block the record has what is seen there of the run, in order of
 -- time. What comes behind that was seen no more, since the monitor had stopped. Messages on B and E are left out, and so is the order
 -- between two blocks: they may be seen at any time.
 pub record IsSeenAt (c : ℕ) (shape : Shape) (image : List ℕ) (seen : List Seen) (run : List Event) : Type 0 where
   pub lawful : IsRun shape image run
-  pub each :
-      (block : ℕ)
-      → (unseen : List Seen) × (own shape c block (lines_from shape (at_reset shape image) run) ≡ own shape c block seen ++ unseen)
+  pub each : KeepsOrder shape c (lines_from shape (at_reset shape image) run) seen

@@ -1,17 +1,33 @@
 -- What a client holds of a block and waits for, as the messages at its pins tell (TileLink 1.8, section 9).
 use Rattle.std.specs.Prelude.{◌≡◌, ◌≢◌, ◌%◌, ℕ, List, [], ◌∷◌, Option, Some, None}
-use Rattle.tl_types.specs.Parameters.{dirty_prune, probe_report, report_from}
+use Rattle.tl_types.specs.Message.{probe_answer, surrender}
+use Rattle.tl_types.specs.Parameters.{dirty_prune, probe_report}
 use Rattle.tl_types.specs.Permission.{grant_perm, grow_from, prune_from, prune_to, report_to}
 use Rattle.tl_types.specs.declared.kind.Kind.{Kind}
 use Rattle.tl_types.specs.declared.kind.Kind.TheVariants as kind
-use Rattle.tl_types.specs.declared.permission.Perm.TheVariants.{None as p_None, Tip}
+use Rattle.tl_types.specs.declared.message.Body.{Body}
+use Rattle.tl_types.specs.declared.message.Body.TheVariants as body
+use Rattle.tl_types.specs.declared.message.Upward.TheVariants as upward
+use Rattle.tl_types.specs.declared.permission.Perm.{Perm}
+use Rattle.tl_types.specs.declared.permission.Perm.TheVariants.{None as p_None, Branch, Tip}
+use Rattle.tl_types.specs.declared.permission.ProbeCap.{ProbeCap}
+use Rattle.tl_types.specs.declared.permission.ProbeCap.TheVariants.{ToB, ToN}
+use Rattle.tl_types.specs.declared.permission.Prune.{Prune}
 use Rattle.tl_types.specs.declared.wait.Awaited.TheVariants.{Nothing, ForGrant, ForReleaseAck}
 use Rattle.tl_protocol.specs.Access.{FitsBlock, ReadsAs}
 use Rattle.tl_protocol.specs.Client.{bytes_or}
 use Rattle.tl_protocol.specs.Copy.{bytes_of, clean_copy, dirty_bytes, perm_of, reduced, stored_in}
+use Rattle.tl_protocol.specs.declared.copy.CachedCopy.{CachedCopy}
 use Rattle.tl_protocol.specs.declared.copy.CachedCopy.TheVariants.{Absent}
 use Rattle.tl_protocol.specs.declared.client.Client.{Client}
 use Rattle.tl_protocol.specs.declared.shape.Shape.{Shape}
+use Rattle.tlcheck_rules.specs.Differs.{DiffersFrom, IsMessage}
+use Rattle.tlcheck_rules.specs.declared.difference.Difference.{Difference}
+use Rattle.tlcheck_rules.specs.declared.entry.Shown.{Shown}
+use Rattle.tlcheck_rules.specs.declared.judge.Breach.{Breach}
+use Rattle.tlcheck_rules.specs.declared.judge.Breach.TheVariants.{NotPermitted, OutOfOrder, NotAsShown}
+use Rattle.tlcheck_rules.specs.declared.rule.Rule.{Rule}
+use Rattle.tlcheck_rules.specs.declared.rule.Rule.TheVariants as rule
 use Rattle.tlwire_search.specs.declared.seen.Seen.{Seen}
 use Rattle.tlwire_search.specs.declared.seen.Seen.TheVariants.{OnLink, OnMemory, Load, Store}
 use Rattle.tlwire_pins.specs.declared.view.View.{View}
@@ -24,15 +40,41 @@ view_of k = record { held = k.held; wait = k.wait }
 abbrev pub fresh : View
 fresh = record { held = Absent; wait = Nothing }
 
+-- ## What may be seen next
+
+-- the Probe that leaves this permission, where the copy had more
+abbrev pub cap_to : Perm → ProbeCap
+cap_to Branch = ToB
+cap_to _ = ToN
+
+-- the Release of a copy
+abbrev pub release_of : CachedCopy → Prune → Body
+release_of held prune = body.Upward (upward.Release (surrender prune (dirty_bytes held)))
+
+-- the answer of a copy to a Probe
+abbrev pub answer_of : CachedCopy → ProbeCap → Body
+answer_of held cap = body.Upward (upward.ProbeAck (probe_answer (perm_of held) cap (dirty_bytes held)))
+
+-- A client asks for more while it waits for nothing, from the permission that it has.
+abbrev pub MayAcquire : View → Perm → Type 0
+MayAcquire v from = (v.wait ≡ Nothing) × (perm_of v.held ≡ from)
+
+-- It gives up while it waits for nothing, from the permission that it has, with its bytes if they are dirty.
+abbrev pub MayRelease : View → Prune → Shown → Type 0
+MayRelease v prune shown = (v.wait ≡ Nothing) × (perm_of v.held ≡ prune_from prune) × IsMessage (release_of v.held prune) shown
+
+-- It answers a Probe while it waits for no ReleaseAck, with its bytes if they are dirty.
+abbrev pub MayAnswer : View → ProbeCap → Shown → Type 0
+MayAnswer v cap shown = (v.wait ≢ ForReleaseAck) × IsMessage (answer_of v.held cap) shown
+
 -- a message may be sent by such a client, or taken by it
-abbrev pub MaySee : View → Kind → Option (List ℕ) → Type 0
-MaySee v (kind.AcquireBlock grow) bytes = (v.wait ≡ Nothing) × (perm_of v.held ≡ grow_from grow)
-MaySee v (kind.Release prune) bytes = (v.wait ≡ Nothing) × (perm_of v.held ≡ prune_from prune) × (dirty_bytes v.held ≡ None)
-MaySee v (kind.ReleaseData prune) bytes = (v.wait ≡ Nothing) × (perm_of v.held ≡ Tip) × (dirty_bytes v.held ≡ bytes)
-MaySee v (kind.ProbeAck report) bytes =
-    (v.wait ≢ ForReleaseAck) × (perm_of v.held ≡ report_from (probe_report report)) × (dirty_bytes v.held ≡ None)
-MaySee v (kind.ProbeAckData prune) bytes = (v.wait ≢ ForReleaseAck) × (perm_of v.held ≡ Tip) × (dirty_bytes v.held ≡ bytes)
-MaySee v k bytes = Unit {0}
+abbrev pub MaySeeAs : View → Shown → Kind → Type 0
+MaySeeAs v shown (kind.AcquireBlock grow) = MayAcquire v (grow_from grow)
+MaySeeAs v shown (kind.Release prune) = MayRelease v prune shown
+MaySeeAs v shown (kind.ReleaseData prune) = MayRelease v (dirty_prune prune) shown
+MaySeeAs v shown (kind.ProbeAck report) = MayAnswer v (cap_to (report_to (probe_report report))) shown
+MaySeeAs v shown (kind.ProbeAckData prune) = MayAnswer v (cap_to (prune_to (dirty_prune prune))) shown
+MaySeeAs v shown k = Unit {0}
 
 -- what such a message leaves
 abbrev pub after_message : View → Kind → Option (List ℕ) → View
@@ -50,7 +92,7 @@ after_message v k bytes = v
 
 -- a line may be seen of such a client next
 abbrev pub MayLine : Shape → View → Seen → Type 0
-MayLine shape v (OnLink c block message) = MaySee v message.kind message.bytes
+MayLine shape v (OnLink c block message) = MaySeeAs v message message.kind
 MayLine shape v (OnMemory block message) = Unit {0}
 MayLine shape v (Load c address bytes) =
     FitsBlock shape address bytes × (perm_of v.held ≢ p_None) × ReadsAs (bytes_of v.held) (address % shape.block_bytes) bytes
@@ -67,3 +109,66 @@ after_line shape v (Store c address bytes) = record v { held = stored_in (addres
 abbrev pub led_by : Shape → View → List Seen → View
 led_by shape v [] = v
 led_by shape v (x ∷ rest) = led_by shape (after_line shape v x) rest
+
+-- ## What a line breaks that may not be seen next
+
+-- an Acquire: a rule
+abbrev pub BreaksAcquire : View → Perm → Rule → Type 0
+BreaksAcquire v from rule.NoAcquireUnanswered = v.wait ≡ ForGrant
+BreaksAcquire v from rule.NoReleaseUnanswered = v.wait ≡ ForReleaseAck
+BreaksAcquire v from rule.StartsFromItsCopy = (v.wait ≡ Nothing) × (perm_of v.held ≢ from)
+BreaksAcquire v from _ = ⊥
+
+-- a Release, where it breaks a rule
+abbrev pub BreaksGiving : View → Perm → Rule → Type 0
+BreaksGiving v from rule.NoReleaseBesideAcquire = v.wait ≡ ForGrant
+BreaksGiving v from rule.NoReleaseUnanswered = v.wait ≡ ForReleaseAck
+BreaksGiving v from rule.StartsFromItsCopy = (v.wait ≡ Nothing) × (perm_of v.held ≢ from)
+BreaksGiving v from _ = ⊥
+
+-- a rule, if it is one
+abbrev pub OfRule : (Rule → Type 0) → Breach → Type 0
+OfRule breaks (NotPermitted r) = breaks r
+OfRule breaks OutOfOrder = ⊥
+OfRule breaks (NotAsShown difference) = ⊥
+
+-- a Release: a rule, or what the client gives up is another message
+abbrev pub BreaksRelease : View → Prune → Shown → Breach → Type 0
+BreaksRelease v prune shown (NotPermitted r) = BreaksGiving v (prune_from prune) r
+BreaksRelease v prune shown OutOfOrder = ⊥
+BreaksRelease v prune shown (NotAsShown difference) = DiffersFrom (release_of v.held prune) shown difference
+
+-- an answer to a Probe: it comes before the ReleaseAck, or the client answers by another message
+abbrev pub BreaksAnswer : View → ProbeCap → Shown → Breach → Type 0
+BreaksAnswer v cap shown (NotPermitted r) = (r ≡ rule.NoReleaseUnanswered) × (v.wait ≡ ForReleaseAck)
+BreaksAnswer v cap shown OutOfOrder = ⊥
+BreaksAnswer v cap shown (NotAsShown difference) = DiffersFrom (answer_of v.held cap) shown difference
+
+-- a message of a kind
+abbrev pub BreaksAs : View → Shown → Kind → Breach → Type 0
+BreaksAs v shown (kind.AcquireBlock grow) breach = OfRule (BreaksAcquire v (grow_from grow)) breach
+BreaksAs v shown (kind.Release prune) breach = BreaksRelease v prune shown breach
+BreaksAs v shown (kind.ReleaseData prune) breach = BreaksRelease v (dirty_prune prune) shown breach
+BreaksAs v shown (kind.ProbeAck report) breach = BreaksAnswer v (cap_to (report_to (probe_report report))) shown breach
+BreaksAs v shown (kind.ProbeAckData prune) breach = BreaksAnswer v (cap_to (prune_to (dirty_prune prune))) shown breach
+BreaksAs v shown k breach = ⊥
+
+-- a load
+abbrev pub BreaksLoad : Shape → View → ℕ → List ℕ → Rule → Type 0
+BreaksLoad shape v address bytes rule.AccessFits = ¬ FitsBlock shape address bytes
+BreaksLoad shape v address bytes rule.CopyIsReadable = perm_of v.held ≡ p_None
+BreaksLoad shape v address bytes rule.LoadHasItsBytes = ¬ ReadsAs (bytes_of v.held) (address % shape.block_bytes) bytes
+BreaksLoad shape v address bytes _ = ⊥
+
+-- a store
+abbrev pub BreaksStore : Shape → View → ℕ → List ℕ → Rule → Type 0
+BreaksStore shape v address bytes rule.AccessFits = ¬ FitsBlock shape address bytes
+BreaksStore shape v address bytes rule.CopyIsWritable = perm_of v.held ≢ Tip
+BreaksStore shape v address bytes _ = ⊥
+
+-- a line
+abbrev pub BreaksLine : Shape → View → Seen → Breach → Type 0
+BreaksLine shape v (OnLink c block message) breach = BreaksAs v message message.kind breach
+BreaksLine shape v (OnMemory block message) breach = ⊥
+BreaksLine shape v (Load c address bytes) breach = OfRule (BreaksLoad shape v address bytes) breach
+BreaksLine shape v (Store c address bytes) breach = OfRule (BreaksStore shape v address bytes) breach

@@ -1,16 +1,19 @@
 //! What a client holds of a block and waits for.
-ghost use Rattle.std.specs.Prelude.{◌≡◌, ◌≢◌, ◌↔◌, ◌+◌, ◌%◌, ◌<◌, ◌≤◌, IsTrue, length};
-ghost use Rattle.tl_protocol.specs.Access.{FitsBlock};
+ghost use Rattle.std.specs.Prelude.{◌≡◌, ◌≢◌, ◌↔◌, ◌+◌, ◌%◌, ◌<◌, ◌≤◌, IsTrue, IsNone, IfSome, length};
+ghost use Rattle.tl_protocol.specs.Access.{FitsBlock, ReadsAs};
 ghost use Rattle.tl_protocol.specs.Client.{bytes_or};
-ghost use Rattle.tl_protocol.specs.Copy.{bytes_of, clean_copy, dirty_bytes, perm_of};
+ghost use Rattle.tl_protocol.specs.Copy.{bytes_of, clean_copy, perm_of};
 ghost use Rattle.tl_types.specs.Permission.{grant_perm};
-ghost use Rattle.tlwire_pins.specs.View.{MayLine, MaySee, after_line, after_message, fresh};
+ghost use Rattle.tlwire_pins.specs.View.{BreaksAcquire, BreaksAnswer, BreaksAs, BreaksGiving, BreaksLine, BreaksLoad, BreaksRelease, BreaksStore, MayAcquire, MayAnswer, MayLine, MayRelease, MaySeeAs, after_line, after_message, cap_to, fresh};
 
 use std::mem;
 use tl_protocol::CachedCopy;
 use tl_rules::Shape;
-use tl_types::{AccessBytes, Awaited, BLOCK_BYTES, BlockBytes, GrantCap, Kind, Perm};
-use tlcheck_rules::Shown;
+use tl_types::{
+    AccessBytes, Awaited, BLOCK_BYTES, BlockBytes, Body, GrantCap, Kind, Perm, ProbeAnswer,
+    ProbeCap, Prune, Surrender, Upward,
+};
+use tlcheck_rules::{Breach, Rule, Shown, other_message};
 use tlwire_search::Seen;
 
 /// What a client holds of a block, and the answer that it waits for.
@@ -18,16 +21,6 @@ use tlwire_search::Seen;
 pub struct View {
     pub held: CachedCopy,
     pub wait: Awaited,
-}
-
-fn are_same(bytes: &Option<BlockBytes>, other: &Option<BlockBytes>) -> bool
-    ensures { IsTrue result ↔ (bytes.now ≡ other.now) }
-{
-    match (bytes, other) {
-        (None, None) => true,
-        (Some(bytes), Some(other)) => bytes.as_slice() == other.as_slice(),
-        (None, Some(_)) | (Some(_), None) => false,
-    }
 }
 
 /// Whether an access lies in one block.
@@ -39,6 +32,16 @@ fn fits(shape: Shape, address: u32, bytes: &AccessBytes) -> bool
     0 < len
         && len <= 8
         && (address % shape.block_bytes) as usize + len <= shape.block_bytes as usize
+}
+
+/// The Probe that leaves a permission, where the copy had more.
+fn cap_to(left: Perm) -> ProbeCap
+    ensures { result ≡ cap_to left }
+{
+    match left {
+        Perm::Branch => ProbeCap::ToB,
+        Perm::None | Perm::Tip => ProbeCap::ToN,
+    }
 }
 
 /// The bytes that came along, else one's own.
@@ -62,34 +65,124 @@ impl View {
         }
     }
 
-    /// Whether a client that waits for nothing gives up so much of a copy with these bytes.
-    fn gives(&self, from: Perm, bytes: &Option<BlockBytes>) -> bool
-        ensures { IsTrue result ↔ ((perm_of self.now.held ≡ from) × (dirty_bytes self.now.held ≡ bytes.now)) }
+    /// What an Acquire from a permission breaks.
+    fn acquire_breach(&self, from: Perm) -> Option<Rule>
+        ensures may { IsNone result ↔ MayAcquire self.now from }
+        ensures breaks { IfSome result (BreaksAcquire self.now from) }
     {
-        self.held.perm() == from && are_same(&self.held.dirty_bytes(), bytes)
+        match self.wait {
+            Awaited::ForGrant => Some(Rule::NoAcquireUnanswered),
+            Awaited::ForReleaseAck => Some(Rule::NoReleaseUnanswered),
+            Awaited::Nothing if self.held.perm() == from => None,
+            Awaited::Nothing => Some(Rule::StartsFromItsCopy),
+        }
     }
 
-    /// Whether a message may be sent by such a client, or taken by it.
-    fn may_see(&self, message: &Shown) -> bool
-        ensures { IsTrue result ↔ MaySee self.now message.now.kind message.now.bytes }
+    /// Which rule a Release breaks.
+    fn giving_breach(&self, from: Perm) -> Option<Rule>
+        ensures may { IsNone result ↔ MayAcquire self.now from }
+        ensures breaks { IfSome result (BreaksGiving self.now from) }
     {
-        match message.kind {
-            Kind::AcquireBlock(grow) => {
-                self.wait == Awaited::Nothing && self.held.perm() == grow.from()
-            }
-            Kind::Release(prune) => {
-                self.wait == Awaited::Nothing && self.gives(prune.from(), &None)
-            }
-            Kind::ReleaseData(_) => {
-                self.wait == Awaited::Nothing && self.gives(Perm::Tip, &message.bytes)
-            }
-            Kind::ProbeAck(report) => {
-                self.wait != Awaited::ForReleaseAck && self.gives(report.report().from(), &None)
-            }
-            Kind::ProbeAckData(_) => {
-                self.wait != Awaited::ForReleaseAck && self.gives(Perm::Tip, &message.bytes)
-            }
-            _ => true,
+        match self.wait {
+            Awaited::ForGrant => Some(Rule::NoReleaseBesideAcquire),
+            Awaited::ForReleaseAck => Some(Rule::NoReleaseUnanswered),
+            Awaited::Nothing if self.held.perm() == from => None,
+            Awaited::Nothing => Some(Rule::StartsFromItsCopy),
+        }
+    }
+
+    /// What a Release breaks.
+    fn release_breach(&self, prune: Prune, shown: &Shown) -> Option<Breach>
+        ensures may { IsNone result ↔ MayRelease self.now prune shown.now }
+        ensures breaks { IfSome result (BreaksRelease self.now prune shown.now) }
+    {
+        if let Some(rule) = self.giving_breach(prune.from()) {
+            return Some(Breach::NotPermitted(rule));
+        }
+        let given = Surrender::of(prune, self.held.dirty_bytes());
+        let sent = Body::Upward(Upward::Release(given));
+        other_message(&sent, shown).map(Breach::NotAsShown)
+    }
+
+    /// What an answer to a Probe breaks.
+    fn answer_breach(&self, left: Perm, shown: &Shown) -> Option<Breach>
+        ensures may { IsNone result ↔ MayAnswer self.now (cap_to left) shown.now }
+        ensures breaks { IfSome result (BreaksAnswer self.now (cap_to left) shown.now) }
+    {
+        if self.wait == Awaited::ForReleaseAck {
+            return Some(Breach::NotPermitted(Rule::NoReleaseUnanswered));
+        }
+        let answer = ProbeAnswer::of(self.held.perm(), cap_to(left), self.held.dirty_bytes());
+        let sent = Body::Upward(Upward::ProbeAck(answer));
+        other_message(&sent, shown).map(Breach::NotAsShown)
+    }
+
+    /// What a message breaks.
+    fn message_breach(&self, shown: &Shown) -> Option<Breach>
+        ensures may { IsNone result ↔ MaySeeAs self.now shown.now shown.now.kind }
+        ensures breaks { IfSome result (BreaksAs self.now shown.now shown.now.kind) }
+    {
+        match shown.kind {
+            Kind::AcquireBlock(grow) => self.acquire_breach(grow.from()).map(Breach::NotPermitted),
+            Kind::Release(prune) => self.release_breach(prune, shown),
+            Kind::ReleaseData(prune) => self.release_breach(prune.prune(), shown),
+            Kind::ProbeAck(report) => self.answer_breach(report.report().to(), shown),
+            Kind::ProbeAckData(prune) => self.answer_breach(prune.prune().to(), shown),
+            _ => None,
+        }
+    }
+
+    /// What a load breaks.
+    fn load_breach(&self, shape: Shape, address: u32, bytes: &AccessBytes) -> Option<Rule>
+        requires { (0 < shape.block_bytes) × (shape.block_bytes ≤ BLOCK_BYTES) }
+        ensures may { IsNone result ↔ (FitsBlock shape address bytes.now × (perm_of self.now.held ≢ Perm.None)
+            × ReadsAs (bytes_of self.now.held) (address % shape.block_bytes) bytes.now) }
+        ensures breaks { IfSome result (BreaksLoad shape self.now address bytes.now) }
+    {
+        if !fits(shape, address, bytes) {
+            return Some(Rule::AccessFits);
+        }
+        if self.held.perm() == Perm::None {
+            return Some(Rule::CopyIsReadable);
+        }
+        if self.held.reads_as(address % shape.block_bytes, bytes) {
+            None
+        } else {
+            Some(Rule::LoadHasItsBytes)
+        }
+    }
+
+    /// What a store breaks.
+    fn store_breach(&self, shape: Shape, address: u32, bytes: &AccessBytes) -> Option<Rule>
+        requires { (0 < shape.block_bytes) × (shape.block_bytes ≤ BLOCK_BYTES) }
+        ensures may { IsNone result ↔ (FitsBlock shape address bytes.now × (perm_of self.now.held ≡ Perm.Tip)) }
+        ensures breaks { IfSome result (BreaksStore shape self.now address bytes.now) }
+    {
+        if !fits(shape, address, bytes) {
+            return Some(Rule::AccessFits);
+        }
+        if self.held.perm() == Perm::Tip {
+            None
+        } else {
+            Some(Rule::CopyIsWritable)
+        }
+    }
+
+    /// What a line breaks that may not be seen of such a client next; None where it may.
+    pub fn breach(&self, shape: Shape, line: &Seen) -> Option<Breach>
+        requires { (0 < shape.block_bytes) × (shape.block_bytes ≤ BLOCK_BYTES) }
+        ensures may { IsNone result ↔ MayLine shape self.now line.now }
+        ensures breaks { IfSome result (BreaksLine shape self.now line.now) }
+    {
+        match line {
+            Seen::OnLink(_, _, message) => self.message_breach(message),
+            Seen::OnMemory(_, _) => None,
+            Seen::Load(_, address, bytes) => self
+                .load_breach(shape, *address, bytes)
+                .map(Breach::NotPermitted),
+            Seen::Store(_, address, bytes) => self
+                .store_breach(shape, *address, bytes)
+                .map(Breach::NotPermitted),
         }
     }
 
@@ -121,24 +214,6 @@ impl View {
             Kind::Grant(cap) | Kind::GrantData(cap) => self.take_grant(cap, &message.bytes),
             Kind::ReleaseAck => self.wait = Awaited::Nothing,
             _ => {}
-        }
-    }
-
-    /// Whether a line may be seen of such a client next.
-    pub fn may_line(&self, shape: Shape, line: &Seen) -> bool
-        requires { (0 < shape.block_bytes) × (shape.block_bytes ≤ BLOCK_BYTES) }
-        ensures { IsTrue result ↔ MayLine shape self.now line.now }
-    {
-        match line {
-            Seen::OnLink(_, _, message) => self.may_see(message),
-            Seen::OnMemory(_, _) => true,
-            Seen::Load(_, address, bytes) => {
-                fits(shape, *address, bytes)
-                    && self.held.reads_as(*address % shape.block_bytes, bytes)
-            }
-            Seen::Store(_, address, bytes) => {
-                fits(shape, *address, bytes) && self.held.perm() == Perm::Tip
-            }
         }
     }
 

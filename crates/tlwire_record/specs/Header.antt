@@ -1,5 +1,5 @@
 -- The lines before the messages (this project's own format).
-use Rattle.std.specs.Prelude.{ℕ, ◌%◌, ◌++◌, ◌==◌, ◌&&◌, nat_le, nat_lt, Bool, false, List, [], ◌∷◌, length, codes, bytes_eq, Result, Ok, Err, if◌then◌else◌}
+use Rattle.std.specs.Prelude.{ℕ, ◌%◌, ◌++◌, ◌==◌, ◌&&◌, ◌||◌, nat_le, nat_lt, Bool, false, List, [], ◌∷◌, length, codes, bytes_eq, Result, Ok, Err, if◌then◌else◌}
 use Rattle.std.specs.List.{list_any}
 use Rattle.tl_protocol.specs.declared.shape.Shape.{Shape}
 use Rattle.tlcheck_record.specs.Header.{is_in_range}
@@ -9,12 +9,15 @@ use Rattle.tlwire_record.specs.Fields.{pair_of}
 use Rattle.tlcheck_record.specs.declared.cause.Cause.{Cause}
 use Rattle.tlcheck_record.specs.declared.cause.Cause.TheVariants as cause
 use Rattle.tlwire_record.specs.declared.header.Sources.{Sources}
+use Rattle.tlwire_search.specs.declared.premise.Premise.{Premise}
+use Rattle.tlwire_search.specs.declared.premise.Premise.TheVariants.{AtClient, AtClients, AtHome, Between, Skew, Whole, MemoryUnseen, CoresUnseen}
 
--- The memory, the clients and their sources, in the order of their lines.
+-- The memory, the clients and their sources, and how the record was seen, in the order of their lines.
 pub record SettingState : Type 0 where
   pub shape : Shape
   pub base : ℕ
   pub sources : List Sources
+  pub premises : List Premise
 
 -- a source lies in a range, which is the client's
 abbrev pub has_source : ℕ → ℕ → Sources → Bool
@@ -54,7 +57,7 @@ is_fit shape base = is_in_range shape && (base % shape.block_bytes == 0)
 
 -- the setting of these numbers, where they are fit
 abbrev pub fitting : Shape → ℕ → Result SettingState Cause
-fitting shape base = if is_fit shape base then Ok (record { shape = shape; base = base; sources = [] }) else Err cause.Range
+fitting shape base = if is_fit shape base then Ok (record { shape = shape; base = base; sources = []; premises = [] }) else Err cause.Range
 
 -- `clients=NUM block=NUM blocks=NUM base=ADDR`, behind the word `shape`
 unfoldable pub numbers_in : List (List ℕ) → Result SettingState Cause
@@ -93,3 +96,69 @@ with_sources setting s = record setting { sources = setting.sources ++ s ∷ [] 
 -- the setting with what a line of sources gives
 abbrev pub sources_taken : SettingState → List (List ℕ) → Result SettingState Cause
 sources_taken setting words = sources_in setting.shape words >>= (λ s. Ok (with_sources setting s))
+
+-- ## How the record was seen
+
+-- the first word of a line that says how
+abbrev pub is_premise_word : List ℕ → Bool
+is_premise_word word =
+    bytes_eq word (codes "seen") || bytes_eq word (codes "skew") || bytes_eq word (codes "whole") || bytes_eq word (codes "memory") || bytes_eq word (codes "cores")
+
+-- a client that is there
+abbrev pub at_client : Shape → ℕ → Result Premise Cause
+at_client shape c = if nat_lt c shape.clients then Ok (AtClient c) else Err cause.Client
+
+-- `clients` or `home`
+abbrev pub place_named : List ℕ → Result Premise Cause
+place_named word =
+    if bytes_eq word (codes "clients") then Ok AtClients
+    else if bytes_eq word (codes "home") then Ok AtHome
+    else Err cause.Premise
+
+-- `clients`, `home` or `client NUM`, behind `seen at`
+unfoldable pub place_in : Shape → List (List ℕ) → Result Premise Cause
+place_in shape (word ∷ []) = place_named word
+place_in shape (word ∷ number ∷ []) =
+    if bytes_eq word (codes "client") then number_in number >>= (λ c. at_client shape c)
+    else Err cause.Premise
+place_in shape _ = Err cause.Premise
+
+-- nothing behind it
+abbrev pub alone : List (List ℕ) → Premise → Result Premise Cause
+alone [] premise = Ok premise
+alone _ premise = Err cause.Premise
+
+-- `unseen` behind it
+abbrev pub unseen_in : List (List ℕ) → Premise → Result Premise Cause
+unseen_in (word ∷ []) premise = if bytes_eq word (codes "unseen") then Ok premise else Err cause.Premise
+unseen_in _ premise = Err cause.Premise
+
+-- `NUM`, behind `skew`
+abbrev pub skew_in : List (List ℕ) → Result Premise Cause
+skew_in (number ∷ []) = number_in number >>= (λ n. Ok (Skew n))
+skew_in _ = Err cause.Premise
+
+-- behind `seen`: `between`, or `at` and where
+unfoldable pub seen_in : Shape → List (List ℕ) → Result Premise Cause
+seen_in shape [] = Err cause.Premise
+seen_in shape (word ∷ rest) =
+    if bytes_eq word (codes "between") then alone rest Between
+    else if bytes_eq word (codes "at") then place_in shape rest
+    else Err cause.Premise
+
+-- what a line says of how the record was seen, by its first word
+unfoldable pub premise_in : Shape → List ℕ → List (List ℕ) → Result Premise Cause
+premise_in shape word rest =
+    if bytes_eq word (codes "seen") then seen_in shape rest
+    else if bytes_eq word (codes "skew") then skew_in rest
+    else if bytes_eq word (codes "whole") then alone rest Whole
+    else if bytes_eq word (codes "memory") then unseen_in rest MemoryUnseen
+    else unseen_in rest CoresUnseen
+
+-- one line more that says how
+abbrev pub with_premise : SettingState → Premise → SettingState
+with_premise setting p = record setting { premises = setting.premises ++ p ∷ [] }
+
+-- the setting with what a line says of how the record was seen
+abbrev pub premise_taken : SettingState → List ℕ → List (List ℕ) → Result SettingState Cause
+premise_taken setting word rest = premise_in setting.shape word rest >>= (λ p. Ok (with_premise setting p))

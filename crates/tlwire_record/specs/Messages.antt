@@ -1,9 +1,15 @@
 -- What was seen, with the client and the block that its ids stand for.
-use Rattle.std.specs.Prelude.{ℕ, ◌++◌, nat_lt, not, Bool, true, List, [], ◌∷◌, unwrap_or, Option, Some, None, Result, Ok, Err, if◌then◌else◌}
+use Rattle.std.specs.Prelude.{ℕ, ◌++◌, nat_lt, not, Bool, true, false, List, [], ◌∷◌, unwrap_or, Option, Some, None, Result, Ok, Err, if◌then◌else◌}
+use Rattle.std.specs.List.{list_any}
 use Rattle.tl_types.specs.declared.channel.Channel.{Channel}
+use Rattle.tl_types.specs.declared.channel.Channel.TheVariants as channel
 use Rattle.tl_types.specs.declared.kind.Kind.{Kind}
 use Rattle.tlcheck_rules.specs.declared.entry.Shown.{Shown}
+use Rattle.tlwire_search.specs.Premises.{is_unseen_on}
+use Rattle.tlwire_search.specs.declared.premise.Premise.{Premise}
 use Rattle.tlwire_search.specs.declared.seen.Seen.{Seen}
+use Rattle.tlwire_search.specs.declared.seen.Wire.{Wire}
+use Rattle.tlwire_search.specs.declared.seen.Wire.TheVariants as wire
 use Rattle.tlwire_search.specs.declared.seen.Seen.TheVariants.{OnLink, OnMemory, Load as Loads, Store as Stores}
 use Rattle.tlwire_record.specs.Code.{is_on_link, kind_of, role_of}
 use Rattle.tlcheck_record.specs.Cause.{◌>>=◌}
@@ -66,6 +72,18 @@ abbrev pub is_there : ℕ → Link → Bool
 is_there clients (Client c) = nat_lt c clients
 is_there clients Memory = true
 
+-- the wire of a line on the memory's link, or of a load or a store
+abbrev pub unwatched_wire : Link → Said → Option Wire
+unwatched_wire Memory said = Some (wire.Memory channel.A)
+unwatched_wire (Client c) (said.Load address bytes) = Some (wire.Core c)
+unwatched_wire (Client c) (said.Store address bytes) = Some (wire.Core c)
+unwatched_wire (Client c) (said.Message channel opcode f) = None
+
+-- the header says that nobody watched such a wire
+abbrev pub is_unwatched : List Premise → Option Wire → Bool
+is_unwatched premises None = false
+is_unwatched premises (Some w) = list_any (is_unseen_on w) premises
+
 -- the client whose link it is
 abbrev pub owner_of : Link → Result ℕ Cause
 owner_of (Client c) = Ok c
@@ -97,6 +115,7 @@ abbrev pub line_taken : MessagesState → ℕ → Line → Result MessagesState 
 line_taken m number line =
     if nat_lt line.cycle m.cycle then Err cause.Backwards
     else if not (is_there m.setting.shape.clients line.link) then Err cause.Client
+    else if is_unwatched m.setting.premises (unwatched_wire line.link line.said) then Err cause.Unwatched
     else
     said_taken m.setting m.tables line.link line.said
     >>= (λ s. Ok (record m { cycle = line.cycle; tables = s.1; seen = m.seen ++ s.0 ∷ []; lines = m.lines ++ number ∷ [] }))

@@ -3,7 +3,7 @@ ghost use Rattle.std.specs.Prelude.{◌≡◌, ◌<◌, ◌≤◌, [], ◌∷◌
 ghost use Rattle.std.specs.List.{list_any};
 ghost use Rattle.tl_script_words.specs.Words.{texts};
 ghost use Rattle.tlcheck_record.specs.Cause.{Gives};
-ghost use Rattle.tlwire_record.specs.Header.{address_at, address_part, fitting, has_source, has_sources, is_fit, is_title, number_at, number_part, numbers_in, owns, setting_in, sources_in, sources_taken, with_sources};
+ghost use Rattle.tlwire_record.specs.Header.{address_at, address_part, fitting, has_source, has_sources, is_fit, is_title, number_at, number_part, numbers_in, owns, setting_in, sources_in, sources_taken, with_premise, with_sources};
 
 use crate::fields::split_pair;
 use std::alloc::Global;
@@ -11,6 +11,7 @@ use std::marker::Model;
 use tl_rules::Shape;
 use tl_types::{BLOCK_BYTES, BLOCKS, ClientId};
 use tlcheck_record::{Cause, LineError, read_address, read_number};
+use tlwire_search::Premise;
 
 /// The source ids from one to another, both with them, which are a client's.
 #[derive(Clone, Copy, Debug, PartialEq, Eq)]
@@ -20,12 +21,13 @@ pub struct Sources {
     pub to: u32,
 }
 
-/// The memory, the clients and their sources.
+/// The memory, the clients and their sources, and how the record was seen.
 #[derive(Drop)]
 pub struct Setting {
     shape: Shape,
     base: u32,
     sources: Vec<Sources>,
+    premises: Vec<Premise>,
 }
 
 impl Model for Setting {
@@ -34,7 +36,7 @@ impl Model for Setting {
 
     ghost Value = { SettingState };
 
-    ghost view = { λ s. record { shape = s.shape; base = s.base; sources = s.sources.items } };
+    ghost view = { λ s. record { shape = s.shape; base = s.base; sources = s.sources.items; premises = s.premises.items } };
 
     ghost invariant = { λ s. (0 < s.shape.block_bytes) × (s.shape.block_bytes ≤ 64) × (s.shape.blocks ≤ 65536) };
 }
@@ -86,6 +88,21 @@ impl Setting {
         ensures { result ≡ owns self.now.sources client source }
     {
         owns(self.sources.as_slice(), client, source)
+    }
+
+    /// How the record was seen, as the header's lines say.
+    pub fn premises(&self) -> &[Premise]
+        ensures { result.now ≡ self.now.premises }
+    {
+        &self.premises
+    }
+
+    /// One line more that says how.
+    pub(crate) fn add_premise(&mut self, premise: Premise) -> Result<(), LineError>
+        ensures { Gives (λ _. self.new) result (Ok (with_premise self.old premise)) }
+    {
+        self.premises.push(premise)?;
+        Ok(())
     }
 
     /// One line of sources more.
@@ -175,6 +192,7 @@ fn fitting(alloc: Global, shape: Shape, base: u32) -> Result<Setting, Cause>
             shape,
             base,
             sources: Vec::new(alloc),
+            premises: Vec::new(alloc),
         })
     } else {
         Err(Cause::Range)

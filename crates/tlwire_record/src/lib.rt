@@ -7,6 +7,7 @@ mod header;
 mod line;
 mod messages;
 mod place;
+mod premise;
 mod record;
 mod stage;
 mod tables;

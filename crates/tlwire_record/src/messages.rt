@@ -2,7 +2,7 @@
 ghost use Rattle.std.specs.Prelude.{◌≡◌};
 ghost use Rattle.tlcheck_record.specs.Cause.{Gives};
 ghost use Rattle.tlwire_record.specs.declared.line.Said.TheVariants as its;
-ghost use Rattle.tlwire_record.specs.Messages.{began, has_own_source, is_there, owner_of, seen_on, wrong_in};
+ghost use Rattle.tlwire_record.specs.Messages.{began, has_own_source, is_there, is_unwatched, owner_of, seen_on, unwatched_wire, wrong_in};
 
 use crate::code::{is_on_link, kind_of, role_of};
 use crate::fields::Fields;
@@ -15,7 +15,7 @@ use std::marker::Model;
 use tl_types::{AccessBytes, BlockNo, Channel, ClientId, Kind};
 use tlcheck_record::{Cause, LineError};
 use tlcheck_rules::Shown;
-use tlwire_search::Seen;
+use tlwire_search::{Premise, Seen, Wire, is_unseen};
 
 /// Whether a source that stands is one of the client's.
 fn has_own_source(setting: &Setting, link: &Link, source: Option<u32>) -> bool
@@ -76,6 +76,29 @@ fn is_there(clients: u32, link: &Link) -> bool
     match link {
         Link::Client(client) => client.number() < clients,
         Link::Memory => true,
+    }
+}
+
+/// The wire of a line on the memory's link, or of a load or a store.
+fn unwatched_wire(link: &Link, said: &Said) -> Option<Wire>
+    ensures { result ≡ unwatched_wire link.now said.now }
+{
+    match link {
+        Link::Memory => Some(Wire::Memory(Channel::A)),
+        Link::Client(client) => match said {
+            Said::Load(_, _) | Said::Store(_, _) => Some(Wire::Core(*client)),
+            Said::Message(_, _, _) => None,
+        },
+    }
+}
+
+/// Whether the header says that nobody watched where a line was seen.
+fn is_unwatched(premises: &[Premise], wire: Option<Wire>) -> bool
+    ensures { result ≡ is_unwatched premises.now wire }
+{
+    match wire {
+        Some(wire) => is_unseen(premises, wire),
+        None => false,
     }
 }
 
@@ -231,6 +254,9 @@ impl Messages {
         }
         if !is_there(self.setting.shape().clients, &link) {
             return Err(LineError::Wrong(Cause::Client));
+        }
+        if is_unwatched(self.setting.premises(), unwatched_wire(&link, &said)) {
+            return Err(LineError::Wrong(Cause::Unwatched));
         }
         let seen = self.said(&link, said)?;
         self.cycle = cycle;

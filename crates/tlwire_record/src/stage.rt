@@ -8,6 +8,7 @@ ghost use Rattle.tlwire_record.specs.Reading.{after_text, going, next, next_shap
 use crate::header::{Setting, is_title, parse_setting, take_sources};
 use crate::line::parse_line;
 use crate::messages::Messages;
+use crate::premise::{is_premise_word, take_premise};
 use std::alloc::Global;
 use tl_script_words::split_words;
 use tlcheck_record::{Cause, LineError, is_blank, read_image, read_text};
@@ -52,6 +53,7 @@ fn shaped_by(
 {
     match word {
         "source" => Ok(Stage::Shaped(take_sources(alloc, setting, rest)?)),
+        _ if is_premise_word(word) => Ok(Stage::Shaped(take_premise(setting, word, rest)?)),
         "image" => {
             let image = read_image(alloc, setting.shape(), rest)?;
             Ok(Stage::Going(Messages::begin(alloc, setting, image)))

@@ -1,10 +1,11 @@
 -- Marks on what was seen: the first on a wire that has none is the next there.
-use Rattle.std.proofs.Common.{◌≡◌, ◌<◌, ℕ, zero, suc, Bool, true, false, cond, List, [], ◌∷◌, ◌++◌, length, set, get_or, replicate, Some, slice_get, refl, sym, ap, ◌∙◌, subst, arith, eqb-true}
+use Rattle.std.proofs.Common.{◌≡◌, ◌<◌, ℕ, zero, suc, Bool, true, false, cond, List, [], ◌∷◌, ◌++◌, length, set, get_or, replicate, All, Some, slice_get, refl, sym, ap, ◌∙◌, subst, arith, eqb-true}
 use Rattle.std.proofs.lemmas.List.{length-set}
+use Rattle.std.proofs.lemmas.List.Elements.{All-push, All-weaker}
 use Rattle.tl_types.proofs.Lanes.{is_here-true, same_channel-true}
 use Rattle.tl_types.specs.declared.channel.Channel.{Channel}
 use Rattle.tlwire_search.specs.Explained.{on, same_wire, wire_of}
-use Rattle.tlwire_search.specs.Left.{AreMarked, IsMarked, IsMarking, MarkState, left}
+use Rattle.tlwire_search.specs.Left.{AreMarked, IsDone, IsMarked, IsMarking, MarkState, left}
 use Rattle.tlwire_search.specs.declared.seen.Seen.{Seen}
 use Rattle.tlwire_search.specs.declared.seen.Wire.{Wire}
 use Rattle.tlwire_search.specs.declared.seen.Wire.TheVariants.{Link, Memory, Core}
@@ -79,18 +80,48 @@ marked_next w v (r ∷ rest) (false ∷ ms) (suc place) s free here at before =
     (marked_next w v rest ms place s free here at (λ k x lt. before (suc k) x (omega arith)))
     (apart_on w v r s at (before 0 r (omega arith) refl refl))
 
+-- a wire with nothing left has nothing left
+still_done : (xs ys zs : List Seen) → xs ≡ ys ++ zs → xs ≡ [] → zs ≡ []
+still_done xs [] zs e none = sym e ∙ none
+still_done xs (y ∷ ys) zs e none = let both : y ∷ (ys ++ zs) ≡ [] = sym e ∙ none in cc
+
 -- so what is marked is the next on its wire
 pub is_marked : (seen : List Seen) (old new : MarkState) (place : ℕ) (s : Seen)
     → IsMarking seen old → get_or old.marks place true ≡ false → slice_get seen place ≡ Some s
     → ((k : ℕ) (r : Seen) → k < place → get_or old.marks k true ≡ false → slice_get seen k ≡ Some r → wire_of r ≡ wire_of s → ⊥)
-    → new.marks ≡ set old.marks place true → AreMarked new.marks new.from → IsMarked seen old new s
-is_marked seen old new place s marking free here before is passed =
+    → new.marks ≡ set old.marks place true → new.done ≡ old.done → AreMarked new.marks new.from → IsMarked seen old new s
+is_marked seen old new place s marking free here before is kept passed =
+    let next : (w : Wire) → on w (left old.marks seen) ≡ on w (s ∷ []) ++ on w (left new.marks seen) =
+    λ w. marked_next w (wire_of s) seen old.marks place s free here refl before
+    ∙ ap (λ (ms : List Bool). on w (s ∷ []) ++ on w (left ms seen)) (sym is) in
     record {
-      marking = record { sized = ap (λ (ms : List Bool). length ms) is ∙ (length-set old.marks place true ∙ marking.sized); before = passed };
-      next = λ w.
-          marked_next w (wire_of s) seen old.marks place s free here refl before
-          ∙ ap (λ (ms : List Bool). on w (s ∷ []) ++ on w (left ms seen)) (sym is);
+      marking = record {
+        sized = ap (λ (ms : List Bool). length ms) is ∙ (length-set old.marks place true ∙ marking.sized);
+        before = passed;
+        done = subst (λ (ws : List Wire). All (IsDone seen new.marks) ws) (sym kept)
+            (All-weaker (IsDone seen old.marks) (IsDone seen new.marks)
+            (λ w none. still_done (on w (left old.marks seen)) (on w (s ∷ [])) (on w (left new.marks seen)) (next w) none) old.done marking.done);
+      };
+      next = next;
     }
+
+-- ## Nothing left on a wire
+
+not_here : (t : Bool) (s : Seen) (xs : List Seen) → (t ≡ true → ⊥) → cond t (s ∷ xs) xs ≡ xs
+not_here true s xs apart = absurd (apart refl)
+not_here false s xs apart = refl
+
+-- where all that has no mark is on another wire, nothing is left
+pub none_left : (w : Wire) (marks : List Bool) (seen : List Seen)
+    → ((k : ℕ) (s : Seen) → get_or marks k true ≡ false → slice_get seen k ≡ Some s → wire_of s ≡ w → ⊥)
+    → length marks ≡ length seen → on w (left marks seen) ≡ []
+none_left w [] [] free sized = refl
+none_left w [] (s ∷ rest) free sized = absurd (omega (arith, sized))
+none_left w (m ∷ marks) [] free sized = refl
+none_left w (true ∷ marks) (s ∷ rest) free sized = none_left w marks rest (λ k x. free (suc k) x) (omega (arith, sized))
+none_left w (false ∷ marks) (s ∷ rest) free sized =
+    not_here (same_wire w (wire_of s)) s (on w (left marks rest)) (λ h. free 0 s refl refl (sym (same_wire-true w (wire_of s) h)))
+    ∙ none_left w marks rest (λ k x. free (suc k) x) (omega (arith, sized))
 
 -- marks that were set keep those before them
 pub kept_marked : (marks : List Bool) (place from : ℕ) → AreMarked marks from → AreMarked (set marks place true) from
@@ -106,3 +137,15 @@ pub here_is : (xs : List Seen) (i : ℕ) (x : Seen) → i < length xs → x ≡ 
 here_is [] i x lt is = absurd (omega arith)
 here_is (y ∷ ys) zero x lt is = ap (λ (z : Seen). Some z) (sym is)
 here_is (y ∷ ys) (suc i) x lt is = here_is ys i x (omega arith) is
+
+-- one wire more is known to have nothing left
+pub noted : (seen : List Seen) (old new : MarkState) (w : Wire) → IsMarking seen old → IsDone seen old.marks w → new.marks ≡ old.marks → new.from ≡ old.from
+    → new.done ≡ old.done ++ w ∷ [] → IsMarking seen new
+noted seen old new w m none marks from is =
+    let more : All (IsDone seen old.marks) (old.done ++ w ∷ []) = All-push (IsDone seen old.marks) old.done w m.done none in
+    let all : All (IsDone seen old.marks) new.done = subst (λ (ws : List Wire). All (IsDone seen old.marks) ws) (sym is) more in
+    record {
+      sized = ap (λ (ms : List Bool). length ms) marks ∙ m.sized;
+      before = subst (λ (n : ℕ). AreMarked new.marks n) (sym from) (subst (λ (ms : List Bool). AreMarked ms old.from) (sym marks) m.before);
+      done = subst (λ (ms : List Bool). All (IsDone seen ms) new.done) (sym marks) all;
+    }

@@ -1,6 +1,6 @@
 -- What a monitor on the links sees of a run, and when a run explains what one saw (this project's own; the channels and their messages
 -- are those of TileLink 1.8, sections 3, 6 and 9).
-use Rattle.std.specs.Prelude.{◌≡◌, ◌==◌, ◌<◌, ℕ, Bool, false, List, [], ◌∷◌, ◌++◌, length, Option, Some, None, if◌then◌else◌}
+use Rattle.std.specs.Prelude.{◌≡◌, ◌==◌, ◌<◌, ℕ, Bool, true, false, List, [], ◌∷◌, ◌++◌, length, Option, Some, None, if◌then◌else◌}
 use Rattle.tl_types.specs.Bodies.{body_kind, body_bytes}
 use Rattle.tl_types.specs.Channel.{same_channel}
 use Rattle.tl_types.specs.Codes.{channel_of}
@@ -18,8 +18,10 @@ use Rattle.tl_protocol.specs.Runs.{at_reset, after_next}
 use Rattle.tl_protocol_lanes.specs.Lanes.{Post, post_of}
 use Rattle.tl_protocol_lanes.specs.Lawful.{Lawful}
 use Rattle.tlcheck_rules.specs.declared.entry.Shown.{Shown}
+use Rattle.tlwire_search.specs.Premises.{may_have_more}
 use Rattle.tlwire_search.specs.declared.answer.Explanation.{Explanation}
 use Rattle.tlwire_search.specs.declared.answer.Explanation.TheVariants.{Explained, NotExplained}
+use Rattle.tlwire_search.specs.declared.premise.Premise.{Premise}
 use Rattle.tlwire_search.specs.declared.seen.Seen.{Seen}
 use Rattle.tlwire_search.specs.declared.seen.Seen.TheVariants.{OnLink, OnMemory, Load, Store}
 use Rattle.tlwire_search.specs.declared.seen.Wire.{Wire}
@@ -99,13 +101,19 @@ seen_along shape image run = seen_from shape (at_reset shape image) run
 
 -- ## Explanations
 
--- A run explains what a monitor saw: it is lawful, and on each channel and at each core just that is seen of it, in that order. Between
--- two channels no order is kept, since the buffers of a network delay what a monitor sees on each of them.
-pub record Explains (shape : Shape) (image : List ℕ) (seen : List Seen) (run : List Event) : Type 0 where
+-- what the record has of a wire is all that is seen there of a run, or its beginning where more may have been sent
+abbrev pub IsSeenOn : Bool → List Seen → List Seen → Type 0
+IsSeenOn false all seen = all ≡ seen
+IsSeenOn true all seen = (unseen : List Seen) × (all ≡ seen ++ unseen)
+
+-- A run explains what a monitor saw, so far as the record's header says how: it is lawful, and on each channel and at each core just that
+-- is seen of it, in that order; what comes behind that was not seen, where the record was cut or nobody watched. Between two channels no
+-- order is kept, since the buffers of a network delay what a monitor sees on each of them.
+pub record Explains (premises : List Premise) (shape : Shape) (image : List ℕ) (seen : List Seen) (run : List Event) : Type 0 where
   pub lawful : Lawful shape image run
-  pub seen_there : (wire : Wire) → on wire (seen_along shape image run) ≡ on wire seen
+  pub seen_there : (wire : Wire) → IsSeenOn (may_have_more premises wire) (on wire (seen_along shape image run)) (on wire seen)
 
 -- What is answered: a run that explains what was seen; or a place in it, of which nothing else is claimed.
-abbrev pub IsExplanation : Shape → List ℕ → List Seen → Explanation → Type 0
-IsExplanation shape image seen (Explained run) = Explains shape image seen run.items
-IsExplanation shape image seen (NotExplained place) = place < length seen
+abbrev pub IsExplanation : List Premise → Shape → List ℕ → List Seen → Explanation → Type 0
+IsExplanation premises shape image seen (Explained run) = Explains premises shape image seen run.items
+IsExplanation premises shape image seen (NotExplained place limit) = place < length seen

@@ -3,7 +3,9 @@
 
 mod answer;
 mod clients;
+mod hidden;
 mod marks;
+mod premise;
 mod remedy;
 mod search;
 mod seen;
@@ -14,4 +16,7 @@ mod walk;
 mod wires;
 
 pub use answer::{Explanation, explain};
+pub use premise::{Premise, is_seen_at_pins, is_unseen, is_whole, may_have_more};
+pub use search::Limit;
 pub use seen::{Seen, Wire};
+pub use sight::seen_of;

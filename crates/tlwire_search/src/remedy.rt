@@ -1,5 +1,7 @@
 //! What has to come before an event that may not come yet.
 use crate::clients::{Which, in_way};
+use crate::hidden::hidden_store;
+use crate::premise::{Premise, may_have_more};
 use crate::seen::{Seen, Wire};
 use crate::sooner::granted_first;
 use crate::target::target;
@@ -204,11 +206,35 @@ fn room_for(state: &BlockState, clients: u32, c: ClientId, block: BlockNo) -> Op
     Some(Event::TakeC(in_way(state, clients, which)?, block))
 }
 
+/// A store that nobody saw, where the next message on C has other bytes than the copy.
+fn unseen_store(
+    judge: &Judge,
+    wires: &Wires,
+    premises: &[Premise],
+    seen: &[Seen],
+    k: &Client,
+    c: ClientId,
+    block: BlockNo,
+) -> Option<Event> {
+    let core = Wire::Core(c);
+    if wires.next(core).is_some() || !may_have_more(premises, core) {
+        return None;
+    }
+    match seen.get(wires.next(Wire::Link(c, Channel::C))?)? {
+        Seen::OnLink(_, _, message) => match &message.bytes {
+            Some(given) => hidden_store(judge.plain().shape(), k, c, block, given),
+            None => None,
+        },
+        _ => None,
+    }
+}
+
 /// What comes first where an event may come, but is not seen as it would be: a store before a copy is given up, and what others give up
 /// before a Grant.
 fn unlike(
     judge: &Judge,
     wires: &Wires,
+    premises: &[Premise],
     seen: &[Seen],
     event: &Event,
     state: &BlockState,
@@ -217,7 +243,10 @@ fn unlike(
     let block = BlockNo::new(event.block(judge.plain().shape()));
     match event {
         Event::AnswerProbe(_, _) | Event::SendRelease(_, _, _) => {
-            next_of(judge, wires, seen, Wire::Core(c), block)
+            match next_of(judge, wires, seen, Wire::Core(c), block) {
+                Some(first) => Some(first),
+                None => unseen_store(judge, wires, premises, seen, state.client(c)?, c, block),
+            }
         }
         Event::SendGrant(_, _) => {
             let clients = judge.plain().shape().clients;
@@ -253,13 +282,14 @@ fn first_taken(judge: &Judge, event: &Event) -> Option<Event> {
 pub(crate) fn remedy(
     judge: &Judge,
     wires: &Wires,
+    premises: &[Premise],
     seen: &[Seen],
     event: &Event,
     breach: Option<Breach>,
 ) -> Option<Event> {
     let state = judge.plain().block(event.block(judge.plain().shape()))?;
     match breach {
-        None => unlike(judge, wires, seen, event, state),
+        None => unlike(judge, wires, premises, seen, event, state),
         Some(Breach::NotAsShown(_)) => None,
         Some(Breach::OutOfOrder) => first_taken(judge, event),
         Some(Breach::NotPermitted(rule)) => {

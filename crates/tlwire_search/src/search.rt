@@ -1,8 +1,9 @@
 //! A search for a run that has what was seen. Nothing rests on it: what it finds is walked along.
-ghost use Rattle.std.specs.Prelude.{◌<◌, ◌≤◌, length};
+ghost use Rattle.std.specs.Prelude.{◌<◌, ◌≤◌};
 ghost use Rattle.tl_protocol.specs.Protocol.{May};
 ghost use Rattle.tlcheck_rules.specs.Judged.{own_block};
 
+use crate::premise::{Premise, is_seen_at_pins, may_have_more};
 use crate::remedy::remedy;
 use crate::seen::{Seen, Wire};
 use crate::sight::seen_of;
@@ -11,7 +12,7 @@ use crate::target::{target, wire_of};
 use crate::wires::Wires;
 use std::alloc::{AllocError, Global};
 use tl_rules::{Event, Shape};
-use tl_types::{BLOCK_BYTES, BLOCKS, Channel, Upward};
+use tl_types::{BLOCK_BYTES, BLOCKS, Channel, Downward, Upward};
 use tlcheck_rules::{Entry, Judge, Refusal, client_of};
 
 /// How many events may come before one that something seen stands for.
@@ -19,6 +20,17 @@ const EVENTS: u32 = 4096;
 
 /// How many events in a row may each ask for another one first.
 const DEPTH: u32 = 96;
+
+/// Why an attempt went no further.
+#[derive(Clone, Copy, Debug, PartialEq, Eq)]
+pub enum Limit {
+    /// No event that was tried leads on.
+    NoWay,
+    /// Each of a long row of events asks for another one first.
+    Depth,
+    /// So many events came, and it was not reached.
+    Events,
+}
 
 /// A run so far, and where it leads.
 #[derive(Drop)]
@@ -33,6 +45,14 @@ struct Attempt {
 pub(crate) struct Found {
     pub(crate) run: Vec<Event>,
     pub(crate) place: usize,
+    pub(crate) limit: Limit,
+}
+
+/// What was seen, and how.
+#[derive(Clone, Copy)]
+struct Record<'a> {
+    premises: &'a [Premise],
+    seen: &'a [Seen],
 }
 
 /// Whether home answers a Release if it takes the first message of C.
@@ -49,52 +69,80 @@ fn acknowledges(judge: &Judge, event: &Event) -> bool {
     }
 }
 
-/// The event that is next on the wire of this one, itself where it sends nothing.
-fn in_order(judge: &Judge, wires: &Wires, seen: &[Seen], event: Event) -> Option<Event> {
+/// The event that is next on the wire of this one, itself where it sends nothing, or where more may have been sent there than was seen.
+fn in_order(judge: &Judge, wires: &Wires, record: Record<'_>, event: Event) -> Option<Event> {
     let wire = if acknowledges(judge, &event) {
         Some(Wire::Link(client_of(&event), Channel::D))
     } else {
         wire_of(&event)
     };
-    match wire {
-        Some(wire) => target(seen.get(wires.next(wire)?)?),
-        None => Some(event),
+    let Some(wire) = wire else {
+        return Some(event);
+    };
+    match wires.next(wire) {
+        Some(place) => target(record.seen.get(place)?),
+        None if may_have_more(record.premises, wire) => Some(event),
+        None => None,
     }
 }
 
 /// Whether what is seen of an event that may come next is next on its wire.
-fn is_next(judge: &Judge, wires: &Wires, seen: &[Seen], event: &Event) -> bool
+fn is_next(judge: &Judge, wires: &Wires, record: Record<'_>, event: &Event) -> bool
     requires { May judge.now.plain.shape (own_block judge.now event.now) event.now }
 {
     let Some(shown) = seen_of(judge, event) else {
         return true;
     };
     let Some(place) = wires.next(shown.wire()) else {
-        return false;
+        return may_have_more(record.premises, shown.wire());
     };
-    match seen.get(place) {
+    match record.seen.get(place) {
         Some(next) => next.is_same(&shown),
         None => false,
     }
 }
 
 /// An event that may come next, for one that is wanted: itself, or one that has to come before it.
-fn ready_for(judge: &Judge, wires: &Wires, seen: &[Seen], wanted: Event) -> Option<Entry> {
+fn ready_for(
+    judge: &Judge,
+    wires: &Wires,
+    record: Record<'_>,
+    wanted: Event,
+) -> Result<Entry, Limit> {
+    let seen = record.seen;
     let mut event = wanted;
     for _ in 0..DEPTH {
-        event = in_order(judge, wires, seen, event)?;
+        event = in_order(judge, wires, record, event).ok_or(Limit::NoWay)?;
         if let Some(first) = sooner(judge, wires, seen, &event) {
             event = first;
             continue;
         }
         let entry = Entry { event, shown: None };
         let breach = judge.breach(&entry);
-        if breach.is_none() && is_next(judge, wires, seen, &entry.event) {
-            return Some(entry);
+        if breach.is_none() && is_next(judge, wires, record, &entry.event) {
+            return Ok(entry);
         }
-        event = remedy(judge, wires, seen, &entry.event, breach)?;
+        event = remedy(judge, wires, record.premises, seen, &entry.event, breach).ok_or(
+            Limit::NoWay,
+        )?;
     }
-    None
+    Err(Limit::Depth)
+}
+
+/// The event that takes a message on D, where it waits and its client's link was seen at the client's pins: there it is taken as it is seen.
+fn untaken(judge: &Judge, record: Record<'_>, line: &Seen) -> Option<Event> {
+    let Seen::OnLink(client, block, message) = line else {
+        return None;
+    };
+    if message.kind.channel() != Channel::D || !is_seen_at_pins(record.premises, *client) {
+        return None;
+    }
+    let k = judge.plain().block(block.number())?.client(*client)?;
+    match k.d.as_slice() {
+        [Downward::Grant(_, _), ..] => Some(Event::TakeGrant(*client, *block)),
+        [Downward::ReleaseAck, ..] => Some(Event::TakeReleaseAck(*client, *block)),
+        [] => None,
+    }
 }
 
 impl Attempt {
@@ -128,25 +176,33 @@ impl Attempt {
         Ok(true)
     }
 
-    /// Takes events until what was seen at a place is sent, if some lead there.
-    fn reach(&mut self, seen: &[Seen], place: usize) -> Result<bool, AllocError>
-        requires { place < length seen.now }
-    {
+    /// What leads on to what was seen at a place; None where it is reached.
+    fn wanted(&self, record: Record<'_>, line: &Seen, place: usize) -> Option<Event> {
+        if self.wires.is_sent(record.seen, place) {
+            return untaken(&self.judge, record, line);
+        }
+        target(line)
+    }
+
+    /// Takes events until what was seen at a place is sent, and taken where it was seen as it was taken; what ended the attempt, if something
+    /// did.
+    fn reach(&mut self, record: Record<'_>, place: usize) -> Result<Option<Limit>, AllocError> {
+        let Some(line) = record.seen.get(place) else {
+            return Ok(None);
+        };
         for _ in 0..EVENTS {
-            if self.wires.is_sent(seen, place) {
-                return Ok(true);
-            }
-            let Some(wanted) = target(&seen[place]) else {
-                return Ok(false);
+            let Some(wanted) = self.wanted(record, line, place) else {
+                return Ok(None);
             };
-            let Some(entry) = ready_for(&self.judge, &self.wires, seen, wanted) else {
-                return Ok(false);
+            let entry = match ready_for(&self.judge, &self.wires, record, wanted) {
+                Ok(entry) => entry,
+                Err(limit) => return Ok(Some(limit)),
             };
             if !self.take(entry)? {
-                return Ok(false);
+                return Ok(Some(Limit::NoWay));
             }
         }
-        Ok(false)
+        Ok(Some(Limit::Events))
     }
 }
 
@@ -154,23 +210,27 @@ impl Attempt {
 pub(crate) fn search(
     alloc: Global,
     shape: Shape,
+    premises: &[Premise],
     image: &[u8],
     seen: &[Seen],
 ) -> Result<Found, AllocError>
     requires bytes { (0 < shape.block_bytes) × (shape.block_bytes ≤ BLOCK_BYTES) }
     requires blocks { shape.blocks ≤ BLOCKS }
 {
+    let record = Record { premises, seen };
     let mut attempt = Attempt::new(alloc, shape, image, seen)?;
     for place in 0..seen.len() {
-        if !attempt.reach(seen, place)? {
+        if let Some(limit) = attempt.reach(record, place)? {
             return Ok(Found {
                 run: attempt.run,
                 place,
+                limit,
             });
         }
     }
     Ok(Found {
         run: attempt.run,
         place: seen.len(),
+        limit: Limit::NoWay,
     })
 }

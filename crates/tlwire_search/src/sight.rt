@@ -57,7 +57,7 @@ fn on_link(judge: &Judge, event: &Event) -> Option<Seen>
 }
 
 /// What is seen of an event that may come next.
-pub(crate) fn seen_of(judge: &Judge, event: &Event) -> Option<Seen>
+pub fn seen_of(judge: &Judge, event: &Event) -> Option<Seen>
     requires { May judge.now.plain.shape (own_block judge.now event.now) event.now }
     ensures { result ≡ seen_of judge.now.plain.shape (own_block judge.now event.now) event.now }
 {

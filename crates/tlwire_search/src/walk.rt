@@ -3,9 +3,11 @@ ghost use Rattle.std.specs.Prelude.{◌≡◌, ◌<◌, ◌≤◌, ◌∷◌, �
 ghost use Rattle.tl_protocol.specs.declared.event.Event.{Event};
 ghost use Rattle.tl_protocol.specs.declared.shape.Shape.{Shape};
 ghost use Rattle.tlwire_search.specs.Explained.{Explains};
-ghost use Rattle.tlwire_search.specs.Left.{GoesAlong, IsMarking};
+ghost use Rattle.tlwire_search.specs.Left.{GoesAlong, IsMarking, IsNext};
+ghost use Rattle.tlwire_search.specs.declared.premise.Premise.{Premise};
 
 use crate::marks::Marks;
+use crate::premise::{Premise, may_have_more};
 use crate::seen::Seen;
 use crate::sight::seen_of;
 use std::alloc::{AllocError, Global};
@@ -13,23 +15,40 @@ use tl_rules::{Event, Shape};
 use tl_types::{BLOCK_BYTES, BLOCKS};
 use tlcheck_rules::{Entry, Judge, Refusal};
 
-/// Takes one more event, where it is permitted and what is seen of it was seen next.
+/// Marks this as the next on its wire; or nothing is left there, and more may have been sent.
+fn is_next(
+    marks: &mut Marks,
+    premises: &[Premise],
+    seen: &[Seen],
+    shown: &Seen,
+) -> Result<bool, AllocError>
+    requires { IsMarking seen.now marks.old }
+    ensures { IfOk result (λ yes. IsTrue yes → IsNext premises.now seen.now marks.old marks.new shown.now) }
+{
+    if may_have_more(premises, shown.wire()) && marks.is_done(seen, shown)? {
+        return Ok(true);
+    }
+    Ok(marks.mark(seen, shown))
+}
+
+/// Takes one more event, where it is permitted and what is seen of it was seen next, or was not seen.
 fn goes_on(
     judge: &mut Judge,
     marks: &mut Marks,
+    premises: &[Premise],
     seen: &[Seen],
     entry: &Entry,
 ) -> Result<bool, AllocError>
     requires { IsMarking seen.now marks.old }
     ensures { IfOk result (λ yes. IsTrue yes → (shape : Shape) (image : List ℕ) (run : List Event)
-        → GoesAlong shape image seen.now run judge.old marks.old
-        → GoesAlong shape image seen.now (run ++ entry.now.event ∷ []) judge.new marks.new) }
+        → GoesAlong premises.now shape image seen.now run judge.old marks.old
+        → GoesAlong premises.now shape image seen.now (run ++ entry.now.event ∷ []) judge.new marks.new) }
 {
     if let Some(_) = judge.breach(entry) {
         return Ok(false);
     }
     if let Some(shown) = seen_of(judge, &entry.event) {
-        if !marks.mark(seen, &shown) {
+        if !is_next(marks, premises, seen, &shown)? {
             return Ok(false);
         }
     }
@@ -53,7 +72,7 @@ impl Walk {
     fn new(alloc: Global, shape: Shape, image: &[u8], seen: &[Seen]) -> Result<Walk, AllocError>
         requires bytes { (0 < shape.block_bytes) × (shape.block_bytes ≤ BLOCK_BYTES) }
         requires blocks { shape.blocks ≤ BLOCKS }
-        ensures { IfOk result (λ walk. GoesAlong shape image.now seen.now walk.run.items walk.judge walk.marks) }
+        ensures { IfOk result (λ walk. (premises : List Premise) → GoesAlong premises shape image.now seen.now walk.run.items walk.judge walk.marks) }
     {
         let judge = Judge::new(alloc, shape, image)?;
         let marks = Marks::new(alloc, seen.len())?;
@@ -62,14 +81,19 @@ impl Walk {
     }
 
     /// Takes one more event, where it goes on.
-    fn take(&mut self, seen: &[Seen], event: Event) -> Result<bool, AllocError>
+    fn take(
+        &mut self,
+        premises: &[Premise],
+        seen: &[Seen],
+        event: Event,
+    ) -> Result<bool, AllocError>
         requires { IsMarking seen.now self.old.marks }
         ensures { IfOk result (λ yes. IsTrue yes → (shape : Shape) (image : List ℕ)
-            → GoesAlong shape image seen.now self.old.run.items self.old.judge self.old.marks
-            → GoesAlong shape image seen.now self.new.run.items self.new.judge self.new.marks) }
+            → GoesAlong premises.now shape image seen.now self.old.run.items self.old.judge self.old.marks
+            → GoesAlong premises.now shape image seen.now self.new.run.items self.new.judge self.new.marks) }
     {
         let entry = Entry { event, shown: None };
-        if !goes_on(&mut self.judge, &mut self.marks, seen, &entry)? {
+        if !goes_on(&mut self.judge, &mut self.marks, premises, seen, &entry)? {
             return Ok(false);
         }
         self.run.push(entry.event)?;
@@ -81,17 +105,18 @@ impl Walk {
 pub(crate) fn explained_by(
     alloc: Global,
     shape: Shape,
+    premises: &[Premise],
     image: &[u8],
     seen: &[Seen],
     events: Vec<Event>,
 ) -> Result<Option<Vec<Event>>, AllocError>
     requires bytes { (0 < shape.block_bytes) × (shape.block_bytes ≤ BLOCK_BYTES) }
     requires blocks { shape.blocks ≤ BLOCKS }
-    ensures { IfOk result (λ found. IfSome found (λ run. Explains shape image.now seen.now run.items)) }
+    ensures { IfOk result (λ found. IfSome found (λ run. Explains premises.now shape image.now seen.now run.items)) }
 {
     let mut walk = Walk::new(alloc, shape, image, seen)?;
     for event in events {
-        if !walk.take(seen, event)? {
+        if !walk.take(premises, seen, event)? {
             return Ok(None);
         }
     }

@@ -12,4 +12,5 @@ returns c = λ yes.
     (subst (λ (s : Seen). slice_get c.args.seen.now c.in-Some.place ≡ Some s) same
     (here_is c.args.seen.now c.in-Some.place c.index-seen-place.result found.place c.index-seen-place.is))
     (λ k r lt free at is. found.before k r lt free at (is ∙ sym c.wire.ensures))
-    (subst (λ (m : MarkState). c.pass.new.self.marks ≡ set m.marks c.in-Some.place true) c.self.view_is c.pass.ensures.marks) c.pass.ensures.before
+    (subst (λ (m : MarkState). c.pass.new.self.marks ≡ set m.marks c.in-Some.place true) c.self.view_is c.pass.ensures.marks)
+    (subst (λ (m : MarkState). c.pass.new.self.done ≡ m.done) c.self.view_is c.pass.ensures.done) c.pass.ensures.before

@@ -1,0 +1,156 @@
+//! What is said of what was seen.
+ghost use Rattle.std.specs.Prelude.{◌≡◌, ◌⊎◌, IfOk, IfSome, IsTrue};
+ghost use Rattle.std.specs.Bool.{OnFalse};
+ghost use Rattle.tlwire_answer.specs.Answer.{ClientKeepsOrder, EachKeepsOrder, IsInOrder, IsNo, IsVerdict, NobodyIsTold, is_told_at_pins};
+ghost use Rattle.tlwire_search.specs.Explained.{Explains};
+
+use std::alloc::{AllocError, Global};
+use tl_rules::Event;
+use tl_types::ClientId;
+use tlwire_pins::{Wrong, first_wrong, keeps_order, lines_at_pins};
+use tlwire_record::Messages;
+use tlwire_search::{Explanation, Limit, Premise, Seen, Wire, explain, is_seen_at_pins, is_unseen};
+
+/// What is said of what was seen.
+#[derive(Drop)]
+pub enum Verdict {
+    /// This run explains it.
+    Explained(Vec<Event>),
+    /// No lawful run is seen so: this line may not be seen at its client's pins.
+    Impossible(Wrong),
+    /// Neither was found; the attempt ended before the thing seen at this place, by this.
+    NotDecided(usize, Limit),
+    /// A run was found that has what was seen on each wire, but not in the order of the lines at a client's pins.
+    OtherOrder,
+}
+
+/// That of the two whose line comes first, if there is one.
+fn sooner(one: Option<Wrong>, other: Option<Wrong>) -> Option<Wrong>
+    ensures { (result ≡ one) ⊎ (result ≡ other) }
+{
+    match (one, other) {
+        (Some(one), Some(other)) => {
+            if one.place <= other.place {
+                Some(one)
+            } else {
+                Some(other)
+            }
+        }
+        (None, other) => other,
+        (one, None) => one,
+    }
+}
+
+/// Whether a client's link, and its core, were seen at the client's pins.
+fn is_told_at_pins(premises: &[Premise], client: ClientId) -> bool
+    ensures { result ≡ is_told_at_pins premises.now client }
+{
+    is_seen_at_pins(premises, client) && !is_unseen(premises, Wire::Core(client))
+}
+
+/// The first line that may not be seen at the pins of a client whose link was seen there.
+fn wrong_at_pins(alloc: Global, messages: &Messages) -> Result<Option<Wrong>, AllocError>
+    ensures { IfOk result (λ found. IfSome found (IsNo messages.now)) }
+{
+    let shape = messages.setting().shape();
+    let mut first = None;
+    for number in 0..shape.clients {
+        let client = ClientId::new(number);
+        if is_told_at_pins(messages.setting().premises(), client) {
+            first = sooner(first, first_wrong(alloc, shape, client, messages.seen())?);
+        }
+    }
+    Ok(first)
+}
+
+/// Whether the link and the core of some client were seen at the client's pins.
+fn is_any_told(messages: &Messages) -> bool
+    ensures { OnFalse result (NobodyIsTold messages.now) }
+{
+    for number in 0..messages.setting().shape().clients {
+        if is_told_at_pins(messages.setting().premises(), ClientId::new(number)) {
+            return true;
+        }
+    }
+    false
+}
+
+/// Whether lines at the pins of clients keep the order of the record's, of a client, where it was seen there.
+fn keeps(
+    alloc: Global,
+    messages: &Messages,
+    client: ClientId,
+    lines: &[Seen],
+) -> Result<bool, AllocError>
+    ensures { IfOk result (λ yes. IsTrue yes → ClientKeepsOrder messages.now lines.now client) }
+{
+    if !is_told_at_pins(messages.setting().premises(), client) {
+        return Ok(true);
+    }
+    keeps_order(alloc, client, lines, messages.seen())
+}
+
+/// Whether lines at the pins of clients keep the order of the record's, of each client that was seen there.
+fn keep_order(alloc: Global, messages: &Messages, lines: &[Seen]) -> Result<bool, AllocError>
+    ensures { IfOk result (λ yes. IsTrue yes → EachKeepsOrder messages.now lines.now) }
+{
+    for number in 0..messages.setting().shape().clients {
+        if !keeps(alloc, messages, ClientId::new(number), lines)? {
+            return Ok(false);
+        }
+    }
+    Ok(true)
+}
+
+/// Whether a run has the lines at the pins of clients in the order of the record's.
+fn is_in_order(alloc: Global, messages: &Messages, run: &[Event]) -> Result<bool, AllocError>
+    ensures { IfOk result (λ yes. IsTrue yes → IsInOrder messages.now run.now) }
+{
+    if !is_any_told(messages) {
+        return Ok(true);
+    }
+    let shape = messages.setting().shape();
+    match lines_at_pins(alloc, shape, messages.image(), run)? {
+        Some(lines) => keep_order(alloc, messages, &lines),
+        None => Ok(false),
+    }
+}
+
+/// That a run explains what was seen, where it does so at the pins of clients too.
+fn ordered(alloc: Global, messages: &Messages, run: Vec<Event>) -> Result<Verdict, AllocError>
+    requires { Explains messages.now.setting.premises messages.now.setting.shape messages.now.image messages.now.seen run.items }
+    ensures { IfOk result (IsVerdict messages.now) }
+{
+    if is_in_order(alloc, messages, &run)? {
+        Ok(Verdict::Explained(run))
+    } else {
+        Ok(Verdict::OtherOrder)
+    }
+}
+
+/// A run that explains what was seen, or how far an attempt came.
+fn explained(alloc: Global, messages: &Messages) -> Result<Verdict, AllocError>
+    ensures { IfOk result (IsVerdict messages.now) }
+{
+    let setting = messages.setting();
+    match explain(
+        alloc,
+        setting.shape(),
+        setting.premises(),
+        messages.image(),
+        messages.seen(),
+    )? {
+        Explanation::Explained(run) => ordered(alloc, messages, run),
+        Explanation::NotExplained(place, limit) => Ok(Verdict::NotDecided(place, limit)),
+    }
+}
+
+/// What is said of what was seen. Err is a refused request for memory.
+pub(crate) fn judge(alloc: Global, messages: &Messages) -> Result<Verdict, AllocError>
+    ensures { IfOk result (IsVerdict messages.now) }
+{
+    match wrong_at_pins(alloc, messages)? {
+        Some(wrong) => Ok(Verdict::Impossible(wrong)),
+        None => explained(alloc, messages),
+    }
+}

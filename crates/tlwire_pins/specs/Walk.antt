@@ -1,0 +1,72 @@
+-- A walk along the lines of a record, at a client's pins (this project's own).
+use Rattle.std.specs.Prelude.{◌≡◌, ◌==◌, ℕ, Bool, true, false, List, [], ◌∷◌, ◌++◌, take, nat_eq, unwrap_or, Option, Some, None, slice_get}
+use Rattle.std.specs.HashMap.{HashMap, get}
+use Rattle.std.specs.declared.hash.BuildHasherDefault.{BuildHasherDefault}
+use Rattle.std.specs.declared.hash.FoldHasher.{FoldHasher}
+use Rattle.tl_protocol.specs.declared.shape.Shape.{Shape}
+use Rattle.tl_protocol.specs.Runs.{at_reset}
+use Rattle.tl_protocol.specs.declared.event.Event.{Event}
+use Rattle.tlcheck_rules.specs.Judged.{Follows, JudgeState}
+use Rattle.tlwire_search.specs.declared.seen.Seen.{Seen}
+use Rattle.tlwire_pins.specs.Pins.{is_own, lines_from, own}
+use Rattle.tlwire_pins.specs.View.{BreaksLine, MayLine, after_line, fresh, led_by}
+use Rattle.tlwire_pins.specs.declared.pass.Wrong.{Wrong}
+use Rattle.tlwire_pins.specs.declared.view.View.{View}
+use Rattle.tlwire_pins.specs.declared.views.Broken.{Broken}
+
+-- each of these lines may be seen of a client, one after another
+abbrev pub AllMay : Shape → View → List Seen → Type 0
+AllMay shape v [] = Unit {0}
+AllMay shape v (x ∷ rest) = MayLine shape v x × AllMay shape (after_line shape v x) rest
+
+-- The line at a place of a record is one of a block at the client's pins; there the client holds and waits for what the block's lines
+-- before it lead to, and this is what the line breaks.
+pub record IsWrong (shape : Shape) (c : ℕ) (seen : List Seen) (w : Wrong) : Type 0 where
+  pub line : Seen
+  pub there : slice_get seen w.place ≡ Some line
+  pub own_line : is_own shape c w.block line ≡ true
+  pub led : w.view ≡ led_by shape fresh (own shape c w.block (take w.place seen))
+  pub breaks : BreaksLine shape w.view line w.breach
+  pub client : w.client ≡ c
+
+-- ## One line. No public clause cites these.
+
+-- what a client holds of each block
+abbrev pub Table : Type 0
+Table = HashMap ℕ View (BuildHasherDefault FoldHasher)
+
+-- and of one: at first nothing
+abbrev pub held_in : Table → ℕ → View
+held_in table block = unwrap_or (get nat_eq table block) fresh
+
+-- it is this block
+abbrev pub is_at : Option ℕ → ℕ → Bool
+is_at None b = false
+is_at (Some block) b = block == b
+
+-- a line that is of a block is seen next, or one that is not leaves it as it is
+abbrev pub StepsAt : Shape → Seen → Bool → View → View → Type 0
+StepsAt shape x true v w = MayLine shape v x × (w ≡ after_line shape v x)
+StepsAt shape x false v w = w ≡ v
+
+-- one line more leads from what a client holds of each block to what it holds of each
+abbrev pub Steps : Shape → ℕ → Seen → (ℕ → View) → (ℕ → View) → Type 0
+Steps shape c x old new = (block : ℕ) → StepsAt shape x (is_own shape c block x) (old block) (new block)
+
+-- a line of a block at the client's pins may not be seen next, and this is what it breaks
+pub record BreaksNext (shape : Shape) (c : ℕ) (x : Seen) (old : ℕ → View) (b : Broken) : Type 0 where
+  pub own_line : is_own shape c b.block x ≡ true
+  pub held : b.view ≡ old b.block
+  pub breaks : BreaksLine shape b.view x b.breach
+  pub may_not : ¬ MayLine shape b.view x
+
+-- ## What is seen of a run at the pins. No public clause cites these.
+
+-- some lines are the beginning of others
+abbrev pub IsBeginning : List Seen → List Seen → Type 0
+IsBeginning some all = (more : List Seen) × (all ≡ some ++ more)
+
+-- a judge is where the events so far lead, and these lines are what is seen of them
+pub record IsReplayed (shape : Shape) (image : List ℕ) (run : List Event) (judge : JudgeState) (lines : List Seen) : Type 0 where
+  pub follows : Follows shape image run judge
+  pub seen : lines ≡ lines_from shape (at_reset shape image) run

@@ -1,0 +1,132 @@
+//! The lines before the messages that say how the record was seen.
+ghost use Rattle.std.specs.Prelude.{◌≡◌};
+ghost use Rattle.tl_script_words.specs.Words.{texts};
+ghost use Rattle.tlcheck_record.specs.Cause.{Gives};
+ghost use Rattle.tlwire_record.specs.Header.{alone, at_client, is_premise_word, place_in, place_named, premise_in, premise_taken, seen_in, skew_in, unseen_in};
+
+use crate::header::Setting;
+use tl_rules::Shape;
+use tl_types::ClientId;
+use tlcheck_record::{Cause, LineError, read_number};
+use tlwire_search::Premise;
+
+/// Whether a line with this first word says how the record was seen.
+pub(crate) fn is_premise_word(word: &str) -> bool
+    ensures { result ≡ is_premise_word word.now }
+{
+    word == "seen" || word == "skew" || word == "whole" || word == "memory" || word == "cores"
+}
+
+fn at_client(shape: Shape, c: u32) -> Result<Premise, Cause>
+    ensures { result ≡ at_client shape c }
+{
+    if c < shape.clients {
+        Ok(Premise::AtClient(ClientId::new(c)))
+    } else {
+        Err(Cause::Client)
+    }
+}
+
+/// `clients` or `home`.
+fn place_named(word: &str) -> Result<Premise, Cause>
+    ensures { result ≡ place_named word.now }
+{
+    match word {
+        "clients" => Ok(Premise::AtClients),
+        "home" => Ok(Premise::AtHome),
+        _ => Err(Cause::Premise),
+    }
+}
+
+/// `clients`, `home` or `client NUM`, behind `seen at`.
+#[tactic(auto, unfolding(crate::specs::Header::place_in))]
+fn place_of(shape: Shape, words: &[&str]) -> Result<Premise, Cause>
+    ensures { result ≡ place_in shape (texts words.now) }
+{
+    match *words {
+        [word] => place_named(word),
+        [word, number] => {
+            if word == "client" {
+                at_client(shape, read_number(number)?)
+            } else {
+                Err(Cause::Premise)
+            }
+        }
+        _ => Err(Cause::Premise),
+    }
+}
+
+fn alone(words: &[&str], premise: Premise) -> Result<Premise, Cause>
+    ensures { result ≡ alone (texts words.now) premise }
+{
+    match words {
+        [] => Ok(premise),
+        _ => Err(Cause::Premise),
+    }
+}
+
+fn unseen(words: &[&str], premise: Premise) -> Result<Premise, Cause>
+    ensures { result ≡ unseen_in (texts words.now) premise }
+{
+    match *words {
+        [word] => {
+            if word == "unseen" {
+                Ok(premise)
+            } else {
+                Err(Cause::Premise)
+            }
+        }
+        _ => Err(Cause::Premise),
+    }
+}
+
+fn skew(words: &[&str]) -> Result<Premise, Cause>
+    ensures { result ≡ skew_in (texts words.now) }
+{
+    match *words {
+        [number] => Ok(Premise::Skew(read_number(number)?)),
+        _ => Err(Cause::Premise),
+    }
+}
+
+/// `between`, or `at` and where, behind `seen`.
+#[tactic(auto, unfolding(crate::specs::Header::seen_in))]
+fn seen(shape: Shape, words: &[&str]) -> Result<Premise, Cause>
+    ensures { result ≡ seen_in shape (texts words.now) }
+{
+    match words {
+        [] => Err(Cause::Premise),
+        [word, rest @ ..] => match *word {
+            "between" => alone(rest, Premise::Between),
+            "at" => place_of(shape, rest),
+            _ => Err(Cause::Premise),
+        },
+    }
+}
+
+/// What a line says of how the record was seen, by its first word.
+#[tactic(auto, unfolding(crate::specs::Header::premise_in))]
+fn premise_of(shape: Shape, word: &str, rest: &[&str]) -> Result<Premise, Cause>
+    ensures { result ≡ premise_in shape word.now (texts rest.now) }
+{
+    match word {
+        "seen" => seen(shape, rest),
+        "skew" => skew(rest),
+        "whole" => alone(rest, Premise::Whole),
+        "memory" => unseen(rest, Premise::MemoryUnseen),
+        _ => unseen(rest, Premise::CoresUnseen),
+    }
+}
+
+/// The setting with what a line says of how the record was seen.
+pub(crate) fn take_premise(
+    mut setting: Setting,
+    word: &str,
+    rest: &[&str],
+) -> Result<Setting, LineError>
+    ensures { Gives (λ x. x) result (premise_taken setting word.now (texts rest.now)) }
+{
+    let premise = premise_of(setting.shape(), word, rest)?;
+    setting.add_premise(premise)?;
+    Ok(setting)
+}

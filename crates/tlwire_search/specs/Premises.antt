@@ -1,0 +1,36 @@
+-- What the header of a record says of how it was seen (this project's own).
+use Rattle.std.specs.Prelude.{ℕ, ◌==◌, ◌||◌, not, Bool, true, false, List}
+use Rattle.std.specs.List.{list_any}
+use Rattle.tlwire_search.specs.declared.premise.Premise.{Premise}
+use Rattle.tlwire_search.specs.declared.premise.Premise.TheVariants.{AtClient, AtClients, Whole, MemoryUnseen, CoresUnseen}
+use Rattle.tlwire_search.specs.declared.seen.Wire.{Wire}
+use Rattle.tlwire_search.specs.declared.seen.Wire.TheVariants.{Link, Memory, Core}
+
+-- it is `whole`
+abbrev pub is_whole_line : Premise → Bool
+is_whole_line Whole = true
+is_whole_line _ = false
+
+-- the record is not cut
+abbrev pub is_whole : List Premise → Bool
+is_whole premises = list_any is_whole_line premises
+
+-- it says that nobody watched a wire: `memory unseen` the memory's, `cores unseen` the cores'
+abbrev pub is_unseen_on : Wire → Premise → Bool
+is_unseen_on (Memory channel) MemoryUnseen = true
+is_unseen_on (Core client) CoresUnseen = true
+is_unseen_on wire _ = false
+
+-- More may have been sent on a wire than the record has: it was cut, or nobody watched the wire.
+abbrev pub may_have_more : List Premise → Wire → Bool
+may_have_more premises wire = not (is_whole premises) || list_any (is_unseen_on wire) premises
+
+-- it says that a client's link was seen at the client's pins
+abbrev pub is_of_pins : ℕ → Premise → Bool
+is_of_pins client (AtClient c) = c == client
+is_of_pins client AtClients = true
+is_of_pins client _ = false
+
+-- A client's link was seen at the client's pins.
+abbrev pub is_seen_at_pins : List Premise → ℕ → Bool
+is_seen_at_pins premises client = list_any (is_of_pins client) premises
