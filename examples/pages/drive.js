@@ -151,8 +151,8 @@ async function shows(browser) {
 async function tries(browser) {
   await browser.go(url("release-crosses-probe", "#step=13"));
   const refusal = await browser.ask("document.getElementById('refusal').textContent");
-  check("the refusal", /6 ReleasePending/.test(refusal) && /waits for a ReleaseAck of block 0/.test(refusal) && /docs\/PROTOCOL.md, Rules/.test(refusal),
-    refusal);
+  check("the refusal", /6 ReleasePending/.test(refusal) && /waits for a ReleaseAck of block 0/.test(refusal) && /docs\/PROTOCOL.md, Rules/.test(refusal)
+    && /succeeds in step 17/.test(refusal), refusal);
   await browser.ask(BY_ID("next"));
   check("the button forward", await browser.ask(STEP) === "14");
   check("a change is marked", await browser.ask("document.querySelectorAll('#state .changed').length") > 0);

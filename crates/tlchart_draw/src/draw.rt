@@ -3,7 +3,7 @@ ghost use Rattle.std.specs.Prelude.{◌≡◌, ◌≤◌, IfErr, OnOk, length};
 ghost use Rattle.tlchart_draw.specs.Draw.{IsDrawn, IsWhy};
 ghost use Rattle.tlchart_draw.specs.declared.draw.DrawError.TheVariants as its;
 
-use crate::sheet::{Form, Sheet, picture_of};
+use crate::sheet::{Foot, Form, Rows, Sheet, picture_of};
 use std::alloc::{AllocError, Global};
 use std::fmt;
 use thiserror::Error;
@@ -75,9 +75,9 @@ fn drawn(
     let chart = chart_of(alloc, geometry, &script.steps, &trace, block)?;
     let sheet = Sheet {
         title,
-        steps: &script.steps,
+        rows: Rows::Steps(&script.steps),
         chart: &chart,
-        banks: &trace.banks,
+        foot: Foot::Banks(&trace.banks),
     };
     picture_of(alloc, sheet, form)
 }

@@ -1,6 +1,6 @@
 //! The words beside arrows, marks and rows.
 
-use std::alloc::AllocError;
+use crate::ink::Ink;
 use std::fmt::Write;
 use tl_script_words::{Address, BlockCall, Hex, Step, TicketCall};
 use tl_text::{BankClosing, BlockLine};
@@ -11,48 +11,56 @@ use tlchart_model::{Lifeline, Mark, ShownMessage};
 const SHOWN: usize = 4;
 
 /// The first bytes of a block, and dots where there are more.
-fn push_data(text: &mut String, bytes: &[u8]) -> Result<(), AllocError> {
+fn push_data(ink: &mut Ink, bytes: &[u8]) {
     if bytes.len() > SHOWN {
-        write!(text, " {}…", Hex(&bytes[..SHOWN]))?;
+        let _ = write!(ink, " {}…", Hex(&bytes[..SHOWN]));
     } else {
-        write!(text, " {}", Hex(bytes))?;
+        let _ = write!(ink, " {}", Hex(bytes));
     }
-    Ok(())
 }
 
 /// What a message is, its block, and its data.
-pub(crate) fn push_message(text: &mut String, message: &ShownMessage) -> Result<(), AllocError> {
-    write!(text, "{} b{}", message.kind, message.block)?;
+pub(crate) fn push_message(ink: &mut Ink, message: &ShownMessage) {
+    let _ = write!(ink, "{} b{}", message.kind, message.block);
     match &message.bytes {
-        Some(bytes) => push_data(text, bytes.as_slice()),
-        None => Ok(()),
+        Some(bytes) => push_data(ink, bytes.as_slice()),
+        None => {}
     }
 }
 
 /// The name of a lifeline.
-pub fn push_lifeline(text: &mut String, lifeline: Lifeline) -> Result<(), AllocError> {
+pub fn push_lifeline(ink: &mut Ink, lifeline: Lifeline) {
     match lifeline {
-        Lifeline::Client(client) => write!(text, "client {client}")?,
-        Lifeline::Home(bank) => write!(text, "home {bank}")?,
-        Lifeline::Memory => write!(text, "memory")?,
+        Lifeline::Client(client) => {
+            let _ = write!(ink, "client {client}");
+        }
+        Lifeline::Home(bank) => {
+            let _ = write!(ink, "home {bank}");
+        }
+        Lifeline::Memory => {
+            let _ = write!(ink, "memory");
+        }
     }
-    Ok(())
 }
 
-fn push_access(text: &mut String, word: &str, bytes: &AccessBytes) -> Result<(), AllocError> {
-    write!(text, "{word} {}", Hex(bytes.as_slice()))?;
-    Ok(())
+fn push_access(ink: &mut Ink, word: &str, bytes: &AccessBytes) {
+    let _ = write!(ink, "{word} {}", Hex(bytes.as_slice()));
 }
 
 /// The words of a mark.
-pub fn push_mark(text: &mut String, mark: &Mark) -> Result<(), AllocError> {
+pub fn push_mark(ink: &mut Ink, mark: &Mark) {
     match mark {
-        Mark::Loaded(bytes) => push_access(text, "load", bytes),
-        Mark::Stored(bytes) => push_access(text, "store", bytes),
-        Mark::Dropped => text.push_str("drop"),
-        Mark::Evicting(block) => Ok(write!(text, "evict b{block}")?),
+        Mark::Loaded(bytes) => push_access(ink, "load", bytes),
+        Mark::Stored(bytes) => push_access(ink, "store", bytes),
+        Mark::Dropped => ink.put("drop"),
+        Mark::Evicting(block) => {
+            let _ = write!(ink, "evict b{block}");
+        },
         // A refusal prints as its number, and its name is that of the case.
-        Mark::Refused(refusal) => Ok(write!(text, "refused {refusal} {refusal:?}")?),
+        Mark::Refused(refusal) => {
+            let _ = write!(ink, "refused {refusal} {refusal:?}");
+        },
+        Mark::Unlawful => ink.put("not lawful"),
     }
 }
 
@@ -79,37 +87,48 @@ fn block_verb(call: BlockCall) -> &'static str {
 }
 
 /// A step, in the words of a script.
-pub fn push_step(text: &mut String, step: &Step) -> Result<(), AllocError> {
+pub fn push_step(ink: &mut Ink, step: &Step) {
     match step {
         Step::Load {
             client,
             address,
             len,
-        } => write!(text, "load {client} {} {len}", Address(*address))?,
+        } => {
+            let _ = write!(ink, "load {client} {} {len}", Address(*address));
+        }
         Step::Store {
             client,
             address,
             bytes,
-        } => write!(
-            text,
-            "store {client} {} {}",
-            Address(*address),
-            Hex(bytes.as_slice())
-        )?,
+        } => {
+            let _ = write!(
+                ink,
+                "store {client} {} {}",
+                Address(*address),
+                Hex(bytes.as_slice())
+            );
+        }
         Step::Acquire {
             client,
             block,
             grow,
-        } => write!(text, "acquire {client} {block} {grow}")?,
+        } => {
+            let _ = write!(ink, "acquire {client} {block} {grow}");
+        }
         Step::Release {
             client,
             block,
             prune,
-        } => write!(text, "release {client} {block} {prune}")?,
-        Step::Ticket(call, ticket) => write!(text, "{} {ticket}", ticket_verb(*call))?,
-        Step::Block(call, block) => write!(text, "{} {block}", block_verb(*call))?,
+        } => {
+            let _ = write!(ink, "release {client} {block} {prune}");
+        }
+        Step::Ticket(call, ticket) => {
+            let _ = write!(ink, "{} {ticket}", ticket_verb(*call));
+        }
+        Step::Block(call, block) => {
+            let _ = write!(ink, "{} {block}", block_verb(*call));
+        }
     }
-    Ok(())
 }
 
 /// A letter that has no meaning in SVG or Mermaid.
@@ -119,29 +138,22 @@ fn is_plain(letter: char) -> bool {
 }
 
 /// A title, with a question mark for each letter that is not plain.
-pub fn push_title(text: &mut String, title: &str) -> Result<(), AllocError> {
+pub fn push_title(ink: &mut Ink, title: &str) {
     for letter in title.chars() {
-        text.push(if is_plain(letter) { letter } else { '?' })?;
+        let _ = ink.write_char(if is_plain(letter) { letter } else { '?' });
     }
-    Ok(())
 }
 
 /// The closing line of a block.
-pub(crate) fn push_block_line(text: &mut String, line: &BlockLine) -> Result<(), AllocError> {
-    write!(text, "{line}")?;
-    Ok(())
+pub(crate) fn push_block_line(ink: &mut Ink, line: &BlockLine) {
+    let _ = write!(ink, "{line}");
 }
 
 /// The closing line of a bank.
-pub(crate) fn push_bank_line(
-    text: &mut String,
-    bank: usize,
-    closing: &BankClosing,
-) -> Result<(), AllocError> {
-    write!(
-        text,
+pub(crate) fn push_bank_line(ink: &mut Ink, bank: usize, closing: &BankClosing) {
+    let _ = write!(
+        ink,
         "bank {bank} held {} recorded {} events {}",
         closing.held, closing.recorded, closing.events
-    )?;
-    Ok(())
+    );
 }

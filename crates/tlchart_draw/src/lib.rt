@@ -2,6 +2,7 @@
 #![tactic(auto)]
 
 mod draw;
+mod ink;
 mod labels;
 mod layout;
 mod mermaid;
@@ -9,5 +10,6 @@ mod sheet;
 mod svg;
 
 pub use draw::{DrawError, draw_script};
+pub use ink::Ink;
 pub use labels::{push_lifeline, push_mark, push_step, push_title};
-pub use sheet::{Form, Sheet, picture_of};
+pub use sheet::{Foot, Form, Line, Rows, Sheet, picture_of};

@@ -1,77 +1,83 @@
 //! A chart as a Mermaid `sequenceDiagram`.
 
+use crate::ink::Ink;
 use crate::labels::{
     push_bank_line, push_block_line, push_lifeline, push_mark, push_message, push_title,
 };
-use crate::sheet::Sheet;
-use std::alloc::AllocError;
+use crate::sheet::{Foot, Sheet};
 use std::fmt::Write;
 use tl_text::BankClosing;
 use tl_types::{BankNo, ClientId, Perm};
 use tlchart_model::{Arrow, Change, Chart, Lifeline, Mark, Turn};
 
 /// The short name of a lifeline.
-fn push_short(text: &mut String, lifeline: Lifeline) -> Result<(), AllocError> {
+fn push_short(ink: &mut Ink, lifeline: Lifeline) {
     match lifeline {
-        Lifeline::Client(client) => write!(text, "C{client}")?,
-        Lifeline::Home(bank) => write!(text, "H{bank}")?,
-        Lifeline::Memory => write!(text, "M")?,
+        Lifeline::Client(client) => {
+            let _ = write!(ink, "C{client}");
+        }
+        Lifeline::Home(bank) => {
+            let _ = write!(ink, "H{bank}");
+        }
+        Lifeline::Memory => {
+            let _ = write!(ink, "M");
+        }
     }
-    Ok(())
 }
 
-fn push_participant(text: &mut String, lifeline: &Lifeline) -> Result<(), AllocError> {
-    text.push_str("    participant ")?;
-    push_short(text, *lifeline)?;
-    text.push_str(" as ")?;
-    push_lifeline(text, *lifeline)?;
-    text.push_str("\n")
+fn push_participant(ink: &mut Ink, lifeline: &Lifeline) {
+    ink.put("    participant ");
+    push_short(ink, *lifeline);
+    ink.put(" as ");
+    push_lifeline(ink, *lifeline);
+    ink.put("\n")
 }
 
 /// Each client, each bank's home, and the memory.
-fn push_participants(text: &mut String, chart: &Chart) -> Result<(), AllocError> {
+fn push_participants(ink: &mut Ink, chart: &Chart) {
     for client in 0..chart.clients {
-        push_participant(text, &Lifeline::Client(ClientId::new(client)))?;
+        push_participant(ink, &Lifeline::Client(ClientId::new(client)));
     }
     for bank in 0..chart.banks {
-        push_participant(text, &Lifeline::Home(BankNo::new(bank)))?;
+        push_participant(ink, &Lifeline::Home(BankNo::new(bank)));
     }
-    push_participant(text, &Lifeline::Memory)
+    push_participant(ink, &Lifeline::Memory)
 }
 
 /// A message, in the row of the step that sent it, with the row of the step that took it.
-fn push_arrow(text: &mut String, arrow: &Arrow) -> Result<(), AllocError> {
-    text.push_str("    ")?;
-    push_short(text, arrow.message.from)?;
-    text.push_str(match arrow.taken {
+fn push_arrow(ink: &mut Ink, arrow: &Arrow) {
+    ink.put("    ");
+    push_short(ink, arrow.message.from);
+    ink.put(match arrow.taken {
         Some(_) => "->>",
         None => "--x",
-    })?;
-    push_short(text, arrow.message.to)?;
-    write!(text, ": {} ", arrow.sent)?;
-    push_message(text, &arrow.message)?;
+    });
+    push_short(ink, arrow.message.to);
+    let _ = write!(ink, ": {} ", arrow.sent);
+    push_message(ink, &arrow.message);
     match arrow.taken {
-        Some(row) => Ok(write!(text, ", taken {row}\n")?),
-        None => text.push_str(", never taken\n"),
+        Some(row) => {
+            let _ = write!(ink, ", taken {row}\n");
+        },
+        None => ink.put(", never taken\n"),
     }
 }
 
 /// The message that a row sent.
-fn push_sent(text: &mut String, chart: &Chart, row: usize) -> Result<(), AllocError> {
+fn push_sent(ink: &mut Ink, chart: &Chart, row: usize) {
     for arrow in &chart.arrows {
         if arrow.sent == row {
-            push_arrow(text, arrow)?;
+            push_arrow(ink, arrow);
         }
     }
-    Ok(())
 }
 
-fn push_note(text: &mut String, row: usize, at: Lifeline, mark: &Mark) -> Result<(), AllocError> {
-    text.push_str("    Note over ")?;
-    push_short(text, at)?;
-    write!(text, ": {row} ")?;
-    push_mark(text, mark)?;
-    text.push_str("\n")
+fn push_note(ink: &mut Ink, row: usize, at: Lifeline, mark: &Mark) {
+    ink.put("    Note over ");
+    push_short(ink, at);
+    let _ = write!(ink, ": {row} ");
+    push_mark(ink, mark);
+    ink.put("\n")
 }
 
 /// The permission of a client before a change: that of its last change in an earlier row.
@@ -88,80 +94,88 @@ fn before(chart: &Chart, change: Change) -> Perm {
 }
 
 /// The bar of a client begins with its first permission, and ends with its last.
-fn push_bar(text: &mut String, verb: &str, client: Lifeline) -> Result<(), AllocError> {
-    write!(text, "    {verb} ")?;
-    push_short(text, client)?;
-    text.push_str("\n")
+fn push_bar(ink: &mut Ink, verb: &str, client: Lifeline) {
+    let _ = write!(ink, "    {verb} ");
+    push_short(ink, client);
+    ink.put("\n")
 }
 
-fn push_change(text: &mut String, chart: &Chart, change: Change) -> Result<(), AllocError> {
+fn push_change(ink: &mut Ink, chart: &Chart, change: Change) {
     let before = before(chart, change);
     if before == change.perm {
-        return Ok(());
+        return;
     }
-    text.push_str("    Note over ")?;
-    push_short(text, change.client)?;
-    write!(text, ": {:?} of b{}\n", change.perm, chart.block)?;
+    ink.put("    Note over ");
+    push_short(ink, change.client);
+    let _ = write!(ink, ": {:?} of b{}\n", change.perm, chart.block);
     if before == Perm::None {
-        return push_bar(text, "activate", change.client);
+        return push_bar(ink, "activate", change.client);
     }
     if change.perm == Perm::None {
-        return push_bar(text, "deactivate", change.client);
+        return push_bar(ink, "deactivate", change.client);
     }
-    Ok(())
 }
 
 /// What changes in a row.
-fn push_changes(text: &mut String, chart: &Chart, row: usize) -> Result<(), AllocError> {
+fn push_changes(ink: &mut Ink, chart: &Chart, row: usize) {
     for change in &chart.changes {
         if change.row == row {
-            push_change(text, chart, *change)?;
+            push_change(ink, chart, *change);
         }
     }
-    Ok(())
 }
 
-fn push_turn(text: &mut String, chart: &Chart, row: usize, turn: &Turn) -> Result<(), AllocError> {
-    push_sent(text, chart, row)?;
+fn push_turn(ink: &mut Ink, chart: &Chart, row: usize, turn: &Turn) {
+    push_sent(ink, chart, row);
     if let Some(mark) = &turn.mark {
-        push_note(text, row, turn.at, mark)?;
+        push_note(ink, row, turn.at, mark);
     }
-    push_changes(text, chart, row)
+    push_changes(ink, chart, row)
 }
 
-fn push_turns(text: &mut String, chart: &Chart) -> Result<(), AllocError> {
+fn push_turns(ink: &mut Ink, chart: &Chart) {
     for (row, turn) in chart.turns.iter().enumerate() {
-        push_turn(text, chart, row, turn)?;
+        push_turn(ink, chart, row, turn);
     }
-    Ok(())
 }
 
 /// The lines of the blocks that a bank's home holds.
-fn push_blocks(text: &mut String, closing: &BankClosing) -> Result<(), AllocError> {
+fn push_blocks(ink: &mut Ink, closing: &BankClosing) {
     for block in &closing.blocks {
-        push_block_line(text, block)?;
-        text.push_str("<br/>")?;
+        push_block_line(ink, block);
+        ink.put("<br/>");
     }
-    Ok(())
 }
 
 /// The closing lines of each bank, at its home.
-fn push_closings(text: &mut String, banks: &[BankClosing]) -> Result<(), AllocError> {
+fn push_closings(ink: &mut Ink, banks: &[BankClosing]) {
     for (bank, closing) in banks.iter().enumerate() {
-        write!(text, "    Note over H{bank}: ")?;
-        push_blocks(text, closing)?;
-        push_bank_line(text, bank, closing)?;
-        text.push_str("\n")?;
+        let _ = write!(ink, "    Note over H{bank}: ");
+        push_blocks(ink, closing);
+        push_bank_line(ink, bank, closing);
+        ink.put("\n");
     }
-    Ok(())
+}
+
+/// The lines of a text, at the first home.
+fn push_text(ink: &mut Ink, lines: &str) {
+    ink.put("    Note over H0: ");
+    for line in lines.lines() {
+        ink.put(line);
+        ink.put("<br/>");
+    }
+    ink.put("\n")
 }
 
 /// The whole diagram.
-pub(crate) fn push_picture(text: &mut String, sheet: Sheet<'_>) -> Result<(), AllocError> {
-    text.push_str("---\ntitle: \"")?;
-    push_title(text, sheet.title)?;
-    text.push_str("\"\n---\nsequenceDiagram\n")?;
-    push_participants(text, sheet.chart)?;
-    push_turns(text, sheet.chart)?;
-    push_closings(text, sheet.banks)
+pub(crate) fn push_picture(ink: &mut Ink, sheet: Sheet<'_>) {
+    ink.put("---\ntitle: \"");
+    push_title(ink, sheet.title);
+    ink.put("\"\n---\nsequenceDiagram\n");
+    push_participants(ink, sheet.chart);
+    push_turns(ink, sheet.chart);
+    match sheet.foot {
+        Foot::Banks(banks) => push_closings(ink, banks),
+        Foot::Text(lines) => push_text(ink, lines),
+    }
 }

@@ -1,5 +1,6 @@
 //! What is written, and in which form.
 
+use crate::ink::Ink;
 use crate::{mermaid, svg};
 use std::alloc::{AllocError, Global};
 use tl_script_words::Step;
@@ -15,21 +16,46 @@ pub enum Form {
     Mermaid,
 }
 
-/// A chart with what is written beside it: a title, the steps, and what the banks hold at the end.
+/// A line of a record, with its number.
+#[derive(Debug, Drop)]
+pub struct Line {
+    pub number: u64,
+    pub text: String,
+}
+
+/// What stands at the left of the rows.
+#[derive(Clone, Copy, Debug)]
+pub enum Rows<'a> {
+    /// The steps of a script, with their indexes.
+    Steps(&'a [Step]),
+    /// Lines of a record, with their numbers.
+    Lines(&'a [Line]),
+}
+
+/// What stands at the foot.
+#[derive(Clone, Copy, Debug)]
+pub enum Foot<'a> {
+    /// What the banks hold at the end.
+    Banks(&'a [BankClosing]),
+    /// These lines, of letters that have no meaning in SVG.
+    Text(&'a str),
+}
+
+/// A chart with what is written beside it: a title, the words of each row, and a foot.
 #[derive(Clone, Copy, Debug)]
 pub struct Sheet<'a> {
     pub title: &'a str,
-    pub steps: &'a [Step],
+    pub rows: Rows<'a>,
     pub chart: &'a Chart,
-    pub banks: &'a [BankClosing],
+    pub foot: Foot<'a>,
 }
 
 /// The chart as text. An error is a request for memory that was refused.
 pub fn picture_of(alloc: Global, sheet: Sheet<'_>, form: Form) -> Result<String, AllocError> {
-    let mut text = String::new(alloc);
+    let mut ink = Ink::new(alloc);
     match form {
-        Form::Svg => svg::push_picture(&mut text, sheet)?,
-        Form::Mermaid => mermaid::push_picture(&mut text, sheet)?,
+        Form::Svg => svg::push_picture(&mut ink, sheet),
+        Form::Mermaid => mermaid::push_picture(&mut ink, sheet),
     }
-    Ok(text)
+    ink.text()
 }

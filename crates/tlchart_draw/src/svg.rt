@@ -1,11 +1,11 @@
 //! A chart as an SVG document.
 
+use crate::ink::Ink;
 use crate::labels::{
     push_bank_line, push_block_line, push_lifeline, push_mark, push_message, push_step, push_title,
 };
 use crate::layout::{BESIDE, REACH, ROW, until, width, x, y, y_sent, y_taken};
-use crate::sheet::Sheet;
-use std::alloc::AllocError;
+use crate::sheet::{Foot, Line, Rows, Sheet};
 use std::fmt::Write;
 use tl_script_words::Step;
 use tl_text::BankClosing;
@@ -34,19 +34,19 @@ text { font: 11px ui-monospace, SFMono-Regular, Menlo, Consolas, 'DejaVu Sans Mo
 ";
 
 /// The heads of arrows, one for each channel.
-fn push_heads(text: &mut String) -> Result<(), AllocError> {
-    text.push_str("<defs>\n")?;
+fn push_heads(ink: &mut Ink) {
+    ink.put("<defs>\n");
     for channel in Channel::ALL {
-        write!(
-            text,
+        let _ = write!(
+            ink,
             "<marker id=\"head{channel}\" viewBox=\"0 0 8 8\" refX=\"8\" refY=\"4\" markerWidth=\"7\" markerHeight=\"7\" orient=\"auto\"><path class=\"f{channel}\" d=\"M0 0L8 4L0 8z\"/></marker>\n"
-        )?;
+        );
     }
-    text.push_str("</defs>\n")
+    ink.put("</defs>\n")
 }
 
-/// How many lines stand at the foot.
-fn foot_lines(banks: &[BankClosing]) -> usize {
+/// How many lines the banks have at the foot.
+fn bank_lines(banks: &[BankClosing]) -> usize {
     let mut lines = banks.len();
     for closing in banks {
         lines = lines.saturating_add(closing.blocks.len());
@@ -54,121 +54,135 @@ fn foot_lines(banks: &[BankClosing]) -> usize {
     lines
 }
 
+/// How many lines stand at the foot.
+fn foot_lines(foot: Foot<'_>) -> usize {
+    match foot {
+        Foot::Banks(banks) => bank_lines(banks),
+        Foot::Text(text) => text.lines().count(),
+    }
+}
+
 /// The opening tag, the title, and the background.
-fn push_opening(text: &mut String, sheet: Sheet<'_>) -> Result<(), AllocError> {
+fn push_opening(ink: &mut Ink, sheet: Sheet<'_>) {
     let width = width(sheet.chart);
-    let foot = foot_lines(sheet.banks)
-        .saturating_mul(16)
-        .saturating_add(46);
+    let foot = foot_lines(sheet.foot).saturating_mul(16).saturating_add(46);
     let height = y(sheet.chart.turns.len()).saturating_add(foot);
-    write!(
-        text,
+    let _ = write!(
+        ink,
         "<svg xmlns=\"http://www.w3.org/2000/svg\" width=\"{width}\" height=\"{height}\" viewBox=\"0 0 {width} {height}\">\n<title>"
-    )?;
-    push_title(text, sheet.title)?;
-    text.push_str("</title>\n")?;
-    text.push_str(STYLE)?;
-    push_heads(text)?;
-    text.push_str(
+    );
+    push_title(ink, sheet.title);
+    ink.put("</title>\n");
+    ink.put(STYLE);
+    push_heads(ink);
+    ink.put(
         "<rect class=\"paper\" width=\"100%\" height=\"100%\"/>\n<text class=\"title\" x=\"16\" y=\"30\">",
-    )?;
-    push_title(text, sheet.title)?;
-    text.push_str("</text>\n")
+    );
+    push_title(ink, sheet.title);
+    ink.put("</text>\n")
 }
 
 /// What the bands and marks mean.
-fn push_legend(text: &mut String, chart: &Chart) -> Result<(), AllocError> {
-    write!(
-        text,
+fn push_legend(ink: &mut Ink, chart: &Chart) {
+    let _ = write!(
+        ink,
         "<rect class=\"Branch\" x=\"16\" y=\"46\" width=\"10\" height=\"16\"/><text x=\"32\" y=\"58\">Branch</text><rect class=\"Tip\" x=\"88\" y=\"46\" width=\"10\" height=\"16\"/><text x=\"104\" y=\"58\">Tip of block {}</text>\n",
         chart.block
-    )?;
-    text.push_str(
+    );
+    ink.put(
         "<circle class=\"mark\" cx=\"21\" cy=\"78\" r=\"4\"/><text x=\"32\" y=\"82\">store</text><circle class=\"hollow\" cx=\"93\" cy=\"78\" r=\"4\"/><text x=\"104\" y=\"82\">load</text><path class=\"cross\" d=\"M152 74l8 8m0 -8l-8 8\"/><text x=\"168\" y=\"82\">refused</text>\n",
-    )?;
-    text.push_str(
+    );
+    ink.put(
         "<path class=\"arrow open lE\" d=\"M16 98h36\"/><text x=\"60\" y=\"102\">never taken; b: block</text>\n",
     )
 }
 
 /// The name of a lifeline, centered at a point.
-fn push_name(text: &mut String, lifeline: Lifeline, x: usize, y: usize) -> Result<(), AllocError> {
-    write!(text, "<text class=\"head\" x=\"{x}\" y=\"{y}\">")?;
-    push_lifeline(text, lifeline)?;
-    text.push_str("</text>\n")
+fn push_name(ink: &mut Ink, lifeline: Lifeline, x: usize, y: usize) {
+    let _ = write!(ink, "<text class=\"head\" x=\"{x}\" y=\"{y}\">");
+    push_lifeline(ink, lifeline);
+    ink.put("</text>\n")
 }
 
 /// A lifeline, with its name at both ends.
-fn push_lifeline_of(
-    text: &mut String,
-    chart: &Chart,
-    lifeline: &Lifeline,
-) -> Result<(), AllocError> {
+fn push_lifeline_of(ink: &mut Ink, chart: &Chart, lifeline: &Lifeline) {
     let x = x(chart, *lifeline);
     let end = y(chart.turns.len());
-    write!(text, "<path class=\"life\" d=\"M{x} 112V{end}\"/>")?;
-    push_name(text, *lifeline, x, 104)?;
-    push_name(text, *lifeline, x, end.saturating_add(16))
+    let _ = write!(ink, "<path class=\"life\" d=\"M{x} 112V{end}\"/>");
+    push_name(ink, *lifeline, x, 104);
+    push_name(ink, *lifeline, x, end.saturating_add(16))
 }
 
 /// The lifeline of each client, each bank's home, and the memory.
-fn push_lifelines(text: &mut String, chart: &Chart) -> Result<(), AllocError> {
+fn push_lifelines(ink: &mut Ink, chart: &Chart) {
     for client in 0..chart.clients {
-        push_lifeline_of(text, chart, &Lifeline::Client(ClientId::new(client)))?;
+        push_lifeline_of(ink, chart, &Lifeline::Client(ClientId::new(client)));
     }
     for bank in 0..chart.banks {
-        push_lifeline_of(text, chart, &Lifeline::Home(BankNo::new(bank)))?;
+        push_lifeline_of(ink, chart, &Lifeline::Home(BankNo::new(bank)));
     }
-    push_lifeline_of(text, chart, &Lifeline::Memory)
+    push_lifeline_of(ink, chart, &Lifeline::Memory)
 }
 
-/// A row's stripe, its number and its step.
-fn push_row(text: &mut String, chart: &Chart, row: usize, step: &Step) -> Result<(), AllocError> {
+/// A row's stripe and its number, and the place of its words.
+fn push_row(ink: &mut Ink, chart: &Chart, row: usize, number: u64) {
     let top = y(row).saturating_sub(ROW / 2);
     if row % 2 == 0 {
         let width = width(chart);
-        write!(
-            text,
+        let _ = write!(
+            ink,
             "<rect class=\"stripe\" y=\"{top}\" width=\"{width}\" height=\"{ROW}\"/>"
-        )?;
+        );
     }
     let base = y(row).saturating_add(4);
-    write!(
-        text,
-        "<text class=\"quiet end\" x=\"38\" y=\"{base}\">{row}</text><text x=\"48\" y=\"{base}\">"
-    )?;
-    push_step(text, step)?;
-    text.push_str("</text>\n")
+    let _ = write!(
+        ink,
+        "<text class=\"quiet end\" x=\"38\" y=\"{base}\">{number}</text><text x=\"48\" y=\"{base}\">"
+    );
 }
 
-fn push_rows(text: &mut String, sheet: Sheet<'_>) -> Result<(), AllocError> {
-    for (row, step) in sheet.steps.iter().enumerate() {
-        push_row(text, sheet.chart, row, step)?;
+fn push_steps(ink: &mut Ink, chart: &Chart, steps: &[Step]) {
+    for (row, step) in steps.iter().enumerate() {
+        push_row(ink, chart, row, row as u64);
+        push_step(ink, step);
+        ink.put("</text>\n");
     }
-    Ok(())
+}
+
+fn push_numbered(ink: &mut Ink, chart: &Chart, lines: &[Line]) {
+    for (row, line) in lines.iter().enumerate() {
+        push_row(ink, chart, row, line.number);
+        ink.put(&line.text);
+        ink.put("</text>\n");
+    }
+}
+
+fn push_rows(ink: &mut Ink, sheet: Sheet<'_>) {
+    match sheet.rows {
+        Rows::Steps(steps) => push_steps(ink, sheet.chart, steps),
+        Rows::Lines(lines) => push_numbered(ink, sheet.chart, lines),
+    }
 }
 
 /// A band from a change to the client's next.
-fn push_band(text: &mut String, chart: &Chart, change: Change) -> Result<(), AllocError> {
+fn push_band(ink: &mut Ink, chart: &Chart, change: Change) {
     if change.perm == Perm::None {
-        return Ok(());
+        return;
     }
     let left = x(chart, change.client).saturating_sub(5);
     let top = y(change.row);
     let height = y(until(chart, change)).saturating_sub(top);
-    write!(
-        text,
+    let _ = write!(
+        ink,
         "<rect class=\"{:?}\" x=\"{left}\" y=\"{top}\" width=\"10\" height=\"{height}\"/>\n",
         change.perm
-    )?;
-    Ok(())
+    );
 }
 
-fn push_bands(text: &mut String, chart: &Chart) -> Result<(), AllocError> {
+fn push_bands(ink: &mut Ink, chart: &Chart) {
     for change in &chart.changes {
-        push_band(text, chart, *change)?;
+        push_band(ink, chart, *change);
     }
-    Ok(())
 }
 
 /// Where an arrow leaves one lifeline and reaches another.
@@ -181,199 +195,196 @@ fn ends(from: usize, to: usize) -> (usize, usize) {
 }
 
 /// The line of a message that nobody took: dashed, with a ring before its receiver.
-fn push_open(
-    text: &mut String,
-    channel: Channel,
-    from: usize,
-    to: usize,
-    start: usize,
-) -> Result<(), AllocError> {
+fn push_open(ink: &mut Ink, channel: Channel, from: usize, to: usize, start: usize) {
     let (_, before) = ends(from, ends(from, to).1);
     let end = start.saturating_add(ROW / 2);
-    write!(
-        text,
+    let _ = write!(
+        ink,
         "<path class=\"arrow open l{channel}\" d=\"M{from} {start}L{before} {end}\"/><circle class=\"arrow l{channel}\" cx=\"{before}\" cy=\"{end}\" r=\"3\"/>\n"
-    )?;
-    Ok(())
+    );
 }
 
 /// The line of a message.
-fn push_line(text: &mut String, chart: &Chart, arrow: &Arrow) -> Result<(), AllocError> {
+fn push_line(ink: &mut Ink, chart: &Chart, arrow: &Arrow) {
     let channel = arrow.message.kind.channel();
     let (from, to) = ends(x(chart, arrow.message.from), x(chart, arrow.message.to));
     let start = y_sent(arrow.sent);
     match arrow.taken {
         Some(row) => {
             let end = y_taken(row);
-            write!(
-                text,
+            let _ = write!(
+                ink,
                 "<path class=\"arrow l{channel}\" d=\"M{from} {start}L{to} {end}\" marker-end=\"url(#head{channel})\"/>\n"
-            )?;
+            );
         }
-        None => push_open(text, channel, from, to, start)?,
+        None => push_open(ink, channel, from, to, start),
     }
-    Ok(())
 }
 
-fn push_lines(text: &mut String, chart: &Chart) -> Result<(), AllocError> {
+fn push_lines(ink: &mut Ink, chart: &Chart) {
     for arrow in &chart.arrows {
-        push_line(text, chart, arrow)?;
+        push_line(ink, chart, arrow);
     }
-    Ok(())
 }
 
 /// The words of a message, beside its sender.
-fn push_label(text: &mut String, chart: &Chart, arrow: &Arrow) -> Result<(), AllocError> {
+fn push_label(ink: &mut Ink, chart: &Chart, arrow: &Arrow) {
     let channel = arrow.message.kind.channel();
     let from = x(chart, arrow.message.from);
     let base = y(arrow.sent).saturating_add(4);
     if from < x(chart, arrow.message.to) {
         let left = from.saturating_add(BESIDE);
-        write!(
-            text,
+        let _ = write!(
+            ink,
             "<text class=\"halo f{channel}\" x=\"{left}\" y=\"{base}\">"
-        )?;
+        );
     } else {
         let right = from.saturating_sub(BESIDE);
-        write!(
-            text,
+        let _ = write!(
+            ink,
             "<text class=\"halo end f{channel}\" x=\"{right}\" y=\"{base}\">"
-        )?;
+        );
     }
-    push_message(text, &arrow.message)?;
-    text.push_str("</text>\n")
+    push_message(ink, &arrow.message);
+    ink.put("</text>\n")
 }
 
-fn push_labels(text: &mut String, chart: &Chart) -> Result<(), AllocError> {
+fn push_labels(ink: &mut Ink, chart: &Chart) {
     for arrow in &chart.arrows {
-        push_label(text, chart, arrow)?;
+        push_label(ink, chart, arrow);
     }
-    Ok(())
 }
 
 /// The shape of a mark in the middle of its row.
-fn push_shape(text: &mut String, mark: &Mark, x: usize, y: usize) -> Result<(), AllocError> {
+fn push_shape(ink: &mut Ink, mark: &Mark, x: usize, y: usize) {
     match mark {
-        Mark::Loaded(_) => write!(
-            text,
-            "<circle class=\"hollow\" cx=\"{x}\" cy=\"{y}\" r=\"4\"/>"
-        )?,
-        Mark::Stored(_) => write!(
-            text,
-            "<circle class=\"mark\" cx=\"{x}\" cy=\"{y}\" r=\"4\"/>"
-        )?,
-        Mark::Dropped | Mark::Evicting(_) => write!(
-            text,
-            "<path class=\"mark\" d=\"M{x} {y}m-4 -4h8v8h-8z\"/>"
-        )?,
-        Mark::Refused(_) => write!(
-            text,
-            "<path class=\"cross\" d=\"M{x} {y}m-4 -4l8 8m0 -8l-8 8\"/>"
-        )?,
+        Mark::Loaded(_) => {
+            let _ = write!(
+                ink,
+                "<circle class=\"hollow\" cx=\"{x}\" cy=\"{y}\" r=\"4\"/>"
+            );
+        }
+        Mark::Stored(_) => {
+            let _ = write!(
+                ink,
+                "<circle class=\"mark\" cx=\"{x}\" cy=\"{y}\" r=\"4\"/>"
+            );
+        }
+        Mark::Dropped | Mark::Evicting(_) => {
+            let _ = write!(ink, "<path class=\"mark\" d=\"M{x} {y}m-4 -4h8v8h-8z\"/>");
+        }
+        Mark::Refused(_) | Mark::Unlawful => {
+            let _ = write!(
+                ink,
+                "<path class=\"cross\" d=\"M{x} {y}m-4 -4l8 8m0 -8l-8 8\"/>"
+            );
+        }
     }
-    Ok(())
 }
 
 /// The colour of a mark's words.
 fn class_of(mark: &Mark) -> &'static str {
     match mark {
-        Mark::Refused(_) => "halo bad",
+        Mark::Refused(_) | Mark::Unlawful => "halo bad",
         _ => "halo",
     }
 }
 
 /// A mark with its words: to its right, or for the memory, which is the last, to its left.
-fn push_mark_of(
-    text: &mut String,
-    chart: &Chart,
-    row: usize,
-    at: Lifeline,
-    mark: &Mark,
-) -> Result<(), AllocError> {
+fn push_mark_of(ink: &mut Ink, chart: &Chart, row: usize, at: Lifeline, mark: &Mark) {
     let (x, y) = (x(chart, at), y(row));
-    push_shape(text, mark, x, y)?;
+    push_shape(ink, mark, x, y);
     let base = y.saturating_add(4);
     let class = class_of(mark);
     if at == Lifeline::Memory {
         let right = x.saturating_sub(BESIDE);
-        write!(
-            text,
+        let _ = write!(
+            ink,
             "<text class=\"{class} end\" x=\"{right}\" y=\"{base}\">"
-        )?;
+        );
     } else {
         let left = x.saturating_add(BESIDE);
-        write!(text, "<text class=\"{class}\" x=\"{left}\" y=\"{base}\">")?;
+        let _ = write!(ink, "<text class=\"{class}\" x=\"{left}\" y=\"{base}\">");
     }
-    push_mark(text, mark)?;
-    text.push_str("</text>\n")
+    push_mark(ink, mark);
+    ink.put("</text>\n")
 }
 
 /// The mark of each step; a dot where it has none.
-fn push_marks(text: &mut String, chart: &Chart) -> Result<(), AllocError> {
+fn push_marks(ink: &mut Ink, chart: &Chart) {
     for (row, turn) in chart.turns.iter().enumerate() {
         match &turn.mark {
-            Some(mark) => push_mark_of(text, chart, row, turn.at, mark)?,
+            Some(mark) => push_mark_of(ink, chart, row, turn.at, mark),
             None => {
                 let (x, y) = (x(chart, turn.at), y(row));
-                write!(
-                    text,
+                let _ = write!(
+                    ink,
                     "<circle class=\"dot\" cx=\"{x}\" cy=\"{y}\" r=\"2\"/>\n"
-                )?;
+                );
             }
         }
     }
-    Ok(())
 }
 
 /// The beginning of a line at the foot.
-fn push_foot(text: &mut String, chart: &Chart, line: usize) -> Result<(), AllocError> {
+fn push_foot(ink: &mut Ink, chart: &Chart, line: usize) {
     let base = y(chart.turns.len())
         .saturating_add(line.saturating_mul(16))
         .saturating_add(44);
-    write!(text, "<text x=\"16\" y=\"{base}\">")?;
-    Ok(())
+    let _ = write!(ink, "<text x=\"16\" y=\"{base}\">");
 }
 
 /// The lines of the blocks that a bank's home holds, from a line of the foot on; the line after them.
-fn push_blocks(
-    text: &mut String,
-    chart: &Chart,
-    first: usize,
-    closing: &BankClosing,
-) -> Result<usize, AllocError> {
+fn push_blocks(ink: &mut Ink, chart: &Chart, first: usize, closing: &BankClosing) -> usize {
     let mut line = first;
     for block in &closing.blocks {
-        push_foot(text, chart, line)?;
-        push_block_line(text, block)?;
-        text.push_str("</text>\n")?;
+        push_foot(ink, chart, line);
+        push_block_line(ink, block);
+        ink.put("</text>\n");
         line = line.saturating_add(1);
     }
-    Ok(line)
+    line
 }
 
 /// The closing lines of each bank.
-fn push_closings(text: &mut String, sheet: Sheet<'_>) -> Result<(), AllocError> {
+fn push_closings(ink: &mut Ink, chart: &Chart, banks: &[BankClosing]) {
     let mut line = 0;
-    for (bank, closing) in sheet.banks.iter().enumerate() {
-        line = push_blocks(text, sheet.chart, line, closing)?;
-        push_foot(text, sheet.chart, line)?;
-        push_bank_line(text, bank, closing)?;
-        text.push_str("</text>\n")?;
+    for (bank, closing) in banks.iter().enumerate() {
+        line = push_blocks(ink, chart, line, closing);
+        push_foot(ink, chart, line);
+        push_bank_line(ink, bank, closing);
+        ink.put("</text>\n");
         line = line.saturating_add(1);
     }
-    Ok(())
+}
+
+/// Each line of a text.
+fn push_text(ink: &mut Ink, chart: &Chart, lines: &str) {
+    for (number, line) in lines.lines().enumerate() {
+        push_foot(ink, chart, number);
+        ink.put(line);
+        ink.put("</text>\n");
+    }
+}
+
+/// What stands at the foot.
+fn push_feet(ink: &mut Ink, sheet: Sheet<'_>) {
+    match sheet.foot {
+        Foot::Banks(banks) => push_closings(ink, sheet.chart, banks),
+        Foot::Text(lines) => push_text(ink, sheet.chart, lines),
+    }
 }
 
 /// The whole document: what lies below is written first.
-pub(crate) fn push_picture(text: &mut String, sheet: Sheet<'_>) -> Result<(), AllocError> {
-    push_opening(text, sheet)?;
-    push_rows(text, sheet)?;
-    push_legend(text, sheet.chart)?;
-    push_lifelines(text, sheet.chart)?;
-    push_bands(text, sheet.chart)?;
-    push_lines(text, sheet.chart)?;
-    push_marks(text, sheet.chart)?;
-    push_labels(text, sheet.chart)?;
-    push_closings(text, sheet)?;
-    text.push_str("</svg>\n")
+pub(crate) fn push_picture(ink: &mut Ink, sheet: Sheet<'_>) {
+    push_opening(ink, sheet);
+    push_rows(ink, sheet);
+    push_legend(ink, sheet.chart);
+    push_lifelines(ink, sheet.chart);
+    push_bands(ink, sheet.chart);
+    push_lines(ink, sheet.chart);
+    push_marks(ink, sheet.chart);
+    push_labels(ink, sheet.chart);
+    push_feet(ink, sheet);
+    ink.put("</svg>\n")
 }

@@ -1,11 +1,20 @@
 "use strict";
 (() => {
-// The data: what each cell shows at the start, and which cells show another text after each step.
-const data = JSON.parse(document.getElementById("data").textContent);
+// The data: what each cell shows at the start, and which cells show another text after each step. A record's has a verdict, and the lines
+// of each block's state in place of cells.
+const given = JSON.parse(document.getElementById("data").textContent);
+const isRecord = given.verdict !== undefined;
+const CHANNELS = ["A", "B", "C", "D", "E"];
+const data = isRecord ? { ...given, ...cellsOf(given) } : given;
 const g = data.geometry;
 const last = data.rows.length - 1;
 const PAGE = 200;
-const FULL = 64;
+const FULL = isRecord ? Infinity : 64;
+
+// A row's number: its step, or in a record its line.
+const WORD = isRecord ? "line" : "step";
+const numberOf = (index) => (isRecord ? (data.rows[index] || [])[4] || 0 : index);
+const indexOf = (number) => (isRecord ? data.rows.findLastIndex((row) => row[4] <= number) : number);
 
 // ---- Small tools
 
@@ -24,20 +33,113 @@ const svg = (tag, attributes, ...children) => make("svg:" + tag, attributes, ...
 const hex = (number) => "0x" + number.toString(16).padStart(8, "0");
 const split = (text, mark) => text.split(mark).filter((part) => part !== "");
 
+// ---- A record's states as cells
+
+// The lines of a block's state (docs/RECORD.md, State), in the words of cells.
+function partsOf(lines) {
+  const parts = { home: "- -", serves: "-", memory: "", clients: new Map() };
+  for (const line of lines.split("\n")) {
+    const home = /^home: (no copy|clean|dirty) ?(\w*)(?:, serves client (\d+ \w+))?(?:, (?:to|from) the memory (\w+) ?(\w*))?$/.exec(line);
+    if (home) {
+      const passes = { Get: "G", AccessAckData: "A", PutFullData: "P", AccessAck: "K" }[home[4]] || "-";
+      parts.home = `${{ clean: "C", dirty: "D" }[home[1]] || "-"}${home[2]} ${passes}${home[5] || ""}`;
+      parts.serves = home[3] || "-";
+    }
+    if (line.startsWith("memory: ")) parts.memory = line.slice(8);
+    const known = /^client (\d+): (.*)$/.exec(line);
+    if (known) parts.clients.set(Number(known[1]), clientPart(known[2].split(", ")));
+  }
+  return parts;
+}
+function clientPart([copy, ...rest]) {
+  const words = copy.split(" ");
+  const letter = words[1] === "dirty" ? "D" : words[0][0];
+  const bytes = words[0] === "None" ? "" : words[words.length - 1];
+  const has = (start) => rest.find((one) => one.startsWith(start));
+  const wait = has("waits for a Grant") ? "G" : has("waits for a ReleaseAck") ? "R" : "-";
+  const lanes = { A: [], B: [], C: [], D: [], E: [] };
+  for (const one of rest.filter((words) => words.startsWith("on "))) {
+    const message = one.slice(5).split(" ");
+    const data = /Data$/.test(message[0]) ? message.pop() : "";
+    lanes[one[3]].push({ kind: message.join(" "), bytes: data });
+  }
+  return { text: `${letter}${bytes} ${wait} ${has("recorded ")[9]}`, lanes };
+}
+
+// The cells of a record, at the start and as each entry changes them. The messages of a channel stand in the order in which they were sent.
+function cellsOf({ geometry, blocks, start, changes, rows }) {
+  const cells = [];
+  const texts = [];
+  const places = new Map();
+  const lanes = new Map();
+  const add = (name, text) => {
+    places.set(name, cells.length);
+    cells.push(name);
+    texts.push(text);
+  };
+  for (const block of blocks) {
+    for (const [kind, text] of [["home", "- -"], ["memory", ""], ["serves", "-"]]) add(`0 ${kind} ${block}`, text);
+    for (let who = 0; who < geometry.clients; who++) add(`0 client ${who} ${block}`, "N - N");
+  }
+  for (let who = 0; who < geometry.clients; who++) {
+    for (const channel of CHANNELS) {
+      add(`0 channel ${who} ${channel}`, "");
+      lanes.set(`0 channel ${who} ${channel}`, { sent: 0, waiting: [] });
+    }
+  }
+  // What a block's messages of a channel are now: some at the front are taken, some at the end are new.
+  const flow = (name, block, now) => {
+    const lane = lanes.get(name);
+    const before = lane.waiting.filter((one) => one.block === block);
+    const taken = now.length < before.length ? before[0] : undefined;
+    lane.waiting = lane.waiting.filter((one) => one !== taken);
+    for (const one of now.slice(before.length)) lane.waiting.push({ serial: lane.sent++, block, ...one });
+    return lane.waiting.map((one) => `${one.serial},${one.block},${one.kind},${one.bytes};`).join("");
+  };
+  const put = (found, block, lines) => {
+    const parts = partsOf(lines);
+    const set = (name, text) => {
+      const place = places.get(name);
+      if (texts[place] === text) return;
+      texts[place] = text;
+      found.push(place, text);
+    };
+    for (const kind of ["home", "memory", "serves"]) set(`0 ${kind} ${block}`, parts[kind]);
+    for (let who = 0; who < geometry.clients; who++) {
+      const part = parts.clients.get(who) || { text: "N - N" };
+      set(`0 client ${who} ${block}`, part.text);
+      for (const channel of CHANNELS) {
+        const name = `0 channel ${who} ${channel}`;
+        set(name, flow(name, block, part.lanes ? part.lanes[channel] : []));
+      }
+    }
+    return found;
+  };
+  start.forEach((lines, place) => put([], blocks[place], lines));
+  const first = texts.slice();
+  const all = changes.map((of) => {
+    const found = [];
+    for (let i = 0; i < of.length; i += 2) put(found, blocks[of[i]], of[i + 1]);
+    return found;
+  });
+  // The entry that is not permitted changes nothing.
+  while (all.length < rows.length) all.push([]);
+  return { cells, start: first, changes: all };
+}
+
 // ---- What the cells show
 
 const blocks = new Map();
 const channels = new Map();
 const sets = [];
 const registers = [];
-const CHANNELS = ["A", "B", "C", "D", "E"];
 data.cells.forEach((name, place) => {
   const [bank, kind, one, two] = name.split(" ");
   const number = Number(kind === "client" ? two : one);
-  if (["home", "memory", "client"].includes(kind) && !blocks.has(number)) {
+  if (["home", "memory", "serves", "client"].includes(kind) && !blocks.has(number)) {
     blocks.set(number, { block: number, bank: Number(bank), clients: [] });
   }
-  if (kind === "home" || kind === "memory") blocks.get(number)[kind] = place;
+  if (["home", "memory", "serves"].includes(kind)) blocks.get(number)[kind] = place;
   if (kind === "client") blocks.get(number).clients[Number(one)] = place;
   if (kind === "channel") channels.set(bank + "." + one + "." + two, place);
   if (kind === "set") sets.push({ bank: Number(bank), set: number, place });
@@ -108,8 +210,13 @@ data.rows.forEach((row, index) => {
 const TICKETS = ["answer_probe", "take_grant", "take_release_ack", "accept", "take_c", "take_grant_ack"];
 
 // What a step is about: its block, its client.
+const OF_BLOCK = ["get", "serve", "take_data", "drop", "put", "take_put_ack"];
 function about(index) {
   const words = data.rows[index][0].split(" ");
+  if (isRecord && OF_BLOCK.includes(words[0])) return { verb: words[0], words, block: Number(words[1]) };
+  if (isRecord && !["load", "store"].includes(words[0])) {
+    return { verb: words[0], words, client: Number(words[1]), bank: 0, block: Number(words[2]) };
+  }
   if (words[0] === "load" || words[0] === "store") {
     return { verb: words[0], words, client: Number(words[1]), block: Math.floor(Number(words[2]) / g.blockBytes) };
   }
@@ -126,19 +233,42 @@ function about(index) {
   return { verb: words[0], words, client: to ? Number(to[1]) : undefined, block: Number(words[1]) };
 }
 
+function entrySentence(it) {
+  switch (it.verb) {
+    case "load": return `Client ${it.client} reads ${it.words[3]} from its copy of block ${it.block}.`;
+    case "answer_probe": return `Client ${it.client} answers home's Probe of block ${it.block}.`;
+    case "take_grant": return `Client ${it.client} takes its Grant of block ${it.block}, and sends a GrantAck.`;
+    case "take_release_ack": return `Client ${it.client} takes the answer to its Release of block ${it.block}.`;
+    case "accept": return `Home takes client ${it.client}'s Acquire of block ${it.block}, which it serves from here on.`;
+    case "probe": return `Home asks client ${it.client} to give block ${it.block} up (ProbeBlock ${it.words[3]}).`;
+    case "take_c": return `Home takes client ${it.client}'s first message of channel C about block ${it.block}.`;
+    case "grant": return `Home sends client ${it.client} the Grant of block ${it.block}.`;
+    case "take_grant_ack": return `Home takes client ${it.client}'s GrantAck of block ${it.block}: the Acquire is served.`;
+    case "get": return `Home asks the memory for block ${it.block} (Get).`;
+    case "serve": return `The memory answers what home asked about block ${it.block}.`;
+    case "take_data": return `Home takes the memory's data of block ${it.block}.`;
+    case "drop": return `Home gives up its clean copy of block ${it.block}.`;
+    case "put": return `Home writes its dirty copy of block ${it.block} back to the memory (PutFullData).`;
+    case "take_put_ack": return `Home takes the memory's acknowledgement for block ${it.block}.`;
+    default: return undefined;
+  }
+}
 function sentence(index) {
   const it = about(index);
+  const told = isRecord ? entrySentence(it) : undefined;
+  if (told) return told;
   const what = it.arrow ? it.arrow[6] + " of block " + it.block : "a message";
   switch (it.verb) {
     case "load": return `Client ${it.client} reads ${it.words[3]} byte(s) of its copy of block ${it.block}.`;
     case "store": return `Client ${it.client} writes ${it.words[3]} into its copy of block ${it.block}.`;
-    case "acquire": return `Client ${it.client} asks home for block ${it.block} (AcquireBlock ${it.words[3]}).`;
-    case "release": return `Client ${it.client} gives block ${it.block} up (Release ${it.words[3]}).`;
-    case "answer_probe": return `Client ${it.client} answers home's Probe (${what}).`;
-    case "take_grant": return `Client ${it.client} takes its Grant (${what}).`;
-    case "take_release_ack": return `Client ${it.client} takes the answer to its Release (${what}).`;
-    case "accept": return `Home accepts what client ${it.client} asks for (${what}): a miss register opens.`;
-    case "take_c": return `Home takes what client ${it.client} sent on channel C (${what}).`;
+    case "acquire": return `Client ${it.client} asks home for a copy of block ${it.block} that it may ${it.words[3] === "NtoB" ? "read" : "write"} `
+      + `(AcquireBlock ${it.words[3]}).`;
+    case "release": return `Client ${it.client} gives its copy of block ${it.block} up, unasked (Release ${it.words[3]}).`;
+    case "answer_probe": return `Home has asked client ${it.client} to give its copy up (${what}); the client answers.`;
+    case "take_grant": return `Client ${it.client} takes the copy that home sent (${what}), and acknowledges it.`;
+    case "take_release_ack": return `Client ${it.client} takes home's answer to its Release (${what}).`;
+    case "accept": return `Home begins to serve what client ${it.client} asked for (${what}): a miss register opens.`;
+    case "take_c": return `Home takes what client ${it.client} gave back on channel C (${what}).`;
     case "take_grant_ack": return `Home takes client ${it.client}'s GrantAck: the miss register closes.`;
     case "advance": return `The miss register of block ${it.block} does what is next.`;
     case "evict": return `Home begins to send block ${it.block} away.`;
@@ -200,6 +330,32 @@ function hereWhy(index, name) {
   return "";
 }
 
+// What an entry of a record breaks, as the verdict has it, and why, as far as the state tells.
+function breach() {
+  const found = /^not lawful: line \d+, entry \d+: (.*) \((.*)\), (docs.*)$/.exec(data.verdict);
+  if (!found) return [];
+  const [, rule, whose, place] = found;
+  return [make("p", {}, "It breaks a rule: ", make("strong", {}, rule), ` (${whose}).`), make("p", {}, hereBreaks(about(last), rule)),
+    make("p", { class: "quiet" }, "See ", place, ".")];
+}
+function hereBreaks(it, rule) {
+  if (!blocks.has(it.block)) return "";
+  const waiting = (channels, kinds) => clientNumbers.flatMap((who) => channels.flatMap((channel) => lane(0, who, channel)
+    .filter((m) => m.block === it.block && kinds.test(m.kind)).map((m) => `client ${who}'s ${m.kind} is on channel ${channel}`)));
+  const here = (words) => (words.length ? `Here ${words.join(", and ")}.` : "");
+  if (/Probe of the block is unanswered/.test(rule)) return here(waiting(["B", "C"], /^Probe/));
+  if (/Grant of the block is pending/.test(rule)) return here(waiting(["D", "E"], /^Grant/));
+  if (/first of its channel/.test(rule)) {
+    const firsts = CHANNELS.flatMap((channel) => lane(0, it.client, channel).slice(0, 1).map((m) => `the first message on channel ${channel} is ${m.kind} of block ${m.block}`));
+    return here(firsts);
+  }
+  if (/serves|Acquire of the block/.test(rule)) return `Here home serves ${servedWords(state[blocks.get(it.block).serves])}.`;
+  if (it.client === undefined || it.client >= g.clients) return "";
+  const k = clientAt(it.client, it.block);
+  return `Here client ${it.client} has block ${it.block} at ${k.perm}, waits for ${k.waits}, and home records ${k.recorded} of it.`;
+}
+const servedWords = (serves) => (serves === "-" ? "nobody" : "client " + serves);
+
 // ---- Miss registers
 
 function pending(bank, block, one, two, kinds) {
@@ -246,7 +402,7 @@ function clientSteps(who, it) {
   if (RANK[k.perm] >= 1) found.push(["load", `load ${who} ${address} 1`]);
   if (RANK[k.perm] >= 2) found.push(["store", `store ${who} ${address} 00`]);
   if (k.wait !== "-") return found;
-  const hasRoom = k.perm !== "None" || entries(it.bank, who) < g.copies;
+  const hasRoom = isRecord || k.perm !== "None" || entries(it.bank, who) < g.copies;
   if (hasRoom && lane(it.bank, who, "A").length < FULL) {
     const grows = { None: ["NtoB", "NtoT"], Branch: ["BtoT"], Tip: [] }[k.perm];
     for (const grow of grows) found.push(["acquire " + grow, `acquire ${who} ${it.block} ${grow}`]);
@@ -259,15 +415,16 @@ function clientSteps(who, it) {
 }
 function ticketSteps(bank, who) {
   const found = [];
+  const words = (verb, channel, m) => (isRecord ? `${verb} ${who} ${m.block}` : `${verb} ${bank}.${who}.${channel}.${m.serial}`);
   const [probe] = lane(bank, who, "B");
   if (probe && clientAt(who, probe.block).wait !== "R" && lane(bank, who, "C").length < FULL) {
-    found.push(["answer_probe", `answer_probe ${bank}.${who}.B.${probe.serial}`, probe.block]);
+    found.push(["answer_probe", words("answer_probe", "B", probe), probe.block]);
   }
   const [answer] = lane(bank, who, "D");
   if (answer && answer.kind === "ReleaseAck") {
-    found.push(["take_release_ack", `take_release_ack ${bank}.${who}.D.${answer.serial}`, answer.block]);
+    found.push(["take_release_ack", words("take_release_ack", "D", answer), answer.block]);
   } else if (answer && lane(bank, who, "E").length < FULL) {
-    found.push(["take_grant", `take_grant ${bank}.${who}.D.${answer.serial}`, answer.block]);
+    found.push(["take_grant", words("take_grant", "D", answer), answer.block]);
   }
   return found;
 }
@@ -305,22 +462,24 @@ function clientsTable() {
         cell(k.dirty, o.dirty), cell(k.bytes, o.bytes), cell(k.waits, o.waits), cell(k.recorded, o.recorded)));
     }
   }
-  return table("Clients: copies", ["client", "block", "copy", "", "bytes", "waits for", "home records"], rows,
+  return table("Clients: copies", ["client", "block", "copy", "clean, dirty", "bytes", "waits for", "home records"], rows,
     "No client has a copy, or waits for one.");
 }
 function homeTable() {
   const rows = [];
   for (const it of blocks.values()) {
     const old = [it.home, it.memory].map(textBefore);
-    const isIdle = state[it.home] === "- -" && old[0] === "- -" && old[1] === state[it.memory];
+    const serves = isRecord ? [cell(servedWords(state[it.serves]), servedWords(textBefore(it.serves)))] : [];
+    const isIdle = state[it.home] === "- -" && old[0] === "- -" && old[1] === state[it.memory] && (!isRecord || state[it.serves] === "-");
     if (!wantsBlock(it.block) || (isIdle && chosen.block === "")) continue;
     const h = home(state[it.home]);
     const o = home(old[0]);
     const passes = (x) => x.words + (x.data ? " " + x.data : "");
-    rows.push(make("tr", { "data-home": it.block }, ...heads(String(it.bank), `b${it.block}`), cell(h.dirty || "none", o.dirty || "none"),
-      cell(h.bytes, o.bytes), cell(passes(h), passes(o)), cell(state[it.memory], old[1])));
+    rows.push(make("tr", { "data-home": it.block }, ...heads(...(isRecord ? [] : [String(it.bank)]), `b${it.block}`),
+      cell(h.dirty || "none", o.dirty || "none"), cell(h.bytes, o.bytes), ...serves, cell(passes(h), passes(o)), cell(state[it.memory], old[1])));
   }
-  return table("Home and the memory", ["bank", "block", "home's copy", "bytes", "to or from memory", "memory's bytes"], rows,
+  return table("Home and the memory", [...(isRecord ? [] : ["bank"]), "block", "home's copy", "bytes", ...(isRecord ? ["serves"] : []),
+    "to or from memory", "memory's bytes"], rows,
     "Home has no copy, and nothing passes to the memory.");
 }
 function registersTable() {
@@ -358,13 +517,14 @@ function flightTable() {
     for (const m of messages(state[place])) {
       if (!wantsClient(Number(who)) || !wantsBlock(m.block)) continue;
       const isUp = ["A", "C", "E"].includes(channel);
-      const row = make("tr", { "data-message": `${name}.${m.serial}` }, ...heads(channel,
-        isUp ? `client ${who} to bank ${bank}` : `bank ${bank} to client ${who}`, `${name}.${m.serial}`, `${m.kind} b${m.block}`, m.bytes));
+      const other = isRecord ? "home" : "bank " + bank;
+      const row = make("tr", { "data-message": `${name}.${m.serial}` }, ...heads(channel, isUp ? `client ${who} to ${other}` : `${other} to client ${who}`,
+        ...(isRecord ? [] : [`${name}.${m.serial}`]), `${m.kind} b${m.block}`, m.bytes));
       if (!old.includes(m.serial)) row.className = "changed";
       rows.push(row);
     }
   }
-  return table("Messages in flight", ["channel", "from, to", "ticket", "message", "bytes"], rows, "No message is in flight.");
+  return table("Messages in flight", ["channel", "from, to", ...(isRecord ? [] : ["ticket"]), "message", "bytes"], rows, "No message is in flight.");
 }
 function permittedTable() {
   const rows = [];
@@ -379,27 +539,47 @@ function permittedTable() {
       add(who, it.block, clientSteps(who, it).concat(ticketSteps(it.bank, who).filter((one) => one[2] === it.block)));
     }
   }
-  return table("Client steps that are permitted now", ["client", "block", "steps"], rows, "None.");
+  return table("Client steps that are permitted now", ["client", "block", "steps"], rows, "None: home or the memory is next.");
 }
 
+// The first later step of the same words that is not refused.
+function laterSuccess(index) {
+  const later = data.rows.findIndex((row, place) => place > index && row[0] === data.rows[index][0] && !/^refused/.test(row[1]));
+  return later < 0 ? [] : [make("p", {}, "The same succeeds in ", make("a", { href: `#${WORD}=${later}` }, `step ${later}`), ".")];
+}
 function stepBox() {
+  if (at < 0 && data.first > 0) return [make("h2", {}, `After entry ${data.first}`), make("p", {}, "The entries before are not shown.")];
   if (at < 0) {
-    return [make("h2", {}, "Before the first step"), make("p", {}, "All banks are at reset: nobody but the memory holds anything.")];
+    return [make("h2", {}, `Before the first ${WORD}`), make("p", {}, "Nobody but the memory holds anything (reset).")];
   }
   const [step, answer, , mark] = data.rows[at];
+  if (isRecord) return entryBox(step, mark === "not lawful");
   const box = [make("h2", {}, `Step ${at}: `, make("code", {}, step)), make("p", {}, sentence(at)),
     make("p", {}, "Answer: ", make("code", { id: "answer" }, answer))];
   const refused = /^refused (\d+) (\w+)$/.exec(mark);
   if (refused) {
     const [rule, place] = RULES[refused[2]] || ["", ""];
     box.push(make("div", { class: "refused", id: "refusal" }, make("p", {}, make("strong", {}, `Refused: ${refused[1]} ${refused[2]}`),
-      ". Nothing changed."), make("p", {}, rule), make("p", {}, hereWhy(at, refused[2])), make("p", { class: "quiet" }, "See ", place, ".")));
+      ". Nothing changed; it may be asked again."), make("p", {}, rule), make("p", {}, hereWhy(at, refused[2])), ...laterSuccess(at),
+    make("p", { class: "quiet" }, "See ", place, ".")));
+  }
+  return box;
+}
+function entryBox(step, isBroken) {
+  const box = [make("h2", {}, `Line ${numberOf(at)}, entry ${data.first + at + 1}: `, make("code", {}, step)), make("p", {}, sentence(at))];
+  const sent = sentBy.get(at);
+  if (sent) box.push(make("p", {}, "Sent: ", make("code", { id: "answer" }, `${sent[6]}${sent[7] ? " " + sent[7] : ""}`), ` to ${sent[3]}`));
+  if (isBroken) {
+    box.push(make("div", { class: "refused", id: "refusal" }, make("p", {}, make("strong", {}, "Not lawful"), ": this entry may not come here. "
+      + "The state is that before it."), ...breach()));
+  } else if (at === last) {
+    box.push(make("p", { id: "verdict" }, data.verdict));
   }
   return box;
 }
 function drawState() {
-  document.getElementById("state").replaceChildren(...stepBox(), clientsTable(), homeTable(), flightTable(), registersTable(), waysTable(),
-    permittedTable());
+  const banks = isRecord ? [] : [registersTable(), waysTable()];
+  document.getElementById("state").replaceChildren(...stepBox(), clientsTable(), homeTable(), flightTable(), ...banks, permittedTable());
 }
 
 // ---- The chart
@@ -422,19 +602,27 @@ function y(row) {
   if (place < 0) place = shown.length;
   return TOP + ROW * place;
 }
-const rowLabel = (index) => `Step ${index}: ${data.rows[index][0]}, ${data.rows[index][3] || data.rows[index][1]}`;
+const NAME = isRecord ? "Line" : "Step";
+const rowLabel = (index) => `${NAME} ${numberOf(index)}: ${[data.rows[index][0], data.rows[index][3] || data.rows[index][1]].filter((words) => words).join(", ")}`;
 
+// The words of a row, without what a record shows of the message, as far as there is room.
+function rowWords(index) {
+  const { verb, words } = about(index);
+  const has = !isRecord || ["load", "store", "acquire", "release", "probe"].includes(verb) ? 4 : 3;
+  const text = words.slice(0, has).join(" ");
+  return text.length > 30 ? text.slice(0, 29) + "…" : text;
+}
 function drawRow(index, place) {
   const top = TOP + ROW * place;
   return svg("g", { class: "row", id: "row-" + index, role: "option", "aria-label": rowLabel(index), "aria-selected": "false",
     onclick: () => go(index) },
   svg("rect", { class: place % 2 ? "plain" : "stripe", x: 1, y: top - ROW / 2, width: width - 2, height: ROW }),
-  svg("text", { class: "quiet end", x: 38, y: top + 4 }, String(index)), svg("text", { x: 46, y: top + 4 }, data.rows[index][0]));
+  svg("text", { class: "quiet end", x: 38, y: top + 4 }, String(numberOf(index))), svg("text", { x: 46, y: top + 4 }, rowWords(index)));
 }
 function drawMark(index) {
   const [, , name, mark] = data.rows[index];
   const [left, top] = [x(name), y(index)];
-  const word = mark.split(" ")[0];
+  const word = mark === "not lawful" ? "refused" : mark.split(" ")[0];
   const shape = { load: ["circle", { class: "load", cx: left, cy: top, r: 4 }], store: ["circle", { class: "store", cx: left, cy: top, r: 4 }],
     refused: ["path", { class: "cross", d: `M${left} ${top}m-4 -4l8 8m0 -8l-8 8` }],
     "": ["circle", { class: "dot", cx: left, cy: top, r: 2 }] }[word] || ["path", { class: "dot", d: `M${left} ${top}m-4 -4h8v8h-8z` }];
@@ -456,7 +644,8 @@ function drawArrow([sent, taken, from, to, channel, block, kind, bytes], index) 
   const more = bytes.length > 8 ? bytes.slice(0, 8) + "…" : bytes;
   const words = `${kind} b${block}` + (bytes ? " " + more : "");
   return svg("g", { class: "message", "data-arrow": index, onclick: (event) => { event.stopPropagation(); go(at === sent && taken >= 0 ? taken : sent); } },
-    svg("title", {}, `${kind} b${block} ${bytes}: sent in step ${sent}, ` + (isOpen ? "never taken" : `taken in step ${taken}`)),
+    svg("title", {}, `${kind} b${block} ${bytes}: sent in ${WORD} ${numberOf(sent)}, `
+      + (isOpen ? "never taken" : `taken in ${WORD} ${numberOf(taken)}`)),
     svg("path", { class: "hit", d: line }),
     svg("path", { class: `arrow ${channel}` + (isOpen ? " open" : ""), d: line, "marker-end": isOpen ? undefined : `url(#head${channel})` }),
     isOpen ? svg("circle", { class: "arrow " + channel, cx: right - side * REACH, cy: finish, r: 3 }) : undefined,
@@ -535,11 +724,11 @@ function go(step) {
   }
   markRow();
   drawState();
-  document.getElementById("step").value = at < 0 ? "" : String(at);
+  document.getElementById("step").value = at < 0 ? "" : String(numberOf(at));
   document.getElementById("back").disabled = document.getElementById("first").disabled = at < 0;
   document.getElementById("next").disabled = document.getElementById("end").disabled = at >= last;
-  document.getElementById("told").textContent = at < 0 ? "Before the first step" : rowLabel(at);
-  history.replaceState(null, "", "#step=" + (at < 0 ? "start" : at));
+  document.getElementById("told").textContent = at < 0 ? `Before the first ${WORD}` : rowLabel(at);
+  history.replaceState(null, "", `#${WORD}=${at < 0 ? "start" : numberOf(at)}`);
 }
 const next = () => go(wanted.find((index) => index > at) ?? at);
 const back = () => go(wanted.findLast((index) => index < at) ?? -1);
@@ -550,22 +739,25 @@ function choose(what, value) {
   go(at);
 }
 function stepAsked() {
-  const asked = /step=(\d+|start)/.exec(location.hash);
-  return asked && asked[1] !== "start" ? Number(asked[1]) : -1;
+  const asked = /(?:step|line)=(\d+|start)/.exec(location.hash);
+  return asked && asked[1] !== "start" ? indexOf(Number(asked[1])) : -1;
 }
 const KEYS = { ArrowRight: next, ArrowDown: next, ArrowLeft: back, ArrowUp: back, Home: () => go(-1), End: () => go(last),
   PageDown: () => go(at + 20), PageUp: () => go(at - 20) };
 
 // What a reader who is new to the protocol needs.
 function reading() {
-  const items = ["A row is a step: click it, or use the arrow keys. The state beside it is that after the step.",
-    "An arrow is a message, from the step that sent it to the step that took it; thick while it is in flight, dashed if never taken.",
-    "Channels: A asks (Acquire, and home's Get and Put), B probes, C gives back (ProbeAck, Release), D answers (Grant, ReleaseAck), "
-      + "E acknowledges (GrantAck).",
+  const items = [isRecord ? "A row is an entry, with the number of its line: click it, or use the arrow keys. The state beside it is that after it."
+    : "A row is a step: click it, or use the arrow keys. The state beside it is that after the step.",
+    "An arrow is a message, from the row that sent it to the row that took it; thick while it is in flight, dashed if never taken.",
+    "Home is the cache that all clients share. A client asks it for a copy of a block (Acquire, channel A), home gives it (Grant, D), and the "
+      + "client acknowledges that (GrantAck, E).",
+    "Where another client's copy is in the way, home asks for it (Probe, B), and that client gives it back (ProbeAck, C). A client may also give "
+      + "a copy back unasked (Release, C); home answers that (ReleaseAck, D). Home asks the memory by Get and PutFullData.",
     "A copy of a block is at None, Branch (may be read) or Tip (may be written). A band on a client is its copy of the block that is "
       + "chosen, or of the first message's.",
-    "Marks: a filled circle is a store, an open one a load, a cross a refusal, a square a drop or an eviction. b0 is block 0; the "
-      + "ticket 0.1.C.3 is bank 0, client 1, channel C, its message 3."];
+    "Marks: a filled circle is a store, an open one a load, a cross what is refused, a square a drop or an eviction. b0 is block 0"
+      + (isRecord ? "." : "; the ticket 0.1.C.3 is bank 0, client 1, channel C, its message 3.")];
   return [make("details", {}, make("summary", {}, "How to read this page"), make("ul", {}, ...items.map((item) => make("li", {}, item))))];
 }
 
@@ -576,8 +768,8 @@ function build() {
   document.body.append(
     make("header", {}, make("h1", {}, data.title), make("div", { class: "bar", role: "group", "aria-label": "Steps" },
       button("first", "Before the first step (Home)", "start", () => go(-1)), button("back", "Step back (arrow left)", "◀ back", back),
-      make("label", {}, "step ", make("input", { id: "step", type: "number", min: 0, max: last, onchange: (event) => go(Number(event.target.value)) }),
-        ` of ${last}`),
+      make("label", {}, WORD + " ", make("input", { id: "step", type: "number", min: 0, max: numberOf(last),
+        onchange: (event) => go(indexOf(Number(event.target.value))) }), ` of ${numberOf(last)}`),
       button("next", "Step forward (arrow right)", "next ▶", next), button("end", "Last step (End)", "end", () => go(last)),
       picker("block", "block", [...blocks.keys()], "b"), picker("client", "client", clientNumbers, ""),
       make("span", { id: "pages", class: "bar" }, button("pageBack", "Page before", "◀", () => go(wanted[(page - 1) * PAGE] ?? at)),

@@ -69,7 +69,7 @@ fn change_at(
 }
 
 /// A change, where there is one, at the end of some.
-fn push_change(changes: &mut Vec<Change>, change: Option<Change>) -> Result<(), AllocError>
+pub fn push_change(changes: &mut Vec<Change>, change: Option<Change>) -> Result<(), AllocError>
     ensures { OnOk result (changes.new.items ≡ changes.old.items ++ option_to_list change) }
 {
     match change {

@@ -2,12 +2,11 @@
 
 use crate::film::Change;
 use crate::parts::{Cell, Part};
-use std::alloc::AllocError;
 use std::fmt::Write;
 use tl_map::Geometry;
 use tl_script_words::{Hex, Step};
 use tl_text::Answer;
-use tlchart_draw::{push_lifeline, push_mark, push_step, push_title};
+use tlchart_draw::{Ink, push_lifeline, push_mark, push_step, push_title};
 use tlchart_model::{Arrow, Chart, Turn};
 
 /// What a page is made from.
@@ -24,18 +23,16 @@ pub(crate) struct Sheet<'a> {
 }
 
 /// A comma before each element but the first.
-fn push_comma(text: &mut String, place: usize) -> Result<(), AllocError> {
+pub fn push_comma(ink: &mut Ink, place: usize) {
     if place > 0 {
-        text.push_str(",\n")
-    } else {
-        Ok(())
+        ink.put(",\n")
     }
 }
 
 /// The numbers that banks are made from.
-fn push_geometry(text: &mut String, geometry: Geometry) -> Result<(), AllocError> {
-    write!(
-        text,
+fn push_geometry(ink: &mut Ink, geometry: Geometry) {
+    let _ = write!(
+        ink,
         "\"geometry\":{{\"clients\":{},\"banks\":{},\"blockBytes\":{},\"sets\":{},\"ways\":{},\"registers\":{},\"copies\":{},\"blocks\":{}}}",
         geometry.clients(),
         geometry.banks(),
@@ -45,153 +42,152 @@ fn push_geometry(text: &mut String, geometry: Geometry) -> Result<(), AllocError
         geometry.registers(),
         geometry.copies(),
         geometry.memory_blocks()
-    )?;
-    Ok(())
+    );
 }
 
 /// What a cell shows a part of.
-fn push_cell_name(text: &mut String, cell: &Cell) -> Result<(), AllocError> {
+fn push_cell_name(ink: &mut Ink, cell: &Cell) {
     let bank = cell.bank;
     match cell.part {
-        Part::Client(client, block) => write!(text, "\"{bank} client {client} {block}\"")?,
-        Part::Home(block) => write!(text, "\"{bank} home {block}\"")?,
-        Part::Memory(block) => write!(text, "\"{bank} memory {block}\"")?,
-        Part::Channel(client, channel) => write!(text, "\"{bank} channel {client} {channel}\"")?,
-        Part::Set(set) => write!(text, "\"{bank} set {}\"", set.number())?,
-        Part::Registers => write!(text, "\"{bank} registers\"")?,
+        Part::Client(client, block) => {
+            let _ = write!(ink, "\"{bank} client {client} {block}\"");
+        }
+        Part::Home(block) => {
+            let _ = write!(ink, "\"{bank} home {block}\"");
+        }
+        Part::Memory(block) => {
+            let _ = write!(ink, "\"{bank} memory {block}\"");
+        }
+        Part::Channel(client, channel) => {
+            let _ = write!(ink, "\"{bank} channel {client} {channel}\"");
+        }
+        Part::Set(set) => {
+            let _ = write!(ink, "\"{bank} set {}\"", set.number());
+        }
+        Part::Registers => {
+            let _ = write!(ink, "\"{bank} registers\"");
+        }
     }
-    Ok(())
 }
 
-fn push_cell_names(text: &mut String, cells: &[Cell]) -> Result<(), AllocError> {
+fn push_cell_names(ink: &mut Ink, cells: &[Cell]) {
     for (place, cell) in cells.iter().enumerate() {
-        push_comma(text, place)?;
-        push_cell_name(text, cell)?;
+        push_comma(ink, place);
+        push_cell_name(ink, cell);
     }
-    Ok(())
 }
 
 /// The words of a step's mark, where it has one.
-fn push_mark_of(text: &mut String, turn: &Turn) -> Result<(), AllocError> {
+fn push_mark_of(ink: &mut Ink, turn: &Turn) {
     match &turn.mark {
-        Some(mark) => push_mark(text, mark),
-        None => Ok(()),
+        Some(mark) => push_mark(ink, mark),
+        None => {}
     }
 }
 
 /// A step: its words, its answer, who made it, its mark.
-fn push_row(
-    text: &mut String,
-    step: &Step,
-    turn: &Turn,
-    answer: &Answer,
-) -> Result<(), AllocError> {
-    text.push_str("[\"")?;
-    push_step(text, step)?;
-    write!(text, "\",\"{answer}\",\"")?;
-    push_lifeline(text, turn.at)?;
-    text.push_str("\",\"")?;
-    push_mark_of(text, turn)?;
-    text.push_str("\"]")
+fn push_row(ink: &mut Ink, step: &Step, turn: &Turn, answer: &Answer) {
+    ink.put("[\"");
+    push_step(ink, step);
+    let _ = write!(ink, "\",\"{answer}\",\"");
+    push_lifeline(ink, turn.at);
+    ink.put("\",\"");
+    push_mark_of(ink, turn);
+    ink.put("\"]")
 }
 
 /// The row of a step, where the chart has one.
-fn push_row_at(
-    text: &mut String,
-    sheet: &Sheet<'_>,
-    row: usize,
-    step: &Step,
-) -> Result<(), AllocError> {
+fn push_row_at(ink: &mut Ink, sheet: &Sheet<'_>, row: usize, step: &Step) {
     match (sheet.chart.turns.get(row), sheet.answers.get(row)) {
-        (Some(turn), Some(answer)) => push_row(text, step, turn, answer),
-        _ => text.push_str("[]"),
+        (Some(turn), Some(answer)) => push_row(ink, step, turn, answer),
+        _ => ink.put("[]"),
     }
 }
 
-fn push_rows(text: &mut String, sheet: &Sheet<'_>) -> Result<(), AllocError> {
+fn push_rows(ink: &mut Ink, sheet: &Sheet<'_>) {
     for (row, step) in sheet.steps.iter().enumerate() {
-        push_comma(text, row)?;
-        push_row_at(text, sheet, row, step)?;
+        push_comma(ink, row);
+        push_row_at(ink, sheet, row, step);
     }
-    Ok(())
 }
 
 /// A message: the steps that sent and took it, -1 where none took it; from whom to whom, on which channel, about which block, what it
 /// is, and its bytes.
-fn push_arrow(text: &mut String, arrow: &Arrow) -> Result<(), AllocError> {
+fn push_arrow(ink: &mut Ink, arrow: &Arrow) {
     let message = &arrow.message;
     let sent = arrow.sent;
     match arrow.taken {
-        Some(row) => write!(text, "[{sent},{row},\"")?,
-        None => write!(text, "[{sent},-1,\"")?,
+        Some(row) => {
+            let _ = write!(ink, "[{sent},{row},\"");
+        }
+        None => {
+            let _ = write!(ink, "[{sent},-1,\"");
+        }
     }
-    push_lifeline(text, message.from)?;
-    text.push_str("\",\"")?;
-    push_lifeline(text, message.to)?;
+    push_lifeline(ink, message.from);
+    ink.put("\",\"");
+    push_lifeline(ink, message.to);
     let channel = message.kind.channel();
-    write!(
-        text,
+    let _ = write!(
+        ink,
         "\",\"{channel}\",{},\"{}\",\"",
         message.block, message.kind
-    )?;
+    );
     if let Some(bytes) = &message.bytes {
-        write!(text, "{}", Hex(bytes.as_slice()))?;
+        let _ = write!(ink, "{}", Hex(bytes.as_slice()));
     }
-    text.push_str("\"]")
+    ink.put("\"]")
 }
 
-fn push_arrows(text: &mut String, arrows: &[Arrow]) -> Result<(), AllocError> {
+/// The messages of a chart.
+pub fn push_arrows(ink: &mut Ink, arrows: &[Arrow]) {
     for (place, arrow) in arrows.iter().enumerate() {
-        push_comma(text, place)?;
-        push_arrow(text, arrow)?;
+        push_comma(ink, place);
+        push_arrow(ink, arrow);
     }
-    Ok(())
 }
 
-fn push_start(text: &mut String, start: &[String]) -> Result<(), AllocError> {
+fn push_start(ink: &mut Ink, start: &[String]) {
     for (place, shown) in start.iter().enumerate() {
-        push_comma(text, place)?;
-        write!(text, "\"{shown}\"")?;
+        push_comma(ink, place);
+        let _ = write!(ink, "\"{shown}\"");
     }
-    Ok(())
 }
 
 /// The changes of a step: the places of cells, and what they show.
-fn push_changes_of(text: &mut String, changes: &[Change]) -> Result<(), AllocError> {
+fn push_changes_of(ink: &mut Ink, changes: &[Change]) {
     for (place, change) in changes.iter().enumerate() {
         if place > 0 {
-            text.push_str(",")?;
+            ink.put(",");
         }
-        write!(text, "{},\"{}\"", change.place, change.text)?;
+        let _ = write!(ink, "{},\"{}\"", change.place, change.text);
     }
-    Ok(())
 }
 
-fn push_changes(text: &mut String, changes: &[Vec<Change>]) -> Result<(), AllocError> {
+fn push_changes(ink: &mut Ink, changes: &[Vec<Change>]) {
     for (place, of_step) in changes.iter().enumerate() {
-        push_comma(text, place)?;
-        text.push_str("[")?;
-        push_changes_of(text, of_step)?;
-        text.push_str("]")?;
+        push_comma(ink, place);
+        ink.put("[");
+        push_changes_of(ink, of_step);
+        ink.put("]");
     }
-    Ok(())
 }
 
 /// All of it.
-pub(crate) fn push_data(text: &mut String, sheet: &Sheet<'_>) -> Result<(), AllocError> {
-    text.push_str("{\"title\":\"")?;
-    push_title(text, sheet.title)?;
-    text.push_str("\",\n")?;
-    push_geometry(text, sheet.geometry)?;
-    text.push_str(",\n\"cells\":[")?;
-    push_cell_names(text, sheet.cells)?;
-    text.push_str("],\n\"rows\":[")?;
-    push_rows(text, sheet)?;
-    text.push_str("],\n\"arrows\":[")?;
-    push_arrows(text, &sheet.chart.arrows)?;
-    text.push_str("],\n\"start\":[")?;
-    push_start(text, sheet.start)?;
-    text.push_str("],\n\"changes\":[")?;
-    push_changes(text, sheet.changes)?;
-    text.push_str("]}\n")
+pub(crate) fn push_data(ink: &mut Ink, sheet: &Sheet<'_>) {
+    ink.put("{\"title\":\"");
+    push_title(ink, sheet.title);
+    ink.put("\",\n");
+    push_geometry(ink, sheet.geometry);
+    ink.put(",\n\"cells\":[");
+    push_cell_names(ink, sheet.cells);
+    ink.put("],\n\"rows\":[");
+    push_rows(ink, sheet);
+    ink.put("],\n\"arrows\":[");
+    push_arrows(ink, &sheet.chart.arrows);
+    ink.put("],\n\"start\":[");
+    push_start(ink, sheet.start);
+    ink.put("],\n\"changes\":[");
+    push_changes(ink, sheet.changes);
+    ink.put("]}\n")
 }

@@ -11,6 +11,7 @@ mod script;
 mod style;
 mod words;
 
-pub use film::{Change, Film, film_of};
-pub use page::page_script;
+pub use film::{Change, Film, film_of, push_change};
+pub use json::{push_arrows, push_comma};
+pub use page::{page_script, push_head, push_tail};
 pub use parts::{Cell, Part};

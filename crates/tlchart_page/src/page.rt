@@ -11,24 +11,27 @@ use crate::style::STYLE;
 use std::alloc::{AllocError, Global};
 use tl_script::{Script, read_script};
 use tl_text::Trace;
-use tlchart_draw::{DrawError, push_title};
+use tlchart_draw::{DrawError, Ink, push_title};
 use tlchart_model::chart_of;
 
-/// The document around the style, the data and the script.
-fn push_page(text: &mut String, sheet: &Sheet<'_>) -> Result<(), AllocError> {
-    text.push_str(
+/// The document before its data: the title and the style.
+pub fn push_head(ink: &mut Ink, title: &str) {
+    ink.put(
         "<!DOCTYPE html>\n<html lang=\"en\">\n<head>\n<meta charset=\"utf-8\">\n<meta name=\"viewport\" content=\"width=device-width\">\n<title>",
-    )?;
-    push_title(text, sheet.title)?;
-    text.push_str("</title>\n<style>\n")?;
-    text.push_str(STYLE)?;
-    text.push_str(
+    );
+    push_title(ink, title);
+    ink.put("</title>\n<style>\n");
+    ink.put(STYLE);
+    ink.put(
         "</style>\n</head>\n<body>\n<noscript>This page needs its own script.</noscript>\n<script type=\"application/json\" id=\"data\">\n",
-    )?;
-    push_data(text, sheet)?;
-    text.push_str("</script>\n<script>\n")?;
-    text.push_str(SCRIPT)?;
-    text.push_str("</script>\n</body>\n</html>\n")
+    )
+}
+
+/// The document behind its data: the script.
+pub fn push_tail(ink: &mut Ink) {
+    ink.put("</script>\n<script>\n");
+    ink.put(SCRIPT);
+    ink.put("</script>\n</body>\n</html>\n")
 }
 
 /// The page of a script that was filmed.
@@ -44,7 +47,7 @@ fn paged(alloc: Global, script: &Script, title: &str) -> Result<String, AllocErr
         banks: Vec::new(alloc),
     };
     let chart = chart_of(alloc, geometry, &script.steps, &trace, None)?;
-    let mut text = String::new(alloc);
+    let mut ink = Ink::new(alloc);
     let sheet = Sheet {
         title,
         geometry,
@@ -55,8 +58,10 @@ fn paged(alloc: Global, script: &Script, title: &str) -> Result<String, AllocErr
         changes: &film.changes,
         chart: &chart,
     };
-    push_page(&mut text, &sheet)?;
-    Ok(text)
+    push_head(&mut ink, title);
+    push_data(&mut ink, &sheet);
+    push_tail(&mut ink);
+    ink.text()
 }
 
 /// The page that walks through the trace of the script that the bytes write, under a title. The errors are those of the script, or want

@@ -34,6 +34,7 @@ th { text-align: left; font-weight: normal; color: var(--quiet); font-size: 12px
 td:first-child, td:nth-child(2) { white-space: nowrap; }
 td { padding: 1px 8px 1px 0; border-top: 1px solid var(--line); vertical-align: top; overflow-wrap: anywhere; }
 details { margin: 0 8px 4px; }
+a { color: var(--link); }
 summary { cursor: pointer; color: var(--link); }
 ul { margin: 2px 0; padding-left: 18px; }
 p { margin: 4px 0; }
