@@ -15,3 +15,5 @@ mod wires;
 
 pub use answer::{Explanation, explain};
 pub use seen::{Seen, Wire};
+pub use sight::seen_on;
+pub use target::target as event_of;

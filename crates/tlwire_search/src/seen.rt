@@ -58,7 +58,7 @@ impl Seen {
     }
 
     /// Whether two are the same.
-    pub(crate) fn is_same(&self, other: &Seen) -> bool
+    pub fn is_same(&self, other: &Seen) -> bool
         ensures { IsTrue result ↔ (self.now ≡ other.now) }
     {
         match (self, other) {
