@@ -1,4 +1,4 @@
-//! Small records of messages, some of them damaged, with what is said of them.
+//! Small records of messages, some of them damaged, with what is said of them: explained or not, and impossible or not decided.
 use std::alloc::{AllocError, Global};
 use std::test::Fail;
 use tl_rules::Shape;
@@ -6,6 +6,7 @@ use tl_types::{
     AccessBytes, BlockBytes, BlockNo, ClientId, DirtyPrune, GrantCap, Grow, Kind, ProbeCap,
 };
 use tlcheck_rules::Shown;
+use tlwire_closed::{Answer, Way, rule_out};
 use tlwire_search::{Explanation, Premise, Seen, explain};
 
 /// What is said of a record, without the run.
@@ -76,18 +77,25 @@ fn line(number: usize, damage: Damage) -> Seen {
     }
 }
 
-fn answer_to(alloc: Global, damage: Damage, order: &[usize]) -> Result<Said, AllocError> {
+/// Two clients and one block.
+const SHAPE: Shape = Shape {
+    clients: 2,
+    block_bytes: 8,
+    blocks: 1,
+};
+
+fn seen_in(alloc: Global, damage: Damage, order: &[usize]) -> Result<Vec<Seen>, AllocError> {
     let mut seen = Vec::new(alloc);
     for number in order {
         seen.push(line(*number, damage))?;
     }
-    let shape = Shape {
-        clients: 2,
-        block_bytes: 8,
-        blocks: 1,
-    };
+    Ok(seen)
+}
+
+fn answer_to(alloc: Global, damage: Damage, order: &[usize]) -> Result<Said, AllocError> {
+    let seen = seen_in(alloc, damage, order)?;
     Ok(
-        match explain(alloc, shape, &[Premise::Whole], &[], &seen)? {
+        match explain(alloc, SHAPE, &[Premise::Whole], &[], &seen)? {
             Explanation::Explained(run) => Said::Explained(run.len()),
             Explanation::NotExplained(place, _) => Said::NotExplained(place),
         },
@@ -127,6 +135,51 @@ fn what_is_explained_and_what_is_not(rt: HostRuntime) -> Result<(), Fail> {
     for (damage, order, said) in RECORDS {
         let found = answer_to(rt.alloc(), *damage, *order)?;
         assert_eq!(rt; found, *said, "at {damage:?}");
+    }
+    Ok(())
+}
+
+/// The place of the first line that no run reaches, where each message was seen between its sending and its taking.
+fn ruled_out(
+    alloc: Global,
+    damage: Damage,
+    order: &[usize],
+    whole: bool,
+) -> Result<Option<usize>, AllocError> {
+    let seen = seen_in(alloc, damage, order)?;
+    let premise = tlwire_closed::Premise {
+        way: Way::Between,
+        skew: 0,
+        whole,
+    };
+    Ok(match rule_out(alloc, SHAPE, premise, &[], &seen)? {
+        Answer::Impossible(stuck) => Some(stuck.place),
+        Answer::NotDecided(_) => None,
+    })
+}
+
+/// Records, what is wrong with them, whether they are whole, and the first line that no run reaches.
+const RULED_OUT: &[(Damage, &[usize], bool, Option<usize>)] = &[
+    (Damage::Nothing, &[], true, None),
+    (Damage::Nothing, IN_ORDER, true, None),
+    (Damage::Nothing, &[0, 1, 2, 3, 4, 5, 6], false, None),
+    (Damage::GrantsOldBytes, IN_ORDER, false, Some(9)),
+    (Damage::GrantsTip, IN_ORDER, false, Some(9)),
+    (Damage::LoadsOldBytes, IN_ORDER, true, Some(11)),
+    (
+        Damage::Nothing,
+        &[0, 1, 2, 3, 4, 5, 6, 7, 9, 10, 11],
+        false,
+        Some(8),
+    ),
+    (Damage::Nothing, &[1, 2, 3, 4], false, Some(0)),
+];
+
+#[test]
+fn what_is_impossible_and_what_is_not(rt: HostRuntime) -> Result<(), Fail> {
+    for (damage, order, whole, place) in RULED_OUT {
+        let found = ruled_out(rt.alloc(), *damage, *order, *whole)?;
+        assert_eq!(rt; found, *place, "at {damage:?}");
     }
     Ok(())
 }

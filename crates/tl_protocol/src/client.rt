@@ -8,6 +8,7 @@ ghost use Rattle.tl_protocol.specs.Client.{fresh_client, MaySendAcquire, MaySend
 use crate::copy::CachedCopy;
 use crate::event::Access;
 use crate::queue::{AckCount, Queue};
+use crate::same::Same;
 use crate::shape::Shape;
 use std::alloc::{AllocError, Global};
 use std::mem;
@@ -52,6 +53,36 @@ impl Client {
             d: Queue::new(alloc),
             e: AckCount::new(alloc),
         }
+    }
+
+    /// The same again.
+    pub fn copied(&self, alloc: Global) -> Result<Client, AllocError>
+        ensures { IfOk result (λ k. k ≡ self.now) }
+    {
+        Ok(Client {
+            held: self.held.copied(),
+            wait: self.wait,
+            recorded: self.recorded,
+            a: self.a.copied(alloc)?,
+            b: self.b.copied(alloc)?,
+            c: self.c.copied(alloc)?,
+            d: self.d.copied(alloc)?,
+            e: self.e.copied(alloc)?,
+        })
+    }
+
+    /// Whether two are the same.
+    pub fn is_same(&self, other: &Client) -> bool
+        ensures { IsTrue result ↔ (self.now ≡ other.now) }
+    {
+        self.wait == other.wait
+            && self.recorded == other.recorded
+            && self.held.is_same(&other.held)
+            && self.a.is_same(&other.a)
+            && self.b.is_same(&other.b)
+            && self.c.is_same(&other.c)
+            && self.d.is_same(&other.d)
+            && self.e.is_same(&other.e)
     }
 
     /// Whether it may load these bytes: it has a copy with them, and they lie in one block.

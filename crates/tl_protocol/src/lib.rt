@@ -7,6 +7,7 @@ mod event;
 mod home;
 mod log;
 mod queue;
+mod same;
 mod shape;
 mod theorem;
 
@@ -16,5 +17,6 @@ pub use event::{Access, Event};
 pub use home::{Accepted, Line, Outward};
 pub use log::Log;
 pub use queue::{AckCount, Queue};
+pub use same::Same;
 pub use shape::Shape;
 pub use theorem::{every_block, every_run, some_run};

@@ -1,7 +1,8 @@
 //! The messages of a channel, oldest first.
-ghost use Rattle.std.specs.Prelude.{◌≡◌, ◌↔◌, ◌+◌, ◌-◌, [], ◌∷◌, ◌++◌, IsTrue, drop, OnOk, OnErr, MatchOption};
+ghost use Rattle.std.specs.Prelude.{◌≡◌, ◌↔◌, ◌+◌, ◌-◌, [], ◌∷◌, ◌++◌, IsTrue, drop, OnOk, OnErr, IfOk, MatchOption};
 ghost use Rattle.tl_protocol.specs.Queue.{HasFirst};
 
+use crate::same::Same;
 use std::alloc::{AllocError, Global};
 use std::marker::Model;
 use tl_types::ProbeCap;
@@ -72,6 +73,37 @@ impl<T: Drop> Queue<T> {
     }
 }
 
+impl<T: Same> Queue<T> {
+    /// The same again.
+    pub fn copied(&self, alloc: Global) -> Result<Queue<T>, AllocError>
+        ensures { IfOk result (λ q. q ≡ self.now) }
+    {
+        let mut copy = Queue::new(alloc);
+        let items = self.as_slice();
+        for item in items {
+            copy.push(item.copied())?;
+        }
+        Ok(copy)
+    }
+
+    /// Whether two are the same.
+    pub fn is_same(&self, other: &Queue<T>) -> bool
+        ensures { IsTrue result ↔ (self.now ≡ other.now) }
+    {
+        let items = self.as_slice();
+        let others = other.as_slice();
+        if items.len() != others.len() {
+            return false;
+        }
+        for i in 0..items.len() {
+            if !items[i].is_same(&others[i]) {
+                return false;
+            }
+        }
+        true
+    }
+}
+
 /// The GrantAcks on their way to home, which differ in nothing.
 #[derive(Drop)]
 pub struct AckCount {
@@ -103,6 +135,24 @@ impl AckCount {
     {
         self.acks.push(())?;
         Ok(())
+    }
+
+    /// The same again.
+    pub fn copied(&self, alloc: Global) -> Result<AckCount, AllocError>
+        ensures { IfOk result (λ q. q ≡ self.now) }
+    {
+        let mut copy = AckCount::new(alloc);
+        for _ in 0..self.acks.len() {
+            copy.add()?;
+        }
+        Ok(copy)
+    }
+
+    /// Whether two are the same.
+    pub fn is_same(&self, other: &AckCount) -> bool
+        ensures { IsTrue result ↔ (self.now ≡ other.now) }
+    {
+        self.acks.len() == other.acks.len()
     }
 
     /// One less, where there is one.

@@ -10,7 +10,7 @@ ghost use Rattle.tl_protocol.specs.Protocol.{reset, after, MayOn, MayTakeData, a
 use std::alloc::{AllocError, Global};
 use std::marker::Model;
 use std::mem;
-use tl_protocol::{Accepted, CachedCopy, Client, Event, Line, Outward, Shape};
+use tl_protocol::{Accepted, CachedCopy, Client, Event, Line, Outward, Same, Shape};
 use tl_types::{AccessBytes, BLOCK_BYTES, BlockBytes, ClientId, GrantCap, Grow, Perm, ProbeCap};
 
 /// One block, with each of its clients.
@@ -48,6 +48,70 @@ impl BlockState {
             outward: Outward::Quiet,
             clients: fresh,
         })
+    }
+
+    /// How many clients there are.
+    pub fn client_count(&self) -> usize
+        ensures { result ≡ length self.now.clients }
+    {
+        self.clients.len()
+    }
+
+    /// The same again.
+    pub fn copied(&self, alloc: Global) -> Result<BlockState, AllocError>
+        ensures { IfOk result (λ b. b ≡ self.now) }
+    {
+        let mut clients = Vec::new(alloc);
+        for client in &self.clients {
+            clients.push(client.copied(alloc)?)?;
+        }
+        Ok(BlockState {
+            memory: self.memory.copied(),
+            home: match &self.home {
+                Some(line) => Some(line.copied()),
+                None => None,
+            },
+            accepted: self.accepted,
+            outward: self.outward.copied(),
+            clients,
+        })
+    }
+
+    /// Whether home's copies are the same.
+    fn has_same_home(&self, other: &BlockState) -> bool
+        ensures { IsTrue result ↔ (self.now.home ≡ other.now.home) }
+    {
+        match (&self.home, &other.home) {
+            (None, None) => true,
+            (Some(line), Some(other)) => line.is_same(other),
+            (None, Some(_)) | (Some(_), None) => false,
+        }
+    }
+
+    /// Whether all clients are the same.
+    fn has_same_clients(&self, other: &BlockState) -> bool
+        ensures { IsTrue result ↔ (self.now.clients ≡ other.now.clients) }
+    {
+        if self.clients.len() != other.clients.len() {
+            return false;
+        }
+        for i in 0..self.clients.len() {
+            if !self.clients[i].is_same(&other.clients[i]) {
+                return false;
+            }
+        }
+        true
+    }
+
+    /// Whether two are the same.
+    pub fn is_same(&self, other: &BlockState) -> bool
+        ensures { IsTrue result ↔ (self.now ≡ other.now) }
+    {
+        self.accepted == other.accepted
+            && self.outward.is_same(&other.outward)
+            && self.has_same_home(other)
+            && self.memory.as_slice() == other.memory.as_slice()
+            && self.has_same_clients(other)
     }
 
     /// A client that is there.

@@ -136,6 +136,18 @@ fn keeps(block: &BlockState, shape: Shape, event: &Event, rule: Rule) -> bool
     }
 }
 
+/// The first rule that an event on a block of the memory breaks, in the order of the protocol's tests.
+pub fn broken_rule_on(block: &BlockState, shape: Shape, event: &Event) -> Option<Rule>
+    requires size { length block.now.clients ≡ shape.clients }
+    requires bytes { (0 < shape.block_bytes) × (shape.block_bytes ≤ BLOCK_BYTES) }
+    requires there { block_of shape event.now < shape.blocks }
+{
+    rules_of(event)
+        .iter()
+        .find(|rule| !keeps(block, shape, event, **rule))
+        .copied()
+}
+
 /// The first rule that an event breaks, in the order of the protocol's tests; none exactly where the event is permitted.
 pub fn broken_rule(plain: &Plain, event: &Event) -> Option<Rule>
     ensures first { IsFirstBroken plain.now.shape (state_of_plain plain.now (block_of plain.now.shape event.now)) event.now result }

@@ -72,7 +72,7 @@ fn grant(block: &BlockState, shape: Shape, c: ClientId) -> Option<Body>
 }
 
 /// The message that an event sends which may come next, with its channel.
-pub(crate) fn sent_by(block: &BlockState, shape: Shape, event: &Event) -> Option<(Channel, Body)>
+pub fn sent_by(block: &BlockState, shape: Shape, event: &Event) -> Option<(Channel, Body)>
     requires size { length block.now.clients ≡ shape.clients }
     requires may { MayOn shape (block_state block.now) event.now }
     ensures { option_map (λ sent. post_at (client_of event.now) sent.0 sent.1) result ≡ post_of shape (block_state block.now) event.now }

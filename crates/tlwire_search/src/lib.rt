@@ -19,4 +19,5 @@ pub use answer::{Explanation, explain};
 pub use premise::{Premise, is_seen_at_pins, is_unseen, is_whole, may_have_more};
 pub use search::Limit;
 pub use seen::{Seen, Wire};
-pub use sight::seen_of;
+pub use sight::{seen_of, seen_on};
+pub use target::target as event_of;

@@ -1,14 +1,15 @@
 //! What is seen of an event.
-ghost use Rattle.std.specs.Prelude.{◌≡◌, Some};
+ghost use Rattle.std.specs.Prelude.{◌≡◌, ◌<◌, Some, length};
 ghost use Rattle.tl_protocol_lanes.specs.Lanes.{post_of};
-ghost use Rattle.tl_protocol.specs.Protocol.{May, block_of, home_bytes};
+ghost use Rattle.tl_protocol.specs.Protocol.{May, MayOn, block_of, home_bytes};
+ghost use Rattle.tl_rules.specs.Plain.{block_state};
 ghost use Rattle.tlcheck_rules.specs.Judged.{own_block};
 ghost use Rattle.tlwire_search.specs.Explained.{answer_seen, link_seen, memory_seen, seen_of};
 
 use crate::seen::Seen;
-use tl_rules::{BlockState, Event, Outward};
+use tl_rules::{BlockState, Event, Outward, Shape};
 use tl_types::{BlockBytes, BlockNo, Kind};
-use tlcheck_rules::{Judge, Shown, client_of};
+use tlcheck_rules::{Judge, Shown, client_of, sent_by};
 
 fn on_memory(block: BlockNo, kind: Kind, bytes: Option<BlockBytes>) -> Option<Seen>
     ensures { result ≡ memory_seen block kind bytes }
@@ -39,11 +40,13 @@ fn written_back(block: BlockNo, state: &BlockState) -> Option<Seen>
 }
 
 /// What an event sends on a link.
-fn on_link(judge: &Judge, event: &Event) -> Option<Seen>
-    requires { May judge.now.plain.shape (own_block judge.now event.now) event.now }
-    ensures { result ≡ link_seen (block_of judge.now.plain.shape event.now) (post_of judge.now.plain.shape (own_block judge.now event.now) event.now) }
+fn on_link(state: &BlockState, shape: Shape, event: &Event) -> Option<Seen>
+    requires size { length state.now.clients ≡ shape.clients }
+    requires bytes { 0 < shape.block_bytes }
+    requires may { MayOn shape (block_state state.now) event.now }
+    ensures { result ≡ link_seen (block_of shape event.now) (post_of shape (block_state state.now) event.now) }
 {
-    let (_, body) = judge.sent(event)?;
+    let (_, body) = sent_by(state, shape, event)?;
     let bytes = match body.bytes() {
         Some(bytes) => Some(bytes.copied()),
         None => None,
@@ -52,14 +55,16 @@ fn on_link(judge: &Judge, event: &Event) -> Option<Seen>
         kind: body.kind(),
         bytes,
     };
-    let block = BlockNo::new(event.block(judge.plain().shape()));
+    let block = BlockNo::new(event.block(shape));
     Some(Seen::OnLink(client_of(event), block, message))
 }
 
-/// What is seen of an event that may come next.
-pub fn seen_of(judge: &Judge, event: &Event) -> Option<Seen>
-    requires { May judge.now.plain.shape (own_block judge.now event.now) event.now }
-    ensures { result ≡ seen_of judge.now.plain.shape (own_block judge.now event.now) event.now }
+/// What is seen of an event that the block may take next.
+pub fn seen_on(state: &BlockState, shape: Shape, event: &Event) -> Option<Seen>
+    requires size { length state.now.clients ≡ shape.clients }
+    requires bytes { 0 < shape.block_bytes }
+    requires may { MayOn shape (block_state state.now) event.now }
+    ensures { result ≡ seen_of shape (block_state state.now) event.now }
 {
     match event {
         Event::Load(access) => Some(Seen::Load(
@@ -73,8 +78,17 @@ pub fn seen_of(judge: &Judge, event: &Event) -> Option<Seen>
             access.bytes.copied(),
         )),
         Event::SendGet(block) => on_memory(*block, Kind::Get, None),
-        Event::SendPut(block) => written_back(*block, judge.plain().block(block.number())?),
-        Event::Serve(block) => answer(*block, judge.plain().block(block.number())?),
-        _ => on_link(judge, event),
+        Event::SendPut(block) => written_back(*block, state),
+        Event::Serve(block) => answer(*block, state),
+        _ => on_link(state, shape, event),
     }
+}
+
+/// What is seen of an event that may come next.
+pub fn seen_of(judge: &Judge, event: &Event) -> Option<Seen>
+    requires { May judge.now.plain.shape (own_block judge.now event.now) event.now }
+    ensures { result ≡ seen_of judge.now.plain.shape (own_block judge.now event.now) event.now }
+{
+    let shape = judge.plain().shape();
+    seen_on(judge.plain().block(event.block(shape))?, shape, event)
 }

@@ -1,0 +1,87 @@
+//! What is known of when a monitor sees a message.
+ghost use Rattle.std.specs.Prelude.{◌≡◌};
+ghost use Rattle.tlwire_closed.specs.Premise.{closes_at_taking, is_from_memory, is_to_client, is_to_home, opens_at_taking};
+
+use tl_types::Channel;
+use tlwire_search::Wire;
+
+/// When a monitor sees a message. A load and a store are seen as they are made.
+#[derive(Clone, Copy, Debug, PartialEq, Eq)]
+pub enum Way {
+    /// Between its sending and its taking.
+    Between,
+    /// As it is sent.
+    AtSending,
+    /// At home's pins: what home sends as it is sent, what home takes as it is taken.
+    AtHome,
+    /// At the clients' pins: what a client sends as it is sent, what it takes as it is taken; the memory's link between.
+    AtClients,
+}
+
+/// What is known of when lines were seen.
+#[derive(Clone, Copy, Debug, PartialEq, Eq)]
+pub struct Premise {
+    /// When each message was seen.
+    pub way: Way,
+    /// How many lines one may stand behind a line that was seen later.
+    pub skew: usize,
+    /// Whether each message that was sent was seen; else what was sent at the end may be missing.
+    pub whole: bool,
+}
+
+fn is_to_home(channel: Channel) -> bool
+    ensures { result ≡ is_to_home channel }
+{
+    match channel {
+        Channel::A | Channel::C | Channel::E => true,
+        Channel::B | Channel::D => false,
+    }
+}
+
+fn is_to_client(channel: Channel) -> bool
+    ensures { result ≡ is_to_client channel }
+{
+    match channel {
+        Channel::B | Channel::D => true,
+        Channel::A | Channel::C | Channel::E => false,
+    }
+}
+
+fn is_from_memory(channel: Channel) -> bool
+    ensures { result ≡ is_from_memory channel }
+{
+    match channel {
+        Channel::D => true,
+        Channel::A | Channel::B | Channel::C | Channel::E => false,
+    }
+}
+
+impl Way {
+    /// Whether a message on a wire is seen no earlier than it is taken; else no earlier than it is sent.
+    pub(crate) fn opens_at_taking(self, wire: &Wire) -> bool
+        ensures { result ≡ opens_at_taking self wire.now }
+    {
+        match (self, wire) {
+            (Way::Between | Way::AtSending, _) => false,
+            (Way::AtHome, Wire::Link(_, channel)) => is_to_home(*channel),
+            (Way::AtHome, Wire::Memory(channel)) => is_from_memory(*channel),
+            (Way::AtClients, Wire::Link(_, channel)) => is_to_client(*channel),
+            (Way::AtClients, Wire::Memory(_)) => false,
+            (Way::AtHome | Way::AtClients, Wire::Core(_)) => false,
+        }
+    }
+
+    /// Whether a message on a wire is seen no later than it is taken; else no later than it is sent.
+    pub(crate) fn closes_at_taking(self, wire: &Wire) -> bool
+        ensures { result ≡ closes_at_taking self wire.now }
+    {
+        match (self, wire) {
+            (_, Wire::Core(_)) | (Way::AtSending, _) => false,
+            (Way::Between, Wire::Link(_, _) | Wire::Memory(_)) => true,
+            (Way::AtHome, Wire::Link(_, channel)) => is_to_home(*channel),
+            (Way::AtHome, Wire::Memory(channel)) => is_from_memory(*channel),
+            (Way::AtClients, Wire::Link(_, channel)) => is_to_client(*channel),
+            (Way::AtClients, Wire::Memory(_)) => true,
+        }
+    }
+}
