@@ -65,6 +65,17 @@ impl CachedCopy {
         }
     }
 
+    /// The same copy again.
+    pub fn copied(&self) -> CachedCopy
+        ensures { result ≡ self.now }
+    {
+        match self {
+            CachedCopy::Absent => CachedCopy::Absent,
+            CachedCopy::Readable(bytes) => CachedCopy::Readable(bytes.copied()),
+            CachedCopy::Writable(bytes, dirty) => CachedCopy::Writable(bytes.copied(), *dirty),
+        }
+    }
+
     /// Its bytes, none where it is absent.
     pub fn into_bytes(self) -> BlockBytes
         ensures { result ≡ bytes_of self }

@@ -7,6 +7,7 @@ ghost use Rattle.tl_protocol.specs.declared.home.Outward.TheVariants.{Put};
 ghost use Rattle.tl_rules.specs.Plain.{block_state, plain_client};
 ghost use Rattle.tl_protocol.specs.Protocol.{reset, after, MayOn, MayTakeData, accepted_from, took_c, with_client, served, took_data, home_bytes, is_alone, granted_cap, MaySendProbe, MaySendGrant, MaySendGet, MayGiveUp, grants, RoomFor, Idle, NoGrant, NoProbe, NobodyRecorded};
 
+use crate::copies::copied;
 use std::alloc::{AllocError, Global};
 use std::marker::Model;
 use std::mem;
@@ -47,6 +48,30 @@ impl BlockState {
             accepted: None,
             outward: Outward::Quiet,
             clients: fresh,
+        })
+    }
+
+    /// The same block again, with each of its clients. Err is a refused request for memory.
+    pub fn copied(&self, alloc: Global) -> Result<BlockState, AllocError>
+        ensures { IfOk result (λ b. b ≡ self.now) }
+    {
+        let mut clients = Vec::new(alloc);
+        for client in &self.clients {
+            clients.push(copied(alloc, client)?)?;
+        }
+        let home = match &self.home {
+            Some(line) => Some(Line {
+                bytes: line.bytes.copied(),
+                dirty: line.dirty,
+            }),
+            None => None,
+        };
+        Ok(BlockState {
+            memory: self.memory.copied(),
+            home,
+            accepted: self.accepted,
+            outward: self.outward.copied(),
+            clients,
         })
     }
 

@@ -3,6 +3,7 @@
 #![tactic(auto)]
 
 mod block;
+mod copies;
 mod merge;
 mod plain;
 mod theorem;
