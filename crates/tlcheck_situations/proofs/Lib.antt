@@ -5,3 +5,4 @@ pub mod Bareness
 pub mod Closing
 pub mod Complete
 pub mod Sights
+pub mod Walks

@@ -4,4 +4,6 @@ pub mod Closing
 pub mod FoundState
 pub mod Next
 pub mod Reach
+pub mod Run
 pub mod Situation
+pub mod TableState
