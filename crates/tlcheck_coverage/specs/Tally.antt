@@ -1,0 +1,39 @@
+-- What is counted of the situations of a record (this project's own).
+use Rattle.std.specs.Prelude.{◌≡◌, ◌⊎◌, ℕ, ◌+◌, List, [], ◌∷◌, ◌++◌, Contains, Option, Some, None, length, slice_get, slice_set}
+use Rattle.tl_protocol.specs.declared.event.Event.{Event}
+use Rattle.tl_protocol.specs.declared.shape.Shape.{Shape}
+use Rattle.tlcheck_rules.specs.Judged.{Follows, IsPermitted, JudgeState}
+use Rattle.tlcheck_rules.specs.declared.entry.Entry.{Entry}
+use Rattle.tlcheck_situations.specs.Reach.{situation_after}
+use Rattle.tlcheck_situations.specs.declared.situation.Situation.{Situation}
+use Rattle.tlcheck_coverage.specs.declared.tally.Count.{Count}
+use Rattle.tlcheck_coverage.specs.declared.tally.Mark.{Mark}
+
+-- the situations of a table, how often each was counted, and how many events were in none of them
+pub record TallyState : Type 0 where
+  pub situations : List Situation
+  pub counts : List Count
+  pub beyond : ℕ
+
+-- the first of two places
+abbrev pub first_mark : Option Mark → Mark → Option Mark
+first_mark None mark = Some mark
+first_mark (Some first) mark = Some first
+
+-- one more event, at a place
+abbrev pub one_more : Count → Mark → Count
+one_more count mark = record { events = count.events + 1; first = first_mark count.first mark }
+
+-- An event in a situation is counted once: where the table has the situation, at it; else as one beyond the table.
+pub record IsNoted (s : Situation) (mark : Mark) (old new : TallyState) : Type 0 where
+  pub same : new.situations ≡ old.situations
+  pub counted :
+      ((k : ℕ) × (count : Count) × (slice_get old.situations k ≡ Some s) × (slice_get old.counts k ≡ Some count)
+      × (new.counts ≡ slice_set old.counts k (one_more count mark)) × (new.beyond ≡ old.beyond))
+      ⊎ ((¬ Contains old.situations s) × (new.counts ≡ old.counts) × (new.beyond ≡ old.beyond + 1))
+
+-- An entry is permitted after a log, and its event is counted in the situation that it is in after that log.
+pub record IsSeen (shape : Shape) (image : List ℕ) (log : List Event) (entry : Entry) (mark : Mark) (judge : JudgeState) (old new : TallyState) : Type 0 where
+  pub permitted : IsPermitted shape image log entry
+  pub follows : Follows shape image (log ++ entry.event ∷ []) judge
+  pub noted : IsNoted (situation_after shape image log entry.event) mark old new
