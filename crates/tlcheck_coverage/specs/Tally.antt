@@ -1,5 +1,5 @@
 -- What is counted of the situations of a record (this project's own).
-use Rattle.std.specs.Prelude.{◌≡◌, ◌⊎◌, ℕ, ◌+◌, List, [], ◌∷◌, ◌++◌, Contains, Option, Some, None, length, slice_get, slice_set}
+use Rattle.std.specs.Prelude.{◌≡◌, ◌≢◌, ◌⊎◌, ℕ, ◌+◌, List, [], ◌∷◌, ◌++◌, Option, Some, None, slice_get, slice_index_or, slice_set}
 use Rattle.tl_protocol.specs.declared.event.Event.{Event}
 use Rattle.tl_protocol.specs.declared.shape.Shape.{Shape}
 use Rattle.tlcheck_rules.specs.Judged.{Follows, IsPermitted, JudgeState}
@@ -24,13 +24,27 @@ first_mark (Some first) mark = Some first
 abbrev pub one_more : Count → Mark → Count
 one_more count mark = record { events = count.events + 1; first = first_mark count.first mark }
 
--- An event in a situation is counted once: where the table has the situation, at it; else as one beyond the table.
-pub record IsNoted (s : Situation) (mark : Mark) (old new : TallyState) : Type 0 where
+-- no event
+abbrev pub no_event : Count
+no_event = record { events = 0; first = None }
+
+-- The situation at a place is counted once more.
+pub record IsCountedAt (k : ℕ) (mark : Mark) (old new : TallyState) : Type 0 where
   pub same : new.situations ≡ old.situations
-  pub counted :
-      ((k : ℕ) × (count : Count) × (slice_get old.situations k ≡ Some s) × (slice_get old.counts k ≡ Some count)
-      × (new.counts ≡ slice_set old.counts k (one_more count mark)) × (new.beyond ≡ old.beyond))
-      ⊎ ((¬ Contains old.situations s) × (new.counts ≡ old.counts) × (new.beyond ≡ old.beyond + 1))
+  pub counts : new.counts ≡ slice_set old.counts k (one_more (slice_index_or old.counts k no_event) mark)
+  pub beyond : new.beyond ≡ old.beyond
+
+-- One more event is in none of the situations.
+pub record IsCountedBeyond (old new : TallyState) : Type 0 where
+  pub same : new.situations ≡ old.situations
+  pub counts : new.counts ≡ old.counts
+  pub beyond : new.beyond ≡ old.beyond + 1
+
+-- An event in a situation is counted once: where the table has the situation, at it; else as one beyond the table.
+abbrev pub IsNoted : Situation → Mark → TallyState → TallyState → Type 0
+IsNoted s mark old new =
+    ((k : ℕ) × (slice_get old.situations k ≡ Some s) × IsCountedAt k mark old new)
+    ⊎ (((k : ℕ) → slice_get old.situations k ≢ Some s) × IsCountedBeyond old new)
 
 -- An entry is permitted after a log, and its event is counted in the situation that it is in after that log.
 pub record IsSeen (shape : Shape) (image : List ℕ) (log : List Event) (entry : Entry) (mark : Mark) (judge : JudgeState) (old new : TallyState) : Type 0 where

@@ -63,7 +63,7 @@ fn fault_text(alloc: Global, name: &str, fault: Fault) -> Result<String, AllocEr
         }
         Fault::Memory => format!(in alloc; "{}\n", ProgramFault::Memory),
         Fault::File => format!(in alloc; "{name}: {}\n", ProgramFault::File),
-        Fault::NotClosed => format!(in alloc; "error 60 the table of situations is not closed\n"),
+        Fault::NotClosed => format!(in alloc; "error 54 situations\n"),
     }
 }
 
@@ -163,7 +163,7 @@ pub fn tell_run<W: Write, E: Write>(
     match run_text(alloc, number) {
         Ok(Some(text)) => write_text(Ok(text), 0, output, faults),
         Ok(None) => {
-            let _ = tell(faults, &"error 61 no such situation");
+            let _ = tell(faults, &"error 53 no such situation");
             3
         }
         Err(TableError::Memory) => tell_fault(alloc, "", Fault::Memory, faults),

@@ -1,5 +1,5 @@
 //! How often each situation of a table was reached.
-ghost use Rattle.std.specs.Prelude.{◌≡◌, ◌<◌, ◌≤◌, ◌+◌, ℕ, List, Some, IfErr, IfNone, IfOk, IfSome, OnErr, OnOk};
+ghost use Rattle.std.specs.Prelude.{◌≡◌, ◌<◌, ◌≤◌, ◌+◌, ℕ, List, Some, IfErr, IfNone, IfOk, IfSome, OnErr, OnOk, length};
 ghost use Rattle.tl_protocol.specs.Protocol.{block_of};
 ghost use Rattle.tl_protocol.specs.declared.event.Event.{Event};
 ghost use Rattle.tl_protocol.specs.declared.shape.Shape.{Shape};
@@ -9,7 +9,7 @@ ghost use Rattle.tlcheck_rules.specs.Rules.{client_of};
 ghost use Rattle.tlcheck_rules.specs.declared.judge.Breach.{Breach};
 ghost use Rattle.tlcheck_rules.specs.declared.judge.Refusal.TheVariants.{Broken};
 ghost use Rattle.tlcheck_situations.specs.Situation.{situation_of};
-ghost use Rattle.tlcheck_coverage.specs.Tally.{IsNoted, IsSeen, one_more};
+ghost use Rattle.tlcheck_coverage.specs.Tally.{IsCountedAt, IsCountedBeyond, IsNoted, IsSeen, one_more};
 
 use std::alloc::{AllocError, Global};
 use std::marker::Model;
@@ -117,6 +117,32 @@ impl Tally {
         self.beyond
     }
 
+    /// Counts an event at a place of the table. Err is a count past 64 bits: then nothing has changed.
+    fn note_at(&mut self, place: usize, mark: Mark) -> Result<(), AllocError>
+        requires { place < length self.old.situations }
+        ensures ok { OnOk result (IsCountedAt place mark self.old self.new) }
+        ensures err { OnErr result (self.new ≡ self.old) }
+    {
+        let count = self.counts[place];
+        if count.events == u64::MAX {
+            return Err(AllocError);
+        }
+        self.counts[place] = one_more(count, mark);
+        Ok(())
+    }
+
+    /// Counts an event that is in none of the table's situations. Err is a count past 64 bits: then nothing has changed.
+    fn note_beyond(&mut self) -> Result<(), AllocError>
+        ensures ok { OnOk result (IsCountedBeyond self.old self.new) }
+        ensures err { OnErr result (self.new ≡ self.old) }
+    {
+        if self.beyond == u64::MAX {
+            return Err(AllocError);
+        }
+        self.beyond += 1;
+        Ok(())
+    }
+
     /// Counts an event in a situation. Err is a count past 64 bits: then nothing has changed.
     fn note(&mut self, situation: &Situation, mark: Mark) -> Result<(), AllocError>
         ensures ok { OnOk result (IsNoted situation.now mark self.old self.new) }
@@ -124,20 +150,14 @@ impl Tally {
     {
         match self.table.place_of(situation) {
             Some(place) => {
-                let count = self.counts[place];
-                if count.events == u64::MAX {
-                    return Err(AllocError);
-                }
-                self.counts[place] = one_more(count, mark);
+                self.note_at(place, mark)?;
+                Ok(())
             }
             None => {
-                if self.beyond == u64::MAX {
-                    return Err(AllocError);
-                }
-                self.beyond += 1;
+                self.note_beyond()?;
+                Ok(())
             }
         }
-        Ok(())
     }
 
     /// Judges the next entry of a record, and counts its event where it is permitted. An entry that breaks something leaves all as it was;
