@@ -1,11 +1,12 @@
 -- What is counted is what was reached.
-use Rattle.std.proofs.Common.{◌≡◌, ◌≢◌, ℕ, ◌<◌, List, ◌∷◌, ◌++◌, [], Some, inl, inr, sym, ap, ◌∙◌, subst}
+use Rattle.std.proofs.Common.{◌≡◌, ◌≢◌, ℕ, ◌<◌, List, ◌∷◌, ◌++◌, [], Some, None, inl, inr, sym, ap, ◌∙◌, subst}
 use Rattle.std.specs.Prelude.{slice_get}
 use Rattle.tl_protocol.specs.declared.event.Event.{Event}
 use Rattle.tl_protocol.specs.declared.shape.Shape.{Shape}
 use Rattle.tl_protocol.specs.Protocol.{Block, block_of}
 use Rattle.tl_protocol.specs.Runs.{end_of}
 use Rattle.tl_rules.specs.Plain.{state_of_plain}
+use Rattle.tl_rules.specs.PlainState.{PlainState}
 use Rattle.tlcheck_rules.specs.Judged.{Follows, IsPermitted, JudgeState}
 use Rattle.tlcheck_rules.specs.Rules.{client_of}
 use Rattle.tlcheck_rules.specs.declared.entry.Entry.{Entry}
@@ -13,7 +14,7 @@ use Rattle.tlcheck_situations.specs.Reach.{situation_after}
 use Rattle.tlcheck_situations.specs.Situation.{situation_of}
 use Rattle.tlcheck_situations.specs.declared.situation.Situation.{Situation}
 use Rattle.tlcheck_situations.proofs.Complete.{client_is_there}
-use Rattle.tlcheck_coverage.specs.Tally.{IsCountedAt, IsCountedBeyond, IsNoted, IsSeen, TallyState}
+use Rattle.tlcheck_coverage.specs.Tally.{IsCountedAt, IsCountedBeyond, IsNoted, IsSeen, IsSituationIn, TallyState}
 use Rattle.tlcheck_coverage.specs.declared.tally.Mark.{Mark}
 
 -- the situation that the judge shows is that after the log
@@ -51,3 +52,21 @@ never_unseen shape image log entry before some follows permitted none =
     = subst (λ (s : Shape). block_of s entry.event < s.blocks → client_of entry.event < s.clients → ⊥) follows.same_shape none in
     same permitted.may.0
     (client_is_there shape (end_of shape image log (block_of shape entry.event)) entry.event some permitted.may.1)
+
+-- what is seen of an entry that was permitted, whatever its situation
+pub seen_as :
+    (shape : Shape) (image : List ℕ) (log : List Event) (entry : Entry) (mark : Mark) (before after : JudgeState) (plain : PlainState)
+    (old new : TallyState) (s : Situation) → plain ≡ before.plain
+    → Follows shape image log before → IsPermitted shape image log entry → Follows shape image (log ++ entry.event ∷ []) after
+    → IsSituationIn plain entry.event (Some s) → IsNoted s mark old new → IsSeen shape image log entry mark after old new
+seen_as shape image log entry mark before after plain old new s same follows permitted later is noted =
+    seen shape image log entry mark before after old new s follows permitted later
+    (subst (λ (p : PlainState). IsSituationIn p entry.event (Some s)) same is) noted
+
+-- it has one
+pub never_none :
+    (shape : Shape) (image : List ℕ) (log : List Event) (entry : Entry) (before : JudgeState) (plain : PlainState) → plain ≡ before.plain
+    → 0 < shape.clients → Follows shape image log before → IsPermitted shape image log entry → IsSituationIn plain entry.event None → ⊥
+never_none shape image log entry before plain same some follows permitted is =
+    never_unseen shape image log entry before some follows permitted
+    (subst (λ (p : PlainState). IsSituationIn p entry.event None) same is)

@@ -1,7 +1,12 @@
 -- What is counted of the situations of a record (this project's own).
-use Rattle.std.specs.Prelude.{◌≡◌, ◌≢◌, ◌⊎◌, ℕ, ◌+◌, List, [], ◌∷◌, ◌++◌, Option, Some, None, slice_get, slice_index_or, slice_set}
+use Rattle.std.specs.Prelude.{◌≡◌, ◌≢◌, ◌⊎◌, ℕ, ◌+◌, ◌<◌, List, [], ◌∷◌, ◌++◌, Option, Some, None, slice_get, slice_index_or, slice_set}
 use Rattle.tl_protocol.specs.declared.event.Event.{Event}
 use Rattle.tl_protocol.specs.declared.shape.Shape.{Shape}
+use Rattle.tl_protocol.specs.Protocol.{block_of}
+use Rattle.tl_rules.specs.Plain.{state_of_plain}
+use Rattle.tl_rules.specs.PlainState.{PlainState}
+use Rattle.tlcheck_rules.specs.Rules.{client_of}
+use Rattle.tlcheck_situations.specs.Situation.{situation_of}
 use Rattle.tlcheck_rules.specs.Judged.{Follows, IsPermitted, JudgeState}
 use Rattle.tlcheck_rules.specs.declared.entry.Entry.{Entry}
 use Rattle.tlcheck_situations.specs.Reach.{situation_after}
@@ -51,3 +56,9 @@ pub record IsSeen (shape : Shape) (image : List ℕ) (log : List Event) (entry :
   pub permitted : IsPermitted shape image log entry
   pub follows : Follows shape image (log ++ entry.event ∷ []) judge
   pub noted : IsNoted (situation_after shape image log entry.event) mark old new
+
+-- the situation of an event, as a map of the state shows it; none where the event's block or its client is not there
+abbrev pub IsSituationIn : PlainState → Event → Option Situation → Type 0
+IsSituationIn plain e None = block_of plain.shape e < plain.shape.blocks → client_of e < plain.shape.clients → ⊥
+IsSituationIn plain e (Some s) =
+    s ≡ situation_of plain.shape.clients (state_of_plain plain (block_of plain.shape e)) e

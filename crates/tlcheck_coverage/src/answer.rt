@@ -139,7 +139,7 @@ fn run_text(alloc: Global, number: Number) -> Result<Option<String>, TableError>
     let Some(situation) = table.situations().get(place) else {
         return Ok(None);
     };
-    let Some(run) = table.run_to(alloc, place)? else {
+    let Some(run) = table.run_to(alloc, situation)? else {
         return Ok(None);
     };
     let clients = number.clients;

@@ -1,15 +1,11 @@
 //! How often each situation of a table was reached.
-ghost use Rattle.std.specs.Prelude.{◌≡◌, ◌<◌, ◌≤◌, ◌+◌, ℕ, List, Some, IfErr, IfNone, IfOk, IfSome, OnErr, OnOk, length};
-ghost use Rattle.tl_protocol.specs.Protocol.{block_of};
+ghost use Rattle.std.specs.Prelude.{◌≡◌, ◌≢◌, ◌<◌, ◌+◌, ℕ, List, Some, IfErr, IfOk, OnErr, OnOk, length};
 ghost use Rattle.tl_protocol.specs.declared.event.Event.{Event};
 ghost use Rattle.tl_protocol.specs.declared.shape.Shape.{Shape};
-ghost use Rattle.tl_rules.specs.Plain.{state_of_plain};
 ghost use Rattle.tlcheck_rules.specs.Judged.{Breaks, Follows};
-ghost use Rattle.tlcheck_rules.specs.Rules.{client_of};
 ghost use Rattle.tlcheck_rules.specs.declared.judge.Breach.{Breach};
 ghost use Rattle.tlcheck_rules.specs.declared.judge.Refusal.TheVariants.{Broken};
-ghost use Rattle.tlcheck_situations.specs.Situation.{situation_of};
-ghost use Rattle.tlcheck_coverage.specs.Tally.{IsCountedAt, IsCountedBeyond, IsNoted, IsSeen, one_more};
+ghost use Rattle.tlcheck_coverage.specs.Tally.{IsCountedAt, IsCountedBeyond, IsNoted, IsSeen, IsSituationIn, one_more};
 
 use std::alloc::{AllocError, Global};
 use std::marker::Model;
@@ -66,16 +62,16 @@ fn one_more(count: Count, mark: Mark) -> Count
 
 /// The situation of an event, if its block and its client are there.
 fn situation_in(plain: &Plain, event: &Event) -> Option<Situation>
-    ensures some { IfSome result (λ s. s ≡ situation_of plain.now.shape.clients (state_of_plain plain.now (block_of plain.now.shape event.now)) event.now) }
-    ensures none { IfNone result (block_of plain.now.shape event.now < plain.now.shape.blocks → client_of event.now < plain.now.shape.clients → ⊥) }
+    ensures { IsSituationIn plain.now event.now result }
 {
     let shape = plain.shape();
     let c = client_of(event);
-    let block = plain.block(event.block(shape))?;
-    if c.number() < shape.clients {
-        Some(situation_at(block, shape.clients, c, Action::of(event)))
-    } else {
-        None
+    if c.number() >= shape.clients {
+        return None;
+    }
+    match plain.block(event.block(shape)) {
+        None => None,
+        Some(block) => Some(situation_at(block, shape.clients, c, Action::of(event))),
     }
 }
 
@@ -160,6 +156,17 @@ impl Tally {
         }
     }
 
+    /// Counts an event in a situation, after it was judged.
+    fn noted(&mut self, situation: &Situation, mark: Mark) -> Result<(), Refusal>
+        ensures ok { OnOk result (IsNoted situation.now mark self.old self.new) }
+        ensures err { IfErr result (λ refusal. (breach : Breach) → refusal ≢ Broken breach) }
+    {
+        match self.note(situation, mark) {
+            Ok(()) => Ok(()),
+            Err(_) => Err(Refusal::Memory),
+        }
+    }
+
     /// Judges the next entry of a record, and counts its event where it is permitted. An entry that breaks something leaves all as it was;
     /// after Memory nothing is claimed.
     pub fn see(&mut self, judge: &mut Judge, entry: &Entry, mark: Mark) -> Result<(), Refusal>
@@ -176,10 +183,7 @@ impl Tally {
         judge.step(entry)?;
         match situation {
             None => Ok(()),
-            Some(situation) => match self.note(&situation, mark) {
-                Ok(()) => Ok(()),
-                Err(_) => Err(Refusal::Memory),
-            },
+            Some(situation) => self.noted(&situation, mark),
         }
     }
 }
