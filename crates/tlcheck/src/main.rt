@@ -73,14 +73,30 @@ fn tell_how(rt: &HostRuntime, word: &str) -> u8 {
     }
 }
 
+/// Tells the coverage by some files, as a page where the first word asks for one.
+fn coverage_of(rt: &HostRuntime, words: &[String]) -> u8 {
+    match words {
+        [] => refuse(rt, Ending::Usage),
+        [first, rest @ ..] => {
+            if first.as_str() != "--html" {
+                return tell_coverage(rt, Form::Text, words);
+            }
+            if rest.is_empty() {
+                return refuse(rt, Ending::Usage);
+            }
+            tell_coverage(rt, Form::Page, rest)
+        }
+    }
+}
+
 /// What is asked for by an option and the words behind it.
 fn by_option(rt: &HostRuntime, option: &str, rest: &[String]) -> u8 {
-    match (option, rest) {
-        ("--how", [number]) => tell_how(rt, number.as_str()),
-        ("--coverage", [page, names @ ..]) if page.as_str() == "--html" && names.len() > 0 => {
-            tell_coverage(rt, Form::Page, names)
-        }
-        ("--coverage", [_, ..]) => tell_coverage(rt, Form::Text, rest),
+    match option {
+        "--coverage" => coverage_of(rt, rest),
+        "--how" => match rest {
+            [number] => tell_how(rt, number.as_str()),
+            _ => refuse(rt, Ending::Usage),
+        },
         _ => refuse(rt, Ending::Usage),
     }
 }

@@ -3,14 +3,12 @@
 use crate::page::push_page;
 use crate::reading::Fault;
 use crate::tallies::{MOST, Tallies};
-use crate::text::push_tally;
+use crate::text::{push_run, push_tally};
 use std::alloc::{AllocError, Global};
-use std::fmt::Write as _;
 use std::io::Write;
 use tl_script_words::parse_number;
 use tl_streams::{ProgramFault, tell, write_whole};
 use tlcheck_reader::{Ending, Outcome};
-use tlcheck_record::EventLine;
 use tlcheck_situations::{Table, TableError};
 
 /// How the tables are told.
@@ -112,7 +110,7 @@ fn tables(
                 push_tally(&mut text, tally, names)?;
             }
         }
-        Form::Page => push_page(&mut text, tallies, names)?,
+        Form::Page => push_page(alloc, &mut text, tallies, names)?,
     }
     Ok(text)
 }
@@ -142,14 +140,8 @@ fn run_text(alloc: Global, number: Number) -> Result<Option<String>, TableError>
     let Some(run) = table.run_to(alloc, situation)? else {
         return Ok(None);
     };
-    let clients = number.clients;
-    let mut text = format!(in alloc;
-        "# {clients}.{} {situation}\nclients {clients} block_bytes 8 memory_blocks 1\n",
-        number.place
-    )?;
-    for event in &run {
-        writeln!(text, "{}", EventLine(event))?;
-    }
+    let mut text = String::new(alloc);
+    push_run(&mut text, number.clients, number.place, situation, &run)?;
     Ok(Some(text))
 }
 
@@ -163,7 +155,7 @@ pub fn tell_run<W: Write, E: Write>(
     match run_text(alloc, number) {
         Ok(Some(text)) => write_text(Ok(text), 0, output, faults),
         Ok(None) => {
-            let _ = tell(faults, &"error 53 no such situation");
+            let _ = write_whole(faults, b"error 53 no such situation\n");
             3
         }
         Err(TableError::Memory) => tell_fault(alloc, "", Fault::Memory, faults),

@@ -3,7 +3,7 @@
 use crate::tallies::Tallies;
 use crate::tally::Tally;
 use crate::text::{Spot, reached};
-use std::alloc::AllocError;
+use std::alloc::{AllocError, Global};
 use std::fmt::Write;
 
 const HEAD: &str =
@@ -22,7 +22,12 @@ fn push_escaped(text: &mut String, plain: &str) -> Result<(), AllocError> {
     Ok(())
 }
 
-fn push_rows(text: &mut String, tally: &Tally, names: &[String]) -> Result<(), AllocError> {
+fn push_rows(
+    alloc: Global,
+    text: &mut String,
+    tally: &Tally,
+    names: &[String],
+) -> Result<(), AllocError> {
     let clients = tally.table().clients();
     let mut number: u64 = 0;
     for (situation, count) in tally.table().situations().iter().zip(tally.counts()) {
@@ -37,14 +42,19 @@ fn push_rows(text: &mut String, tally: &Tally, names: &[String]) -> Result<(), A
             names,
             first: count.first,
         };
-        let first = format!(in text.allocator(); "{spot}")?;
+        let first = format!(in alloc; "{spot}")?;
         push_escaped(text, first.as_str())?;
         text.push_str("\n")?;
     }
     Ok(())
 }
 
-fn push_table(text: &mut String, tally: &Tally, names: &[String]) -> Result<(), AllocError> {
+fn push_table(
+    alloc: Global,
+    text: &mut String,
+    tally: &Tally,
+    names: &[String],
+) -> Result<(), AllocError> {
     let clients = tally.table().clients();
     let (reached, all) = reached(tally, None);
     let beyond = tally.beyond();
@@ -53,19 +63,20 @@ fn push_table(text: &mut String, tally: &Tally, names: &[String]) -> Result<(), 
         "<h1>{clients} clients: {reached} of {all} situations reached</h1>\n<p>{beyond} events in situations that need more clients. What was never reached is shaded.</p>\n"
     )?;
     text.push_str("<table>\n<tr><th>number<th>situation<th>events<th>first\n")?;
-    push_rows(text, tally, names)?;
+    push_rows(alloc, text, tally, names)?;
     text.push_str("</table>\n")
 }
 
 /// A page with the table of each number of clients that was met.
 pub(crate) fn push_page(
+    alloc: Global,
     text: &mut String,
     tallies: &Tallies,
     names: &[String],
 ) -> Result<(), AllocError> {
     text.push_str(HEAD)?;
     for tally in tallies.all() {
-        push_table(text, tally, names)?;
+        push_table(alloc, text, tally, names)?;
     }
     text.push_str("</html>\n")
 }

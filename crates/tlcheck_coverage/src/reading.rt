@@ -11,7 +11,7 @@ use tl_rules::Shape;
 use tl_types::{BLOCK_BYTES, BLOCKS};
 use tlcheck_reader::{BrokenEntry, Outcome};
 use tlcheck_record::{LineError, is_blank, read_entry, read_image_line, read_shape, read_text};
-use tlcheck_rules::{Judge, Refusal};
+use tlcheck_rules::{Breach, Entry, Judge, Refusal};
 use tlcheck_situations::TableError;
 
 /// Why a record is not counted to its end.
@@ -84,41 +84,56 @@ fn begin(
     }
 }
 
+/// What is said of an entry that breaks something.
+fn broken(line: u64, judge: Judge, entries: u64, entry: &Entry, breach: Breach) -> Fault {
+    let block = entry.event.block(judge.plain().shape());
+    Fault::Refused(Outcome::Broken(
+        line,
+        BrokenEntry {
+            judge,
+            block,
+            number: entries.saturating_add(1),
+            breach,
+        },
+    ))
+}
+
+/// Judges and counts an entry.
+fn take_entry(
+    tallies: &mut Tallies,
+    counting: Counting,
+    entry: &Entry,
+    mark: Mark,
+) -> Result<Counting, Fault> {
+    let Counting {
+        mut judge,
+        entries,
+        tally,
+    } = counting;
+    match tallies.see(tally, &mut judge, entry, mark) {
+        Ok(()) => Ok(Counting {
+            judge,
+            entries: entries.saturating_add(1),
+            tally,
+        }),
+        Err(Refusal::Memory) => Err(Fault::Memory),
+        Err(Refusal::Broken(breach)) => Err(broken(mark.line, judge, entries, entry, breach)),
+    }
+}
+
 /// Counts the entry of a line.
 fn count(
     alloc: Global,
     tallies: &mut Tallies,
-    mut counting: Counting,
+    counting: Counting,
     text: &str,
     mark: Mark,
 ) -> Result<Stage, Fault>
     ensures { IfOk result IsFit }
 {
-    let entry = match read_entry(alloc, text) {
-        Ok(entry) => entry,
-        Err(error) => return Err(refused(mark.line, error)),
-    };
-    let Some(tally) = tallies.at(counting.tally) else {
-        return Err(Fault::Memory);
-    };
-    match tally.see(&mut counting.judge, &entry, mark) {
-        Ok(()) => {
-            counting.entries = counting.entries.saturating_add(1);
-            Ok(Stage::Counting(counting))
-        }
-        Err(Refusal::Memory) => Err(Fault::Memory),
-        Err(Refusal::Broken(breach)) => {
-            let block = entry.event.block(counting.judge.plain().shape());
-            Err(Fault::Refused(Outcome::Broken(
-                mark.line,
-                BrokenEntry {
-                    judge: counting.judge,
-                    block,
-                    number: counting.entries.saturating_add(1),
-                    breach,
-                },
-            )))
-        }
+    match read_entry(alloc, text) {
+        Ok(entry) => Ok(Stage::Counting(take_entry(tallies, counting, &entry, mark)?)),
+        Err(error) => Err(refused(mark.line, error)),
     }
 }
 

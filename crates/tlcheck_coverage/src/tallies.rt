@@ -1,8 +1,9 @@
 //! A tally for each number of clients that is met.
 ghost use Rattle.std.specs.Prelude.{◌<◌};
 
-use crate::tally::Tally;
+use crate::tally::{Mark, Tally};
 use std::alloc::{AllocError, Global};
+use tlcheck_rules::{Entry, Judge, Refusal};
 use tlcheck_situations::{Table, TableError};
 
 /// The most clients of a table. A record of more is counted over the table of so many.
@@ -42,12 +43,25 @@ impl Tallies {
             return Ok(place);
         }
         let tally = Tally::new(alloc, Table::new(alloc, meant)?)?;
-        self.tallies.push(tally)?;
-        Ok(self.tallies.len() - 1)
+        let place = self.tallies.len();
+        match self.tallies.push(tally) {
+            Ok(()) => Ok(place),
+            Err(_) => Err(TableError::Memory),
+        }
     }
 
-    /// The tally at a place.
-    pub(crate) fn at(&mut self, place: usize) -> Option<&mut Tally> {
-        self.tallies.get_mut(place)
+    /// Judges the next entry of a record, and counts its event over the tally at a place.
+    pub(crate) fn see(
+        &mut self,
+        place: usize,
+        judge: &mut Judge,
+        entry: &Entry,
+        mark: Mark,
+    ) -> Result<(), Refusal> {
+        if place < self.tallies.len() {
+            self.tallies[place].see(judge, entry, mark)
+        } else {
+            Err(Refusal::Memory)
+        }
     }
 }

@@ -4,7 +4,9 @@ use crate::tally::{Mark, Tally};
 use std::alloc::AllocError;
 use std::fmt;
 use std::fmt::Write;
-use tlcheck_situations::{ACTIONS, Action};
+use tl_rules::Event;
+use tlcheck_record::EventLine;
+use tlcheck_situations::{ACTIONS, Action, Situation};
 
 /// Where an event stands: the record's name, and the line.
 #[derive(Clone, Copy)]
@@ -31,7 +33,11 @@ pub(crate) fn reached(tally: &Tally, action: Option<Action>) -> (usize, usize) {
     let mut reached: usize = 0;
     let mut all: usize = 0;
     for (situation, count) in tally.table().situations().iter().zip(tally.counts()) {
-        if action.is_none_or(|action| situation.action == action) {
+        let is_counted = match action {
+            None => true,
+            Some(action) => situation.action == action,
+        };
+        if is_counted {
             all = all.saturating_add(1);
             if count.events > 0 {
                 reached = reached.saturating_add(1);
@@ -79,4 +85,20 @@ pub(crate) fn push_tally(
     )?;
     push_actions(text, tally)?;
     push_rows(text, tally, names)
+}
+
+/// The record of a run: its situation and number as a comment, the geometry, a line for each event.
+pub(crate) fn push_run(
+    text: &mut String,
+    clients: u32,
+    place: u32,
+    situation: &Situation,
+    run: &[Event],
+) -> Result<(), AllocError> {
+    writeln!(text, "# {clients}.{place} {situation}")?;
+    writeln!(text, "clients {clients} block_bytes 8 memory_blocks 1")?;
+    for event in run {
+        writeln!(text, "{}", EventLine(event))?;
+    }
+    Ok(())
 }
