@@ -13,4 +13,6 @@ mod explained;
 #[cfg(test)]
 mod readers;
 #[cfg(test)]
+mod situations;
+#[cfg(test)]
 mod states;

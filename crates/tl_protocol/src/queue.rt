@@ -162,6 +162,13 @@ impl AckCount {
         self.acks.pop();
     }
 
+    /// How many there are.
+    pub fn len(&self) -> usize
+        ensures { result ≡ self.now }
+    {
+        self.acks.len()
+    }
+
     /// Whether there is none.
     pub fn is_empty(&self) -> bool
         ensures { IsTrue result ↔ (self.now ≡ 0) }

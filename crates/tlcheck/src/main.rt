@@ -1,9 +1,12 @@
-//! `tlcheck [--progress] FILE`: whether a record of events is a lawful run. `-` stands for standard input.
+//! `tlcheck [--progress] FILE`: whether a record of events is a lawful run; `-` stands for standard input. `tlcheck --coverage
+//! [--html] FILE ..`: which situations of the protocol records have reached. `tlcheck --how N`: a run that reaches situation N.
 #![tactic(auto)]
 
 mod asked;
+mod coverage;
 
 use asked::{Asked, asked_by};
+use coverage::{tell_coverage, tell_how};
 use std::fs::File;
 use std::io::{BufReader, IsTerminal, Read};
 use std::process::ExitCode;
@@ -16,9 +19,9 @@ fn refuse(rt: &HostRuntime, ending: Ending) -> u8 {
 
 /// Checks what a reader has, of so many bytes where they are known, and tells how far it is where that is asked for, or
 /// where faults go to a terminal.
-fn judge<R: Read + Drop>(rt: &HostRuntime, asked: &Asked<'_>, reader: R, size: Option<u64>) -> u8 {
+fn judge<R: Read + Drop>(rt: &HostRuntime, progress: bool, reader: R, size: Option<u64>) -> u8 {
     let is_terminal = rt.stderr().is_terminal();
-    let progress = if asked.progress || is_terminal {
+    let progress = if progress || is_terminal {
         Progress::begin(rt.stderr(), rt, is_terminal, size)
     } else {
         None
@@ -43,23 +46,30 @@ fn size_of(file: &File) -> Option<u64> {
     }
 }
 
+/// Checks a file.
+fn judge_file(rt: &HostRuntime, name: &str, progress: bool) -> u8 {
+    if name == "-" {
+        return judge(rt, progress, rt.reader(), None);
+    }
+    match File::open(rt, name) {
+        Ok(file) => {
+            let size = size_of(&file);
+            judge(rt, progress, file, size)
+        }
+        Err(_) => refuse(rt, Ending::File),
+    }
+}
+
 fn status(rt: &HostRuntime) -> u8 {
     let words = match words(rt) {
         Ok(words) => words,
         Err(error) => return refuse(rt, Ending::from(error)),
     };
-    let Some(asked) = asked_by(&words) else {
-        return refuse(rt, Ending::Usage);
-    };
-    if asked.file == "-" {
-        return judge(rt, &asked, rt.reader(), None);
-    }
-    match File::open(rt, asked.file) {
-        Ok(file) => {
-            let size = size_of(&file);
-            judge(rt, &asked, file, size)
-        }
-        Err(_) => refuse(rt, Ending::File),
+    match asked_by(&words) {
+        Some(Asked::Judged(name, progress)) => judge_file(rt, name, progress),
+        Some(Asked::Covered(form, names)) => tell_coverage(rt, form, names),
+        Some(Asked::Reached(number)) => tell_how(rt, number),
+        None => refuse(rt, Ending::Usage),
     }
 }
 

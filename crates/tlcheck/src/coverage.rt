@@ -1,0 +1,47 @@
+//! What records have reached, and a run that reaches a situation.
+
+use std::fs::File;
+use std::io::BufReader;
+use tlcheck_coverage::{Fault, Form, Number, Tallies, cover, tell_fault, tell_run, tell_tables};
+use tlcheck_reader::{Ending, show};
+
+/// Counts the events of a file.
+fn count(rt: &HostRuntime, name: &str, tallies: &mut Tallies, place: usize) -> Result<(), Fault> {
+    let file = match File::open(rt, name) {
+        Ok(file) => file,
+        Err(_) => return Err(Fault::File),
+    };
+    match BufReader::with_capacity(rt.alloc(), 65_536, file) {
+        Ok(mut reader) => {
+            cover(rt.alloc(), &mut reader, tallies, place)?;
+            Ok(())
+        }
+        Err(_) => Err(Fault::Memory),
+    }
+}
+
+/// Counts the events of files, and tells what they have reached.
+pub(crate) fn tell_coverage(rt: &HostRuntime, form: Form, names: &[String]) -> u8 {
+    let mut tallies = Tallies::new(rt.alloc());
+    for (place, name) in names.iter().enumerate() {
+        if let Err(fault) = count(rt, name.as_str(), &mut tallies, place) {
+            return tell_fault(rt.alloc(), name.as_str(), fault, &mut rt.stderr());
+        }
+    }
+    tell_tables(
+        rt.alloc(),
+        &tallies,
+        names,
+        form,
+        &mut rt.stdout(),
+        &mut rt.stderr(),
+    )
+}
+
+/// Tells a run that reaches a situation.
+pub(crate) fn tell_how(rt: &HostRuntime, word: &str) -> u8 {
+    match Number::parse(word) {
+        Some(number) => tell_run(rt.alloc(), number, &mut rt.stdout(), &mut rt.stderr()),
+        None => show(&mut rt.stderr(), &Ending::Usage),
+    }
+}

@@ -1,0 +1,22 @@
+use Rattle.std.proofs.Common.{ℕ, ◌<◌, List}
+use Rattle.tl_protocol.specs.declared.event.Event.{Event}
+use Rattle.tl_protocol.specs.declared.shape.Shape.{Shape}
+use Rattle.tlcheck_rules.specs.Judged.{Follows}
+use Rattle.tlcheck_coverage.specs.Tally.{IsNoted, IsSeen}
+use Rattle.tlcheck_coverage.proofs.Noting.{never_none, on_ok, seen_as}
+use Rattle.tlcheck_coverage.proofs.tally.Tally.see.Goals as goal
+
+pub returns-in-None-clause-ok : goal.returns-in-None-clause-ok
+returns-in-None-clause-ok c shape image log follows some =
+    absurd (never_none shape image log c.args.entry.now c.args.judge.now c.plain.result.now c.plain.ensures some follows
+    (c.in_ok-step.ensures.ok shape image log follows).0 c.in-None.ensures)
+
+pub returns-in-Some-clause-ok : goal.returns-in-Some-clause-ok
+returns-in-Some-clause-ok c =
+    on_ok c.noted.result (IsNoted c.in-Some.situation c.args.mark c.args.self.now c.noted.new.self)
+    ((shape : Shape) (image : List ℕ) (log : List Event) → Follows shape image log c.args.judge.now → 0 < shape.clients
+    → IsSeen shape image log c.args.entry.now c.args.mark c.step.new.self c.args.self.now c.noted.new.self)
+    (λ noted shape image log follows some.
+    let step = c.in_ok-step.ensures.ok shape image log follows in
+    seen_as shape image log c.args.entry.now c.args.mark c.args.judge.now c.step.new.self c.plain.result.now c.args.self.now
+    c.noted.new.self c.in-Some.situation c.plain.ensures follows step.0 step.1 c.in-Some.ensures noted) c.noted.ensures.ok

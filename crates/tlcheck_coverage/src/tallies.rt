@@ -1,0 +1,67 @@
+//! A tally for each number of clients that is met.
+ghost use Rattle.std.specs.Prelude.{◌<◌};
+
+use crate::tally::{Mark, Tally};
+use std::alloc::{AllocError, Global};
+use tlcheck_rules::{Entry, Judge, Refusal};
+use tlcheck_situations::{Table, TableError};
+
+/// The most clients of a table. A record of more is counted over the table of so many.
+pub(crate) const MOST: u32 = 3;
+
+/// The tallies so far, by their clients.
+#[derive(Drop)]
+pub struct Tallies {
+    tallies: Vec<Tally>,
+}
+
+impl Tallies {
+    /// None.
+    pub fn new(alloc: Global) -> Tallies {
+        Tallies {
+            tallies: Vec::new(alloc),
+        }
+    }
+
+    /// All of them, in the order in which they were met.
+    pub fn all(&self) -> &[Tally] {
+        self.tallies.as_slice()
+    }
+
+    fn place_of(&self, clients: u32) -> Option<usize> {
+        self.tallies
+            .iter()
+            .position(|tally| tally.table().clients() == clients)
+    }
+
+    /// The place of the tally of so many clients, which is made where there is none. Err is why it cannot be.
+    pub(crate) fn place_for(&mut self, alloc: Global, clients: u32) -> Result<usize, TableError>
+        requires { 0 < clients }
+    {
+        let meant = clients.min(MOST);
+        if let Some(place) = self.place_of(meant) {
+            return Ok(place);
+        }
+        let tally = Tally::new(alloc, Table::new(alloc, meant)?)?;
+        let place = self.tallies.len();
+        match self.tallies.push(tally) {
+            Ok(()) => Ok(place),
+            Err(_) => Err(TableError::Memory),
+        }
+    }
+
+    /// Judges the next entry of a record, and counts its event over the tally at a place.
+    pub(crate) fn see(
+        &mut self,
+        place: usize,
+        judge: &mut Judge,
+        entry: &Entry,
+        mark: Mark,
+    ) -> Result<(), Refusal> {
+        if place < self.tallies.len() {
+            self.tallies[place].see(judge, entry, mark)
+        } else {
+            Err(Refusal::Memory)
+        }
+    }
+}
