@@ -1,5 +1,5 @@
 -- What the answer to a record of messages ends with.
-use Rattle.std.specs.Prelude.{◌≡◌, ◌<◌, ◌&&◌, not, ℕ, Bool, true, false, List, length, Ok, Err}
+use Rattle.std.specs.Prelude.{◌≡◌, ◌<◌, ◌&&◌, not, ℕ, Bool, true, false, List, length, Option, Some, Ok, Err}
 use Rattle.std.specs.List.{list_any}
 use Rattle.tlwire_search.specs.Explained.{Explains}
 use Rattle.tlwire_search.specs.Premises.{is_seen_at_pins, is_unseen_on}
@@ -12,13 +12,16 @@ use Rattle.tlwire_pins.specs.Impossible.{IsImpossible}
 use Rattle.tlwire_pins.specs.Pins.{KeepsOrder, lines_from}
 use Rattle.tlwire_pins.specs.Walk.{IsWrong}
 use Rattle.tlwire_pins.specs.declared.pass.Wrong.{Wrong}
+use Rattle.tlwire_closed.specs.Along.{IsImpossible as IsSeenByNone}
+use Rattle.tlwire_closed.specs.declared.premise.Premise.{Premise as SetPremise}
+use Rattle.tlwire_answer.specs.Named.{premise_named}
 use Rattle.tlwire_record.specs.Messages.{MessagesState}
 use Rattle.tlwire_record.specs.Read.{IsRead}
 use Rattle.tlwire_record.specs.declared.record.ReadFault.TheVariants as read
 use Rattle.tlwire_answer.specs.declared.ending.Ending.{Ending}
 use Rattle.tlwire_answer.specs.declared.ending.Ending.TheVariants.{Usage, Answered, Wrong as WrongLine, Empty, Memory, File}
 use Rattle.tlwire_answer.specs.declared.verdict.Verdict.{Verdict}
-use Rattle.tlwire_answer.specs.declared.verdict.Verdict.TheVariants.{Explained, Impossible, NotDecided, OtherOrder}
+use Rattle.tlwire_answer.specs.declared.verdict.Verdict.TheVariants.{Explained, Impossible, RuledOut, NotDecided, OtherOrder}
 
 -- the header says that a client's link was seen at the client's pins, and not that nobody watched the cores
 abbrev pub is_told_at_pins : List Premise → ℕ → Bool
@@ -31,6 +34,12 @@ pub record IsNo (m : MessagesState) (w : Wrong) : Type 0 where
   pub premise : is_told_at_pins m.setting.premises client ≡ true
   pub wrong : IsWrong m.setting.shape client m.seen w
   pub impossible : IsImpossible m.setting.shape client m.seen
+
+-- The header says when each message was seen, and no lawful run over the image is seen so.
+pub record IsRuledOut (m : MessagesState) : Type 0 where
+  pub premise : SetPremise
+  pub named : premise_named m.setting.premises ≡ Some premise
+  pub impossible : IsSeenByNone m.setting.shape premise m.image m.seen
 
 -- lines at the pins of clients have the record's in their order, of a client, where it was seen there
 abbrev pub ClientKeepsOrder : MessagesState → List Seen → ℕ → Type 0
@@ -58,6 +67,7 @@ pub record IsExplained (m : MessagesState) (run : List Event) : Type 0 where
 abbrev pub IsVerdict : MessagesState → Verdict → Type 0
 IsVerdict m (Explained run) = IsExplained m run.items
 IsVerdict m (Impossible w) = IsNo m w
+IsVerdict m (RuledOut stuck) = IsRuledOut m
 IsVerdict m (NotDecided place limit) = place < length m.seen
 IsVerdict m OtherOrder = Unit {0}
 

@@ -15,6 +15,7 @@ use Rattle.tlcheck_record.specs.Reason.{reason_text}
 use Rattle.tlcheck_record.specs.State.{copy_text, wait_text}
 use Rattle.tlwire_search.specs.declared.search.Limit.{Limit}
 use Rattle.tlwire_search.specs.declared.search.Limit.TheVariants.{NoWay, Depth, Events}
+use Rattle.tlwire_closed.specs.declared.answer.Stuck.{Stuck}
 use Rattle.tlwire_pins.specs.declared.pass.Wrong.{Wrong}
 use Rattle.tlwire_pins.specs.declared.view.View.{View}
 use Rattle.tlcheck_record.specs.Cause.{is_outside, sentence}
@@ -24,7 +25,7 @@ use Rattle.tlwire_answer.specs.Run.{run_text}
 use Rattle.tlwire_answer.specs.declared.ending.Ending.{Ending}
 use Rattle.tlwire_answer.specs.declared.ending.Ending.TheVariants.{Usage, Answered, Wrong as WrongLine, Empty, Memory, File}
 use Rattle.tlwire_answer.specs.declared.verdict.Verdict.{Verdict}
-use Rattle.tlwire_answer.specs.declared.verdict.Verdict.TheVariants.{Explained, Impossible, NotDecided, OtherOrder}
+use Rattle.tlwire_answer.specs.declared.verdict.Verdict.TheVariants.{Explained, Impossible, RuledOut, NotDecided, OtherOrder}
 use Rattle.tlwire_answer.specs.declared.ending.Form.{Form}
 use Rattle.tlwire_answer.specs.declared.ending.Form.TheVariants.{Summary, Run}
 
@@ -32,6 +33,7 @@ use Rattle.tlwire_answer.specs.declared.ending.Form.TheVariants.{Summary, Run}
 abbrev pub verdict_status : Verdict → ℕ
 verdict_status (Explained events) = 0
 verdict_status (Impossible wrong) = 1
+verdict_status (RuledOut stuck) = 1
 verdict_status (NotDecided place limit) = 6
 verdict_status OtherOrder = 6
 
@@ -141,6 +143,18 @@ view_line block client v =
 abbrev pub impossible_text : ℕ → List ℕ → Wrong → List ℕ
 impossible_text number line w = rule_line number w.breach ++ line ++ view_line w.block w.client w.view
 
+-- the number of a line that no run comes to
+abbrev pub stuck_line : ℕ → List ℕ
+stuck_line number = codes "impossible: line " ++ decimal number ++ codes ": no lawful run comes so far\n"
+
+-- the block of it
+abbrev pub block_line : ℕ → List ℕ
+block_line block = codes "\nblock " ++ decimal block ++ codes "\n"
+
+-- the line that no run comes to, and its block
+abbrev pub ruled_out_text : ℕ → List ℕ → Stuck → List ℕ
+ruled_out_text number line stuck = stuck_line number ++ line ++ block_line stuck.block
+
 -- what is written of a run that was found
 abbrev pub explained_text : Form → MessagesState → List Event → List ℕ
 explained_text Summary m events = summary_line m events
@@ -150,6 +164,7 @@ explained_text Run m events = run_of m events
 abbrev pub answer_text : Form → List (List ℕ) → MessagesState → Verdict → List ℕ
 answer_text form lines m (Explained events) = explained_text form m events.items
 answer_text form lines m (Impossible w) = impossible_text (number_at m.lines w.place) (text_at lines (number_at m.lines w.place)) w
+answer_text form lines m (RuledOut stuck) = ruled_out_text (number_at m.lines stuck.place) (text_at lines (number_at m.lines stuck.place)) stuck
 answer_text form lines m (NotDecided place limit) =
     not_decided_text (number_at m.lines place) (text_at lines (number_at m.lines place)) limit
 answer_text form lines m OtherOrder = other_order_text

@@ -1,3 +1,4 @@
 pub mod Answer
 pub mod Ending
 pub mod Run
+pub mod Named

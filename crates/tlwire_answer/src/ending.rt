@@ -2,7 +2,7 @@
 ghost use Rattle.std.specs.Prelude.{◌≡◌, ◌++◌, Some, IfOk, OnOk, slice_get, string_bytes};
 ghost use Rattle.tl_streams.specs.Written.{AppendsBeginning};
 ghost use Rattle.tl_script_words.specs.Words.{texts};
-ghost use Rattle.tlwire_answer.specs.Ending.{answer_text, ending_of_read, ending_of_words, explained_text, fault_line, fault_text, impossible_text, lent_line, limit_line, limit_text, not_decided_text, number_at, other_order_text, rule_line, run_of, status_of, summary_line, summary_text, text_at, view_line};
+ghost use Rattle.tlwire_answer.specs.Ending.{answer_text, ending_of_read, ending_of_words, explained_text, fault_line, fault_text, impossible_text, lent_line, limit_line, limit_text, not_decided_text, number_at, other_order_text, rule_line, ruled_out_text, stuck_line, block_line, run_of, status_of, summary_line, summary_text, text_at, view_line};
 
 use crate::run::RunText;
 use crate::verdict::Verdict;
@@ -15,6 +15,7 @@ use tl_streams::{ProgramFault, ReadError, WordsError, tell};
 use tl_types::{BlockNo, ClientId};
 use tlcheck_record::{Cause, Held, Reason, Waits};
 use tlcheck_rules::Breach;
+use tlwire_closed::Stuck;
 use tlwire_pins::{View, Wrong};
 use tlwire_record::Messages;
 use tlwire_search::Limit;
@@ -96,6 +97,7 @@ impl Ending {
         match self {
             Ending::Answered(_, Verdict::Explained(_)) => 0,
             Ending::Answered(_, Verdict::Impossible(_)) => 1,
+            Ending::Answered(_, Verdict::RuledOut(_)) => 1,
             Ending::Answered(_, Verdict::NotDecided(_, _)) => 6,
             Ending::Answered(_, Verdict::OtherOrder) => 6,
             Ending::Usage => 2,
@@ -306,6 +308,47 @@ fn impossible(alloc: Global, number: u64, line: &[u8], wrong: &Wrong) -> Result<
     Ok(text)
 }
 
+// The number of a line that no run comes to.
+#[derive(Clone, Copy)]
+struct StuckLine(u64);
+
+impl fmt::Display for StuckLine {
+    ghost output = { λ x. Some (stuck_line x.0) };
+
+    fn fmt<W: fmt::Write>(&self, f: &mut fmt::Formatter<W>) -> fmt::Result {
+        write!(
+            f,
+            "impossible: line {}: no lawful run comes so far\n",
+            self.0
+        )
+    }
+}
+
+// The block of that line.
+#[derive(Clone, Copy)]
+struct BlockLine(u32);
+
+impl fmt::Display for BlockLine {
+    ghost output = { λ x. Some (block_line x.0) };
+
+    fn fmt<W: fmt::Write>(&self, f: &mut fmt::Formatter<W>) -> fmt::Result {
+        write!(f, "\nblock {}\n", self.0)
+    }
+}
+
+fn ruled_out(alloc: Global, number: u64, line: &[u8], stuck: &Stuck) -> Result<Vec<u8>, AllocError>
+    ensures { IfOk result (λ text. text.items ≡ ruled_out_text number line.now stuck.now) }
+{
+    let place = StuckLine(number);
+    let block = BlockLine(stuck.block);
+    let head = format!(in alloc; "{place}")?;
+    let tail = format!(in alloc; "{block}")?;
+    let mut text = head.into_bytes();
+    text.extend_from_slice(line)?;
+    text.extend_from_slice(tail.as_bytes())?;
+    Ok(text)
+}
+
 /// What is written of what was said. Err is a refused request for memory.
 pub(crate) fn text_of(
     alloc: Global,
@@ -321,6 +364,10 @@ pub(crate) fn text_of(
         Verdict::Impossible(wrong) => {
             let number = number_at(messages, wrong.place);
             impossible(alloc, number, text_at(lines, number), wrong)
+        }
+        Verdict::RuledOut(stuck) => {
+            let number = number_at(messages, stuck.place);
+            ruled_out(alloc, number, text_at(lines, number), stuck)
         }
         Verdict::NotDecided(place, limit) => {
             let number = number_at(messages, *place);

@@ -1,15 +1,20 @@
 //! What is said of what was seen.
+ghost use Rattle.std.specs.List.{list_any};
 ghost use Rattle.std.specs.Prelude.{◌≡◌, ◌⊎◌, IfOk, IfSome, IsTrue};
 ghost use Rattle.std.specs.Bool.{OnFalse};
-ghost use Rattle.tlwire_answer.specs.Answer.{ClientKeepsOrder, EachKeepsOrder, IsInOrder, IsNo, IsVerdict, NobodyIsTold, is_told_at_pins};
+ghost use Rattle.tlwire_answer.specs.Named.{is_at_home, is_between, is_skew, is_something_unseen, premise_named, way_named};
+ghost use Rattle.tlwire_answer.specs.Answer.{ClientKeepsOrder, EachKeepsOrder, IsInOrder, IsNo, IsRuledOut, IsVerdict, NobodyIsTold, is_told_at_pins};
 ghost use Rattle.tlwire_search.specs.Explained.{Explains};
 
 use std::alloc::{AllocError, Global};
 use tl_rules::Event;
-use tl_types::ClientId;
+use tl_types::{Channel, ClientId};
+use tlwire_closed::{Answer, Stuck, Way, rule_out};
 use tlwire_pins::{Wrong, first_wrong, keeps_order, lines_at_pins};
 use tlwire_record::Messages;
-use tlwire_search::{Explanation, Limit, Premise, Seen, Wire, explain, is_seen_at_pins, is_unseen};
+use tlwire_search::{
+    Explanation, Limit, Premise, Seen, Wire, explain, is_seen_at_pins, is_unseen, is_whole,
+};
 
 /// What is said of what was seen.
 #[derive(Drop)]
@@ -18,6 +23,8 @@ pub enum Verdict {
     Explained(Vec<Event>),
     /// No lawful run is seen so: this line may not be seen at its client's pins.
     Impossible(Wrong),
+    /// No lawful run is seen so, by a closed set of states of one block.
+    RuledOut(Stuck),
     /// Neither was found; the attempt ended before the thing seen at this place, by this.
     NotDecided(usize, Limit),
     /// A run was found that has what was seen on each wire, but not in the order of the lines at a client's pins.
@@ -145,12 +152,119 @@ fn explained(alloc: Global, messages: &Messages) -> Result<Verdict, AllocError>
     }
 }
 
+fn is_between(line: &Premise) -> bool
+    ensures { result ≡ is_between line.now }
+{
+    matches!(line, Premise::Between)
+}
+
+fn is_at_home(line: &Premise) -> bool
+    ensures { result ≡ is_at_home line.now }
+{
+    matches!(line, Premise::AtHome)
+}
+
+fn is_skew(line: &Premise) -> bool
+    ensures { result ≡ is_skew line.now }
+{
+    matches!(line, Premise::Skew(_))
+}
+
+/// Whether the header says that each message was seen between its sending and its taking.
+fn is_any_between(premises: &[Premise]) -> bool
+    ensures { result ≡ list_any is_between premises.now }
+{
+    premises.iter().any(|line| is_between(line))
+}
+
+/// Whether the header says that each message was seen at home's pins.
+fn is_any_at_home(premises: &[Premise]) -> bool
+    ensures { result ≡ list_any is_at_home premises.now }
+{
+    premises.iter().any(|line| is_at_home(line))
+}
+
+/// Whether the header says how far lines may stand behind later ones.
+fn is_any_skew(premises: &[Premise]) -> bool
+    ensures { result ≡ list_any is_skew premises.now }
+{
+    premises.iter().any(|line| is_skew(line))
+}
+
+/// Whether nobody watched the memory's link, or the cores.
+fn is_something_unseen(premises: &[Premise]) -> bool
+    ensures { result ≡ is_something_unseen premises.now }
+{
+    is_unseen(premises, Wire::Memory(Channel::A))
+        || is_unseen(premises, Wire::Core(ClientId::new(0)))
+}
+
+/// When each message was seen, where the header says that, everything was watched, and lines stand in order of time.
+fn way_named(premises: &[Premise]) -> Option<Way>
+    ensures { result ≡ way_named premises.now }
+{
+    if is_something_unseen(premises) || is_any_skew(premises) {
+        None
+    } else if is_any_between(premises) {
+        Some(Way::Between)
+    } else if is_any_at_home(premises) {
+        Some(Way::AtHome)
+    } else {
+        None
+    }
+}
+
+/// The premise of closed sets that the header names.
+fn premise_named(premises: &[Premise]) -> Option<tlwire_closed::Premise>
+    ensures { result ≡ premise_named premises.now }
+{
+    match way_named(premises) {
+        Some(way) => Some(tlwire_closed::Premise {
+            way,
+            skew: 0,
+            whole: is_whole(premises),
+        }),
+        None => None,
+    }
+}
+
+/// Where each run of a block is stuck, by the premise that the header names.
+fn ruled_out(alloc: Global, messages: &Messages) -> Result<Option<Stuck>, AllocError>
+    ensures { IfOk result (λ found. IfSome found (λ stuck. IsRuledOut messages.now)) }
+{
+    let setting = messages.setting();
+    let premise = match premise_named(setting.premises()) {
+        Some(premise) => premise,
+        None => return Ok(None),
+    };
+    match rule_out(
+        alloc,
+        setting.shape(),
+        premise,
+        messages.image(),
+        messages.seen(),
+    )? {
+        Answer::Impossible(stuck) => Ok(Some(stuck)),
+        Answer::NotDecided(_) => Ok(None),
+    }
+}
+
+/// What is said of what may be seen at the pins of its clients.
+fn weighed(alloc: Global, messages: &Messages) -> Result<Verdict, AllocError>
+    ensures { IfOk result (IsVerdict messages.now) }
+{
+    match ruled_out(alloc, messages)? {
+        Some(stuck) => Ok(Verdict::RuledOut(stuck)),
+        None => explained(alloc, messages),
+    }
+}
+
 /// What is said of what was seen. Err is a refused request for memory.
 pub(crate) fn judge(alloc: Global, messages: &Messages) -> Result<Verdict, AllocError>
     ensures { IfOk result (IsVerdict messages.now) }
 {
     match wrong_at_pins(alloc, messages)? {
         Some(wrong) => Ok(Verdict::Impossible(wrong)),
-        None => explained(alloc, messages),
+        None => weighed(alloc, messages),
     }
 }
