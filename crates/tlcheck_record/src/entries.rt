@@ -6,6 +6,7 @@ ghost use Rattle.tlcheck_record.specs.Words.{number_in};
 ghost use Rattle.tlcheck_record.specs.Entry.{access_in, acquire_in, client_entry, client_event, entry_by, entry_in, entry_of, home_entry, home_event, probe_in, release_in};
 
 use crate::cause::{Cause, LineError};
+use crate::cut::few_words;
 use crate::shown::{parse_probe_cap, parse_shown};
 use crate::words::{read_access, read_address, read_grow, read_number, read_prune};
 use std::alloc::Global;
@@ -236,10 +237,20 @@ fn entry_in(alloc: Global, words: &[&str]) -> Result<Entry, LineError>
     }
 }
 
-/// The entry that a line writes, or why it cannot be read.
-pub fn read_entry(alloc: Global, line: &str) -> Result<Entry, LineError>
+/// The entry that any line writes, or why it cannot be read.
+fn entry_of_any(alloc: Global, line: &str) -> Result<Entry, LineError>
     ensures { Gives (λ x. x) result (entry_of line.now) }
 {
     let words = split_words(alloc, line)?;
     entry_in(alloc, &words)
+}
+
+/// The entry that a line writes, or why it cannot be read.
+pub fn read_entry(alloc: Global, line: &str) -> Result<Entry, LineError>
+    ensures { Gives (λ x. x) result (entry_of line.now) }
+{
+    match few_words(line) {
+        Some(words) => entry_in(alloc, &words),
+        None => entry_of_any(alloc, line),
+    }
 }

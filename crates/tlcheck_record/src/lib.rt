@@ -4,6 +4,7 @@
 
 mod cause;
 mod client;
+mod cut;
 mod entries;
 mod header;
 mod home;
