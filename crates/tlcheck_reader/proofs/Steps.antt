@@ -12,6 +12,7 @@ use Rattle.tlcheck_reader.specs.declared.record.CheckFault.{CheckFault}
 use Rattle.tlcheck_reader.specs.declared.outcome.Outcome.TheVariants.{Broken, Unreadable}
 use Rattle.tlcheck_reader.specs.declared.outcome.Stage.{Stage}
 use Rattle.tlcheck_reader.specs.declared.outcome.Stage.TheVariants.{Fresh, Shaped, Judging}
+use Rattle.tlcheck_reader.specs.Entries.{IsWhere}
 use Rattle.tlcheck_reader.specs.Lines.{lines_of, onto_first}
 use Rattle.tlcheck_reader.specs.Outcome.{Agrees, IsAt, IsOutcome, Takes, ending_of, stop_of}
 use Rattle.tlcheck_reader.specs.Reading.{Reading, fresh, shaped, going, after_line, after_text, reading_of}
@@ -138,10 +139,6 @@ module _ (text left : List ℕ) (count : ℕ) (stage : Stage) (at : IsAt text le
       end_at at.reading stage at.agrees (ap (λ (ls : List (List ℕ)). reading_of fresh ls) all ∙ at.reads)
 
 -- ## Where the bytes of a reader are known
-
--- the check is where the lines so far lead
-abbrev pub IsWhere : Option (List ℕ) → Option (List ℕ) → ℕ → Stage → Type 0
-IsWhere known now n stage = IfSome known (λ text. (left : List ℕ) × (now ≡ Some left) × IsAt text left n stage)
 
 pub init : (known : Option (List ℕ)) → IsWhere known known 0 Fresh
 init None = tt

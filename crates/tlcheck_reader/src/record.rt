@@ -1,13 +1,15 @@
 //! The check of a whole record.
-ghost use Rattle.std.specs.Prelude.{◌≡◌, ◌↔◌, [], IfOk, IfSome, IsTrue, Some};
+ghost use Rattle.std.specs.Prelude.{◌≡◌, ◌↔◌, ℕ, List, [], IfOk, IfSome, IsTrue, Option, Some};
 ghost use Rattle.std.specs.Io.BufRead.{strip_last};
+ghost use Rattle.tlcheck_reader.specs.Entries.{IsWhere};
 ghost use Rattle.tlcheck_reader.specs.Outcome.{IsOutcome, ending_of, stop_of};
 
-use crate::line::take_line;
+use crate::line::{line_fault, take_entry, take_line};
 use crate::outcome::{LineFault, Outcome, Stage};
 use std::alloc::Global;
 use std::io;
 use std::io::{BufRead, ErrorKind};
+use tlcheck_rules::Judge;
 
 /// Why a check answers nothing.
 #[derive(Clone, Copy, Debug, PartialEq, Eq)]
@@ -64,6 +66,35 @@ fn stop(number: u64, fault: LineFault) -> Result<Outcome, CheckFault>
     }
 }
 
+/// Checks the lines behind the first so many, where the judge is at work.
+fn check_entries<R: BufRead>(
+    alloc: Global,
+    reader: &mut R,
+    mut line: Vec<u8>,
+    lines: u64,
+    mut judge: Judge,
+    mut count: u64,
+) -> Result<Outcome, CheckFault>
+    ensures { (known : Option (List ℕ)) → IsWhere known (R.remaining reader.old) lines (Stage.Judging judge count)
+        → IfOk result (λ outcome. IfSome known (λ text. IsOutcome text outcome)) }
+{
+    for number in lines..u64::MAX {
+        line.clear();
+        match reader.read_until(b'\n', &mut line) {
+            Ok(_) => {}
+            Err(error) => return Err(fault(&error)),
+        }
+        if is_end(&line) {
+            return Ok(Outcome::Lawful(judge, count));
+        }
+        count = match take_entry(alloc, &mut judge, count, text_of(&line)) {
+            Ok(next) => next,
+            Err(fault) => return stop(number + 1, line_fault(judge, fault)),
+        };
+    }
+    Err(CheckFault::File)
+}
+
 /// Checks a record line by line, as it is read: it takes memory for one line, for blocks, clients and the messages that wait. It says
 /// whether each entry is permitted, or which is the first that is not and what it breaks, or which line cannot be read and why; and it
 /// gives the judge of the entries that are permitted.
@@ -81,10 +112,13 @@ pub fn check<R: BufRead>(alloc: Global, reader: &mut R) -> Result<Outcome, Check
         if is_end(&line) {
             return Ok(ending(stage));
         }
-        stage = match take_line(alloc, stage, text_of(&line)) {
-            Ok(next) => next,
+        match take_line(alloc, stage, text_of(&line)) {
+            Ok(Stage::Judging(judge, count)) => {
+                return check_entries(alloc, reader, line, number + 1, judge, count);
+            }
+            Ok(next) => stage = next,
             Err(fault) => return stop(number + 1, fault),
-        };
+        }
     }
     Err(CheckFault::File)
 }
