@@ -2,6 +2,7 @@
 #![tactic(auto)]
 
 mod answer;
+mod by_block;
 mod clients;
 mod hidden;
 mod marks;

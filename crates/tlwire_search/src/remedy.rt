@@ -3,7 +3,6 @@ use crate::clients::{Which, in_way};
 use crate::hidden::hidden_store;
 use crate::premise::{Premise, may_have_more};
 use crate::seen::{Seen, Wire};
-use crate::sooner::granted_first;
 use crate::target::target;
 use crate::wires::Wires;
 use tl_rules::{BlockState, Client, Event, Outward};
@@ -174,7 +173,7 @@ fn home_before(
                 Some(Event::Drop(block))
             } else {
                 Some(Event::AcceptAcquire(
-                    match granted_first(clients, wires, seen, block) {
+                    match wires.granted_first(clients, seen, block) {
                         Some(first) => first,
                         None => asking(judge, wires, seen, state, clients, block)?,
                     },

@@ -152,7 +152,7 @@ impl Attempt {
     {
         Ok(Attempt {
             judge: Judge::new(alloc, shape, image)?,
-            wires: Wires::new(alloc, shape.clients, seen)?,
+            wires: Wires::new(alloc, shape, seen)?,
             run: Vec::new(alloc),
         })
     }
@@ -190,6 +190,7 @@ impl Attempt {
         let Some(line) = record.seen.get(place) else {
             return Ok(None);
         };
+        self.wires.pass(record.seen);
         for _ in 0..EVENTS {
             let Some(wanted) = self.wanted(record, line, place) else {
                 return Ok(None);

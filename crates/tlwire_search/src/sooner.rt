@@ -22,27 +22,6 @@ fn kind_next(
     }
 }
 
-/// The client whose Grant of a block is seen first.
-pub(crate) fn granted_first(
-    clients: u32,
-    wires: &Wires,
-    seen: &[Seen],
-    block: BlockNo,
-) -> Option<ClientId> {
-    let mut first = None;
-    let mut least = seen.len();
-    for number in 0..clients {
-        let c = ClientId::new(number);
-        if let Some(place) = wires.next_grant(seen, c, block) {
-            if place < least {
-                least = place;
-                first = Some(c);
-            }
-        }
-    }
-    first
-}
-
 /// Home accepts the Acquires of a block in the order of their Grants; and it has given its copy up where a Get is seen before the Grant.
 fn before_accepting(
     judge: &Judge,
@@ -52,7 +31,7 @@ fn before_accepting(
     c: ClientId,
     block: BlockNo,
 ) -> Option<Event> {
-    match granted_first(judge.plain().shape().clients, wires, seen, block) {
+    match wires.granted_first(judge.plain().shape().clients, seen, block) {
         Some(other) => {
             if other != c {
                 return Some(Event::TakeGrantAck(other, block));
@@ -157,7 +136,7 @@ fn grant_before(
     block: BlockNo,
 ) -> Option<Event> {
     let clients = judge.plain().shape().clients;
-    let other = granted_first(clients, wires, seen, block)?;
+    let other = wires.granted_first(clients, seen, block)?;
     if other == c || in_way(state, clients, Which::NeitherOf(c, other)).is_some() {
         return None;
     }
