@@ -3,6 +3,7 @@ pub mod Actions
 pub mod Bareness
 pub mod Closing
 pub mod Complete
+pub mod Growing
 pub mod Likeness
 pub mod Sights
 pub mod Walks
