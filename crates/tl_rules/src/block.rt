@@ -1,5 +1,5 @@
 //! One block of the plain map: what home, its clients and the memory hold of it.
-ghost use Rattle.std.specs.Prelude.{◌≡◌, ◌↔◌, ◌<◌, ◌≤◌, ◌+◌, ◌*◌, IsTrue, OnOk, OnErr, IfOk, IfSome, IsSome, is_some, slice_range, slice_get, option_copied, length};
+ghost use Rattle.std.specs.Prelude.{◌≡◌, ◌↔◌, ◌<◌, ◌≤◌, ◌+◌, ◌*◌, IsTrue, OnOk, OnErr, IfOk, IfSome, IsSome, is_some, [], slice_range, slice_get, option_copied, length};
 ghost use Rattle.tl_protocol.specs.Ledger.{count_clients, has_copy, is_recorded};
 ghost use Rattle.tl_protocol.specs.Copy.{perm_of, bytes_of, CanRead};
 ghost use Rattle.tl_protocol.specs.Client.{MayTakeA, MayTakeC, took_grant_ack};
@@ -10,7 +10,9 @@ ghost use Rattle.tl_protocol.specs.Protocol.{reset, after, MayOn, MayTakeData, a
 use std::alloc::{AllocError, Global};
 use std::marker::Model;
 use std::mem;
-use tl_protocol::{Accepted, CachedCopy, Client, Event, Line, Outward, Same, Shape};
+use tl_protocol::{
+    Accepted, AckCount, CachedCopy, Client, Event, Line, Outward, Queue, Same, Shape,
+};
 use tl_types::{AccessBytes, BLOCK_BYTES, BlockBytes, ClientId, GrantCap, Grow, Perm, ProbeCap};
 
 /// One block, with each of its clients.
@@ -31,13 +33,89 @@ impl Model for BlockState {
     ghost view = { λ b. record { memory = b.memory; home = b.home; accepted = b.accepted; outward = b.outward; clients = b.clients.items } };
 }
 
+/// The same clients again.
+fn copied_clients(alloc: Global, clients: &[Client]) -> Result<Vec<Client>, AllocError>
+    ensures { IfOk result (λ copy. copy.items ≡ clients.now) }
+{
+    let mut copy = Vec::with_capacity(alloc, clients.len())?;
+    for client in clients {
+        copy.push(client.copied(alloc)?)?;
+    }
+    Ok(copy)
+}
+
+/// Takes all messages of a channel.
+fn clear_queue<T: Drop>(queue: &mut Queue<T>)
+    ensures { queue.new ≡ [] }
+{
+    for _ in 0..queue.as_slice().len() {
+        queue.pop_front();
+    }
+}
+
+/// Takes all acknowledgements.
+fn clear_acks(acks: &mut AckCount)
+    ensures { acks.new ≡ 0 }
+{
+    for _ in 0..acks.len() {
+        acks.remove();
+    }
+}
+
+/// A channel becomes the same as another, in the room that it has.
+fn copy_queue<T: Same>(queue: &mut Queue<T>, other: &Queue<T>) -> Result<(), AllocError>
+    ensures { OnOk result (queue.new ≡ other.now) }
+{
+    clear_queue(queue);
+    for message in other.as_slice() {
+        queue.push(message.copied())?;
+    }
+    Ok(())
+}
+
+/// A count of acknowledgements becomes the same as another.
+fn copy_acks(acks: &mut AckCount, other: &AckCount) -> Result<(), AllocError>
+    ensures { OnOk result (acks.new ≡ other.now) }
+{
+    clear_acks(acks);
+    for _ in 0..other.len() {
+        acks.add()?;
+    }
+    Ok(())
+}
+
+/// A client becomes the same as another.
+fn copy_client(client: &mut Client, other: &Client) -> Result<(), AllocError>
+    ensures { OnOk result (client.new ≡ other.now) }
+{
+    client.held = other.held.copied();
+    client.wait = other.wait;
+    client.recorded = other.recorded;
+    copy_queue(&mut client.a, &other.a)?;
+    copy_queue(&mut client.b, &other.b)?;
+    copy_queue(&mut client.c, &other.c)?;
+    copy_queue(&mut client.d, &other.d)?;
+    copy_acks(&mut client.e, &other.e)
+}
+
+/// As many clients become the same as others.
+fn copy_clients(clients: &mut [Client], others: &[Client]) -> Result<(), AllocError>
+    requires { length clients.old ≡ length others.now }
+    ensures { OnOk result (clients.new ≡ others.now) }
+{
+    for i in 0..clients.len() {
+        copy_client(&mut clients[i], &others[i])?;
+    }
+    Ok(())
+}
+
 impl BlockState {
     /// A block that nobody but the memory holds.
     pub fn new(alloc: Global, clients: u32, memory: BlockBytes) -> Result<BlockState, AllocError>
         ensures reset { IfOk result (λ b. block_state b ≡ reset memory) }
         ensures clients { IfOk result (λ b. length b.clients ≡ clients) }
     {
-        let mut fresh = Vec::new(alloc);
+        let mut fresh = Vec::with_capacity(alloc, clients as usize)?;
         for _client in 0..clients {
             fresh.push(Client::new(alloc))?;
         }
@@ -61,20 +139,39 @@ impl BlockState {
     pub fn copied(&self, alloc: Global) -> Result<BlockState, AllocError>
         ensures { IfOk result (λ b. b ≡ self.now) }
     {
-        let mut clients = Vec::new(alloc);
-        for client in &self.clients {
-            clients.push(client.copied(alloc)?)?;
-        }
         Ok(BlockState {
             memory: self.memory.copied(),
-            home: match &self.home {
-                Some(line) => Some(line.copied()),
-                None => None,
-            },
+            home: self.copied_home(),
             accepted: self.accepted,
             outward: self.outward.copied(),
-            clients,
+            clients: copied_clients(alloc, &self.clients)?,
         })
+    }
+
+    /// Home's copy again.
+    fn copied_home(&self) -> Option<Line>
+        ensures { result ≡ self.now.home }
+    {
+        match &self.home {
+            Some(line) => Some(line.copied()),
+            None => None,
+        }
+    }
+
+    /// Becomes the same as another, in the room that its clients have. For want of memory it is some block, of no use.
+    pub fn copy_from(&mut self, alloc: Global, other: &BlockState) -> Result<(), AllocError>
+        ensures { OnOk result (self.new ≡ other.now) }
+    {
+        self.memory = other.memory.copied();
+        self.home = other.copied_home();
+        self.accepted = other.accepted;
+        self.outward = other.outward.copied();
+        if self.clients.len() == other.clients.len() {
+            copy_clients(&mut self.clients, &other.clients)
+        } else {
+            self.clients = copied_clients(alloc, &other.clients)?;
+            Ok(())
+        }
     }
 
     /// Whether home's copies are the same.
