@@ -15,7 +15,7 @@ use Rattle.tl_links.specs.Table.{LinkTable, lane_in, some_has, waiting_below, Is
 use Rattle.tl_links.specs.Wanted.{is_wanted}
 
 -- there are five channels
-place-few : (k : Channel) → channel_index k < 5
+pub place-few : (k : Channel) → channel_index k < 5
 place-few A = omega arith
 place-few B = omega arith
 place-few C = omega arith
@@ -110,7 +110,7 @@ length-without taken [] h = absurd (h refl)
 length-without taken (x ∷ rest) h = omega arith
 
 module _ (t : LinkTable) (c : ℕ) (k : Channel) (lane : Lane) where
-  at-here : c * 5 + channel_index k < length t.lanes → (l : Channel) → channel_index l ≡ channel_index k → lane_in (placed t c k lane) c l ≡ lane
+  pub at-here : c * 5 + channel_index k < length t.lanes → (l : Channel) → channel_index l ≡ channel_index k → lane_in (placed t c k lane) c l ≡ lane
   unfolding lane_in
   at-here inside l e = rw e (get_or-set_same t.lanes (c * 5 + channel_index k) lane empty_lane inside)
 
@@ -123,13 +123,13 @@ module _ (t : LinkTable) (c : ℕ) (k : Channel) (lane : Lane) where
   at-other x l apart = get_or-set_other t.lanes (c * 5 + channel_index k) (x * 5 + channel_index l) lane empty_lane apart
 
   -- another client's channel stays
-  other-client : (x : ℕ) (l : Channel) → x ≢ c → lane_in (placed t c k lane) x l ≡ lane_in t x l
+  pub other-client : (x : ℕ) (l : Channel) → x ≢ c → lane_in (placed t c k lane) x l ≡ lane_in t x l
   other-client x l apart =
       let few = place-few k in let fewer = place-few l in
       at-other x l (λ e. apart (omega arith))
 
   -- and another channel
-  other-channel : (x : ℕ) (l : Channel) → channel_index l ≢ channel_index k → lane_in (placed t c k lane) x l ≡ lane_in t x l
+  pub other-channel : (x : ℕ) (l : Channel) → channel_index l ≢ channel_index k → lane_in (placed t c k lane) x l ≡ lane_in t x l
   other-channel x l apart =
       let few = place-few k in let fewer = place-few l in
       at-other x l (λ e. apart (omega arith))

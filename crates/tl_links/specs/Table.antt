@@ -1,9 +1,10 @@
 -- The links of a bank: a lane for each client and channel.
-use Rattle.std.specs.Prelude.{◌≡◌, ◌≢◌, ◌≤◌, ℕ, zero, suc, ◌+◌, ◌*◌, ◌||◌, Bool, false, List, [], length, slice_index, slice_index_or}
+use Rattle.std.specs.Prelude.{◌≡◌, ◌≢◌, ◌≤◌, ◌<◌, ◌==◌, ℕ, zero, suc, ◌+◌, ◌*◌, ◌%◌, ◌||◌, Bool, false, List, [], ◌∷◌, length, slice_index, slice_index_or, if◌then◌else◌}
 use Rattle.std.specs.List.{list_any}
 use Rattle.tl_types.specs.Channel.{channel_index}
 use Rattle.tl_types.specs.Lane.{Lane, bodies_of, empty_lane}
 use Rattle.tl_types.specs.declared.channel.Channel.{Channel}
+use Rattle.tl_types.specs.declared.message.Message.{Message}
 use Rattle.tl_links.specs.declared.ticket_error.TicketError.{TicketError}
 use Rattle.tl_links.specs.declared.ticket_error.TicketError.TheVariants.{NothingThere, NotHead}
 use Rattle.tl_links.specs.declared.wanted.Wanted.{Wanted}
@@ -40,6 +41,23 @@ some_has table channel block wanted (suc n) =
 abbrev pub waiting_below : LinkTable → Channel → ℕ → ℕ
 waiting_below table channel zero = 0
 waiting_below table channel (suc n) = waiting_below table channel n + length (lane_in table n channel).messages
+
+-- of how many messages the last four bits of the block's number are `ending`
+abbrev pub alike_in : ℕ → List Message → ℕ
+alike_in ending [] = 0
+alike_in ending (message ∷ rest) = (if message.block % 16 == ending then 1 else 0) + alike_in ending rest
+
+-- how many messages of such blocks wait on a channel of the clients below n
+abbrev pub alike_below : LinkTable → Channel → ℕ → ℕ → ℕ
+alike_below table channel ending zero = 0
+alike_below table channel ending (suc n) =
+    alike_below table channel ending n + alike_in ending (lane_in table n channel).messages
+
+-- By channel and by the last four bits of a block's number, the numbers are those of the messages that wait.
+pub record IsCountedByEnding (table : LinkTable) (numbers : List ℕ) : Type 0 where
+  pub all : length numbers ≡ 80
+  pub numbered : (channel : Channel) (ending : ℕ) → ending < 16
+      → slice_index numbers (channel_index channel * 16 + ending) ≡ alike_below table channel ending table.clients
 
 -- Each client has its five channels, with 64 messages at most on each; and by channel, the numbers are those of the messages
 -- that wait on it.

@@ -1,5 +1,5 @@
 //! The links of one bank: five channels for each client.
-ghost use Rattle.std.specs.Prelude.{◌≡◌, ◌↔◌, ◌≤◌, ◌<◌, ◌+◌, ◌-◌, ◌^◌, ◌∷◌, ◌*◌, ℕ, List, [], length, IfOk, IfErr, OnOk, OnErr, IsErr, MatchOption, MatchResult, option_copied, if◌then◌else◌};
+ghost use Rattle.std.specs.Prelude.{◌≡◌, ◌↔◌, ◌≤◌, ◌<◌, ◌+◌, ◌-◌, ◌^◌, ◌∷◌, ◌*◌, ◌%◌, ℕ, List, [], length, IfOk, IfErr, OnOk, OnErr, IsErr, MatchOption, MatchResult, option_copied, if◌then◌else◌};
 ghost use Rattle.std.specs.List.{list_any};
 ghost use Rattle.tl_types.specs.Channel.{channel_index};
 ghost use Rattle.tl_types.specs.Lane.{empty_lane, message_at, sent, is_here, with_message, without_first, bodies_of};
@@ -23,16 +23,19 @@ pub struct Links {
     queues: Vec<Queue>,
     /// How many messages wait on each of the five channels, at all clients.
     waiting: [u32; 5],
+    /// The same by the last four bits of their blocks' numbers: mostly none is of a block like the one looked for.
+    alike: [u16; 80],
 }
 
 impl Model for Links {
-    ghost use Rattle.tl_links.specs.Table.{LinkTable, IsCounted};
+    ghost use Rattle.tl_links.specs.Table.{LinkTable, IsCounted, IsCountedByEnding};
 
     ghost Value = { LinkTable };
 
     ghost view = { λ l. record { bank = l.bank; clients = l.clients; lanes = l.queues.items } };
 
-    ghost invariant = { λ l. IsCounted (record { bank = l.bank; clients = l.clients; lanes = l.queues.items }) l.waiting };
+    ghost invariant = { λ l. IsCounted (record { bank = l.bank; clients = l.clients; lanes = l.queues.items }) l.waiting
+        × IsCountedByEnding (record { bank = l.bank; clients = l.clients; lanes = l.queues.items }) l.alike };
 }
 
 /// 64 messages wait on the channel. The message comes back.
@@ -59,6 +62,7 @@ impl Links {
             clients,
             queues,
             waiting: [0; 5],
+            alike: [0; 80],
         })
     }
 
@@ -133,6 +137,9 @@ impl Links {
     pub fn some_has(&self, channel: Channel, block: BlockNo, wanted: Wanted) -> bool
         ensures { result ≡ some_has self.now channel block wanted self.now.clients }
     {
+        if self.alike[alike(channel, block)] == 0 {
+            return false;
+        }
         let all = self.waiting[channel.index()] as usize;
         let mut passed = 0;
         for number in 0..self.clients {
@@ -196,8 +203,10 @@ impl Links {
             ≡ (if is_here client channel x k then with_message (lane_in self.old x k) message else lane_in self.old x k) }
     {
         let serial = self.queue(client, channel).sent();
+        let kind = alike(channel, message.block);
         self.queues[place(client, channel)].push(message);
         self.waiting[channel.index()] += 1;
+        self.alike[kind] += 1;
         Ticket {
             bank: self.bank,
             client,
@@ -240,10 +249,12 @@ impl Links {
     {
         self.queue(ticket.client, ticket.channel)
             .check_first(ticket.serial)?;
+        let Some(message) = self.queues[place(ticket.client, ticket.channel)].pop() else {
+            return Err(TicketError::NothingThere);
+        };
         self.waiting[ticket.channel.index()] -= 1;
-        self.queues[place(ticket.client, ticket.channel)]
-            .pop()
-            .ok_or(TicketError::NothingThere)
+        self.alike[alike(ticket.channel, message.block)] -= 1;
+        Ok(message)
     }
 
     #[tactic(auto, unfolding(crate::specs::Table::lane_in))]
@@ -260,4 +271,11 @@ fn place(client: ClientId, channel: Channel) -> usize
     ensures { result ≡ client * 5 + channel_index channel }
 {
     client.number() as usize * Channel::ALL.len() + channel.index()
+}
+
+/// The place of a channel's messages whose blocks' numbers end like this one's.
+fn alike(channel: Channel, block: BlockNo) -> usize
+    ensures { result ≡ channel_index channel * 16 + block % 16 }
+{
+    channel.index() * 16 + (block.number() % 16) as usize
 }

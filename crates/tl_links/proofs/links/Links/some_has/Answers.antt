@@ -1,13 +1,14 @@
-use Rattle.std.proofs.Common.{◌≡◌, ◌<◌, ◌≤◌, ◌∙◌, ℕ, Bool, List, false, true, ap, arith, subst, sym}
+use Rattle.std.proofs.Common.{◌≡◌, ◌<◌, ◌≤◌, ◌+◌, ◌*◌, ◌%◌, ◌∙◌, ℕ, Bool, List, false, true, ap, arith, subst, sym}
 use Rattle.std.specs.Prelude.{slice_index}
 use Rattle.std.specs.List.{list_any}
 use Rattle.tl_types.specs.Channel.{channel_index}
 use Rattle.tl_types.specs.Lane.{bodies_of}
 use Rattle.tl_types.specs.declared.channel.Channel.{Channel}
 use Rattle.tl_links.specs.declared.wanted.Wanted.{Wanted}
-use Rattle.tl_links.specs.Table.{LinkTable, IsCounted, lane_in, some_has, waiting_below}
+use Rattle.tl_links.specs.Table.{LinkTable, IsCounted, IsCountedByEnding, lane_in, some_has, waiting_below}
 use Rattle.tl_links.specs.Wanted.{is_wanted}
 use Rattle.tl_links.proofs.Counts.{none-has, some-has, waiting-few}
+use Rattle.tl_links.proofs.Endings.{none-wanted}
 use Rattle.tl_links.proofs.links.Links.some_has.Goals as goal
 
 -- all that wait are passed, and none of them is looked for
@@ -26,17 +27,28 @@ few-passed s t numbers k n e counted below =
     let few : n < t.clients = subst (λ (w : LinkTable). n < w.clients) e below in
     omega (arith, waiting-few sound k n, sound.few)
 
+-- none that waits is of a block like this one
+none-alike : (s t : LinkTable) (waiting numbers : List ℕ) (k : Channel) (block : ℕ) (wanted : Wanted) → s ≡ t → IsCounted s waiting
+    → IsCountedByEnding s numbers → slice_index numbers (channel_index k * 16 + block % 16) ≡ 0 → false ≡ some_has t k block wanted t.clients
+none-alike s t waiting numbers k block wanted e counted ended zero =
+    subst (λ (w : LinkTable). false ≡ some_has w k block wanted w.clients) e (sym (none-wanted counted ended k block wanted zero))
+
+pub returns-then-self-alike-eq0 : goal.returns-then-self-alike-eq0
+returns-then-self-alike-eq0 c =
+    none-alike _ c.args.self.now c.self.inside.waiting c.self.inside.alike c.args.channel c.args.block c.args.wanted c.self.view_is
+    c.self.invariant.0 c.self.invariant.1 (ap (λ p. slice_index c.self.inside.alike p) (sym c.alike.ensures) ∙ c.if-self-alike-eq0.true)
+
 pub returns-then-passed-all : goal.returns-then-passed-all
 returns-then-passed-all c =
     all-passed _ c.args.self.now c.self.inside.waiting c.args.channel c.args.block c.args.wanted c.loop-number.number c.loop-number.passed c.self.view_is
-    c.self.invariant c.loop-number-test.true c.loop-number.invariant.1
+    c.self.invariant.0 c.loop-number-test.true c.loop-number.invariant.1
     (c.if-passed-all.true ∙ ap (λ p. slice_index c.self.inside.waiting p) c.index.ensures.value) c.loop-number.invariant.0
 
 pub overflow_add-passed : goal.overflow_add-passed
 overflow_add-passed c =
     omega (
       arith,
-      few-passed _ c.args.self.now c.self.inside.waiting c.args.channel c.loop-number.number c.self.view_is c.self.invariant c.loop-number-test.true,
+      few-passed _ c.args.self.now c.self.inside.waiting c.args.channel c.loop-number.number c.self.view_is c.self.invariant.0 c.loop-number-test.true,
       c.loop-number.invariant.1,
       c.waiting-waiting.ensures.few,
     )
