@@ -1,6 +1,7 @@
 -- Whom a register has to probe, by the entry of home's directory.
-use Rattle.std.proofs.Common.{◌≡◌, ℕ, suc, ◌+◌, ◌&&◌, ◌<◌, ◌≤◌, not, Bool, false, Option, Some, None, refl, sym, ◌∙◌, ap, subst, arith}
+use Rattle.std.proofs.Common.{◌≡◌, ℕ, suc, ◌+◌, ◌&&◌, ◌<◌, ◌≤◌, not, Bool, false, Option, Some, None, refl, sym, ◌∙◌, ap, subst, arith, inl, inr}
 use Rattle.std.proofs.Math.Bool.{and-false}
+use Rattle.std.proofs.lemmas.Bool.{cases_lt}
 use Rattle.tl_types.proofs.Lowest.{lowest-none, none-lowest}
 use Rattle.tl_types.specs.Lowest.{lowest}
 use Rattle.tl_types.specs.Permission.{rank, probe_perm}
@@ -49,6 +50,21 @@ none-probed r entry s asking cap n records few =
     ∙ ap (λ above. is_other asking client && (above && not (has_probed r client)))
     (not-above (entry_perm entry client) cap (few client below))
     ∙ and-false (is_other asking client))
+
+-- where nothing is recorded from a number on, none that has to be probed below it is none at all
+pub none-past : (r : Register) (entry : Entry) (s : Block) (asking : Option ℕ) (cap : ProbeCap) (m n : ℕ)
+    → Records (Some entry) s → ((client : ℕ) → m ≤ client → client < n → entry_perm entry client ≡ NoAccess)
+    → lowest (must_probe r s asking cap) m ≡ None → lowest (must_probe r s asking cap) n ≡ None
+none-past r entry s asking cap m n records rest none =
+    none-lowest (must_probe r s asking cap) n
+    (λ client below.
+    elim (cases_lt client m) [
+      | inl early ↦ lowest-none (must_probe r s asking cap) m client none early
+      | inr late ↦
+          ap (probes_at r asking cap client) (records.1 client ∙ rest client late below)
+          ∙ ap (λ above. is_other asking client && (above && not (has_probed r client))) (nothing-above cap)
+          ∙ and-false (is_other asking client)
+    ])
 
 -- where there is no lowest, there is none below a lower number either
 pub none-within : (test : ℕ → Bool) (n m : ℕ) → lowest test n ≡ None → m ≤ n → lowest test m ≡ None
