@@ -4,3 +4,4 @@ pub mod CountLaws
 pub mod TableLaws
 pub mod FirstLaws
 pub mod SlotLaws
+pub mod SharingLaws

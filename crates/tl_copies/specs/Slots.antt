@@ -1,5 +1,5 @@
 -- How a table keeps its entries: keys in order, and for each a slot with what is held. No public clause cites this module.
-use Rattle.std.specs.Prelude.{◌≡◌, ◌≢◌, ℕ, ◌<◌, ◌+◌, ◌≤◌, ◌==◌, List, [], length, map, count_by, slice_index_or, false}
+use Rattle.std.specs.Prelude.{◌≡◌, ◌≢◌, ℕ, ◌<◌, ◌+◌, ◌%◌, ◌≤◌, ◌==◌, List, [], length, map, count_by, slice_index, slice_index_or, false}
 use Rattle.tl_types.specs.declared.permission.Perm.TheVariants.{None as p_None}
 use Rattle.tl_types.specs.declared.wait.Awaited.TheVariants.{Nothing}
 use Rattle.tl_copies.specs.declared.held.Held.{Held}
@@ -35,3 +35,8 @@ pub record IsSound (keys : List Key) (slots : List Held) (free : List ℕ) (copi
   pub few : length slots ≤ COPIES
   pub all : length keys + length free ≡ length slots
   pub counted : copies ≡ count_by (λ (e : Entry). is_copy e.held) (entries_of slots keys)
+
+-- By the low six bits of a block's number, the numbers are those of the keys of such blocks.
+pub record IsShared (keys : List Key) (numbers : List ℕ) : Type 0 where
+  pub all : length numbers ≡ 64
+  pub numbered : (hint : ℕ) → hint < 64 → slice_index numbers hint ≡ count_by (λ (key : Key). key.block % 64 == hint) keys

@@ -1,5 +1,5 @@
 //! One client's table: keys in the order of age, beside the slots with what the client holds.
-ghost use Rattle.std.specs.Prelude.{◌≡◌, ◌↔◌, ◌≤◌, ◌<◌, ◌+◌, ◌∷◌, ◌++◌, [], false, length, count_by, not, None, Some, IfErr, IsErr, OnErr, OnOk, MatchOption, option_copied, slice_index_or, slice_set, if◌then◌else◌};
+ghost use Rattle.std.specs.Prelude.{◌≡◌, ◌↔◌, ◌≤◌, ◌<◌, ◌+◌, ◌%◌, ◌∷◌, ◌++◌, [], false, length, count_by, not, None, Some, IfErr, IsErr, OnErr, OnOk, MatchOption, option_copied, slice_index_or, slice_set, if◌then◌else◌};
 ghost use Rattle.std.specs.List.{list_all, remove};
 ghost use Rattle.tl_copies.specs.declared.held.Held.{Held};
 ghost use Rattle.tl_copies.specs.Slots.{IsNotBefore};
@@ -52,6 +52,8 @@ pub(crate) struct Table {
     free: ArrayVec<u32, 64>,
     copies: u32,
     hints: [u8; 64],
+    /// How many entries are of the blocks that share a hint: mostly none is of a block that the client has nothing of.
+    sharing: [u8; 64],
 }
 
 impl Model for Table {
@@ -60,11 +62,11 @@ impl Model for Table {
 
     ghost Value = { List Entry };
 
-    ghost use Rattle.tl_copies.specs.Slots.{entries_of, IsSound};
+    ghost use Rattle.tl_copies.specs.Slots.{entries_of, IsSound, IsShared};
 
     ghost view = { λ t. entries_of t.slots.items t.keys.items };
 
-    ghost invariant = { λ t. IsSound t.keys.items t.slots.items t.free.items t.copies };
+    ghost invariant = { λ t. IsSound t.keys.items t.slots.items t.free.items t.copies × IsShared t.keys.items t.sharing };
 }
 
 impl Table {
@@ -81,6 +83,7 @@ impl Table {
             free: ArrayVec::new(),
             copies: 0,
             hints: [0; 64],
+            sharing: [0; 64],
         }
     }
 
@@ -169,8 +172,11 @@ impl Table {
         requires { HasEachOnce self.now }
         ensures { MatchOption result (found block self.now ≡ None) (λ place. IsPlace block self.now place) }
     {
-        let hint = self.hints[hint_of(block)];
-        self.place_near(block, usize::from(hint))
+        let hint = hint_of(block);
+        if self.sharing[hint] == 0 {
+            return None;
+        }
+        self.place_near(block, usize::from(self.hints[hint]))
     }
 
     /// The entry of a block.
@@ -272,6 +278,7 @@ impl Table {
         ensures { self.new ≡ self.old ++ record { block = block; held = held } ∷ [] }
     {
         self.copies += held.copies();
+        self.sharing[hint_of(block)] += 1;
         if let Some(slot) = self.free.pop() {
             self.slots[slot as usize] = held;
             self.keys.push(Key { block, slot });
@@ -338,6 +345,7 @@ impl Table {
     {
         let key = self.keys.remove(place);
         self.copies -= self.slots[key.slot as usize].copies();
+        self.sharing[hint_of(key.block)] -= 1;
         self.free.push(key.slot);
     }
 
@@ -390,7 +398,7 @@ fn has(keys: &[Key], block: BlockNo) -> bool
 
 /// Which hint a block has.
 fn hint_of(block: BlockNo) -> usize
-    ensures { result < 64 }
+    ensures { result ≡ block % 64 }
 {
     block.index() % 64
 }

@@ -15,7 +15,7 @@ bounds-deref_mut-slot c =
     let at = key_at c.self.inside.keys.items c.deref.result.now c.self.inside.slots.items c.args.self.now c.args.place k c.self.view_is
     c.requires.place c.deref.ensures.0 c.index-deref-place.is in
     subst (λ (x : Key). x.slot < length c.deref_mut.result.now) c.index-deref-place.is
-    (rw c.deref_mut.ensures.value (slot-inside c.self.invariant c.args.place k at))
+    (rw c.deref_mut.ensures.value (slot-inside c.self.invariant.0 c.args.place k at))
 
 pub invariant_of-self : goal.invariant_of-self
 invariant_of-self c =
@@ -24,14 +24,16 @@ invariant_of-self c =
     c.requires.place c.deref.ensures.0 c.index-deref-place.is in
     let slots : List Held = c.self.inside.slots.items in
     let old = held-read slots c.deref_mut.result.now k (slice_index_or c.deref.result.now c.args.place k) c.index-deref_mut-slot.result
-    c.deref_mut.ensures.value c.index-deref-place.is c.index-deref_mut-slot.is (slot-inside c.self.invariant c.args.place k at) in
+    c.deref_mut.ensures.value c.index-deref-place.is c.index-deref_mut-slot.is (slot-inside c.self.invariant.0 c.args.place k at) in
     let new : c.store.new.self ≡ stored c.args.offset c.args.access.now (slice_index_or slots k.slot blank) =
     c.store.ensures ∙ ap (λ (h : Held). stored c.args.offset c.args.access.now h) (sym c.index-deref_mut-slot.is ∙ old) in
     let written = refill-set slots c.deref_mut.result.now (slice_index_or c.deref.result.now c.args.place k).slot k.slot c.store.new.self
-    c.deref_mut.ensures.value (ap (λ (x : Key). x.slot) (sym c.index-deref-place.is)) in
-    subst (λ (held : List Held). IsSound c.self.inside.keys.items held c.self.inside.free.items c.self.inside.copies) (sym written)
-    (sound-written c.self.invariant c.args.place k c.store.new.self c.self.inside.copies at
-    (ap (λ (h : Held). c.self.inside.copies + one_if (is_copy h)) (sym new)))
+    c.deref_mut.ensures.value (ap (λ (x : Key). x.slot) (sym c.index-deref-place.is)) in (
+      subst (λ (held : List Held). IsSound c.self.inside.keys.items held c.self.inside.free.items c.self.inside.copies) (sym written)
+          (sound-written c.self.invariant.0 c.args.place k c.store.new.self c.self.inside.copies at
+          (ap (λ (h : Held). c.self.inside.copies + one_if (is_copy h)) (sym new))),
+      c.self.invariant.1,
+    )
 
 pub returns : goal.returns
 returns c e =
@@ -40,14 +42,14 @@ returns c e =
     c.requires.place c.deref.ensures.0 c.index-deref-place.is in
     let slots : List Held = c.self.inside.slots.items in
     let old = held-read slots c.deref_mut.result.now k (slice_index_or c.deref.result.now c.args.place k) c.index-deref_mut-slot.result
-    c.deref_mut.ensures.value c.index-deref-place.is c.index-deref_mut-slot.is (slot-inside c.self.invariant c.args.place k at) in
+    c.deref_mut.ensures.value c.index-deref-place.is c.index-deref_mut-slot.is (slot-inside c.self.invariant.0 c.args.place k at) in
     let new : c.store.new.self ≡ stored c.args.offset c.args.access.now (slice_index_or slots k.slot blank) =
     c.store.ensures ∙ ap (λ (h : Held). stored c.args.offset c.args.access.now h) (sym c.index-deref_mut-slot.is ∙ old) in
     let written = refill-set slots c.deref_mut.result.now (slice_index_or c.deref.result.now c.args.place k).slot k.slot c.store.new.self
     c.deref_mut.ensures.value (ap (λ (x : Key). x.slot) (sym c.index-deref-place.is)) in
-    let there = entry-here c.self.invariant c.args.place k e at in
+    let there = entry-here c.self.invariant.0 c.args.place k e at in
     ap (λ (held : List Held). entries_of held c.self.inside.keys.items) written
-    ∙ entries-written c.self.invariant c.args.place k c.store.new.self at
+    ∙ entries-written c.self.invariant.0 c.args.place k c.store.new.self at
     ∙ ap (λ (h : Held). slice_set (entries_of slots c.self.inside.keys.items) c.args.place (entry k.block h)) new
     ∙ ap (λ (x : Entry). slice_set (entries_of slots c.self.inside.keys.items) c.args.place (entry x.block (stored c.args.offset c.args.access.now x.held)))
     (sym there)
