@@ -1,5 +1,5 @@
 //! What a bank shows of its end, besides what its clients may do. No view takes memory.
-ghost use Rattle.std.specs.Prelude.{◌≡◌, ◌≢◌, ◌↔◌, ◌+◌, ◌<◌, ◌≤◌, ℕ, IfSome, IsSome, IsTrue, None, Some, length};
+ghost use Rattle.std.specs.Prelude.{◌≡◌, ◌≢◌, ◌↔◌, ◌+◌, ◌<◌, ◌≤◌, ℕ, IfSome, IsSome, IsTrue, None, Some};
 ghost use Rattle.std.specs.List.{All};
 ghost use Rattle.std.specs.List.Sorted.{IsNonDecreasing, IsPermutation};
 ghost use Rattle.tl_types.specs.Permission.{rank};
@@ -18,7 +18,7 @@ use crate::bank::Bank;
 use arrayvec::ArrayVec;
 use tl_map::Set;
 use tl_protocol::Outward;
-use tl_types::{BlockNo, CLIENTS, Channel, ClientId, Message, Perm, REGISTERS, Ticket};
+use tl_types::{BlockNo, CLIENTS, Channel, ClientId, Message, Perm, Ticket};
 use tl_ways::Way;
 
 impl Bank {
@@ -120,9 +120,11 @@ impl Bank {
     {
         // For the prover: what the bank holds is what its log leaves.
         let _ = &self.registers;
-        let mut numbers = self.open_numbers();
-        numbers.as_mut_slice().sort_unstable();
-        blocks_of(numbers.as_slice())
+        let mut blocks = self.blocks_by_age();
+        blocks
+            .as_mut_slice()
+            .sort_unstable_by_key(|block| block.number());
+        blocks
     }
 
     /// Whether nothing is under way: no register is open, no message waits, no client waits for an answer, and nothing passes
@@ -234,15 +236,15 @@ impl Bank {
         copy.into_bytes().as_slice().get(offset).copied()
     }
 
-    /// The numbers of the open registers' own blocks, the oldest register first.
-    fn open_numbers(&self) -> ArrayVec<u32, 8>
+    /// The open registers' own blocks, the oldest register first.
+    fn blocks_by_age(&self) -> ArrayVec<BlockNo, 8>
         ensures { result.items ≡ own_blocks self.now }
     {
-        let mut numbers = ArrayVec::new();
+        let mut blocks = ArrayVec::new();
         for register in self.registers.as_slice() {
-            numbers.push(register.own.number());
+            blocks.push(register.own);
         }
-        numbers
+        blocks
     }
 
     /// Whether no message waits on a channel of a client.
@@ -279,21 +281,4 @@ impl Bank {
         }
         count
     }
-}
-
-/// The blocks with these numbers.
-fn blocks_of(numbers: &[u32]) -> ArrayVec<BlockNo, 8>
-    requires { length numbers.now ≤ REGISTERS }
-    ensures { result.items ≡ numbers.now }
-{
-    let mut blocks = ArrayVec::new();
-    // Mostly one register is open, and a loop over it would be compiled to a call.
-    if let [number] = numbers {
-        blocks.push(BlockNo::new(*number));
-        return blocks;
-    }
-    for number in numbers {
-        blocks.push(BlockNo::new(*number));
-    }
-    blocks
 }
