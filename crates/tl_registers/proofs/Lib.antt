@@ -3,6 +3,7 @@ pub mod Agreement
 pub mod Blocks
 pub mod Closing
 pub mod Held
+pub mod Marks
 pub mod Opening
 pub mod Order
 pub mod Pending

@@ -3,7 +3,7 @@ ghost use Rattle.std.specs.Prelude.{◌≡◌, ◌≤◌, ◌<◌, ◌∷◌, �
 ghost use Rattle.std.specs.Option.{option_copied};
 ghost use Rattle.tl_registers.specs.declared.register.Task.{Task};
 ghost use Rattle.tl_registers.specs.Register.{opened, acquire_task, IsKnown};
-ghost use Rattle.tl_registers.specs.Registers.{register_of, due_of, is_busy, held_in, noted, ended, closed, without_evict, without_victim};
+ghost use Rattle.tl_registers.specs.Registers.{register_of, due_of, is_busy, held_in, IsMarked, noted, ended, closed, without_evict, without_victim};
 
 use crate::due::Due;
 use crate::register::{Register, Task};
@@ -19,17 +19,19 @@ use tl_types::{BlockNo, CLIENTS, ClientId, REGISTERS};
 pub struct Registers {
     limit: usize,
     registers: ArrayVec<Register, 8>,
+    /// A bit by the last six bits of a block's number: where it is not set, no register works on such a block.
+    marks: u64,
 }
 
 impl Model for Registers {
     ghost use Rattle.std.specs.Prelude.{◌≤◌, length};
-    ghost use Rattle.tl_registers.specs.Registers.{RegisterTable};
+    ghost use Rattle.tl_registers.specs.Registers.{RegisterTable, IsMarked};
 
     ghost Value = { RegisterTable };
 
     ghost view = { λ r. record { limit = r.limit; open_registers = r.registers.items } };
 
-    ghost invariant = { λ r. (length r.registers.items ≤ r.limit) × (r.limit ≤ 8) };
+    ghost invariant = { λ r. (length r.registers.items ≤ r.limit) × (r.limit ≤ 8) × IsMarked r.registers.items r.marks };
 }
 
 impl Registers {
@@ -41,6 +43,7 @@ impl Registers {
         Registers {
             limit,
             registers: ArrayVec::new(),
+            marks: 0,
         }
     }
 
@@ -89,6 +92,7 @@ impl Registers {
     {
         self.registers
             .push(Register::open(own, way, Task::acquire(acquire, victim)));
+        self.marks = marks_of(self.registers.as_slice());
     }
 
     /// Opens a register that sends the block `own` away, which is in a way.
@@ -99,6 +103,7 @@ impl Registers {
         } }
     {
         self.registers.push(Register::open(own, way, Task::Evict));
+        self.marks = marks_of(self.registers.as_slice());
     }
 
     /// The register whose own block it is.
@@ -123,6 +128,9 @@ impl Registers {
     pub fn is_busy(&self, block: BlockNo) -> bool
         ensures { result ≡ is_busy block self.now.open_registers }
     {
+        if self.marks >> (block.number() % 64) & 1 == 0 {
+            return false;
+        }
         self.as_slice()
             .iter()
             .any(|register| register.works_on(block))
@@ -187,4 +195,15 @@ fn end(registers: &mut [Register], victim: BlockNo)
     for register in registers.iter_mut() {
         register.end_victim(victim);
     }
+}
+
+/// The marks of all blocks that registers work on.
+fn marks_of(registers: &[Register]) -> u64
+    ensures { IsMarked registers.now result }
+{
+    let mut marks = 0;
+    for register in registers {
+        marks |= register.marks();
+    }
+    marks
 }

@@ -1,9 +1,20 @@
-use Rattle.std.proofs.Common.{◌==◌, List, not, ap, rules}
+use Rattle.std.proofs.Common.{◌==◌, List, not, ap, rules, arith, length, ◌≤◌}
 use Rattle.arrayvec.proofs.ArrayVecLemmas.{filter-from_retain}
 use Rattle.tl_registers.specs.declared.register.Register.{Register}
+use Rattle.tl_registers.proofs.Marks.{fewer-kept, marked-filter}
 use Rattle.tl_registers.proofs.registers.Registers.close.Goals as goal
 
 pub returns : goal.returns
 returns c =
     let e = filter-from_retain _ (λ r. not (r.own == c.args.block)) _ (λ x b f' y called. search rules) _ _ c.retain.ensures.filtered in
     rw (← c.self.view_is) (ap (λ (xs : List Register). record { limit = c.self.inside.limit; open_registers = xs }) e)
+
+pub invariant_of-self : goal.invariant_of-self
+invariant_of-self c =
+    let e = filter-from_retain _ (λ r. not (r.own == c.args.block)) _ (λ x b f' y called. search rules) _ _ c.retain.ensures.filtered in
+    let few : length c.retain.new.self.items ≤ length c.self.inside.registers.items =
+    rw e (fewer-kept (λ r. not (r.own == c.args.block)) c.self.inside.registers.items) in (
+      omega (arith, few, c.self.invariant.0),
+      c.self.invariant.1,
+      rw e (marked-filter (λ r. not (r.own == c.args.block)) c.self.inside.registers.items c.self.inside.marks c.self.invariant.2),
+    )
