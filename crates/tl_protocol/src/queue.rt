@@ -78,12 +78,11 @@ impl<T: Same> Queue<T> {
     pub fn copied(&self, alloc: Global) -> Result<Queue<T>, AllocError>
         ensures { IfOk result (λ q. q ≡ self.now) }
     {
-        let mut copy = Queue::new(alloc);
-        let items = self.as_slice();
-        for item in items {
-            copy.push(item.copied())?;
+        let mut items = Vec::with_capacity(alloc, self.items.len())?;
+        for item in self.as_slice() {
+            items.push(item.copied())?;
         }
-        Ok(copy)
+        Ok(Queue { items })
     }
 
     /// Whether two are the same.

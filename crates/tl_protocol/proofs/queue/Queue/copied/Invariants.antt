@@ -2,4 +2,4 @@ use Rattle.std.proofs.Common.{◌≡◌, take}
 use Rattle.tl_protocol.proofs.queue.Queue.copied.Given as goal
 
 abbrev pub invariant-loop-item : goal.invariant-loop-item
-invariant-loop-item g l = l.copy ≡ take l.item-index l.items
+invariant-loop-item g l = l.items.items ≡ take l.item-index l.item-items
