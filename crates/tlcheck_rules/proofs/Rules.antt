@@ -5,7 +5,7 @@ use Rattle.tl_types.specs.declared.wait.Awaited.TheVariants.{Nothing, ForGrant, 
 use Rattle.tl_protocol.specs.declared.event.Event.{Event}
 use Rattle.tl_protocol.specs.declared.event.Event.TheVariants.{Load, Store, SendAcquire, SendRelease, AnswerProbe, TakeGrant, TakeReleaseAck, AcceptAcquire, SendProbe, TakeC, SendGrant, TakeGrantAck, SendGet, Serve, TakeData, Drop, SendPut, TakePutAck}
 use Rattle.tl_protocol.specs.declared.shape.Shape.{Shape}
-use Rattle.tl_protocol.specs.Protocol.{Block, May, block_of}
+use Rattle.tl_protocol.specs.Protocol.{Block, May, MayOn, block_of}
 use Rattle.tl_rules.specs.Plain.{state_of_plain}
 use Rattle.tl_rules.specs.PlainState.{PlainState}
 use Rattle.tlcheck_rules.specs.declared.rule.Rule.{Rule}
@@ -163,6 +163,11 @@ module _ (p : PlainState) (e : Event) (shape : Shape) (same : shape ≡ p.shape)
       → Keeps shape b e (get_or rules i BlockIsThere) → KeepsBefore shape (own shape) e (i + 1)
   goes_on b state i before keeps =
       one_more shape (own shape) e i _ (at_index i) (subst (λ (y : Block). Keeps shape y e (get_or rules i BlockIsThere)) state keeps) before
+
+  -- an event that may come next on its block, which is there, is permitted
+  pub may_come : (b : Block) → b ≡ own shape → block_of shape e < shape.blocks → MayOn shape b e → May p.shape (own p.shape) e
+  may_come b state there may =
+      subst (λ (x : Shape). May x (own x) e) same (there, subst (λ (y : Block). MayOn shape y e) state may)
 
   pub none_broken : KeepsBefore shape (own shape) e (length rules) → IsFirstBroken p.shape (own p.shape) e None
   none_broken before =

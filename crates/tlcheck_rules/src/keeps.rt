@@ -158,6 +158,9 @@ pub fn broken_rule(plain: &Plain, event: &Event) -> Option<Rule>
     let Some(block) = plain.block(event.block(shape)) else {
         return Some(Rule::BlockIsThere);
     };
+    if block.may_follow(shape, event) {
+        return None;
+    }
     for rule in rules_of(event) {
         if !keeps(block, shape, event, *rule) {
             return Some(*rule);

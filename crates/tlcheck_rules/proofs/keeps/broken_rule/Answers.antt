@@ -1,9 +1,9 @@
-use Rattle.std.proofs.Common.{◌≡◌, ◌<◌, ℕ, length, sym, ap, subst, ◌∙◌, arith, rules, get_or}
+use Rattle.std.proofs.Common.{◌≡◌, ◌<◌, ℕ, length, refl, sym, ap, subst, ◌∙◌, arith, rules, get_or}
 use Rattle.tl_protocol.specs.Protocol.{block_of}
 use Rattle.tl_protocol.specs.declared.shape.Shape.{Shape}
 use Rattle.tl_rules.specs.Plain.{state_of_plain}
-use Rattle.tlcheck_rules.specs.Rules.{KeepsBefore}
-use Rattle.tlcheck_rules.proofs.Rules.{first_broken, goes_on, neither, no_block, none_broken, permits}
+use Rattle.tlcheck_rules.specs.Rules.{KeepsBefore, rules_of}
+use Rattle.tlcheck_rules.proofs.Rules.{first_broken, goes_on, kept, may_come, neither, no_block, none_broken, permits}
 use Rattle.tl_protocol.specs.Protocol.{Block}
 use Rattle.tl_protocol.specs.declared.event.Event.{Event}
 use Rattle.tl_rules.specs.PlainState.{PlainState}
@@ -32,6 +32,16 @@ pub keeps-requires-clause-there : goal.keeps-requires-clause-there
 keeps-requires-clause-there c =
     subst (λ (n : ℕ). n < c.shape-shape.result.blocks) c.block.ensures
     (subst (λ (shape : Shape). c.block.result < shape.blocks) (sym c.shape-shape.ensures.value) (c.in-Some.ensures {u = tt}).state.0)
+
+-- an event that may come next breaks no rule
+pub returns-then-may_follow-clause-first : goal.returns-then-may_follow-clause-first
+returns-then-may_follow-clause-first c =
+    kept c.args.plain.now.shape (own_block c.args.plain.now c.args.event.now) c.args.event.now
+    (may_come c.args.plain.now c.args.event.now c.shape-shape.result c.shape-shape.ensures.value (rules_of c.args.event.now) refl _
+    ((c.in-Some.ensures {u = tt}).state.1 ∙ ap (λ (n : ℕ). state_of_plain c.args.plain.now n) c.block.ensures)
+    (subst (λ (n : ℕ). n < c.shape-shape.result.blocks) c.block.ensures
+    (subst (λ (shape : Shape). c.block.result < shape.blocks) (sym c.shape-shape.ensures.value) (c.in-Some.ensures {u = tt}).state.0))
+    ((c.if-may_follow.ensures {u = tt}).0 (search rules)))
 
 -- the rule is the first that is broken
 pub returns-then-not-keeps-clause-first : goal.returns-then-not-keeps-clause-first

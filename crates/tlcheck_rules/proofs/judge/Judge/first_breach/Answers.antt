@@ -1,7 +1,7 @@
 use Rattle.std.proofs.Common.{Some, subst, rules}
 use Rattle.tlcheck_rules.specs.Judged.{JudgeState, own_block}
 use Rattle.tlcheck_rules.specs.Rules.{IsFirstBroken}
-use Rattle.tlcheck_rules.proofs.judge.Judge.breach.Goals as goal
+use Rattle.tlcheck_rules.proofs.judge.Judge.first_breach.Goals as goal
 
 pub returns-in-Some : goal.returns-in-Some
 returns-in-Some c =
