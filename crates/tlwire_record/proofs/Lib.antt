@@ -1,2 +1,4 @@
 pub mod Codes
+pub mod FieldWords
 pub mod Lines
+pub mod Marks

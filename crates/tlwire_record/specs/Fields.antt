@@ -1,5 +1,6 @@
 -- The fields of a message: words KEY=VALUE (this project's own format; the names are TileLink's).
-use Rattle.std.specs.Prelude.{ℕ, ◌==◌, List, [], ◌∷◌, codes, bytes_eq, Some, None, Result, Ok, Err, if◌then◌else◌}
+use Rattle.std.specs.Prelude.{ℕ, ◌==◌, List, [], ◌∷◌, codes, bytes_eq, Option, Some, None, Result, Ok, Err, if◌then◌else◌}
+use Rattle.std.specs.Borrow.{Bor}
 use Rattle.std.specs.List.{slice_split}
 use Rattle.std.specs.Option.{is_some}
 use Rattle.tlcheck_record.specs.Cause.{◌>>=◌}
@@ -13,6 +14,11 @@ use Rattle.tlwire_record.specs.declared.fields.Fields.{Fields}
 -- what stands between the `=` of a word
 abbrev pub pair_of : List ℕ → List (List ℕ)
 pair_of word = slice_split (λ b. b == 61) word
+
+-- what stands between these bytes in a text that may be absent
+abbrev pub parts_in : ℕ → Option (Bor (List ℕ)) → List (List ℕ)
+parts_in mark None = []
+parts_in mark (Some text) = slice_split (λ b. b == mark) text.now
 
 -- the field of a key and a value
 unfoldable pub field_by : List ℕ → List ℕ → Result Field Cause
@@ -46,6 +52,14 @@ with_field f (field.Source n) = if is_some f.source then Err cause.Twice else Ok
 with_field f (field.Sink n) = if is_some f.sink then Err cause.Twice else Ok (record f { sink = Some n })
 with_field f (field.Address n) = if is_some f.address then Err cause.Twice else Ok (record f { address = Some n })
 with_field f (field.Data bytes) = if is_some f.bytes then Err cause.Twice else Ok (record f { bytes = Some bytes })
+
+-- one field more, of a key and a value
+abbrev pub with_pair : Fields → List ℕ → List ℕ → Result Fields Cause
+with_pair have key value = field_by key value >>= (λ f. with_field have f)
+
+-- one field more, that a word writes
+abbrev pub with_word : Fields → List ℕ → Result Fields Cause
+with_word have word = field_of word >>= (λ f. with_field have f)
 
 -- the fields that some words write, beside those that are there
 unfoldable pub fields_in : Fields → List (List ℕ) → Result Fields Cause

@@ -1,9 +1,10 @@
 //! The fields of a message: words KEY=VALUE.
-ghost use Rattle.std.specs.Prelude.{◌≡◌, IfOk, bytes_eq, codes, false};
+ghost use Rattle.std.specs.Prelude.{◌≡◌, IfOk};
 ghost use Rattle.tl_script_words.specs.Words.{texts};
 ghost use Rattle.tlcheck_record.specs.Cause.{Gives};
-ghost use Rattle.tlwire_record.specs.Fields.{field_by, field_in, field_of, fields_in, no_fields, pair_of, with_field};
+ghost use Rattle.tlwire_record.specs.Fields.{fields_in, no_fields, pair_of, with_pair, with_word};
 
+use crate::cut::cut_pair;
 use std::alloc::{AllocError, Global};
 use tl_types::BlockBytes;
 use tlcheck_record::{Cause, LineError, read_address, read_block_bytes, read_number};
@@ -37,50 +38,6 @@ pub(crate) fn split_pair(alloc: Global, word: &str) -> Result<Vec<&str>, AllocEr
     word.split('=').collect(alloc)
 }
 
-/// The field of a key, where that is not `data`, and a value.
-#[tactic(auto, unfolding(crate::specs::Fields::field_by))]
-fn number_field(key: &str, value: &str) -> Result<Field, Cause>
-    requires { bytes_eq key.now (codes "data") ≡ false }
-    ensures { result ≡ field_by key.now value.now }
-{
-    match key {
-        "param" => read_number(value).map(Field::Param),
-        "size" => read_number(value).map(Field::Size),
-        "source" => read_number(value).map(Field::Source),
-        "sink" => read_number(value).map(Field::Sink),
-        "address" => read_address(value).map(Field::Address),
-        _ => Err(Cause::Key),
-    }
-}
-
-#[tactic(auto, unfolding(crate::specs::Fields::field_by))]
-fn field_by(alloc: Global, key: &str, value: &str) -> Result<Field, LineError>
-    ensures { Gives (λ x. x) result (field_by key.now value.now) }
-{
-    match key {
-        "data" => Ok(Field::Data(read_block_bytes(alloc, value)?)),
-        _ => Ok(number_field(key, value)?),
-    }
-}
-
-#[tactic(auto, unfolding(crate::specs::Fields::field_in))]
-fn field_in(alloc: Global, parts: &[&str]) -> Result<Field, LineError>
-    ensures { Gives (λ x. x) result (field_in (texts parts.now)) }
-{
-    match *parts {
-        [key, value] => field_by(alloc, key, value),
-        _ => Err(LineError::Wrong(Cause::Key)),
-    }
-}
-
-/// The field that a word writes.
-fn parse_field(alloc: Global, word: &str) -> Result<Field, LineError>
-    ensures { Gives (λ x. x) result (field_of word.now) }
-{
-    let parts = split_pair(alloc, word)?;
-    field_in(alloc, &parts)
-}
-
 /// No fields.
 pub(crate) fn no_fields() -> Fields
     ensures { result ≡ no_fields }
@@ -95,36 +52,58 @@ pub(crate) fn no_fields() -> Fields
     }
 }
 
-/// One field more, unless it is there.
-fn with_field(mut fields: Fields, field: Field) -> Result<Fields, Cause>
-    ensures { result ≡ with_field fields field }
+/// One field more, of a key and a value, unless it is there.
+#[tactic(auto, unfolding(crate::specs::Fields::field_by))]
+fn add_field(alloc: Global, fields: &mut Fields, key: &str, value: &str) -> Result<(), LineError>
+    ensures { Gives (λ _. fields.new) result (with_pair fields.old key.now value.now) }
 {
-    let was_there = match field {
-        Field::Param(n) => fields.param.replace(n).is_some(),
-        Field::Size(n) => fields.size.replace(n).is_some(),
-        Field::Source(n) => fields.source.replace(n).is_some(),
-        Field::Sink(n) => fields.sink.replace(n).is_some(),
-        Field::Address(n) => fields.address.replace(n).is_some(),
-        Field::Data(bytes) => fields.bytes.replace(bytes).is_some(),
+    let was_there = match key {
+        "param" => fields.param.replace(read_number(value)?).is_some(),
+        "size" => fields.size.replace(read_number(value)?).is_some(),
+        "source" => fields.source.replace(read_number(value)?).is_some(),
+        "sink" => fields.sink.replace(read_number(value)?).is_some(),
+        "address" => fields.address.replace(read_address(value)?).is_some(),
+        "data" => fields
+            .bytes
+            .replace(read_block_bytes(alloc, value)?)
+            .is_some(),
+        _ => return Err(LineError::Wrong(Cause::Key)),
     };
     if was_there {
-        Err(Cause::Twice)
+        Err(LineError::Wrong(Cause::Twice))
     } else {
-        Ok(fields)
+        Ok(())
     }
 }
 
-/// The fields that some words write, beside those that are there.
-#[tactic(auto, unfolding(crate::specs::Fields::fields_in))]
-pub(crate) fn parse_fields(alloc: Global, have: Fields, words: &[&str]) -> Result<Fields, LineError>
-    ensures { Gives (λ x. x) result (fields_in have (texts words.now)) }
+/// One field more, that a word writes.
+fn add_word(alloc: Global, fields: &mut Fields, word: &str) -> Result<(), LineError>
+    ensures { Gives (λ _. fields.new) result (with_word fields.old word.now) }
 {
-    match words {
-        [] => Ok(have),
-        [word, rest @ ..] => {
-            let field = parse_field(alloc, word)?;
-            let next = with_field(have, field)?;
-            parse_fields(alloc, next, rest)
-        }
+    match cut_pair(word) {
+        Some((key, value)) => add_field(alloc, fields, key, value),
+        None => Err(LineError::Wrong(Cause::Key)),
     }
+}
+
+/// The fields that some words write, beside those that are there. It stands apart, so that the fields stay in their place.
+#[inline(never)]
+fn add_words(alloc: Global, fields: &mut Fields, words: &[&str]) -> Result<(), LineError>
+    ensures { Gives (λ _. fields.new) result (fields_in fields.old (texts words.now)) }
+{
+    let mut rest = words;
+    while let [word, after @ ..] = rest {
+        add_word(alloc, fields, word)?;
+        rest = after;
+    }
+    Ok(())
+}
+
+/// The fields that some words write.
+pub(crate) fn parse_fields(alloc: Global, words: &[&str]) -> Result<Fields, LineError>
+    ensures { Gives (λ x. x) result (fields_in no_fields (texts words.now)) }
+{
+    let mut fields = no_fields();
+    add_words(alloc, &mut fields, words)?;
+    Ok(fields)
 }

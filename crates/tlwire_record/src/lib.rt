@@ -2,6 +2,7 @@
 #![tactic(auto)]
 
 mod code;
+mod cut;
 mod fields;
 mod header;
 mod line;

@@ -4,7 +4,7 @@ ghost use Rattle.tl_script_words.specs.Words.{texts};
 ghost use Rattle.tlcheck_record.specs.Cause.{Gives};
 ghost use Rattle.tlwire_record.specs.Line.{access_in, channel_of_word, client_of_word, line_in, link_of, message_in, said_in, same_link};
 
-use crate::fields::{Fields, no_fields, parse_fields};
+use crate::fields::{Fields, parse_fields};
 use std::alloc::Global;
 use tl_script_words::parse_number;
 use tl_types::{AccessBytes, Channel, ClientId};
@@ -129,7 +129,7 @@ fn message(alloc: Global, channel: Channel, words: &[&str]) -> Result<Said, Line
         [] => Err(LineError::Wrong(Cause::Words)),
         [opcode, rest @ ..] => {
             let opcode = read_number(opcode)?;
-            let fields = parse_fields(alloc, no_fields(), rest)?;
+            let fields = parse_fields(alloc, rest)?;
             Ok(Said::Message(channel, opcode, fields))
         }
     }

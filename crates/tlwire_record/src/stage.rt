@@ -5,6 +5,7 @@ ghost use Rattle.tl_script_words.specs.Words.{texts};
 ghost use Rattle.tlcheck_record.specs.Cause.{Gives};
 ghost use Rattle.tlwire_record.specs.Reading.{after_text, going, next, next_shaped, shaped_by, text_taken};
 
+use crate::cut::few_words;
 use crate::header::{Setting, is_title, parse_setting, take_sources};
 use crate::line::parse_line;
 use crate::messages::Messages;
@@ -98,11 +99,22 @@ fn next(alloc: Global, stage: Stage, number: u64, words: &[&str]) -> Result<Stag
     }
 }
 
-fn text_taken(alloc: Global, stage: Stage, number: u64, text: &str) -> Result<Stage, LineError>
+/// Takes any text of a line.
+fn any_text(alloc: Global, stage: Stage, number: u64, text: &str) -> Result<Stage, LineError>
     ensures { Gives (λ s. s) result (text_taken stage number text.now) }
 {
     let words = split_words(alloc, text)?;
     next(alloc, stage, number, &words)
+}
+
+/// Takes the text of a line.
+fn text_taken(alloc: Global, stage: Stage, number: u64, text: &str) -> Result<Stage, LineError>
+    ensures { Gives (λ s. s) result (text_taken stage number text.now) }
+{
+    match few_words(text) {
+        Some(words) => next(alloc, stage, number, &words),
+        None => any_text(alloc, stage, number, text),
+    }
 }
 
 /// Takes the line with this number, without its line feed.
