@@ -1,7 +1,7 @@
 //! What is looked up by block is what a scan of all that is unsent finds.
 ghost use Rattle.std.specs.Prelude.{◌<◌};
 
-use super::{Sought, Wires, block_of};
+use super::{Wires, block_of, granted_block, is_get_of};
 use crate::seen::{Seen, Wire};
 use std::alloc::{AllocError, Global};
 use std::test::Fail;
@@ -75,6 +75,28 @@ fn made_wire(numbers: &mut Numbers) -> Wire {
     }
 }
 
+/// What is looked for on a wire.
+#[derive(Clone, Copy)]
+enum Sought {
+    /// A Grant.
+    Grant,
+    /// A Grant of a block.
+    GrantOf(BlockNo),
+    /// A Get of a block.
+    GetOf(BlockNo),
+}
+
+impl Sought {
+    /// Whether it is this.
+    fn is(self, seen: &Seen) -> bool {
+        match self {
+            Sought::Grant => granted_block(seen).is_some(),
+            Sought::GrantOf(block) => granted_block(seen) == Some(block),
+            Sought::GetOf(block) => is_get_of(seen, block),
+        }
+    }
+}
+
 fn next_of(wires: &Wires, seen: &[Seen], wire: Wire, block: BlockNo) -> Option<usize> {
     for place in wires.unsent(wire)? {
         if block_of(SHAPE, seen.get(*place)?) == block {
@@ -84,19 +106,18 @@ fn next_of(wires: &Wires, seen: &[Seen], wire: Wire, block: BlockNo) -> Option<u
     None
 }
 
-fn next_like(
-    wires: &Wires,
-    seen: &[Seen],
-    wire: Wire,
-    block: BlockNo,
-    sought: Sought,
-) -> Option<usize> {
+fn next_like(wires: &Wires, seen: &[Seen], wire: Wire, sought: Sought) -> Option<usize> {
     for place in wires.unsent(wire)? {
-        if sought.is(seen.get(*place)?, block) {
+        if sought.is(seen.get(*place)?) {
             return Some(*place);
         }
     }
     None
+}
+
+fn next_granted(wires: &Wires, seen: &[Seen], c: ClientId) -> Option<BlockNo> {
+    let place = next_like(wires, seen, Wire::Link(c, Channel::D), Sought::Grant)?;
+    granted_block(seen.get(place)?)
 }
 
 fn granted_first(wires: &Wires, seen: &[Seen], block: BlockNo) -> Option<ClientId> {
@@ -105,7 +126,7 @@ fn granted_first(wires: &Wires, seen: &[Seen], block: BlockNo) -> Option<ClientI
     for number in 0..SHAPE.clients {
         let c = ClientId::new(number);
         let wire = Wire::Link(c, Channel::D);
-        if let Some(place) = next_like(wires, seen, wire, block, Sought::Grant) {
+        if let Some(place) = next_like(wires, seen, wire, Sought::GrantOf(block)) {
             if place < least {
                 least = place;
                 first = Some(c);
@@ -140,13 +161,22 @@ fn is_same_at_core(wires: &Wires, seen: &[Seen], c: ClientId, block: BlockNo) ->
 }
 
 fn is_same_grant(wires: &Wires, seen: &[Seen], c: ClientId, block: BlockNo) -> bool {
-    let scanned = next_like(wires, seen, Wire::Link(c, Channel::D), block, Sought::Grant);
+    let scanned = next_like(
+        wires,
+        seen,
+        Wire::Link(c, Channel::D),
+        Sought::GrantOf(block),
+    );
     let looked_up = wires.next_grant(seen, c, block);
     looked_up == scanned
 }
 
+fn is_same_granted(wires: &Wires, seen: &[Seen], c: ClientId) -> bool {
+    wires.next_granted(seen, c) == next_granted(wires, seen, c)
+}
+
 fn is_same_get(wires: &Wires, seen: &[Seen], block: BlockNo) -> bool {
-    let scanned = next_like(wires, seen, Wire::Memory(Channel::A), block, Sought::Get);
+    let scanned = next_like(wires, seen, Wire::Memory(Channel::A), Sought::GetOf(block));
     let looked_up = wires.next_get(seen, block);
     looked_up == scanned
 }
@@ -173,6 +203,9 @@ fn are_same(wires: &Wires, seen: &[Seen], c: ClientId, block: BlockNo) -> bool {
 
 fn are_all_same(wires: &Wires, seen: &[Seen]) -> bool {
     for client in 0..CLIENTS {
+        if !is_same_granted(wires, seen, ClientId::new(client)) {
+            return false;
+        }
         for block in 0..SHAPE.blocks {
             if !are_same(wires, seen, ClientId::new(client), BlockNo::new(block)) {
                 return false;
