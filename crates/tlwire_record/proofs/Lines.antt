@@ -13,18 +13,18 @@ use Rattle.tlwire_record.specs.declared.stage.Stage.{Stage}
 
 -- a line that is a text
 pub text_line :
-    (stage : Stage) (number : ℕ) (text t : List ℕ) (result : Result Stage LineError) → is_blank text ≡ false → text_in text ≡ Ok t
-    → Gives (λ (s : Stage). s) result (text_taken stage number t) → Gives (λ (s : Stage). s) result (after_text stage number text)
-text_line stage number text t result b e h =
-    subst (λ (o : Result Stage Cause). Gives (λ (s : Stage). s) result o)
+    (stage after : Stage) (number : ℕ) (text t : List ℕ) (result : Result (Unit {0}) LineError) → is_blank text ≡ false → text_in text ≡ Ok t
+    → Gives {X = Unit {0}} (λ _. after) result (text_taken stage number t) → Gives {X = Unit {0}} (λ _. after) result (after_text stage number text)
+text_line stage after number text t result b e h =
+    subst (λ (o : Result Stage Cause). Gives {X = Unit {0}} (λ _. after) result o)
     (sym (ap (λ (v : Bool). cond v (Ok stage) (text_in text >>= (λ x. text_taken stage number x))) b
     ∙ ap (λ (o : Result (List ℕ) Cause). o >>= (λ x. text_taken stage number x)) e)) h
 
 -- one that is none
 pub no_text :
-    (stage : Stage) (number : ℕ) (text : List ℕ) (cause : Cause) → is_blank text ≡ false → text_in text ≡ Err cause
-    → Gives (λ (s : Stage). s) (Err (Wrong cause)) (after_text stage number text)
-no_text stage number text cause b e =
+    (stage after : Stage) (number : ℕ) (text : List ℕ) (cause : Cause) → is_blank text ≡ false → text_in text ≡ Err cause
+    → Gives {X = Unit {0}} (λ _. after) (Err (Wrong cause)) (after_text stage number text)
+no_text stage after number text cause b e =
     ap (λ (v : Bool). cond v (Ok stage) (text_in text >>= (λ x. text_taken stage number x))) b
     ∙ ap (λ (o : Result (List ℕ) Cause). o >>= (λ x. text_taken stage number x)) e
 

@@ -46,11 +46,11 @@ fn take_lines(alloc: Global, lines: &[&[u8]]) -> Result<Stage, ReadFault>
     let mut number: u64 = 0;
     for line in lines {
         number += 1;
-        stage = match take_line(alloc, stage, number, line) {
-            Ok(after) => after,
+        match take_line(alloc, &mut stage, number, line) {
+            Ok(()) => {}
             Err(LineError::Wrong(cause)) => return Err(ReadFault::Line(number, cause)),
             Err(LineError::Memory) => return Err(ReadFault::Memory),
-        };
+        }
     }
     Ok(stage)
 }

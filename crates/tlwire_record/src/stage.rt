@@ -11,6 +11,7 @@ use crate::line::parse_line;
 use crate::messages::Messages;
 use crate::premise::{is_premise_word, take_premise};
 use std::alloc::Global;
+use std::mem;
 use tl_script_words::split_words;
 use tlcheck_record::{Cause, LineError, is_blank, read_image, read_text};
 
@@ -28,6 +29,19 @@ pub enum Stage {
 }
 
 /// One line more of what was seen.
+fn take_seen(
+    alloc: Global,
+    messages: &mut Messages,
+    number: u64,
+    words: &[&str],
+) -> Result<(), LineError>
+    ensures { Gives (λ _. Stage.Going messages.new) result (going messages.old number (texts words.now)) }
+{
+    let line = parse_line(alloc, words)?;
+    messages.take(number, line)
+}
+
+/// The same, behind the shape.
 fn going(
     alloc: Global,
     mut messages: Messages,
@@ -36,8 +50,7 @@ fn going(
 ) -> Result<Stage, LineError>
     ensures { Gives (λ s. s) result (going messages number (texts words.now)) }
 {
-    let line = parse_line(alloc, words)?;
-    messages.take(number, line)?;
+    take_seen(alloc, &mut messages, number, words)?;
     Ok(Stage::Going(messages))
 }
 
@@ -99,20 +112,39 @@ fn next(alloc: Global, stage: Stage, number: u64, words: &[&str]) -> Result<Stag
     }
 }
 
+/// Takes a line that is not blank. What was seen so far stays in its place.
+fn take_words(
+    alloc: Global,
+    stage: &mut Stage,
+    number: u64,
+    words: &[&str],
+) -> Result<(), LineError>
+    ensures { Gives (λ _. stage.new) result (next stage.old number (texts words.now)) }
+{
+    match stage {
+        Stage::Going(messages) => take_seen(alloc, messages, number, words),
+        _ => {
+            let before = mem::replace(stage, Stage::Fresh);
+            *stage = next(alloc, before, number, words)?;
+            Ok(())
+        }
+    }
+}
+
 /// Takes any text of a line.
-fn any_text(alloc: Global, stage: Stage, number: u64, text: &str) -> Result<Stage, LineError>
-    ensures { Gives (λ s. s) result (text_taken stage number text.now) }
+fn any_text(alloc: Global, stage: &mut Stage, number: u64, text: &str) -> Result<(), LineError>
+    ensures { Gives (λ _. stage.new) result (text_taken stage.old number text.now) }
 {
     let words = split_words(alloc, text)?;
-    next(alloc, stage, number, &words)
+    take_words(alloc, stage, number, &words)
 }
 
 /// Takes the text of a line.
-fn text_taken(alloc: Global, stage: Stage, number: u64, text: &str) -> Result<Stage, LineError>
-    ensures { Gives (λ s. s) result (text_taken stage number text.now) }
+fn text_taken(alloc: Global, stage: &mut Stage, number: u64, text: &str) -> Result<(), LineError>
+    ensures { Gives (λ _. stage.new) result (text_taken stage.old number text.now) }
 {
     match few_words(text) {
-        Some(words) => next(alloc, stage, number, &words),
+        Some(words) => take_words(alloc, stage, number, &words),
         None => any_text(alloc, stage, number, text),
     }
 }
@@ -120,14 +152,14 @@ fn text_taken(alloc: Global, stage: Stage, number: u64, text: &str) -> Result<St
 /// Takes the line with this number, without its line feed.
 pub(crate) fn take_line(
     alloc: Global,
-    stage: Stage,
+    stage: &mut Stage,
     number: u64,
     text: &[u8],
-) -> Result<Stage, LineError>
-    ensures { Gives (λ s. s) result (after_text stage number text.now) }
+) -> Result<(), LineError>
+    ensures { Gives (λ _. stage.new) result (after_text stage.old number text.now) }
 {
     if is_blank(text) {
-        return Ok(stage);
+        return Ok(());
     }
     match read_text(text) {
         Ok(text) => text_taken(alloc, stage, number, text),

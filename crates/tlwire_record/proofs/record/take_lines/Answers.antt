@@ -13,6 +13,6 @@ loop-line-preserved c = record {
   counted = omega (arith, c.loop-line.invariant.counted);
   leads =
       c.loop-line.invariant.leads
-      ∙ goes_on c.args.lines.now c.loop-line.line-index c.loop-line.number _ c.loop-line.stage c.in-Ok.after c.loop-line.invariant.counted
+      ∙ goes_on c.args.lines.now c.loop-line.line-index c.loop-line.number _ c.loop-line.stage c.take_line.new.stage c.loop-line.invariant.counted
       c.loop-line-test.true (c.in-Ok.ensures {u = tt});
 }
