@@ -29,7 +29,7 @@ fn fault(error: LineError) -> LineFault
 
 /// Why a line with an entry is not taken.
 #[derive(Drop)]
-pub enum EntryFault {
+pub(crate) enum EntryFault {
     /// It cannot be read, for this cause.
     Unreadable(Cause),
     /// The entry is of this block, has this number, and breaks this.
