@@ -184,6 +184,18 @@ impl Judge {
         self.order.join(client, &sent, block)
     }
 
+    /// Takes an entry against which `breach` has nothing. Err is a refused request for memory: then the judge is where nothing is claimed.
+    pub fn take_allowed(&mut self, entry: &Entry) -> Result<(), AllocError>
+        requires { Allows self.old entry.now }
+        ensures { OnOk result
+            ((shape : Shape) (image : List ℕ) (log : List Event)
+            → Follows shape image log self.old
+            → IsPermitted shape image log entry.now × Follows shape image (log ++ entry.now.event ∷ []) self.new) }
+    {
+        self.carry_out(&entry.event)?;
+        Ok(())
+    }
+
     /// Takes the next entry of a record, if it is permitted after those before it; else it says what the entry breaks. Memory where a
     /// request for memory was refused: then the judge is where nothing is claimed.
     pub fn step(&mut self, entry: &Entry) -> Result<(), Refusal>
@@ -199,7 +211,7 @@ impl Judge {
         if let Some(breach) = self.breach(entry) {
             return Err(Refusal::Broken(breach));
         }
-        match self.carry_out(&entry.event) {
+        match self.take_allowed(entry) {
             Ok(()) => Ok(()),
             Err(_) => Err(Refusal::Memory),
         }

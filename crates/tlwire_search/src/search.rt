@@ -1,7 +1,7 @@
 //! A search for a run that has what was seen. Nothing rests on it: what it finds is walked along.
-ghost use Rattle.std.specs.Prelude.{◌<◌, ◌≤◌};
+ghost use Rattle.std.specs.Prelude.{◌<◌, ◌≤◌, IfOk};
 ghost use Rattle.tl_protocol.specs.Protocol.{May};
-ghost use Rattle.tlcheck_rules.specs.Judged.{own_block};
+ghost use Rattle.tlcheck_rules.specs.Judged.{Allows, own_block};
 
 use crate::premise::{Premise, is_seen_at_pins, may_have_more};
 use crate::remedy::remedy;
@@ -13,7 +13,7 @@ use crate::wires::Wires;
 use std::alloc::{AllocError, Global};
 use tl_rules::{Event, Shape};
 use tl_types::{BLOCK_BYTES, BLOCKS, Channel, Downward, Upward};
-use tlcheck_rules::{Entry, Judge, Refusal, client_of};
+use tlcheck_rules::{Entry, Judge, client_of};
 
 /// How many events may come before one that something seen stands for.
 const EVENTS: u32 = 4096;
@@ -108,7 +108,9 @@ fn ready_for(
     wires: &Wires,
     record: Record<'_>,
     wanted: Event,
-) -> Result<Entry, Limit> {
+) -> Result<Entry, Limit>
+    ensures { IfOk result (λ entry. Allows judge.now entry) }
+{
     let seen = record.seen;
     let mut event = wanted;
     for _ in 0..DEPTH {
@@ -157,23 +159,21 @@ impl Attempt {
         })
     }
 
-    /// Takes an event, if it may come next.
-    fn take(&mut self, entry: Entry) -> Result<bool, AllocError> {
+    /// Takes an event that may come next.
+    fn take(&mut self, entry: Entry) -> Result<(), AllocError>
+        requires { Allows self.old.judge entry }
+    {
         let wire = if acknowledges(&self.judge, &entry.event) {
             Some(Wire::Link(client_of(&entry.event), Channel::D))
         } else {
             wire_of(&entry.event)
         };
-        match self.judge.step(&entry) {
-            Ok(()) => {}
-            Err(Refusal::Broken(_)) => return Ok(false),
-            Err(Refusal::Memory) => return Err(AllocError),
-        }
+        self.judge.take_allowed(&entry)?;
         if let Some(wire) = wire {
             self.wires.advance(wire);
         }
         self.run.push(entry.event)?;
-        Ok(true)
+        Ok(())
     }
 
     /// What leads on to what was seen at a place; None where it is reached.
@@ -199,9 +199,7 @@ impl Attempt {
                 Ok(entry) => entry,
                 Err(limit) => return Ok(Some(limit)),
             };
-            if !self.take(entry)? {
-                return Ok(Some(Limit::NoWay));
-            }
+            self.take(entry)?;
         }
         Ok(Some(Limit::Events))
     }

@@ -13,7 +13,7 @@ use crate::sight::seen_of;
 use std::alloc::{AllocError, Global};
 use tl_rules::{Event, Shape};
 use tl_types::{BLOCK_BYTES, BLOCKS};
-use tlcheck_rules::{Entry, Judge, Refusal};
+use tlcheck_rules::{Entry, Judge};
 
 /// Marks this as the next on its wire; or nothing is left there, and more may have been sent.
 fn is_next(
@@ -52,11 +52,8 @@ fn goes_on(
             return Ok(false);
         }
     }
-    match judge.step(entry) {
-        Ok(()) => Ok(true),
-        Err(Refusal::Broken(_)) => Ok(false),
-        Err(Refusal::Memory) => Err(AllocError),
-    }
+    judge.take_allowed(entry)?;
+    Ok(true)
 }
 
 /// A run so far, where it leads, and what is marked of what was seen.

@@ -5,11 +5,11 @@ use Rattle.tlwire_search.proofs.Along.{IsNextBy, goes_on}
 use Rattle.tlwire_search.proofs.walk.goes_on.Goals as goal
 use Rattle.tlwire_search.proofs.walk.goes_on.Goals.{in-Some-seen_of+in_ok-is_next+else-not-branch, in_default-seen_of}
 
-pub returns-in-Ok : goal.returns-in-Ok
-returns-in-Ok c = λ yes shape image run g.
-    goes_on c.args.premises.now shape image c.args.seen.now run c.args.judge.now c.args.marks.now g c.args.entry.now c.step.new.self c.match-seen_of.marks
+pub returns : goal.returns
+returns c = λ yes shape image run g.
+    goes_on c.args.premises.now shape image c.args.seen.now run c.args.judge.now c.args.marks.now g c.args.entry.now c.take_allowed.new.self c.match-seen_of.marks
     (c.in_default.ensures {u = tt})
-    ((c.in-Ok.ensures {u = tt}).ok shape image run g.follows)
+    ((c.in_ok-take_allowed.ensures {u = tt}) shape image run g.follows)
     (elim c.match-seen_of.branch [
       | in-Some-seen_of+in_ok-is_next+else-not-branch w ↦
           subst (λ (o : Option Seen). IsNextBy c.args.premises.now c.args.seen.now c.args.marks.now c.match-seen_of.marks o) (sym w.in-Some-seen_of.is ∙ c.seen_of.ensures)

@@ -1,7 +1,7 @@
 use Rattle.std.proofs.Common.{◌≡◌, subst}
 use Rattle.tlcheck_rules.specs.declared.judge.Breach.{Breach}
 use Rattle.tlcheck_rules.specs.Judged.{Breaks}
-use Rattle.tlcheck_rules.proofs.Judging.{all_allowed, all_carried, all_rejected}
+use Rattle.tlcheck_rules.proofs.Judging.{all_rejected}
 use Rattle.tlcheck_rules.proofs.judge.Judge.step.Goals as goal
 
 -- the entry breaks what the judge's state says
@@ -10,10 +10,3 @@ returns-in-Some-clause-broken c = λ breach is shape image log f.
     let same : c.in-Some.breach ≡ breach = cc in
     subst (λ (b : Breach). Breaks shape image log c.args.entry.now b) same
     (all_rejected c.args.self.now shape image log f c.args.entry.now c.in-Some.breach (c.in-Some.ensures {u = tt}))
-
--- the entry is permitted, and the judge goes on with its event
-pub returns-in-Ok-clause-ok : goal.returns-in-Ok-clause-ok
-returns-in-Ok-clause-ok c = λ shape image log f. (
-  all_allowed c.args.self.now shape image log f c.args.entry.now (c.in_default.ensures {u = tt}),
-  all_carried c.args.self.now shape image log f c.args.entry.now.event c.carry_out.new.self (c.in-Ok.ensures {u = tt}),
-)
