@@ -184,7 +184,8 @@ impl Judge {
         self.order.join(client, &sent, block)
     }
 
-    /// Takes an entry against which `breach` has nothing. Err is a refused request for memory: then the judge is where nothing is claimed.
+    /// Takes an entry against which `breach` has nothing. Err is a refused request for memory: then the judge is where nothing
+    /// is claimed.
     pub fn take_allowed(&mut self, entry: &Entry) -> Result<(), AllocError>
         requires { Allows self.old entry.now }
         ensures { OnOk result

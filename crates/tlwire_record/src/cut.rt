@@ -51,7 +51,8 @@ pub(crate) fn few_words(line: &str) -> Option<ArrayVec<&str, FEW>>
 
 /// The two parts of a word `KEY=VALUE`.
 pub(crate) fn cut_pair(word: &str) -> Option<(&str, &str)>
-    ensures { MatchOption result (field_of word.now ≡ Err cause.Key) (λ parts. pair_of word.now ≡ parts.0.now ∷ parts.1.now ∷ []) }
+    ensures { MatchOption result (field_of word.now ≡ Err cause.Key)
+        (λ parts. pair_of word.now ≡ parts.0.now ∷ parts.1.now ∷ []) }
 {
     let (key, Some(rest)) = cut(word, b'=') else {
         return None;

@@ -86,7 +86,7 @@ fn add_word(alloc: Global, fields: &mut Fields, word: &str) -> Result<(), LineEr
     }
 }
 
-/// The fields that some words write, beside those that are there. It stands apart, so that the fields stay in their place.
+/// The fields that some words write, beside those that are there. It stands apart, so that the fields stay in place.
 #[inline(never)]
 fn add_words(alloc: Global, fields: &mut Fields, words: &[&str]) -> Result<(), LineError>
     ensures { Gives (λ _. fields.new) result (fields_in fields.old (texts words.now)) }
