@@ -1,5 +1,5 @@
 -- The whole plain map.
-use Rattle.std.specs.Prelude.{◌≡◌, ◌<◌, ◌≤◌, List, All, length}
+use Rattle.std.specs.Prelude.{◌≡◌, ◌<◌, ◌≤◌, List, All, Option, length, map, unwrap_or}
 use Rattle.tl_protocol.specs.declared.shape.Shape.{Shape}
 use Rattle.tl_rules.specs.PlainBlock.{PlainBlock}
 use Rattle.tl_types.specs.declared.limits.TheConstants.{BLOCK_BYTES}
@@ -15,3 +15,7 @@ pub record IsShaped (shape : Shape) (blocks : List PlainBlock) : Type 0 where
   pub at_most : shape.block_bytes ≤ BLOCK_BYTES
   pub all_blocks : length blocks ≡ shape.blocks
   pub all_clients : All (λ block. length block.clients ≡ shape.clients) blocks
+
+-- each block; one that has no state of its own is as a fresh one
+abbrev pub each_block : PlainBlock → List (Option PlainBlock) → List PlainBlock
+each_block fresh blocks = map (λ (own : Option PlainBlock). unwrap_or own fresh) blocks
