@@ -98,13 +98,15 @@ fn copy_client(client: &mut Client, other: &Client) -> Result<(), AllocError>
     copy_acks(&mut client.e, &other.e)
 }
 
-/// As many clients become the same as others.
+/// As many clients become the same as others. Mostly few are not the same before, where this is done for one step after the other.
 fn copy_clients(clients: &mut [Client], others: &[Client]) -> Result<(), AllocError>
     requires { length clients.old ≡ length others.now }
     ensures { OnOk result (clients.new ≡ others.now) }
 {
     for i in 0..clients.len() {
-        copy_client(&mut clients[i], &others[i])?;
+        if !clients[i].is_same(&others[i]) {
+            copy_client(&mut clients[i], &others[i])?;
+        }
     }
     Ok(())
 }
