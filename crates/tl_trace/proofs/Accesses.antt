@@ -185,15 +185,15 @@ done-step index step old new place client before clock shared_bank other left an
     (subst (λ (n : ℕ). IsStepAt index step shared_bank left n clock answer) clocked acts) made
 
 -- the bank that was asked and the clock that was set are back in their places
-pub step-network : {E : Type 0} (result : Result Answer E) (index : ℕ) (step : Step) (old new : NetworkState) (place client before clock : ℕ)
-    (shared_bank other left : SharedBankState) → place ≡ bank_asked old.geometry step → client ≡ client_named step
+pub step-network : {T E : Type 0} (result : Result T E) (index : ℕ) (step : Step) (old new : NetworkState) (place client before clock : ℕ)
+    (shared_bank other left : SharedBankState) (answer : Answer) → place ≡ bank_asked old.geometry step → client ≡ client_named step
     → place < length old.shared_banks → before ≡ slice_index old.clocks client → shared_bank ≡ get_or old.shared_banks place other
-    → OnErr result (IsStarvedAt shared_bank left before clock) → IfOk result (IsStepAt index step shared_bank left before clock)
+    → OnErr result (IsStarvedAt shared_bank left before clock) → OnOk result (IsStepAt index step shared_bank left before clock answer)
     → new ≡ record old { shared_banks = slice_set old.shared_banks place left; clocks = slice_set old.clocks client clock }
-    → OnErr result (IsStarvedNetwork step old new) × IfOk result (IsNetworkStep index step old new)
-step-network (Ok answer) index step old new place client before clock shared_bank other left at of inside clocked is starved acts made =
+    → OnErr result (IsStarvedNetwork step old new) × OnOk result (IsNetworkStep index step old new answer)
+step-network (Ok v) index step old new place client before clock shared_bank other left answer at of inside clocked is starved acts made =
     (tt, done-step index step old new place client before clock shared_bank other left answer at of inside clocked is acts made)
-step-network (Err e) index step old new place client before clock shared_bank other left at of inside clocked is starved acts made =
+step-network (Err e) index step old new place client before clock shared_bank other left answer at of inside clocked is starved acts made =
     (starved-step index step old new place client before clock shared_bank other left at inside clocked is starved made, tt)
 
 -- the bank that was asked and the clock that was set are back in their places, whatever was answered

@@ -1,5 +1,5 @@
 -- An answer is a refusal where one stands against the step, else what the step did.
-use Rattle.std.proofs.Common.{◌≡◌, ◌≢◌, ℕ, Option, Some, None, Result, Ok, Err, IfOk, OnErr, OnOk, ◌∙◌, ap, subst}
+use Rattle.std.proofs.Common.{◌≡◌, ◌≢◌, ℕ, Option, Some, None, Result, Ok, Err, OnErr, OnOk, ◌∙◌, ap, subst}
 use Rattle.tl_bank_spec.specs.Refusal.{IsRefused}
 use Rattle.tl_bank_spec.specs.declared.refusal.Refusal.{Refusal}
 use Rattle.tl_bank_spec.specs.declared.refusal.Refusal.TheVariants.{Memory}
@@ -14,28 +14,22 @@ answers-refused None room refusal unchanged done answer is other same says = abs
 answers-refused (Some r) room refusal unchanged done answer is other same says = (same, says ∙ ap Refused is)
 
 -- a refusal that was made an answer
-pub err-answers : {E : Type 0} (result : Result Answer E) (first : Option Refusal) (room : ℕ) (refusal : Refusal) (unchanged : Type 0)
-    (done : Answer → Type 0) → IfOk result (λ answer. answer ≡ Refused refusal) → OnOk result (refusal ≢ Memory)
-    → IsRefused first room refusal → unchanged → IfOk result (λ answer. Answers first unchanged (done answer) answer)
-err-answers (Ok answer) first room refusal unchanged done says other is same =
-    answers-refused first room refusal unchanged (done answer) answer is other same says
-err-answers (Err e) first room refusal unchanged done says other is same = tt
-
--- what follows of each answer follows of a call that may have none
-pub if-answered : {E : Type 0} (result : Result Answer E) (P Q : Answer → Type 0) → ((answer : Answer) → P answer → Q answer)
-    → IfOk result P → IfOk result Q
-if-answered (Ok answer) P Q f h = f answer h
-if-answered (Err e) P Q f h = tt
+pub err-answers : {T E : Type 0} (result : Result T E) (first : Option Refusal) (room : ℕ) (refusal : Refusal) (unchanged done : Type 0)
+    (answer : Answer) → OnOk result (answer ≡ Refused refusal) → OnOk result (refusal ≢ Memory) → IsRefused first room refusal → unchanged
+    → OnOk result (Answers first unchanged done answer)
+err-answers (Ok v) first room refusal unchanged done answer says other is same =
+    answers-refused first room refusal unchanged done answer is other same says
+err-answers (Err e) first room refusal unchanged done answer says other is same = tt
 
 -- a refusal that was want of memory
-pub err-starved : {E : Type 0} (result : Result Answer E) (first : Option Refusal) (room : ℕ) (refusal : Refusal) (unchanged : Type 0)
+pub err-starved : {T E : Type 0} (result : Result T E) (first : Option Refusal) (room : ℕ) (refusal : Refusal) (unchanged : Type 0)
     → OnErr result (refusal ≡ Memory) → IsRefused first room refusal → unchanged → OnErr result (IsStarved first room unchanged)
-err-starved (Ok answer) first room refusal unchanged memory is same = tt
+err-starved (Ok v) first room refusal unchanged memory is same = tt
 err-starved (Err e) first room refusal unchanged memory is same = (same, subst (λ r. IsRefused first room r) memory is)
 
 -- what follows of each refusal of memory follows of a call that may have none
-pub if-starved : {E : Type 0} (result : Result Answer E) (P Q : Type 0) → (P → Q) → OnErr result P → OnErr result Q
-if-starved (Ok answer) P Q f h = tt
+pub if-starved : {T E : Type 0} (result : Result T E) (P Q : Type 0) → (P → Q) → OnErr result P → OnErr result Q
+if-starved (Ok v) P Q f h = tt
 if-starved (Err e) P Q f h = f h
 
 -- what holds anyway holds of a call that may have no answer

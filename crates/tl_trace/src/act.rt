@@ -1,5 +1,5 @@
 //! One step at one bank.
-ghost use Rattle.std.specs.Prelude.{◌≡◌, IfOk, OnErr};
+ghost use Rattle.std.specs.Prelude.{◌≡◌, OnErr, OnOk};
 ghost use Rattle.tl_bank_spec.specs.Refusal.{first_of};
 ghost use Rattle.tl_trace.specs.Answers.{Answers, IsStarved};
 ghost use Rattle.tl_trace.specs.Steps.{IsStep, BlockDoes, TicketDoes, block_cases_of, cases_of, ticket_cases_of};
@@ -24,37 +24,38 @@ pub(crate) fn act(
     clock: &mut u64,
     index: u32,
     step: &Step,
-) -> Result<Answer, AllocError>
+    answer: &mut Answer,
+) -> Result<(), AllocError>
     ensures memory { OnErr result
         (IsStarved (first_of (cases_of (record { bank = bank.old; share = share.old; clock = clock.old }) step.now)) bank.old.room
         ((bank.new ≡ bank.old) × (share.new ≡ share.old) × (clock.new ≡ clock.old))) }
-    ensures answer { IfOk result
+    ensures answer { OnOk result
         (IsStep index step.now (record { bank = bank.old; share = share.old; clock = clock.old })
-        (record { bank = bank.new; share = share.new; clock = clock.new })) }
+        (record { bank = bank.new; share = share.new; clock = clock.new }) answer.new) }
 {
     match step {
         Step::Load {
             client,
             address,
             len,
-        } => load(bank, clock, index, *client, *address, *len),
+        } => load(bank, clock, index, *client, *address, *len, answer),
         Step::Store {
             client,
             address,
             bytes,
-        } => store(bank, clock, index, *client, *address, bytes),
+        } => store(bank, clock, index, *client, *address, bytes, answer),
         Step::Acquire {
             client,
             block,
             grow,
-        } => acquire(bank, *client, *block, *grow),
+        } => acquire(bank, *client, *block, *grow, answer),
         Step::Release {
             client,
             block,
             prune,
-        } => release(bank, share, *client, *block, *prune),
-        Step::Ticket(call, ticket) => act_by_ticket(bank, share, *call, *ticket),
-        Step::Block(call, block) => act_on_block(bank, *call, *block),
+        } => release(bank, share, *client, *block, *prune, answer),
+        Step::Ticket(call, ticket) => act_by_ticket(bank, share, *call, *ticket, answer),
+        Step::Block(call, block) => act_on_block(bank, *call, *block, answer),
     }
 }
 
@@ -64,37 +65,43 @@ fn act_by_ticket(
     share: &mut Share,
     call: TicketCall,
     ticket: Ticket,
-) -> Result<Answer, AllocError>
+    answer: &mut Answer,
+) -> Result<(), AllocError>
     ensures memory { OnErr result
         (IsStarved (first_of (ticket_cases_of bank.old share.old call ticket)) bank.old.room
         ((bank.new ≡ bank.old) × (share.new ≡ share.old))) }
-    ensures answer { IfOk result
-        (λ answer. Answers (first_of (ticket_cases_of bank.old share.old call ticket))
+    ensures answer { OnOk result
+        (Answers (first_of (ticket_cases_of bank.old share.old call ticket))
         ((bank.new ≡ bank.old) × (share.new ≡ share.old))
-        (TicketDoes call ticket bank.old bank.new share.old share.new answer) answer) }
+        (TicketDoes call ticket bank.old bank.new share.old share.new answer.new) answer.new) }
 {
     match call {
-        TicketCall::AnswerProbe => answer_probe(bank, share, ticket),
-        TicketCall::TakeGrant => take_grant(bank, share, ticket),
-        TicketCall::TakeReleaseAck => take_release_ack(bank, ticket),
-        TicketCall::Accept => accept(bank, ticket),
-        TicketCall::TakeC => take_c(bank, ticket),
-        TicketCall::TakeGrantAck => take_grant_ack(bank, ticket),
+        TicketCall::AnswerProbe => answer_probe(bank, share, ticket, answer),
+        TicketCall::TakeGrant => take_grant(bank, share, ticket, answer),
+        TicketCall::TakeReleaseAck => take_release_ack(bank, ticket, answer),
+        TicketCall::Accept => accept(bank, ticket, answer),
+        TicketCall::TakeC => take_c(bank, ticket, answer),
+        TicketCall::TakeGrantAck => take_grant_ack(bank, ticket, answer),
     }
 }
 
 /// A call that has a block.
-fn act_on_block(bank: &mut Bank, call: BlockCall, block: BlockNo) -> Result<Answer, AllocError>
+fn act_on_block(
+    bank: &mut Bank,
+    call: BlockCall,
+    block: BlockNo,
+    answer: &mut Answer,
+) -> Result<(), AllocError>
     ensures memory { OnErr result
         (IsStarved (first_of (block_cases_of bank.old call block)) bank.old.room (bank.new ≡ bank.old)) }
-    ensures answer { IfOk result
-        (λ answer. Answers (first_of (block_cases_of bank.old call block)) (bank.new ≡ bank.old)
-        (BlockDoes call block bank.old bank.new answer) answer) }
+    ensures answer { OnOk result
+        (Answers (first_of (block_cases_of bank.old call block)) (bank.new ≡ bank.old)
+        (BlockDoes call block bank.old bank.new answer.new) answer.new) }
 {
     match call {
-        BlockCall::Advance => advance(bank, block),
-        BlockCall::Evict => evict(bank, block),
-        BlockCall::ServeMemory => serve_memory(bank, block),
-        BlockCall::TakeMemory => take_memory(bank, block),
+        BlockCall::Advance => advance(bank, block, answer),
+        BlockCall::Evict => evict(bank, block, answer),
+        BlockCall::ServeMemory => serve_memory(bank, block, answer),
+        BlockCall::TakeMemory => take_memory(bank, block, answer),
     }
 }

@@ -23,18 +23,22 @@ pub(crate) fn load(
     client: ClientId,
     address: u32,
     len: u8,
-) -> Result<Answer, AllocError>
+    answer: &mut Answer,
+) -> Result<(), AllocError>
     ensures memory { OnErr result
         (IsStarved (first_of (load_cases bank.old client address len clock.old)) bank.old.room
         ((bank.new ≡ bank.old) × (clock.new ≡ clock.old))) }
-    ensures answer { IfOk result
-        (λ answer. Answers (first_of (load_cases bank.old client address len clock.old))
+    ensures answer { OnOk result
+        (Answers (first_of (load_cases bank.old client address len clock.old))
         ((bank.new ≡ bank.old) × (clock.new ≡ clock.old))
-        (Loads index bank.old bank.new clock.old clock.new client address len answer) answer) }
+        (Loads index bank.old bank.new clock.old clock.new client address len answer.new) answer.new) }
 {
     match load_bytes(bank, clock, index, client, address, len) {
-        Ok(bytes) => Ok(Answer::Loaded(bytes)),
-        Err(refusal) => refused(refusal),
+        Ok(bytes) => {
+            *answer = Answer::Loaded(bytes);
+            Ok(())
+        }
+        Err(refusal) => refused(refusal, answer),
     }
 }
 
@@ -70,18 +74,22 @@ pub(crate) fn store(
     client: ClientId,
     address: u32,
     bytes: &AccessBytes,
-) -> Result<Answer, AllocError>
+    answer: &mut Answer,
+) -> Result<(), AllocError>
     ensures memory { OnErr result
         (IsStarved (first_of (store_cases bank.old client address (length bytes.now) clock.old)) bank.old.room
         ((bank.new ≡ bank.old) × (clock.new ≡ clock.old))) }
-    ensures answer { IfOk result
-        (λ answer. Answers (first_of (store_cases bank.old client address (length bytes.now) clock.old))
+    ensures answer { OnOk result
+        (Answers (first_of (store_cases bank.old client address (length bytes.now) clock.old))
         ((bank.new ≡ bank.old) × (clock.new ≡ clock.old))
-        (Stores index bank.old bank.new clock.old clock.new client address bytes.now answer) answer) }
+        (Stores index bank.old bank.new clock.old clock.new client address bytes.now answer.new) answer.new) }
 {
     match store_bytes(bank, clock, index, client, address, bytes.as_slice()) {
-        Ok(()) => Ok(Answer::Done),
-        Err(refusal) => refused(refusal),
+        Ok(()) => {
+            *answer = Answer::Done;
+            Ok(())
+        }
+        Err(refusal) => refused(refusal, answer),
     }
 }
 
@@ -115,17 +123,21 @@ pub(crate) fn acquire(
     client: ClientId,
     block: BlockNo,
     grow: Grow,
-) -> Result<Answer, AllocError>
+    answer: &mut Answer,
+) -> Result<(), AllocError>
     ensures memory { OnErr result
         (IsStarved (first_of (acquire_cases bank.old client block grow)) bank.old.room
         (bank.new ≡ bank.old)) }
-    ensures answer { IfOk result
-        (λ answer. Answers (first_of (acquire_cases bank.old client block grow)) (bank.new ≡ bank.old)
-        (Posts bank.old bank.new (Event.SendAcquire client block grow) (next_ticket bank.old client Channel.A) answer) answer) }
+    ensures answer { OnOk result
+        (Answers (first_of (acquire_cases bank.old client block grow)) (bank.new ≡ bank.old)
+        (Posts bank.old bank.new (Event.SendAcquire client block grow) (next_ticket bank.old client Channel.A) answer.new) answer.new) }
 {
     match bank.acquire(client, block, grow) {
-        Ok(ticket) => Ok(sent(bank, ticket)),
-        Err(refusal) => refused(refusal),
+        Ok(ticket) => {
+            sent(bank, ticket, answer);
+            Ok(())
+        }
+        Err(refusal) => refused(refusal, answer),
     }
 }
 
@@ -136,19 +148,23 @@ pub(crate) fn release(
     client: ClientId,
     block: BlockNo,
     prune: Prune,
-) -> Result<Answer, AllocError>
+    answer: &mut Answer,
+) -> Result<(), AllocError>
     ensures memory { OnErr result
         (IsStarved (first_of (release_cases bank.old client block prune share.old)) bank.old.room
         ((bank.new ≡ bank.old) × (share.new ≡ share.old))) }
-    ensures answer { IfOk result
-        (λ answer. Answers (first_of (release_cases bank.old client block prune share.old))
+    ensures answer { OnOk result
+        (Answers (first_of (release_cases bank.old client block prune share.old))
         ((bank.new ≡ bank.old) × (share.new ≡ share.old))
-        (Posts bank.old bank.new (Event.SendRelease client block prune) (next_ticket bank.old client Channel.C) answer
-        × Recounts bank.old bank.new client block share.old share.new) answer) }
+        (Posts bank.old bank.new (Event.SendRelease client block prune) (next_ticket bank.old client Channel.C) answer.new
+        × Recounts bank.old bank.new client block share.old share.new) answer.new) }
 {
     match bank.release(client, block, prune, share) {
-        Ok(ticket) => Ok(sent(bank, ticket)),
-        Err(refusal) => refused(refusal),
+        Ok(ticket) => {
+            sent(bank, ticket, answer);
+            Ok(())
+        }
+        Err(refusal) => refused(refusal, answer),
     }
 }
 
@@ -157,20 +173,24 @@ pub(crate) fn answer_probe(
     bank: &mut Bank,
     share: &mut Share,
     ticket: Ticket,
-) -> Result<Answer, AllocError>
+    answer: &mut Answer,
+) -> Result<(), AllocError>
     ensures memory { OnErr result
         (IsStarved (first_of (answer_probe_cases bank.old ticket share.old)) bank.old.room
         ((bank.new ≡ bank.old) × (share.new ≡ share.old))) }
-    ensures answer { IfOk result
-        (λ answer. Answers (first_of (answer_probe_cases bank.old ticket share.old))
+    ensures answer { OnOk result
+        (Answers (first_of (answer_probe_cases bank.old ticket share.old))
         ((bank.new ≡ bank.old) × (share.new ≡ share.old))
         (Posts bank.old bank.new (Event.AnswerProbe ticket.client (block_named bank.old ticket Channel.B))
-        (next_ticket bank.old ticket.client Channel.C) answer
-        × Recounts bank.old bank.new ticket.client (block_named bank.old ticket Channel.B) share.old share.new) answer) }
+        (next_ticket bank.old ticket.client Channel.C) answer.new
+        × Recounts bank.old bank.new ticket.client (block_named bank.old ticket Channel.B) share.old share.new) answer.new) }
 {
     match bank.answer_probe(ticket, share) {
-        Ok(answer) => Ok(sent(bank, answer)),
-        Err(refusal) => refused(refusal),
+        Ok(ack) => {
+            sent(bank, ack, answer);
+            Ok(())
+        }
+        Err(refusal) => refused(refusal, answer),
     }
 }
 
@@ -179,34 +199,45 @@ pub(crate) fn take_grant(
     bank: &mut Bank,
     share: &mut Share,
     ticket: Ticket,
-) -> Result<Answer, AllocError>
+    answer: &mut Answer,
+) -> Result<(), AllocError>
     ensures memory { OnErr result
         (IsStarved (first_of (take_grant_cases bank.old ticket share.old)) bank.old.room
         ((bank.new ≡ bank.old) × (share.new ≡ share.old))) }
-    ensures answer { IfOk result
-        (λ answer. Answers (first_of (take_grant_cases bank.old ticket share.old))
+    ensures answer { OnOk result
+        (Answers (first_of (take_grant_cases bank.old ticket share.old))
         ((bank.new ≡ bank.old) × (share.new ≡ share.old))
         (Posts bank.old bank.new (Event.TakeGrant ticket.client (block_named bank.old ticket Channel.D))
-        (next_ticket bank.old ticket.client Channel.E) answer
-        × Recounts bank.old bank.new ticket.client (block_named bank.old ticket Channel.D) share.old share.new) answer) }
+        (next_ticket bank.old ticket.client Channel.E) answer.new
+        × Recounts bank.old bank.new ticket.client (block_named bank.old ticket Channel.D) share.old share.new) answer.new) }
 {
     match bank.take_grant(ticket, share) {
-        Ok(ack) => Ok(sent(bank, ack)),
-        Err(refusal) => refused(refusal),
+        Ok(ack) => {
+            sent(bank, ack, answer);
+            Ok(())
+        }
+        Err(refusal) => refused(refusal, answer),
     }
 }
 
 /// A client takes the answer to its Release.
-pub(crate) fn take_release_ack(bank: &mut Bank, ticket: Ticket) -> Result<Answer, AllocError>
+pub(crate) fn take_release_ack(
+    bank: &mut Bank,
+    ticket: Ticket,
+    answer: &mut Answer,
+) -> Result<(), AllocError>
     ensures memory { OnErr result
         (IsStarved (first_of (take_release_ack_cases bank.old ticket)) bank.old.room
         (bank.new ≡ bank.old)) }
-    ensures answer { IfOk result
-        (λ answer. Answers (first_of (take_release_ack_cases bank.old ticket)) (bank.new ≡ bank.old)
-        (Logs bank.old bank.new (Event.TakeReleaseAck ticket.client (block_named bank.old ticket Channel.D)) answer) answer) }
+    ensures answer { OnOk result
+        (Answers (first_of (take_release_ack_cases bank.old ticket)) (bank.new ≡ bank.old)
+        (Logs bank.old bank.new (Event.TakeReleaseAck ticket.client (block_named bank.old ticket Channel.D)) answer.new) answer.new) }
 {
     match bank.take_release_ack(ticket) {
-        Ok(()) => Ok(Answer::Done),
-        Err(refusal) => refused(refusal),
+        Ok(()) => {
+            *answer = Answer::Done;
+            Ok(())
+        }
+        Err(refusal) => refused(refusal, answer),
     }
 }

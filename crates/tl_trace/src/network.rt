@@ -56,12 +56,27 @@ impl Network {
         ensures memory { OnErr result (IsStarvedNetwork step.now self.old self.new) }
         ensures answer { IfOk result (IsNetworkStep index step.now self.old self.new) }
     {
+        let mut answer = Answer::Done;
+        self.step_into(index, step, &mut answer)?;
+        Ok(answer)
+    }
+
+    /// The same, with the answer in a place that the caller has for it. Where there was no memory, that says nothing.
+    pub fn step_into(
+        &mut self,
+        index: u32,
+        step: &Step,
+        answer: &mut Answer,
+    ) -> Result<(), AllocError>
+        ensures memory { OnErr result (IsStarvedNetwork step.now self.old self.new) }
+        ensures answer { OnOk result (IsNetworkStep index step.now self.old self.new answer.new) }
+    {
         let place = bank_asked(self.geometry, step);
         let client = client_named(step);
         let mut clock = self.clock(client);
-        let answer = self.shared_banks[place].ask(&mut clock, index, step);
+        let done = self.shared_banks[place].ask(&mut clock, index, step, answer);
         self.set_clock(client, clock);
-        answer
+        done
     }
 
     /// A load, as `step` of one. Its refusals are errors here, want of memory too.

@@ -68,13 +68,14 @@ impl SharedBank {
         clock: &mut u64,
         index: u32,
         step: &Step,
-    ) -> Result<Answer, AllocError>
+        answer: &mut Answer,
+    ) -> Result<(), AllocError>
         ensures memory { OnErr result (IsStarvedAt self.old self.new clock.old clock.new) }
-        ensures answer { IfOk result (IsStepAt index step.now self.old self.new clock.old clock.new) }
+        ensures answer { OnOk result (IsStepAt index step.now self.old self.new clock.old clock.new answer.new) }
     {
         let place = self.share_place(client_named(step));
         let share = &mut self.shares[place];
-        act(&mut self.bank, share, clock, index, step)
+        act(&mut self.bank, share, clock, index, step, answer)
     }
 
     /// A load, asked of the bank with the clock of the client, which becomes the stamp of the access.

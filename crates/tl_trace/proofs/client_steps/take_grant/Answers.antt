@@ -9,7 +9,7 @@ sent-requires c = there _ _ _ _ c.in-Ok.ensures.sends
 -- a refusal is the answer
 pub returns-in-Err-clause-answer : goal.returns-in-Err-clause-answer
 returns-in-Err-clause-answer c =
-    err-answers c.refused.result _ _ _ _ _ c.refused.ensures.answer c.refused.ensures.other c.in-Err.ensures.refused
+    err-answers c.refused.result _ _ _ _ _ _ c.refused.ensures.answer c.refused.ensures.other c.in-Err.ensures.refused
     (c.in-Err.ensures.unchanged, c.in-Err.ensures.share_unchanged)
 
 -- want of memory is no answer

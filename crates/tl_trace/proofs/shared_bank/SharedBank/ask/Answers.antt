@@ -1,8 +1,8 @@
-use Rattle.std.proofs.Common.{◌≡◌, ◌<◌, IfOk, OnErr, length, set, sym, ◌∙◌, ap, subst, refl}
+use Rattle.std.proofs.Common.{◌≡◌, ◌<◌, OnErr, OnOk, length, set, sym, ◌∙◌, ap, subst, refl}
 use Rattle.std.specs.List.{refill}
 use Rattle.tl_trace.specs.NetworkSteps.{IsStarvedAt, IsStepAt}
 use Rattle.tl_trace.specs.NetworkState.{SharedBankState, client_named, share_place}
-use Rattle.tl_trace.proofs.Answered.{if-answered, if-starved}
+use Rattle.tl_trace.proofs.Answered.{if-done, if-starved}
 use Rattle.tl_trace.proofs.Places.{asked-at, starved-at}
 use Rattle.tl_trace.proofs.shared_bank.SharedBank.ask.Goals as goal
 
@@ -30,9 +30,10 @@ returns c =
           c.deref_mut.ensures.value refl starved) c.act.ensures.memory);
       answer =
           subst
-          (λ (s : SharedBankState). IfOk c.act.result (IsStepAt c.args.index c.args.step.now s new c.args.clock.now c.act.new.clock)) view
-          (if-answered c.act.result _ _
-          (λ answer acts.
+          (λ (s : SharedBankState). OnOk c.act.result
+          (IsStepAt c.args.index c.args.step.now s new c.args.clock.now c.act.new.clock c.act.new.answer)) view
+          (if-done c.act.result _ _
+          (λ acts.
           asked-at c.args.index c.args.step.now old new c.args.clock.now c.act.new.clock place c.deref_mut.result.now _ c.act.new.share
-          answer at inside c.deref_mut.ensures.value refl acts) c.act.ensures.answer);
+          c.act.new.answer at inside c.deref_mut.ensures.value refl acts) c.act.ensures.answer);
     }
