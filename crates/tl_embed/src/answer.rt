@@ -74,13 +74,27 @@ impl Answer {
         requires { length bytes.now ≤ 64 }
         ensures { result ≡ with_bytes bytes.now self }
     {
+        let mut told = self;
+        told.set_bytes(bytes);
+        told
+    }
+
+    /// Tells nothing but a status.
+    pub fn set_status(&mut self, status: u32)
+        ensures { self.new ≡ only status }
+    {
+        *self = Answer::only(status);
+    }
+
+    /// Tells these bytes.
+    pub fn set_bytes(&mut self, bytes: &[u8])
+        requires { length bytes.now ≤ 64 }
+        ensures { self.new ≡ with_bytes bytes.now self.old }
+    {
         let mut all = [0; 64];
         all[..bytes.len()].copy_from_slice(bytes);
-        Answer {
-            len: bytes.len() as u32,
-            bytes: all,
-            ..self
-        }
+        self.bytes = all;
+        self.len = bytes.len() as u32;
     }
 }
 

@@ -4,14 +4,16 @@ ghost use Rattle.tl_embed.specs.Asked.{asked};
 ghost use Rattle.tl_embed.specs.Calls.{AsksFor, Calls, IsPlayed, IsStarved};
 ghost use Rattle.tl_embed.specs.Events.{Forgets, Reserves};
 ghost use Rattle.tl_embed.specs.Opens.{Opens, as_given, closed};
+ghost use Rattle.tl_embed.specs.Views.{Views};
 
 use crate::answer::Answer;
 use crate::request::{Asked, Request};
-use crate::tell::step_told;
+use crate::tell::{step_told, tell_step};
 use crate::views::view;
 use std::alloc::Global;
 use tl_map::{Geometry, GeometryNumbers};
 use tl_script_words::Step;
+use tl_text::Answer as Shown;
 use tl_trace::Network;
 use tl_types::BankNo;
 
@@ -96,31 +98,47 @@ fn given(numbers: &Numbers) -> GeometryNumbers
 pub fn call(cache: &mut Cache, request: &Request) -> Answer
     ensures { Calls cache.old request.now cache.new result }
 {
+    let mut told = Answer::only(0);
+    call_into(cache, request, &mut told);
+    told
+}
+
+/// The same, with the answer in a place that the caller has for it.
+pub fn call_into(cache: &mut Cache, request: &Request, told: &mut Answer)
+    ensures { Calls cache.old request.now cache.new told.new }
+{
     match &mut cache.network {
-        None => Answer {
-            serial: u64::from(cache.status),
-            ..Answer::only(18)
-        },
+        None => {
+            told.set_status(18);
+            told.serial = u64::from(cache.status);
+        }
         Some(network) => {
             if request.call != 0 {
-                return ask(network, request);
+                return ask(network, request, told);
             }
-            *cache = closed(18);
-            Answer::only(0)
+            close(cache);
+            told.set_status(0);
         }
     }
 }
 
+/// Closes a cache.
+fn close(cache: &mut Cache)
+    ensures { cache.new ≡ closed 18 }
+{
+    *cache = closed(18);
+}
+
 /// Carries out a step, makes room for more, or shows something.
-fn ask(network: &mut Network, request: &Request) -> Answer
-    ensures { AsksFor (asked request.now) network.old request.now network.new result }
+fn ask(network: &mut Network, request: &Request, told: &mut Answer)
+    ensures { AsksFor (asked request.now) network.old request.now network.new told.new }
 {
     match request.asked() {
-        Asked::Step(step) => played(network, request.index, &step),
-        Asked::BadArgument => Answer::only(17),
-        Asked::Forget => forget(network, BankNo::new(request.bank)),
-        Asked::Reserve => reserve(network, BankNo::new(request.bank), request.serial),
-        Asked::Other => view(network, request),
+        Asked::Step(step) => play(network, request.index, &step, told),
+        Asked::BadArgument => told.set_status(17),
+        Asked::Forget => forget(network, BankNo::new(request.bank), told),
+        Asked::Reserve => room(network, BankNo::new(request.bank), request.serial, told),
+        Asked::Other => show(network, request, told),
     }
 }
 
@@ -132,6 +150,17 @@ pub fn played(network: &mut Network, index: u32, step: &Step) -> Answer
     match &shown {
         Ok(shown) => step_told(network, step, shown),
         Err(_) => Answer::only(14),
+    }
+}
+
+/// The same, with the answer in a place that the caller has for it.
+pub fn play(network: &mut Network, index: u32, step: &Step, told: &mut Answer)
+    ensures { IsPlayed index step.now network.old network.new told.new ⊎ IsStarved step.now network.old network.new told.new }
+{
+    let mut shown = Shown::Done;
+    match network.step_into(index, step, &mut shown) {
+        Ok(()) => tell_step(network, step, &shown, told),
+        Err(_) => told.set_status(14),
     }
 }
 
@@ -148,13 +177,27 @@ pub fn reserve(network: &mut Network, bank: BankNo, count: u64) -> Answer
     }
 }
 
+/// The same for `ask`, which has no answer of its own: a step would clear the room for it too.
+fn room(network: &mut Network, bank: BankNo, count: u64, told: &mut Answer)
+    ensures { Reserves bank count network.old network.new told.new }
+{
+    *told = reserve(network, bank, count);
+}
+
 /// Forgets a bank's log so far.
-fn forget(network: &mut Network, bank: BankNo) -> Answer
-    ensures { Forgets bank network.old network.new result }
+fn forget(network: &mut Network, bank: BankNo, told: &mut Answer)
+    ensures { Forgets bank network.old network.new told.new }
 {
     if bank.number() >= network.geometry().banks() {
-        return Answer::only(10);
+        return told.set_status(10);
     }
     network.forget(bank);
-    Answer::only(0)
+    told.set_status(0);
+}
+
+/// Shows what a request that asks for no step wants to see, likewise.
+fn show(network: &Network, request: &Request, told: &mut Answer)
+    ensures { Views network.now request.now told.new }
+{
+    *told = view(network, request);
 }

@@ -5,7 +5,7 @@ ghost use Rattle.tl_embed.specs.Events.{event_told};
 ghost use Rattle.tl_embed.specs.Many.{BankReads, CallsMany, Reads};
 
 use crate::answer::{Answer, Number};
-use crate::cache::{Cache, call};
+use crate::cache::{Cache, call_into};
 use crate::events::event_of;
 use crate::request::Request;
 use tl_bank::Bank;
@@ -20,8 +20,8 @@ pub fn calls(cache: &mut Cache, requests: &[Request], answers: &mut [Answer]) ->
 {
     let most = requests.len().min(answers.len());
     for place in 0..most {
-        let told = call(cache, &requests[place]);
-        answers[place] = told;
+        let told = &mut answers[place];
+        call_into(cache, &requests[place], told);
         if told.status != 0 {
             return place + 1;
         }

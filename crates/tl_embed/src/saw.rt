@@ -6,10 +6,10 @@ ghost use Rattle.tl_embed.specs.Seen.{seen_asks};
 ghost use Rattle.tl_embed.specs.Views.{home_of};
 
 use crate::answer::Answer;
-use crate::cache::{Cache, played, reserve};
+use crate::cache::{Cache, play, reserve};
 use crate::seen::{OnC, Seen, SeenAsks};
 use crate::stores::{Inferred, stores_before};
-use crate::tell::message_told;
+use crate::tell::tell_message;
 use crate::views::home_of;
 use tl_bank::Refusal;
 use tl_script_words::{Step, TicketCall};
@@ -20,34 +20,43 @@ use tl_types::{BankNo, BlockNo, Body, Channel, ClientId, Kind, Message, Ticket};
 pub fn saw(cache: &mut Cache, seen: &Seen) -> Answer
     ensures { Saws cache.old seen.now cache.new result }
 {
+    let mut told = Answer::only(0);
+    saw_into(cache, seen, &mut told);
+    told
+}
+
+/// The same, with the answer in a place for it.
+fn saw_into(cache: &mut Cache, seen: &Seen, told: &mut Answer)
+    ensures { Saws cache.old seen.now cache.new told.new }
+{
     match &mut cache.network {
-        None => Answer {
-            serial: u64::from(cache.status),
-            ..Answer::only(18)
-        },
-        Some(network) => see(network, seen),
+        None => {
+            told.set_status(18);
+            told.serial = u64::from(cache.status);
+        }
+        Some(network) => see(network, seen, told),
     }
 }
 
 /// The same, of an open cache.
-fn see(network: &mut Network, seen: &Seen) -> Answer
-    ensures { SeenDoes (seen_asks network.old seen.now) network.old seen.now network.new result }
+fn see(network: &mut Network, seen: &Seen, told: &mut Answer)
+    ensures { SeenDoes (seen_asks network.old seen.now) network.old seen.now network.new told.new }
 {
     match seen.asks(network) {
-        SeenAsks::Tells(status) => Answer::only(status),
-        SeenAsks::Plays(step) => played(network, 0, &step),
-        SeenAsks::Sends(call, kind) => send(network, seen, &call, kind),
+        SeenAsks::Tells(status) => told.set_status(status),
+        SeenAsks::Plays(step) => play(network, 0, &step, told),
+        SeenAsks::Sends(call, kind) => send(network, seen, &call, kind, told),
     }
 }
 
 /// A call on C, if that sends what was seen; after the stores that lead there, where they are asked for.
-fn send(network: &mut Network, seen: &Seen, call: &OnC, kind: Kind) -> Answer
-    ensures { SendsOnC kind call.now seen.now network.old network.new result }
+fn send(network: &mut Network, seen: &Seen, call: &OnC, kind: Kind, told: &mut Answer)
+    ensures { SendsOnC kind call.now seen.now network.old network.new told.new }
 {
     let would = would(network, seen, call);
     match stores_before(network, kind, seen, &would) {
-        None => compare(network, seen, kind, &step_on_c(seen, call), would),
-        Some(stores) => store_first(network, seen, &stores, call, kind),
+        None => compare(network, seen, kind, &step_on_c(seen, call), &would, told),
+        Some(stores) => store_first(network, seen, &stores, call, kind, told),
     }
 }
 
@@ -89,17 +98,19 @@ fn store_first(
     stores: &Inferred,
     call: &OnC,
     kind: Kind,
-) -> Answer
+    told: &mut Answer,
+)
     requires { stores.now.first < 2 ^ 31 }
-    ensures { StoresFirst stores.now kind seen.now (step_on_c seen.now call.now) network.old network.new result }
+    ensures { StoresFirst stores.now kind seen.now (step_on_c seen.now call.now) network.old network.new told.new }
 {
     let bank = bank_of(network, BlockNo::new(seen.block));
     let events = stores.count(seen.bytes()) + 1;
     let room = reserve(network, bank, u64::from(events));
     if room.status != 0 {
-        return room;
+        *told = room;
+        return;
     }
-    store_and_send(network, seen, stores, call, kind)
+    store_and_send(network, seen, stores, call, kind, told);
 }
 
 /// The stores, and then the call.
@@ -109,20 +120,18 @@ fn store_and_send(
     stores: &Inferred,
     call: &OnC,
     kind: Kind,
-) -> Answer
+    told: &mut Answer,
+)
     requires { stores.now.first < 2 ^ 31 }
-    ensures { StoresAndSends stores.now kind seen.now (step_on_c seen.now call.now) network.old network.new result }
+    ensures { StoresAndSends stores.now kind seen.now (step_on_c seen.now call.now) network.old network.new told.new }
 {
     match stores.make(network, seen) {
         Ok(made) => {
             let would = would(network, seen, call);
-            let told = compare(network, seen, kind, &step_on_c(seen, call), would);
-            Answer {
-                stores: made,
-                ..told
-            }
+            compare(network, seen, kind, &step_on_c(seen, call), &would, told);
+            told.stores = made;
         }
-        Err(told) => told,
+        Err(last) => *told = last,
     }
 }
 
@@ -132,19 +141,20 @@ fn compare(
     seen: &Seen,
     kind: Kind,
     step: &Step,
-    would: Result<Message, Refusal>,
-) -> Answer
-    ensures { AsCompared would kind seen.now step.now network.old network.new result }
+    would: &Result<Message, Refusal>,
+    told: &mut Answer,
+)
+    ensures { AsCompared would.now kind seen.now step.now network.old network.new told.new }
 {
     match would {
         Ok(message) => {
             if is_as_seen(kind, seen, &message.body) {
-                played(network, 0, step)
+                play(network, 0, step, told);
             } else {
-                differs(network, seen, &message)
+                tell_difference(network, seen, message, told);
             }
         }
-        Err(refusal) => Answer::only(u32::from(refusal.number())),
+        Err(refusal) => told.set_status(u32::from(refusal.number())),
     }
 }
 
@@ -162,8 +172,8 @@ fn is_as_seen(kind: Kind, seen: &Seen, body: &Body) -> bool
 }
 
 /// The message that the client would send in place of the one that was seen.
-fn differs(network: &Network, seen: &Seen, message: &Message) -> Answer
-    ensures { result ≡ differs network.now seen.now message.now }
+fn tell_difference(network: &Network, seen: &Seen, message: &Message, told: &mut Answer)
+    ensures { told.new ≡ differs network.now seen.now message.now }
 {
     let ticket = Ticket {
         bank: bank_of(network, message.block),
@@ -171,10 +181,8 @@ fn differs(network: &Network, seen: &Seen, message: &Message) -> Answer
         channel: Channel::C,
         serial: 0,
     };
-    Answer {
-        status: 29,
-        ..message_told(ticket, &message.body, message.block.number())
-    }
+    tell_message(ticket, &message.body, message.block.number(), told);
+    told.status = 29;
 }
 
 /// The number of the bank where a block lies; 0 where the memory does not have it.

@@ -22,35 +22,38 @@ pub fn number_told(number: u64) -> Answer
     }
 }
 
-/// The same answer with the codes of a kind.
-fn coded(kind: Kind, told: Answer) -> Answer
-    ensures { result ≡ coded kind told }
+/// The codes of a kind are told as well.
+fn tell_codes(kind: Kind, told: &mut Answer)
+    ensures { told.new ≡ coded kind told.old }
 {
     let (opcode, param) = code(kind);
-    Answer {
-        opcode: u32::from(opcode),
-        param: u32::from(param),
-        ..told
-    }
+    told.opcode = u32::from(opcode);
+    told.param = u32::from(param);
 }
 
 /// A message of a client's link, with its block.
 pub fn message_told(ticket: Ticket, body: &Body, block: u32) -> Answer
     ensures { result ≡ message_told ticket body.now block }
 {
-    let named = Answer {
-        what: 1,
-        bank: ticket.bank.number(),
-        client: ticket.client.number(),
-        channel: ticket.channel.index() as u32,
-        place: block,
-        serial: ticket.serial,
-        ..Answer::only(0)
-    };
-    let told = coded(body.kind(), named);
-    match body.bytes() {
-        Some(bytes) => told.with_bytes(bytes.as_slice()),
-        None => told.with_bytes(&[]),
+    let mut told = Answer::only(0);
+    tell_message(ticket, body, block, &mut told);
+    told
+}
+
+/// The same, told in a place for it.
+pub fn tell_message(ticket: Ticket, body: &Body, block: u32, told: &mut Answer)
+    ensures { told.new ≡ message_told ticket body.now block }
+{
+    told.set_status(0);
+    told.what = 1;
+    told.bank = ticket.bank.number();
+    told.client = ticket.client.number();
+    told.channel = ticket.channel.index() as u32;
+    told.place = block;
+    told.serial = ticket.serial;
+    tell_codes(body.kind(), told);
+    if let Some(bytes) = body.bytes() {
+        told.set_bytes(bytes.as_slice());
     }
 }
 
@@ -65,20 +68,18 @@ pub fn message_of(network: &Network, ticket: Ticket) -> Option<Message>
 }
 
 /// A message between home and the memory.
-fn memory_told(size: BlockSize, message: &MemoryMessage) -> Answer
-    ensures { result ≡ memory_told size message.now }
+fn tell_memory(size: BlockSize, message: &MemoryMessage, told: &mut Answer)
+    ensures { told.new ≡ memory_told size message.now }
 {
-    let sized = Answer {
-        what: 2,
-        channel: memory_channel(message),
-        size: size.log2(),
-        ..Answer::only(0)
-    };
-    let told = coded(message.kind(), sized);
+    told.set_status(0);
+    told.what = 2;
+    told.channel = memory_channel(message);
+    told.size = size.log2();
+    tell_codes(message.kind(), told);
     match message {
-        MemoryMessage::Get { address: _ } | MemoryMessage::AccessAck => told,
+        MemoryMessage::Get { address: _ } | MemoryMessage::AccessAck => {}
         MemoryMessage::PutFullData { address: _, bytes } | MemoryMessage::AccessAckData { bytes } =>
-            told.with_bytes(bytes.as_slice()),
+            told.set_bytes(bytes.as_slice()),
     }
 }
 
@@ -98,26 +99,22 @@ fn memory_channel(message: &MemoryMessage) -> u32
 }
 
 /// The bank that a step names, the block of the last event of its log and that block's first address are told as well.
-fn placed(network: &Network, step: &Step, told: Answer) -> Answer
-    ensures { result ≡ placed network.now step.now told }
+fn tell_place(network: &Network, step: &Step, told: &mut Answer)
+    ensures { told.new ≡ placed network.now step.now told.old }
 {
-    match network.bank(BankNo::new(bank_asked(network.geometry(), step) as u32)) {
-        Some(bank) => placed_in(bank, told),
-        None => told,
+    if let Some(bank) = network.bank(BankNo::new(bank_asked(network.geometry(), step) as u32)) {
+        tell_place_in(bank, told);
     }
 }
 
 /// The same at the bank.
-fn placed_in(bank: &Bank, told: Answer) -> Answer
-    ensures { result ≡ placed_in (Some bank.now) told }
+fn tell_place_in(bank: &Bank, told: &mut Answer)
+    ensures { told.new ≡ placed_in (Some bank.now) told.old }
 {
     let block = last_block(bank);
-    Answer {
-        bank: bank.number().number(),
-        place: block,
-        address: block * bank.geometry().block_bytes(),
-        ..told
-    }
+    told.bank = bank.number().number();
+    told.place = block;
+    told.address = block * bank.geometry().block_bytes();
 }
 
 /// The block of the last event of a bank's log that is not forgotten; 0 where there is none.
@@ -138,27 +135,37 @@ fn last_block(bank: &Bank) -> u32
 pub fn step_told(network: &Network, step: &Step, shown: &Shown) -> Answer
     ensures { result ≡ step_told network.now step.now shown.now }
 {
+    let mut told = Answer::only(0);
+    tell_step(network, step, shown, &mut told);
+    told
+}
+
+/// The same, told in a place for it.
+pub fn tell_step(network: &Network, step: &Step, shown: &Shown, told: &mut Answer)
+    ensures { told.new ≡ step_told network.now step.now shown.now }
+{
     match shown {
         Shown::Sent {
             ticket,
             block,
             body,
-        } => message_told(*ticket, body, block.number()),
-        Shown::Memory { size, message } => placed(network, step, memory_told(*size, message)),
+        } => tell_message(*ticket, body, block.number(), told),
+        Shown::Memory { size, message } => {
+            tell_memory(*size, message, told);
+            tell_place(network, step, told);
+        }
         Shown::Dropped => {
-            let dropped = Answer {
-                what: 3,
-                ..Answer::only(0)
-            };
-            placed(network, step, dropped)
+            told.set_status(0);
+            told.what = 3;
+            tell_place(network, step, told);
         }
-        Shown::Loaded(bytes) => Answer {
-            what: 4,
-            ..Answer::only(0)
+        Shown::Loaded(bytes) => {
+            told.set_status(0);
+            told.what = 4;
+            told.set_bytes(bytes.as_slice());
         }
-        .with_bytes(bytes.as_slice()),
-        Shown::Done => Answer::only(0),
-        Shown::Refused(refusal) => Answer::only(u32::from(refusal.number())),
+        Shown::Done => told.set_status(0),
+        Shown::Refused(refusal) => told.set_status(u32::from(refusal.number())),
     }
 }
 

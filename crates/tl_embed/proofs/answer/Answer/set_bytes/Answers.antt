@@ -1,6 +1,6 @@
 use Rattle.std.proofs.Common.{ℕ, length}
 use Rattle.std.proofs.lemmas.List.{drop-replicate}
-use Rattle.tl_embed.proofs.answer.Answer.with_bytes.Goals as goal
+use Rattle.tl_embed.proofs.answer.Answer.set_bytes.Goals as goal
 
 -- past the bytes there are zeros
 pub returns : goal.returns
