@@ -137,12 +137,12 @@ fn ask(network: &mut Network, request: &Request, told: &mut Answer)
         Asked::Step(step) => play(network, request.index, &step, told),
         Asked::BadArgument => told.set_status(17),
         Asked::Forget => forget(network, BankNo::new(request.bank), told),
-        Asked::Reserve => room(network, BankNo::new(request.bank), request.serial, told),
-        Asked::Other => show(network, request, told),
+        Asked::Reserve => reserve_into(network, BankNo::new(request.bank), request.serial, told),
+        Asked::Other => view_into(network, request, told),
     }
 }
 
-/// Carries out a step.
+/// Carries out a step, as for the stores that a message implies: few, so that their answers may be moved.
 pub fn played(network: &mut Network, index: u32, step: &Step) -> Answer
     ensures { IsPlayed index step.now network.old network.new result ⊎ IsStarved step.now network.old network.new result }
 {
@@ -155,7 +155,8 @@ pub fn played(network: &mut Network, index: u32, step: &Step) -> Answer
 
 /// The same, with the answer in a place that the caller has for it.
 pub fn play(network: &mut Network, index: u32, step: &Step, told: &mut Answer)
-    ensures { IsPlayed index step.now network.old network.new told.new ⊎ IsStarved step.now network.old network.new told.new }
+    ensures { IsPlayed index step.now network.old network.new told.new
+        ⊎ IsStarved step.now network.old network.new told.new }
 {
     let mut shown = Shown::Done;
     match network.step_into(index, step, &mut shown) {
@@ -177,8 +178,8 @@ pub fn reserve(network: &mut Network, bank: BankNo, count: u64) -> Answer
     }
 }
 
-/// The same for `ask`, which has no answer of its own: a step would clear the room for it too.
-fn room(network: &mut Network, bank: BankNo, count: u64, told: &mut Answer)
+/// The same, with the answer in a place that the caller has for it. It stands apart from `ask`, where a step would clear its stack too.
+fn reserve_into(network: &mut Network, bank: BankNo, count: u64, told: &mut Answer)
     ensures { Reserves bank count network.old network.new told.new }
 {
     *told = reserve(network, bank, count);
@@ -195,8 +196,8 @@ fn forget(network: &mut Network, bank: BankNo, told: &mut Answer)
     told.set_status(0);
 }
 
-/// Shows what a request that asks for no step wants to see, likewise.
-fn show(network: &Network, request: &Request, told: &mut Answer)
+/// A view, with its answer in a place that the caller has for it. It stands apart likewise.
+fn view_into(network: &Network, request: &Request, told: &mut Answer)
     ensures { Views network.now request.now told.new }
 {
     *told = view(network, request);

@@ -9,8 +9,8 @@ use tl_protocol::Outward;
 use tl_text::{Answer, BlockSize, MemoryMessage};
 use tl_types::{BlockNo, Message, Ticket};
 
-/// A refusal as an answer; want of memory is none.
-pub(crate) fn refused(refusal: Refusal, answer: &mut Answer) -> Result<(), AllocError>
+/// Answers with a refusal; want of memory is no answer.
+pub(crate) fn refuse(refusal: Refusal, answer: &mut Answer) -> Result<(), AllocError>
     ensures answer { OnOk result (answer.new ≡ Answer.Refused refusal) }
     ensures other { OnOk result (refusal ≢ Refusal.Memory) }
     ensures memory { OnErr result (refusal ≡ Refusal.Memory) }
@@ -24,8 +24,8 @@ pub(crate) fn refused(refusal: Refusal, answer: &mut Answer) -> Result<(), Alloc
     }
 }
 
-/// The message that a ticket names, which waits.
-pub(crate) fn sent(bank: &Bank, ticket: Ticket, answer: &mut Answer)
+/// Shows the message that a ticket names, which waits.
+pub(crate) fn show_sent(bank: &Bank, ticket: Ticket, answer: &mut Answer)
     requires { IsThere bank.now ticket }
     ensures { Shows bank.now ticket answer.new }
 {
@@ -42,8 +42,8 @@ pub(crate) fn sent(bank: &Bank, ticket: Ticket, answer: &mut Answer)
     }
 }
 
-/// A message between home and the memory.
-fn of_memory(bank: &Bank, message: MemoryMessage, answer: &mut Answer)
+/// Shows a message between home and the memory.
+fn show_memory(bank: &Bank, message: MemoryMessage, answer: &mut Answer)
     ensures { ShowsMemory bank.now message answer.new }
 {
     *answer = Answer::Memory {
@@ -52,39 +52,39 @@ fn of_memory(bank: &Bank, message: MemoryMessage, answer: &mut Answer)
     };
 }
 
-/// The Get of a block.
-pub(crate) fn get(bank: &Bank, block: BlockNo, answer: &mut Answer)
+/// Shows the Get of a block.
+pub(crate) fn show_get(bank: &Bank, block: BlockNo, answer: &mut Answer)
     requires { block < bank.now.geometry.memory_blocks }
     ensures { ShowsMemory bank.now (MemoryMessage.Get (block * bank.now.geometry.block_bytes)) answer.new }
 {
     let address = first_address(bank, block);
-    of_memory(bank, MemoryMessage::Get { address }, answer);
+    show_memory(bank, MemoryMessage::Get { address }, answer);
 }
 
-/// The PutFullData of a block that is on its way to the memory.
-pub(crate) fn put(bank: &Bank, block: BlockNo, answer: &mut Answer)
+/// Shows the PutFullData of a block that is on its way to the memory.
+pub(crate) fn show_put(bank: &Bank, block: BlockNo, answer: &mut Answer)
     requires { IsWritten bank.now block }
     ensures { ShowsPut bank.now block answer.new }
 {
     let address = first_address(bank, block);
     match bank.outward(block) {
         Some(Outward::Put(bytes)) => {
-            of_memory(bank, MemoryMessage::PutFullData { address, bytes }, answer)
+            show_memory(bank, MemoryMessage::PutFullData { address, bytes }, answer)
         }
         _ => unreachable!(),
     }
 }
 
-/// What the memory answered.
-pub(crate) fn reply(bank: &Bank, reply: Reply, answer: &mut Answer)
+/// Shows what the memory answered.
+pub(crate) fn show_reply(bank: &Bank, reply: Reply, answer: &mut Answer)
     ensures { ShowsMemory bank.now (message_in reply) answer.new }
 {
     match reply {
         Reply::AccessAckData { size: _, burst } => {
             let bytes = burst.block();
-            of_memory(bank, MemoryMessage::AccessAckData { bytes }, answer);
+            show_memory(bank, MemoryMessage::AccessAckData { bytes }, answer);
         }
-        Reply::AccessAck { size: _ } => of_memory(bank, MemoryMessage::AccessAck, answer),
+        Reply::AccessAck { size: _ } => show_memory(bank, MemoryMessage::AccessAck, answer),
     }
 }
 

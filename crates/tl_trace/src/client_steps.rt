@@ -9,7 +9,7 @@ ghost use Rattle.tl_bank_spec.specs.Channels.{next_ticket};
 ghost use Rattle.tl_trace.specs.Answers.{Answers, IsStarved};
 ghost use Rattle.tl_trace.specs.Steps.{Loads, Logs, Posts, Recounts, Stores};
 
-use crate::answers::{refused, sent};
+use crate::answers::{refuse, show_sent};
 use std::alloc::AllocError;
 use tl_bank::{Bank, Refusal, Share, When};
 use tl_text::Answer;
@@ -38,7 +38,7 @@ pub(crate) fn load(
             *answer = Answer::Loaded(bytes);
             Ok(())
         }
-        Err(refusal) => refused(refusal, answer),
+        Err(refusal) => refuse(refusal, answer),
     }
 }
 
@@ -89,7 +89,7 @@ pub(crate) fn store(
             *answer = Answer::Done;
             Ok(())
         }
-        Err(refusal) => refused(refusal, answer),
+        Err(refusal) => refuse(refusal, answer),
     }
 }
 
@@ -134,10 +134,10 @@ pub(crate) fn acquire(
 {
     match bank.acquire(client, block, grow) {
         Ok(ticket) => {
-            sent(bank, ticket, answer);
+            show_sent(bank, ticket, answer);
             Ok(())
         }
-        Err(refusal) => refused(refusal, answer),
+        Err(refusal) => refuse(refusal, answer),
     }
 }
 
@@ -161,10 +161,10 @@ pub(crate) fn release(
 {
     match bank.release(client, block, prune, share) {
         Ok(ticket) => {
-            sent(bank, ticket, answer);
+            show_sent(bank, ticket, answer);
             Ok(())
         }
-        Err(refusal) => refused(refusal, answer),
+        Err(refusal) => refuse(refusal, answer),
     }
 }
 
@@ -187,10 +187,10 @@ pub(crate) fn answer_probe(
 {
     match bank.answer_probe(ticket, share) {
         Ok(ack) => {
-            sent(bank, ack, answer);
+            show_sent(bank, ack, answer);
             Ok(())
         }
-        Err(refusal) => refused(refusal, answer),
+        Err(refusal) => refuse(refusal, answer),
     }
 }
 
@@ -213,10 +213,10 @@ pub(crate) fn take_grant(
 {
     match bank.take_grant(ticket, share) {
         Ok(ack) => {
-            sent(bank, ack, answer);
+            show_sent(bank, ack, answer);
             Ok(())
         }
-        Err(refusal) => refused(refusal, answer),
+        Err(refusal) => refuse(refusal, answer),
     }
 }
 
@@ -238,6 +238,6 @@ pub(crate) fn take_release_ack(
             *answer = Answer::Done;
             Ok(())
         }
-        Err(refusal) => refused(refusal, answer),
+        Err(refusal) => refuse(refusal, answer),
     }
 }

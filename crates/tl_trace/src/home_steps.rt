@@ -6,7 +6,7 @@ ghost use Rattle.tl_trace.specs.Answers.{Answers, IsStarved, ShowsAction};
 ghost use Rattle.tl_trace.specs.Ready.{IsDone};
 ghost use Rattle.tl_trace.specs.Steps.{GoesOn, Opens, Replies, SendsAway, TakesC, TakesGrantAck, TakesReply};
 
-use crate::answers::{get, put, refused, reply, sent};
+use crate::answers::{refuse, show_get, show_put, show_reply, show_sent};
 use std::alloc::AllocError;
 use tl_bank::{Action, Bank};
 use tl_text::Answer;
@@ -26,7 +26,7 @@ pub(crate) fn accept(bank: &mut Bank, ticket: Ticket, answer: &mut Answer) -> Re
             *answer = Answer::Done;
             Ok(())
         }
-        Err(refusal) => refused(refusal, answer),
+        Err(refusal) => refuse(refusal, answer),
     }
 }
 
@@ -41,14 +41,14 @@ pub(crate) fn take_c(bank: &mut Bank, ticket: Ticket, answer: &mut Answer) -> Re
 {
     match bank.take_c(ticket) {
         Ok(Some(ack)) => {
-            sent(bank, ack, answer);
+            show_sent(bank, ack, answer);
             Ok(())
         }
         Ok(None) => {
             *answer = Answer::Done;
             Ok(())
         }
-        Err(refusal) => refused(refusal, answer),
+        Err(refusal) => refuse(refusal, answer),
     }
 }
 
@@ -70,7 +70,7 @@ pub(crate) fn take_grant_ack(
             *answer = Answer::Done;
             Ok(())
         }
-        Err(refusal) => refused(refusal, answer),
+        Err(refusal) => refuse(refusal, answer),
     }
 }
 
@@ -94,20 +94,20 @@ pub(crate) fn advance(
             show(bank, block, action, answer);
             Ok(())
         }
-        Err(refusal) => refused(refusal, answer),
+        Err(refusal) => refuse(refusal, answer),
     }
 }
 
-/// What an action did.
+/// Shows what an action did.
 fn show(bank: &Bank, own: BlockNo, action: Action, answer: &mut Answer)
     requires { IsDone bank.now own action }
     ensures { ShowsAction bank.now own action answer.new }
 {
     match action {
-        Action::Probe(ticket) => sent(bank, ticket, answer),
-        Action::Grant(ticket) => sent(bank, ticket, answer),
-        Action::Get => get(bank, own, answer),
-        Action::Put(block) => put(bank, block, answer),
+        Action::Probe(ticket) => show_sent(bank, ticket, answer),
+        Action::Grant(ticket) => show_sent(bank, ticket, answer),
+        Action::Get => show_get(bank, own, answer),
+        Action::Put(block) => show_put(bank, block, answer),
         Action::Drop => *answer = Answer::Dropped,
     }
 }
@@ -126,7 +126,7 @@ pub(crate) fn evict(bank: &mut Bank, block: BlockNo, answer: &mut Answer) -> Res
             *answer = Answer::Done;
             Ok(())
         }
-        Err(refusal) => refused(refusal, answer),
+        Err(refusal) => refuse(refusal, answer),
     }
 }
 
@@ -145,10 +145,10 @@ pub(crate) fn serve_memory(
 {
     match bank.serve_memory(block) {
         Ok(message) => {
-            reply(bank, message, answer);
+            show_reply(bank, message, answer);
             Ok(())
         }
-        Err(refusal) => refused(refusal, answer),
+        Err(refusal) => refuse(refusal, answer),
     }
 }
 
@@ -170,6 +170,6 @@ pub(crate) fn take_memory(
             *answer = Answer::Done;
             Ok(())
         }
-        Err(refusal) => refused(refusal, answer),
+        Err(refusal) => refuse(refusal, answer),
     }
 }

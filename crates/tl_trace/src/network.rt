@@ -61,7 +61,7 @@ impl Network {
         Ok(answer)
     }
 
-    /// The same, with the answer in a place that the caller has for it. Where there was no memory, that says nothing.
+    /// The same, with the answer in a place that the caller has for it. Where there was no memory, what is in that place says nothing.
     pub fn step_into(
         &mut self,
         index: u32,

@@ -3,16 +3,16 @@ use Rattle.tl_trace.proofs.Posted.{there}
 use Rattle.tl_trace.proofs.client_steps.acquire.Goals as goal
 
 -- the message waits where its ticket says
-pub sent-requires : goal.sent-requires
-sent-requires c = there _ _ _ _ c.in-Ok.ensures.sends
+pub show_sent-requires : goal.show_sent-requires
+show_sent-requires c = there _ _ _ _ c.in-Ok.ensures.sends
 
 -- a refusal is the answer
 pub returns-in-Err-clause-answer : goal.returns-in-Err-clause-answer
 returns-in-Err-clause-answer c =
-    err-answers c.refused.result _ _ _ _ _ _ c.refused.ensures.answer c.refused.ensures.other c.in-Err.ensures.refused
+    err-answers c.refuse.result _ _ _ _ _ _ c.refuse.ensures.answer c.refuse.ensures.other c.in-Err.ensures.refused
     c.in-Err.ensures.unchanged
 
 -- want of memory is no answer
 pub returns-in-Err-clause-memory : goal.returns-in-Err-clause-memory
 returns-in-Err-clause-memory c =
-    err-starved c.refused.result _ _ _ _ c.refused.ensures.memory c.in-Err.ensures.refused c.in-Err.ensures.unchanged
+    err-starved c.refuse.result _ _ _ _ c.refuse.ensures.memory c.in-Err.ensures.refused c.in-Err.ensures.unchanged
