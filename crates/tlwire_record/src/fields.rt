@@ -9,7 +9,7 @@ use std::alloc::{AllocError, Global};
 use tl_types::BlockBytes;
 use tlcheck_record::{Cause, LineError, read_address, read_block_bytes, read_number};
 
-/// A field of a message.
+/// A field of a message, as the definitions of `Fields` name it: a line's fields are read into their places without it.
 #[derive(Drop)]
 pub enum Field {
     Param(u32),
