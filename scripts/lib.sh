@@ -35,20 +35,22 @@ made_of() { # NAME
     fi
 }
 
-# Whether that file stands, and no source that it is made from is newer. Only what is proved is built.
+# Whether that file stands, and no source that it is made from is newer than it, or than the last ./prove that found
+# nothing to do. Only what is proved is built.
 is_proved() { # NAME
-    local made name folders=()
+    local made mark=$top/.prove/$1.proved name folders=()
     made=$(made_of "$1")
     [ -f "$made" ] || return 1
+    [ "$mark" -nt "$made" ] || mark=$made
     while read -r name; do folders+=("$top/crates/$name"); done < <(crates_below "$1")
-    [ -z "$(find "${folders[@]}" -name out -prune -o \( -name '*.rt' -o -name '*.antt' \) -newer "$made" -print -quit)" ]
+    [ -z "$(find "${folders[@]}" -name out -prune -o \( -name '*.rt' -o -name '*.antt' \) -newer "$mark" -print -quit)" ]
 }
 
-# The folder of the Rattle kit whose rt is on the path.
+# The folder of the Rattle kit: that of its first page. A linker is given one file of it, the C part of its library
+# (c/liblibc_c.a), as the kit's guides say.
 kit_folder() {
-    local rt
-    rt=$(command -v rt) || return 1
-    dirname "$(dirname "$(readlink -f "$rt")")"
+    local page
+    page=$(rt doc 2> /dev/null) && dirname "$page"
 }
 
 # Which interface the header has: it rises with each change of a struct, a number or a meaning.
