@@ -134,6 +134,7 @@ class Joiner { // joins the beats of one channel of one link
         if (at_ == 0) {
             now_.opcode = b.opcode; now_.param = b.param; now_.source = b.source; now_.sink = b.sink;
             now_.address = b.address;
+            size_ = b.size;
             now_.len = data ? bus_.block_bytes : 0;
             now_.bytes.fill(0);
         }
@@ -143,13 +144,18 @@ class Joiner { // joins the beats of one channel of one link
         return now_;
     }
     const std::optional<Message> &torn() const { return torn_; } // the message that this beat broke off
+    bool is_open() const { return at_ > 0; }                     // a message has begun, and beats of it are to come
+    const Message &now() const { return now_; }                  // with the beats so far
+    uint32_t beats() const { return at_; }
 
   private:
     bool is_of(const Beat &b) const {
-        return b.opcode == now_.opcode && b.param == now_.param && b.source == now_.source && b.address == now_.address;
+        return b.opcode == now_.opcode && b.param == now_.param && b.source == now_.source && b.size == size_
+            && b.address == now_.address;
     }
     Bus bus_;
     Message now_;
+    std::optional<uint32_t> size_; // of the first beat, where the link has it
     uint32_t at_ = 0;
     std::optional<Message> torn_;
 };
@@ -182,12 +188,14 @@ struct Watch { // is told all that Home sees and does; a fault's own message com
     virtual void event(const Event &) {}
 };
 
-enum class Cause { Refused, Differs, Load, Beats, Codes, Address, Source, Sink, Unasked, Late };
+enum class Cause { Refused, Differs, Load, Beats, Codes, Address, Source, Sink, Unasked, Late, Outside };
 inline const char *cause_name(Cause c) {
-    return words::at({"refused", "differs", "load", "beats", "codes", "address", "source", "sink", "unasked", "late"},
-                     uint32_t(c));
+    return words::at({"refused", "differs", "load", "beats", "codes", "address", "source", "sink", "unasked", "late",
+                      "outside the model"}, uint32_t(c));
 }
-struct Fault { // what a client may not do; or, of class limit, what this cache has no room for
+// What a client may not do; or what is none of its faults: a message of TileLink that the model has not (`Outside`), or
+// what this cache has no room for (a status of class limit).
+struct Fault {
     uint64_t cycle = 0;
     uint32_t client = 0;
     std::optional<uint32_t> block;
@@ -198,6 +206,8 @@ struct Fault { // what a client may not do; or, of class limit, what this cache 
     std::vector<std::string> last;  // the last messages of the block, oldest first
     std::string script;           // the block's history for `tlchart`, where it is short enough, else empty
 
+    // Whether the device did what it may not.
+    bool is_of_device() const { return cause != Cause::Outside && status != JV_COPIES_FULL; }
     // The status's name, as `wrong from`; or the cause's.
     std::string name() const { return cause == Cause::Refused ? jv_status_name(status) : cause_name(cause); }
     std::string line() const {
@@ -223,6 +233,8 @@ struct Options {
     uint32_t sources = 16;       // a link's sources are 0 to one less
     uint32_t sinks = 16;         // and its sinks
     bool has_taps = true;        // load and store are called; else stores are inferred from what the clients send back
+    bool silent_branch = false;  // a client may drop a clean Branch and send no Release
+    bool gives_more = false;     // a client may answer a Probe toB by giving its copy up: TtoN or BtoN
     bool keeps_log = false;      // else the banks forget their logs, and memory stays flat
     uint64_t patience = 20000;   // so many cycles what has to come may take
     uint64_t slack = 0;          // so many cycles an Acquire may take from its client to here
@@ -239,7 +251,10 @@ class Home {
   public:
     explicit Home(const Options &options, const std::vector<uint8_t> &image = {})
         : options_(options), bus_{uint32_t(options.numbers.block_bytes), options.beat_bytes}, rng_(options.seed) {
-        uint32_t why = JV_OK;
+        uint32_t why = JV_OK, bus = options.beat_bytes;
+        if (bus < 8 || bus > JV_MOST_BLOCK_BYTES || (bus & (bus - 1)))
+            throw std::runtime_error("jinavoke: a bus of " + words::number(bus) + " bytes: 8, 16, 32 or 64");
+        if (!options.sources || !options.sinks) throw std::runtime_error("jinavoke: a link has a source and a sink");
         cache_ = jv_new(&options_.numbers, image.data(), image.size(), &why);
         if (!cache_) throw std::runtime_error("jinavoke: no cache: " + words::number(why) + " " + jv_status_name(why));
         for (uint32_t k = 0; k < clients(); k++) clients_.emplace_back(bus_, k, banks());
@@ -263,6 +278,7 @@ class Home {
             g->is_begun = true;
             me.acquires.erase(down.m.source);
         }
+        me.d_since = cycle_;
         if (++me.d_beat < bus_.beats(down.m.len != 0)) return;
         Down whole = std::move(down);
         me.d_beat = 0;
@@ -276,6 +292,7 @@ class Home {
         if (me.b.empty()) throw std::logic_error("jinavoke: a beat is taken on B, and none is offered");
         Message m = me.b.front();
         me.b.pop_front();
+        me.b_since = cycle_;
         tell(m);
         for (Probe &p : me.probes) if (p.block == block_of(m.address)) { p.is_taken = true; p.since = cycle_; }
         settle(me);
@@ -283,6 +300,7 @@ class Home {
     void c(uint32_t k, const Beat &beat) {
         Client &me = clients_.at(k);
         std::optional<Message> m = me.c.take(beat);
+        me.c_since = cycle_;
         if (const auto &torn = me.c.torn())
             fault(Cause::Beats, *torn, torn->kind() + " is broken off: a later beat has other fields");
         if (!m || !is_sound(*m, beat)) return;
@@ -327,13 +345,14 @@ class Home {
     }
     std::optional<Beat> d(uint32_t k) const {
         const Client &me = clients_.at(k);
-        if (me.d.empty() || !me.d.front().has_sink) return std::nullopt;
+        if (me.d.empty() || !me.d.front().has_sink || me.d.front().is_hidden) return std::nullopt;
         return bus_.part(me.d.front().m, me.d_beat);
     }
     // The cycle's end: what waits is tried again, and home and the memory make their own steps.
     void tick() {
         cycle_++;
         for (Client &me : clients_) {
+            take_hidden(me);
             if (!me.held.empty()) settle(me);
             for (uint32_t bank = 0; bank < banks(); bank++) { step_c(me, bank); step_a(me, bank); step_e(me, bank); }
         }
@@ -341,7 +360,7 @@ class Home {
         serve();
         if (options_.evict_every && rng_() % options_.evict_every == 0) evict();
         for (Client &me : clients_) give_sink(me);
-        if (cycle_ % 64 == 0) for (Client &me : clients_) look_for_late(me);
+        if (cycle_ % 64 == 0) for (Client &me : clients_) { look_for_stuck(me); look_for_late(me); }
         if (options_.keeps_log || cycle_ % 4096) return;
         for (uint32_t bank = 0; bank < banks(); bank++) jv_forget(cache_, bank);
     }
@@ -360,7 +379,8 @@ class Home {
     uint64_t address_of(uint32_t block) const { return options_.base + uint64_t(block) * bus_.block_bytes; }
     bool is_quiet() const {
         for (const Client &me : clients_)
-            if (!me.held.empty() || !me.grants.empty() || !me.d.empty() || !me.b.empty()) return false;
+            if (!me.held.empty() || !me.grants.empty() || !me.d.empty() || !me.b.empty() || me.c.is_open()
+                || !me.dropping.empty()) return false;
         for (uint32_t bank = 0; bank < banks(); bank++) if (jv_is_quiet(cache_, bank).serial != 1) return false;
         return true;
     }
@@ -380,10 +400,10 @@ class Home {
     }
 
   private:
-    struct Up { jv_ticket ticket; uint32_t block, source; }; // on the model's A or C, until home takes it
+    struct Up { jv_ticket ticket; uint32_t block, source; bool is_hidden; }; // on the model's A or C, not yet home's
     struct Lane { std::deque<Up> ups; uint64_t stuck = ~uint64_t(0); };
-    struct Probe { uint32_t block; jv_ticket ticket; uint64_t since; bool is_taken; };
-    struct Down { Message m; jv_ticket ticket; bool has_sink; };
+    struct Probe { uint32_t block, source, cap; jv_ticket ticket; uint64_t since; bool is_taken; };
+    struct Down { Message m; jv_ticket ticket; bool has_sink, is_hidden; };
     struct Grant {
         uint32_t bank, block, sink;
         uint64_t since;
@@ -394,7 +414,8 @@ class Home {
         Message m;
         std::optional<Access> access;
         uint64_t since, raised;
-        uint32_t why; // the refusal for which it waits
+        uint32_t why;         // the refusal for which it waits
+        bool is_told = false; // that its source is another
     };
     struct Client {
         Client(Bus bus, uint32_t k, uint32_t banks) : number(k), c(bus, k, JV_C), to_a(banks), to_c(banks) {}
@@ -407,9 +428,13 @@ class Home {
         std::deque<Message> b;
         std::deque<Down> d;
         uint32_t d_beat = 0;
+        uint64_t b_since = 0, d_since = 0; // when the beat that is offered came to be the next
+        uint64_t c_since = 0;              // when the last beat came
         std::set<uint32_t> acquires, releases;  // the sources of those that are not answered
         std::map<uint32_t, uint32_t> source_of; // by block: of the Acquire
         std::map<uint32_t, uint64_t> probed;    // the blocks of which a Probe took a Branch, and when
+        std::set<uint32_t> gone;     // the blocks of which the model has a Branch, and the client said that it has none
+        std::set<uint32_t> dropping; // those that the model's client gives up for it, until its ReleaseAck is taken
     };
     struct Open { uint32_t block, bank; bool is_eviction; uint64_t stuck; };
     struct Outward { uint32_t block, bank; uint64_t due; bool is_put, is_served; };
@@ -510,11 +535,13 @@ class Home {
 
     // ---- what clients send
 
+    bool has_block(const Message &m) const { // its address is in the memory
+        uint64_t at = m.address - options_.base;
+        return m.address >= options_.base && at / bus_.block_bytes < uint64_t(options_.numbers.memory_blocks);
+    }
     // Whether a message is one of the profile and of one block of the memory; else the fault is told.
     bool is_sound(Message &m, const Beat &beat) {
-        uint64_t at = m.address - options_.base;
-        bool in_memory = m.address >= options_.base && at / bus_.block_bytes < uint64_t(options_.numbers.memory_blocks);
-        bool aligned = at % bus_.block_bytes == 0;
+        bool in_memory = has_block(m), aligned = (m.address - options_.base) % bus_.block_bytes == 0;
         m.cycle = cycle_;
         if (in_memory && aligned) tell(m);
         auto wrong = [&](Cause cause, const std::string &what) {
@@ -522,10 +549,15 @@ class Home {
             fault(cause, m, m.kind() + codes + what, in_memory);
             return false;
         };
+        if (is_outside(m)) return wrong(Cause::Outside, " is a message of TileLink that the model has not");
         if (!is_in_profile(m)) return wrong(Cause::Codes, " is no message of the profile");
         if (beat.size && *beat.size != bus_.size()) return wrong(Cause::Codes, " is of another size than a block");
         if (!in_memory) return wrong(Cause::Address, " of " + words::address(m.address) + ", outside the memory");
         return aligned || wrong(Cause::Address, " of " + words::address(m.address) + ", where no block begins");
+    }
+    // A Put, Get, atomic or Hint, an AcquirePerm; an answer to one that home would have sent.
+    static bool is_outside(const Message &m) {
+        return m.channel == JV_A ? m.opcode < JV_OP_ACQUIRE_BLOCK || m.opcode == 7 : m.channel == JV_C && m.opcode <= 2;
     }
     static bool is_in_profile(const Message &m) {
         if (m.channel == JV_A) return m.opcode == JV_OP_ACQUIRE_BLOCK && m.param <= JV_BTOT;
@@ -624,13 +656,30 @@ class Home {
         bool is_full = a.status == JV_COPIES_FULL || a.status == JV_LINK_FULL, is_wrong = a.status == JV_WRONG_FROM;
         bool waits = is_full || (is_wrong && probe_of(me, block)); // for a Release, or for an answer to a Probe
         if (waits && cycle_ - h.since < options_.patience) return false;
+        if (gives_up(me, h, a.status)) return false;
         bool is_late = is_wrong && h.m.param == JV_BTOT && was_probed_since(me, block, h.raised);
         uint32_t param = is_late ? uint32_t(JV_NTOT) : h.m.param;
         if (is_late) a = jv_acquire(cache_, me.number, block, JV_NTOT);
         note(JV_EVENT_SEND_ACQUIRE, h.m.bank, me.number, block, param, is_late ? nullptr : &h.m);
         if (a.status) { refused(h.m, h.m.kind(), a.status); return true; }
         me.source_of[block] = h.m.source;
-        me.to_a[a.bank].ups.push_back({jv_sent(&a), block, h.m.source});
+        me.to_a[a.bank].ups.push_back({jv_sent(&a), block, h.m.source, false});
+        return true;
+    }
+    // A client that has dropped its Branch acquires the block anew. The model's client releases it first, which nobody
+    // sees: whether the Acquire has to wait for that.
+    bool gives_up(Client &me, const Held &h, uint32_t status) {
+        uint32_t block = block_of(h.m.address);
+        if (me.dropping.count(block)) return true;
+        bool may = options_.silent_branch || me.gone.count(block), from_none = h.m.param != JV_BTOT;
+        if (status != JV_WRONG_FROM || !may || !from_none || probe_of(me, block)) return false;
+        if (jv_perm(cache_, me.number, block).serial != JV_BRANCH) return false;
+        jv_answer a = jv_release(cache_, me.number, block, JV_BTON);
+        if (a.status == JV_LINK_FULL) return true;
+        if (a.status) return false;
+        note(JV_EVENT_SEND_RELEASE, a.bank, me.number, block, JV_BTON);
+        me.dropping.insert(block);
+        me.to_c[a.bank].ups.push_back({jv_sent(&a), block, 0, true});
         return true;
     }
     bool was_probed_since(const Client &me, uint32_t block, uint64_t raised) const {
@@ -646,19 +695,27 @@ class Home {
             fault(Cause::Unasked, h.m, h.m.kind() + " answers no Probe that the client took");
             return true;
         }
+        if (h.m.source != p->source && !h.is_told) { // it is told once, and then taken as the answer
+            h.is_told = true;
+            fault(Cause::Source, h.m, h.m.kind() + ": source " + words::number(h.m.source) + ", and its Probe has "
+                + words::number(p->source));
+        }
         for (const Probe &it : me.probes) { // the model answers the Probes of a bank in their order
             if (&it == p) break;
             if (it.ticket.bank == p->ticket.bank) return false;
         }
-        jv_answer a = saw(h.m);
+        jv_answer a = saw(asked_by(h.m, *p));
         h.why = a.status;
-        if (a.status == JV_LINK_FULL) return false;
-        note(JV_EVENT_ANSWER_PROBE, h.m.bank, me.number, block, h.m.param, &h.m);
+        if (a.status == JV_LINK_FULL || (a.status == JV_RELEASE_PENDING && me.dropping.count(block))) return false;
+        bool is_other = (a.status == JV_OK || a.status == JV_DIFFERS) && may_report(h.m, sent_by(h.m, a));
+        note(JV_EVENT_ANSWER_PROBE, h.m.bank, me.number, block, h.m.param, is_other ? nullptr : &h.m);
         std::optional<jv_answer> own = sent(h.m, a, &p->ticket);
         if (!own) return true;
         me.probes.erase(std::find_if(me.probes.begin(), me.probes.end(), [&](const Probe &it) { return &it == p; }));
         if (own->param == JV_REPORT_BTON) me.probed[block] = cycle_;
-        me.to_c[own->bank].ups.push_back({jv_sent(&*own), block, h.m.source});
+        if (own->param != h.m.param) me.gone.insert(block);
+        if (jv_perm(cache_, me.number, block).serial == JV_NONE) me.gone.erase(block);
+        me.to_c[own->bank].ups.push_back({jv_sent(&*own), block, h.m.source, false});
         return true;
     }
     bool make_release(Client &me, Held &h) {
@@ -669,8 +726,32 @@ class Home {
         note(JV_EVENT_SEND_RELEASE, h.m.bank, me.number, block, h.m.param, &h.m);
         std::optional<jv_answer> own = sent(h.m, a, nullptr);
         if (!own) return true;
-        me.to_c[own->bank].ups.push_back({jv_sent(&*own), block, h.m.source});
+        me.to_c[own->bank].ups.push_back({jv_sent(&*own), block, h.m.source, false});
         return true;
+    }
+    // The answer that a client gives as the Probe asks for it, where it gives up more.
+    Message asked_by(const Message &m, const Probe &p) const {
+        Message asked = m;
+        bool is_more = options_.gives_more && p.cap == JV_TO_B && m.param == JV_REPORT_TTON;
+        if (is_more) asked.param = JV_REPORT_TTOB;
+        return asked;
+    }
+    // What the model's client has sent, or would.
+    static Message sent_by(const Message &m, const jv_answer &a) {
+        Message own = m;
+        own.opcode = a.opcode; own.param = a.param; own.len = a.len;
+        own.bytes.fill(0);
+        std::copy(a.bytes, a.bytes + a.len, own.bytes.begin());
+        return own;
+    }
+    // Whether another report than the model's is one that an option permits: of a Branch that was dropped, or of a copy
+    // that is given up where a Probe toB left a Branch.
+    bool may_report(const Message &m, const Message &own) const {
+        if (!m.is_answer() || m.param == own.param || m.opcode != own.opcode || m.len != own.len) return false;
+        bool is_gone = options_.silent_branch || clients_.at(m.client).gone.count(block_of(m.address));
+        if (m.param == JV_REPORT_NTON) return is_gone && (own.param == JV_REPORT_BTON || own.param == JV_REPORT_BTOB);
+        return options_.gives_more && ((m.param == JV_REPORT_TTON && own.param == JV_REPORT_TTOB)
+            || (m.param == JV_REPORT_BTON && own.param == JV_REPORT_BTOB));
     }
     // What the model's client has sent; none where it was refused. Where that is not what was seen the fault is told,
     // and the run goes on with the model's.
@@ -679,12 +760,9 @@ class Home {
             refused(m, m.kind(), a.status);
             return std::nullopt;
         }
-        Message own = m;
-        own.opcode = a.opcode; own.param = a.param; own.len = a.len;
-        own.bytes.fill(0);
-        std::copy(a.bytes, a.bytes + a.len, own.bytes.begin());
-        if (own.opcode != m.opcode || own.param != m.param || own.len != m.len)
-            fault(Cause::Differs, m, m.kind() + "; the model sends " + own.kind());
+        const Message own = sent_by(m, a);
+        bool is_other = own.opcode != m.opcode || own.param != m.param || own.len != m.len;
+        if (is_other && !may_report(m, own)) fault(Cause::Differs, m, m.kind() + "; the model sends " + own.kind());
         else if (own.bytes != m.bytes) fault(Cause::Differs, m, m.kind() + other_bytes(m.bytes, own.bytes));
         return a.status == JV_DIFFERS ? own_call(m, probe) : a;
     }
@@ -697,8 +775,8 @@ class Home {
     // ---- the model's client
 
     // The answer of the model's client: it has sent what was seen; or nothing changed, and JV_DIFFERS tells what it
-    // would send. Where nobody tells stores, those that lead to the data of a Tip are made first; with taps only the one
-    // of a clean copy, whose data TileLink allows.
+    // would send. Where nobody tells stores, those that lead to the data of a Tip are made first; with taps only the
+    // one of a clean copy, whose data TileLink allows.
     jv_answer saw(const Message &m) {
         jv_seen s;
         std::memset(&s, 0, sizeof s);
@@ -750,12 +828,25 @@ class Home {
         g.since = cycle_;
         g.ack = jv_sent(&a);
         me.probed.erase(g.block);
+        me.gone.erase(g.block);
+    }
+    // The ReleaseAcks of what the model's client gave up for a client that had dropped it: nobody sees them.
+    void take_hidden(Client &me) {
+        while (!me.d.empty() && me.d.front().is_hidden) {
+            Down down = std::move(me.d.front());
+            me.d.pop_front();
+            me.d_since = cycle_;
+            take_release_ack(me, down);
+            uint32_t block = block_of(down.m.address);
+            me.dropping.erase(block);
+            me.gone.erase(block);
+        }
     }
     void take_release_ack(Client &me, const Down &down) {
         jv_answer a = jv_take_release_ack(cache_, down.ticket);
         note(JV_EVENT_TAKE_RELEASE_ACK, down.m.bank, me.number, block_of(down.m.address));
         if (a.status) refused(down.m, down.m.kind(), a.status);
-        me.releases.erase(down.m.source);
+        if (!down.is_hidden) me.releases.erase(down.m.source);
     }
 
     // ---- what home and the memory do
@@ -771,7 +862,8 @@ class Home {
         changes_[bank]++;
         note(JV_EVENT_TAKE_C, bank, me.number, up.block);
         if (a.what != JV_TELLS_MESSAGE) return;
-        me.d.push_back({down(a, up.block, up.source), jv_sent(&a), true});
+        if (me.d.empty()) me.d_since = cycle_;
+        me.d.push_back({down(a, up.block, up.source), jv_sent(&a), true, up.is_hidden});
     }
     void step_a(Client &me, uint32_t bank) {
         Lane &lane = me.to_a[bank];
@@ -819,16 +911,19 @@ class Home {
         default: break;
         }
         Client &me = clients_.at(a.client);
-        Message m = down(a, a.place, me.source_of[a.place]);
+        auto source = me.source_of.find(a.place); // of the Acquire; a Probe has none
+        Message m = down(a, a.place, source == me.source_of.end() ? 0 : source->second);
         note(a.channel == JV_B ? JV_EVENT_SEND_PROBE : JV_EVENT_SEND_GRANT, o.bank, a.client, a.place, a.param, &m);
         if (a.channel == JV_B) {
             m.source = 0;
+            if (me.b.empty()) me.b_since = cycle_;
             me.b.push_back(m);
-            me.probes.push_back({a.place, jv_sent(&a), cycle_, false});
+            me.probes.push_back({a.place, m.source, a.param, jv_sent(&a), cycle_, false});
             return false;
         }
         me.source_of.erase(a.place);
-        me.d.push_back({m, jv_sent(&a), false});
+        if (me.d.empty()) me.d_since = cycle_;
+        me.d.push_back({m, jv_sent(&a), false, false});
         me.grants.push_back({o.bank, a.place, ~0u, cycle_, false, false, false, {}});
         return true;
     }
@@ -881,16 +976,33 @@ class Home {
             if (std::any_of(me.grants.begin(), me.grants.end(), uses)) continue;
             g.sink = me.d.front().m.sink = sink;
             me.d.front().has_sink = true;
+            me.d_since = cycle_;
             return;
+        }
+    }
+    // Whether so long a wait is too long; it is told once in so many cycles.
+    bool is_late(uint64_t &since) const {
+        bool late = cycle_ - since >= options_.patience;
+        if (late) since = cycle_;
+        return late;
+    }
+    // A beat that is offered and not taken, and a message on C that does not go on.
+    void look_for_stuck(Client &me) {
+        if (!me.b.empty() && is_late(me.b_since))
+            fault(Cause::Late, me.b.front(), me.b.front().kind() + " is offered on B, and is not taken");
+        if (d(me.number) && is_late(me.d_since)) {
+            const Down &down = me.d.front();
+            std::string beat = down.m.len ? ", beat " + words::number(me.d_beat) : "";
+            fault(Cause::Late, down.m, down.m.kind() + " is offered on D" + beat + ", and is not taken");
+        }
+        if (me.c.is_open() && is_late(me.c_since)) {
+            const Message &m = me.c.now();
+            std::string beats = words::number(me.c.beats()) + " of " + words::number(bus_.beats(true)) + " beats";
+            fault(Cause::Late, m, m.kind() + " stops after " + beats, has_block(m));
         }
     }
     // What did not come in time: an answer to a Probe, a GrantAck, or what a message waits for.
     void look_for_late(Client &me) {
-        auto is_late = [&](uint64_t &since) {
-            bool late = cycle_ - since >= options_.patience;
-            if (late) since = cycle_;
-            return late;
-        };
         Message m;
         m.client = me.number;
         for (Probe &p : me.probes) if (p.is_taken && is_late(p.since)) {

@@ -15,9 +15,12 @@ std::vector<uint8_t> bytes_of(const char *hex) {
     return bytes;
 }
 
-struct Links { // a home with its records, and the texts of the faults that were not yet told
+struct Links { // a home with its records, the texts of the faults that were not yet told, and the last one's script
     Links(const jinavoke::Options &o, const std::vector<uint8_t> &image) : home(o, image) {
-        home.on_fault = [this](const jinavoke::Fault &f) { text += f.text(); };
+        home.on_fault = [this](const jinavoke::Fault &f) {
+            text += f.text();
+            script = f.script;
+        };
     }
     template <class Record> void record(const char *file, const std::vector<uint8_t> &image) {
         if (!*file) return;
@@ -26,7 +29,7 @@ struct Links { // a home with its records, and the texts of the faults that were
         home.watch(records.back().get());
     }
     jinavoke::Home home;
-    std::string text, told;
+    std::string text, told, script;
     std::vector<std::unique_ptr<std::ofstream>> files;
     std::vector<std::unique_ptr<jinavoke::Watch>> records;
 };
@@ -84,15 +87,15 @@ const char *jvd_status_name(int status) { return jv_status_name(uint32_t(status)
 
 void *jvh_new(int clients, int banks, int block_bytes, int sets, int ways, int registers, int copies, int blocks,
               long long base, int beat_bytes, int sources, int sinks, int has_taps, int pace, int memory_cycles,
-              int evict_every, int patience, int slack, int seed, const char *image, const char *wire_file,
-              const char *events_file) {
+              int evict_every, int patience, int slack, int seed, int silent_branch, int gives_more, const char *image,
+              const char *wire_file, const char *events_file) {
     jinavoke::Options o;
     o.numbers = {2, clients, banks, block_bytes, sets, ways, registers, copies, blocks};
     o.base = uint64_t(base); o.beat_bytes = uint32_t(beat_bytes);
     o.sources = uint32_t(sources); o.sinks = uint32_t(sinks);
     o.has_taps = has_taps != 0; o.pace = uint32_t(pace); o.memory_cycles = uint32_t(memory_cycles);
     o.evict_every = uint32_t(evict_every); o.patience = uint64_t(patience); o.slack = uint64_t(slack);
-    o.seed = uint32_t(seed);
+    o.seed = uint32_t(seed); o.silent_branch = silent_branch != 0; o.gives_more = gives_more != 0;
     std::vector<uint8_t> bytes = bytes_of(image);
     try {
         auto links = std::make_unique<Links>(o, bytes);
@@ -122,11 +125,14 @@ int jvh_taken(void *home, int client, int channel) { // 0 where nothing is offer
     else return 0;
     return 1;
 }
-void jvh_access(void *home, int client, int is_store, long long address, int len, long long bytes) {
+// 0 where it is not one of 1 to 8 bytes; then nothing is told.
+int jvh_access(void *home, int client, int is_store, long long address, int len, long long bytes) {
     uint8_t data[8];
+    if (len < 1 || len > int(sizeof data)) return 0;
     std::memcpy(data, &bytes, sizeof data);
     if (is_store) home_of(home).store(uint32_t(client), uint64_t(address), data, uint32_t(len));
     else home_of(home).load(uint32_t(client), uint64_t(address), data, uint32_t(len));
+    return 1;
 }
 void jvh_tick(void *home) { home_of(home).tick(); }
 int jvh_b(void *home, int client, int *param, int *source, long long *address) {
@@ -150,5 +156,7 @@ const char *jvh_fault(void *home) { // those since it was last asked
     links.told = std::exchange(links.text, "");
     return links.told.c_str();
 }
+// What came of the last fault's block, as a script for `tlchart`; empty where there was no fault, or it is too long.
+const char *jvh_script(void *home) { return static_cast<Links *>(home)->script.c_str(); }
 
 } // extern "C"

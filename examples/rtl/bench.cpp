@@ -6,8 +6,10 @@
 //   plant=NAME              what is planted into L1 1 (plants.sv), in small letters with minus signs
 //   at=0 for=0              from which cycle on, and for how many; 0: to the end
 //   damage=NAME             what befalls one message of L1 1 on the wires, from cycle `at` on: flip-c, flip-d (a bit of
-//                           its data), param-c, drop-b, drop-c, drop-d, drop-e (it is lost)
+//                           its data), param-c, drop-b, drop-c, drop-d, drop-e (it is lost), size-c (its third beat has
+//                           another size)
 //   taps=1 banks=1 sets=16 pace=3 evict=500   whether the loads and stores are told; the home's numbers and choices
+//   silent=0 more=0         whether a clean Branch may be dropped, and a Probe toB be answered by giving the copy up
 //   spots=24 stall=4        how many blocks; a beat is stalled in one of so many cycles (0: never)
 //   most=1                  the run ends after so many faults (0: never)
 //   plain=0                 1: a home without a model in Jinavoke's place
@@ -56,13 +58,14 @@ static uint32_t plant_of(const std::string &word) { // the numbers of plants.sv
     if (word.empty()) return 0;
     return place_of(word, {"nothing", "lost-data", "lost-writeback", "silent-upgrade", "kept-copy", "early-answer",
         "early-acquire", "wrong-report", "torn-refill", "shifted-burst", "second-grant-ack", "lost-probe",
-        "early-grant-ack", "clean-data", "late-btot"}, "plant");
+        "lost-release-beats", "deaf-b", "other-source", "early-grant-ack", "clean-data", "late-btot", "silent-branch",
+        "gives-more"}, "plant");
 }
-enum damage_t { kNone, kFlipC, kFlipD, kParamC, kDropB, kDropC, kDropD, kDropE };
+enum damage_t { kNone, kFlipC, kFlipD, kParamC, kDropB, kDropC, kDropD, kDropE, kSizeC };
 static damage_t damage_of(const std::string &word) {
     if (word.empty()) return kNone;
-    return damage_t(place_of(word, {"nothing", "flip-c", "flip-d", "param-c", "drop-b", "drop-c", "drop-d", "drop-e"},
-        "damage"));
+    return damage_t(place_of(word, {"nothing", "flip-c", "flip-d", "param-c", "drop-b", "drop-c", "drop-d", "drop-e",
+        "size-c"}, "damage"));
 }
 
 // What was stored last.
@@ -193,6 +196,7 @@ template <class Home> class Bench {
         Burst &c = c_[k];
         bool is_dropped = drops(k, c, kDropC);
         c.has_data = jinavoke::has_data(JV_C, beat.opcode);
+        beat.size = c.at == 2 && damages(k, kSizeC) ? 5 : 6;
         releases += c.at == 0 && beat.opcode >= JV_OP_RELEASE;
         c.step();
         if (is_dropped) return;
@@ -299,6 +303,8 @@ int main(int argc, char **argv) {
     o.numbers = {2, kClients, int64_t(s.number("banks", 1)), kBlock, int64_t(s.number("sets", 16)), 4, 8, 16, 4096};
     o.base = 0x80000000;
     o.has_taps = s.number("taps", 1);
+    o.silent_branch = s.number("silent", 0);
+    o.gives_more = s.number("more", 0);
     o.pace = uint32_t(s.number("pace", 3));
     o.evict_every = uint32_t(s.number("evict", 500));
     o.seed = uint32_t(s.number("seed", 1)) + 7;

@@ -2,7 +2,7 @@
 """Two small caches in plain Python on the links of a home, as a cocotb bench would drive them: links.py [LIBRARY].
 
 On buses and blocks of several sizes, without a plant no fault is told; with each one a fault of that client is, or none
-where what is planted is lawful.
+where what is planted is lawful. What hangs is told as late. A bus that cannot be is refused.
 LIBRARY is libjinavoke_dpi.so, where it is not installed with the module. Status 1 where one is told otherwise.
 """
 import pathlib
@@ -37,13 +37,14 @@ class Client:
 
     def cycle(self):
         goes = lambda: self.rng.random() < 0.7
-        if goes() and (beat := self.link.d()):
+        if goes() and self.plant != "deaf on D" and (beat := self.link.d()):
             self.link.d_taken()
             self.on_d(beat)
-        if goes() and not self.beats and (beat := self.link.b()) and self.block_of(beat.address) != self.releases:
+        hears = self.plant != "deaf on B" and not self.beats
+        if goes() and hears and (beat := self.link.b()) and self.block_of(beat.address) != self.releases:
             self.link.b_taken()
             self.give_up(self.block_of(beat.address), NONE if beat.param == TO_N else BRANCH, PROBE_ACK)
-        if goes() and self.beats:
+        if goes() and self.beats and not (self.plant == "stuck burst" and len(self.beats) == 5):
             self.link.c(**self.beats.pop(0))
         if goes():
             self.work()
@@ -127,6 +128,18 @@ def main():
             first = told.splitlines()[0][:80] if told else "no fault"
             print(f"block {block}, bus {bus}, {plant or 'nothing'} planted: {first}")
             wrong += words not in told if words else told != ""
+    for plant in "stuck burst", "deaf on B", "deaf on D":
+        told = faults_of(path, plant, block_bytes=64, beat_bytes=8, patience=500)
+        first = told.splitlines()[0][:120] if told else "no fault"
+        print(f"{plant} planted: {first}")
+        wrong += "client 1" not in first or ": late: " not in first
+    for bus in 0, 4, 24, 128:
+        try:
+            jv.Home(path=path, beat_bytes=bus)
+            print(f"a bus of {bus} bytes was taken")
+            wrong += 1
+        except ValueError:
+            pass
     return 1 if wrong else 0
 
 

@@ -10,9 +10,9 @@ import re
 import subprocess
 import sys
 
-DAMAGES = "flip-c flip-d param-c drop-b drop-c drop-d drop-e".split()
+DAMAGES = "flip-c flip-d param-c drop-b drop-c drop-d drop-e size-c".split()
 PLANTS = """lost-data lost-writeback silent-upgrade kept-copy early-answer early-acquire wrong-report torn-refill
-    shifted-burst second-grant-ack lost-probe""".split()
+    shifted-burst second-grant-ack lost-probe lost-release-beats deaf-b other-source""".split()
 LAWFUL = "early-grant-ack clean-data late-btot".split()
 # A client that hears no more of its Release is silent, and lawful for ever: nobody on the links can see that.
 SILENT = ["drop-c", "drop-d"]

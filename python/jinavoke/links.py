@@ -19,7 +19,7 @@ import typing
 # The numbers of a home in the order in which the library takes them, each with what it is where nobody says it.
 NUMBERS = dict(clients=2, banks=1, block_bytes=64, sets=16, ways=4, registers=8, copies=64, blocks=4096, base=0,
                beat_bytes=8, sources=16, sinks=16, has_taps=1, pace=3, memory_cycles=20, evict_every=0, patience=20000,
-               slack=0, seed=1)
+               slack=0, seed=1, silent_branch=0, gives_more=0)
 B, D = 1, 3
 
 
@@ -43,9 +43,10 @@ def library(path):
             ("free", [], None), ("a", [number] * 5 + [wide, wide], None),
             ("c", [number] * 5 + [wide, c.c_char_p], None),
             ("e", [number, number], None), ("taken", [number, number], number),
-            ("access", [number, number, wide, number, wide], None), ("tick", [], None),
+            ("access", [number, number, wide, number, wide], number), ("tick", [], None),
             ("b", [number, out, out, c.POINTER(wide)], number), ("d", [number, out, out, out, out, c.c_char_p], number),
-            ("is_quiet", [], number), ("faults", [], number), ("fault", [], c.c_char_p), ("cycle", [], wide)]:
+            ("is_quiet", [], number), ("faults", [], number), ("fault", [], c.c_char_p), ("script", [], c.c_char_p),
+            ("cycle", [], wide)]:
         function = getattr(lib, "jvh_" + name)
         function.argtypes, function.restype = [at, *words], result
     return lib
@@ -89,6 +90,10 @@ class Home:
     def faults(self):
         """The texts of the faults since this was last asked, as one."""
         return self.lib.jvh_fault(self.at).decode()
+
+    def script(self):
+        """What came of the last fault's block, as a script for `tlchart`; empty where it is too long."""
+        return self.lib.jvh_script(self.at).decode()
 
     def close(self):
         """Ends it, and the files of its records."""

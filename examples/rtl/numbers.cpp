@@ -1,0 +1,39 @@
+// numbers: a home of a bus, a link or a tap that cannot be is refused, from C++ and by the calls for DPI. Status 1
+// where one is taken, or one that can be is refused.
+#include "jinavoke_dpi.cpp"
+#include <iostream>
+
+static int wrong = 0;
+static void want(bool is_well, const char *what, int64_t number) {
+    std::cout << what << " " << number << (is_well ? ": ok\n" : ": WRONG\n");
+    wrong += !is_well;
+}
+static bool is_made(uint32_t beat_bytes, uint32_t sources = 16, uint32_t sinks = 16) {
+    jinavoke::Options options;
+    options.beat_bytes = beat_bytes; options.sources = sources; options.sinks = sinks;
+    try {
+        jinavoke::Home home(options);
+        for (int i = 0; i < 100; i++) home.tick();
+        return true;
+    } catch (const std::runtime_error &) { return false; }
+}
+static void *made_for_dpi(int beat_bytes) {
+    return jvh_new(2, 1, 64, 16, 4, 8, 64, 4096, 0, beat_bytes, 16, 16, 1, 3, 20, 0, 20000, 0, 1, 0, 0, "", "", "");
+}
+
+int main() {
+    for (uint32_t bus : {8u, 16u, 32u, 64u}) want(is_made(bus), "a bus of", bus);
+    for (uint32_t bus : {0u, 1u, 4u, 7u, 12u, 24u, 63u, 65u, 128u, 1u << 31, ~0u})
+        want(!is_made(bus), "no bus of", bus);
+    want(!is_made(8, 0), "no link of sources", 0);
+    want(!is_made(8, 16, 0), "no link of sinks", 0);
+    for (int bus : {-8, 0, 4, 24, 128}) want(made_for_dpi(bus) == nullptr, "no bus for DPI of", bus);
+    void *home = made_for_dpi(16);
+    want(home != nullptr, "a bus for DPI of", 16);
+    for (int len : {-1, 0, 9, 15, 1 << 30}) want(jvh_access(home, 0, 1, 0, len, 0) == 0, "no tap of", len);
+    want(jvh_faults(home) == 0, "faults of taps that are refused:", jvh_faults(home));
+    for (int len : {1, 8}) want(jvh_access(home, 0, 1, 0, len, 0) == 1, "a tap of", len);
+    want(jvh_faults(home) == 2, "faults of stores without a copy:", jvh_faults(home));
+    jvh_free(home);
+    return wrong != 0;
+}
