@@ -5,6 +5,7 @@ pub mod Joined
 pub mod Loop
 pub mod Merging
 pub mod Ordered
+pub mod Over
 pub mod Owned
 pub mod Pairs
 pub mod Rising

@@ -4,3 +4,4 @@ pub mod Ordered
 pub mod Plain
 pub mod PlainBlock
 pub mod PlainState
+pub mod States

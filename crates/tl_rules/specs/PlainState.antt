@@ -1,5 +1,5 @@
 -- The whole plain map.
-use Rattle.std.specs.Prelude.{◌≡◌, ◌<◌, ◌≤◌, List, All, Option, length, map, unwrap_or}
+use Rattle.std.specs.Prelude.{◌≡◌, ◌<◌, ◌≤◌, List, [], ◌∷◌, All, Option, Some, None, length, map, unwrap_or}
 use Rattle.tl_protocol.specs.declared.shape.Shape.{Shape}
 use Rattle.tl_rules.specs.PlainBlock.{PlainBlock}
 use Rattle.tl_types.specs.declared.limits.TheConstants.{BLOCK_BYTES}
@@ -19,3 +19,9 @@ pub record IsShaped (shape : Shape) (blocks : List PlainBlock) : Type 0 where
 -- each block; one that has no state of its own is as a fresh one
 abbrev pub each_block : PlainBlock → List (Option PlainBlock) → List PlainBlock
 each_block fresh blocks = map (λ (own : Option PlainBlock). unwrap_or own fresh) blocks
+
+-- the blocks of some states, of which the first is a fresh block's
+abbrev pub blocks_in : List (Option PlainBlock) → List PlainBlock
+blocks_in [] = []
+blocks_in (None ∷ own) = []
+blocks_in (Some fresh ∷ own) = each_block fresh own

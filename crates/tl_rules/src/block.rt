@@ -98,7 +98,8 @@ fn copy_client(client: &mut Client, other: &Client) -> Result<(), AllocError>
     copy_acks(&mut client.e, &other.e)
 }
 
-/// As many clients become the same as others. Mostly few are not the same before, where this is done for one step after the other.
+/// As many clients become the same as others. Mostly few are not the same before, where this is done for one step after
+/// the other.
 fn copy_clients(clients: &mut [Client], others: &[Client]) -> Result<(), AllocError>
     requires { length clients.old ≡ length others.now }
     ensures { OnOk result (clients.new ≡ others.now) }
@@ -503,9 +504,9 @@ impl BlockState {
         match (&self.accepted, &self.home) {
             (Some(acquire), Some(_)) => {
                 acquire.client == c
-                    && self.has_room_for(shape, c, self.granted(*acquire))
                     && self.has_no_probe(shape)
                     && self.has_no_grant(shape)
+                    && self.has_room_for(shape, c, self.granted(*acquire))
             }
             _ => false,
         }

@@ -1,10 +1,11 @@
 //! The plain map of the protocol's state: all blocks and all clients.
-ghost use Rattle.std.specs.Prelude.{◌≡◌, ◌↔◌, ◌<◌, ◌≤◌, ◌*◌, ◌/◌, ◌%◌, ℕ, IsTrue, OnOk, OnErr, IfOk, IfSome, IsSome, is_some, MatchOption, length, option_copied, slice_get, slice_index_or, unwrap_or};
+ghost use Rattle.std.specs.Prelude.{◌≡◌, ◌↔◌, ◌<◌, ◌≤◌, ◌*◌, ◌/◌, ◌%◌, ℕ, IsTrue, OnOk, OnErr, IfOk, IsOk, IfSome, IsSome, is_some, MatchOption, length, option_copied, slice_get, slice_index_or, unwrap_or};
 ghost use Rattle.tl_protocol.specs.Access.{ReadsAs};
 ghost use Rattle.tl_protocol.specs.Ledger.{count_clients, has_copy, is_recorded};
 ghost use Rattle.tl_protocol.specs.Copy.{perm_of, bytes_of, CanRead};
 ghost use Rattle.tl_rules.specs.Plain.{block_state, empty_block, state_of_plain, IsReset, IsStep};
-ghost use Rattle.tl_rules.specs.PlainState.{IsShaped, each_block};
+ghost use Rattle.tl_rules.specs.PlainState.{IsShaped, blocks_in};
+ghost use Rattle.tl_rules.specs.States.{IsLedTo};
 ghost use Rattle.tl_protocol.specs.Protocol.{May, MayOn, after, block_of, reset};
 
 use crate::block::BlockState;
@@ -27,89 +28,92 @@ pub enum ApplyError {
 pub struct Plain {
     alloc: Global,
     shape: Shape,
-    /// A block that nobody but the memory holds, with bytes of 0.
-    fresh: BlockState,
-    /// The state of each block that had an event, or bytes that are not 0. The others are as `fresh`.
-    blocks: Vec<Option<BlockState>>,
+    /// First a fresh block: one that nobody but the memory holds, with bytes of 0. Then of each block its own state, where it
+    /// had an event or has bytes that are not 0, and none where it is as the fresh one. Empty where there are no blocks.
+    states: Vec<Option<BlockState>>,
 }
 
 impl Model for Plain {
-    ghost use Rattle.std.specs.Prelude.{◌≡◌, length};
-    ghost use Rattle.tl_rules.specs.PlainState.{PlainState, IsShaped, each_block};
+    ghost use Rattle.tl_rules.specs.PlainState.{PlainState, IsShaped, blocks_in};
 
     ghost Value = { PlainState };
 
-    ghost view = { λ p. record { shape = p.shape; blocks = each_block p.fresh p.blocks.items } };
+    ghost view = { λ p. record { shape = p.shape; blocks = blocks_in p.states.items } };
 
-    ghost invariant = { λ p. IsShaped p.shape (each_block p.fresh p.blocks.items) × (length p.fresh.clients ≡ p.shape.clients) };
+    ghost invariant = { λ p. IsShaped p.shape (blocks_in p.states.items) };
 }
 
-/// The state of a block over its bytes of the memory: none where it is as a fresh one.
+/// The state that a block has of its own over its bytes of the memory: none where they are all 0.
 fn state_over(
     alloc: Global,
     clients: u32,
-    fresh: &BlockState,
+    zeros: &BlockBytes,
     memory: BlockBytes,
 ) -> Result<Option<BlockState>, AllocError>
-    requires fresh { block_state fresh.now ≡ reset fresh.now.memory }
-    requires all { length fresh.now.clients ≡ clients }
-    ensures reset { IfOk result (λ own. block_state (unwrap_or own fresh.now) ≡ reset memory) }
-    ensures clients { IfOk result (λ own. length (unwrap_or own fresh.now).clients ≡ clients) }
+    ensures { IfOk result (λ own. MatchOption own (memory ≡ zeros.now)
+        (λ b. (block_state b ≡ reset memory) × (length b.clients ≡ clients))) }
 {
-    if fresh.memory().as_slice() == memory.as_slice() {
+    if zeros.as_slice() == memory.as_slice() {
         return Ok(None);
     }
     let block = BlockState::new(alloc, clients, memory)?;
     Ok(Some(block))
 }
 
-/// The states of all blocks over an image: none where a block is as a fresh one.
-fn blocks_over(
+/// The states of a map over an image, as `Plain` keeps them. Where there are no blocks no memory is asked for.
+fn states_over(
     alloc: Global,
     shape: Shape,
-    fresh: &BlockState,
     image: &[u8],
 ) -> Result<Vec<Option<BlockState>>, AllocError>
     requires bytes { (0 < shape.block_bytes) × (shape.block_bytes ≤ BLOCK_BYTES) }
     requires blocks { shape.blocks ≤ BLOCKS }
-    requires fresh { block_state fresh.now ≡ reset fresh.now.memory }
-    requires all { length fresh.now.clients ≡ shape.clients }
-    ensures reset { IfOk result (λ b. IsReset shape image.now (record { shape = shape; blocks = each_block fresh.now b.items })) }
-    ensures shaped { IfOk result (λ b. IsShaped shape (each_block fresh.now b.items)) }
+    ensures reset { IfOk result (λ s. IsReset shape image.now (record { shape = shape; blocks = blocks_in s.items })) }
+    ensures shaped { IfOk result (λ s. IsShaped shape (blocks_in s.items)) }
+    ensures no_blocks { shape.blocks ≡ 0 → IsOk result }
 {
+    if shape.blocks == 0 {
+        return Ok(Vec::new(alloc));
+    }
     let size = shape.block_bytes as usize;
-    let mut blocks = Vec::with_capacity(alloc, shape.blocks as usize)?;
+    let zeros = BlockBytes::from_image(&[], 0, size);
+    let mut states = Vec::with_capacity(alloc, shape.blocks as usize + 1)?;
+    let fresh = BlockState::new(alloc, shape.clients, zeros.copied())?;
+    states.push(Some(fresh))?;
     for i in 0..shape.blocks {
         let memory = BlockBytes::from_image(image, (i * shape.block_bytes) as usize, size);
-        let own = state_over(alloc, shape.clients, fresh, memory)?;
-        blocks.push(own)?;
+        let own = state_over(alloc, shape.clients, &zeros, memory)?;
+        states.push(own)?;
     }
-    Ok(blocks)
+    Ok(states)
 }
 
-/// Carries out an event that may come next for a block. One that was as a fresh one gets a state of its own. For want of memory nothing
-/// changes.
+/// Carries out an event that may come next for a block. One that was as the fresh one gets a state of its own. For want of
+/// memory nothing changes.
 fn apply_at(
     alloc: Global,
-    fresh: &BlockState,
-    own: &mut Option<BlockState>,
+    states: &mut [Option<BlockState>],
+    block: u32,
     shape: Shape,
     event: &Event,
 ) -> Result<(), AllocError>
-    requires size { length (unwrap_or own.old fresh.now).clients ≡ shape.clients }
-    requires bytes { (0 < shape.block_bytes) × (shape.block_bytes ≤ BLOCK_BYTES) }
-    requires may { MayOn shape (block_state (unwrap_or own.old fresh.now)) event.now }
-    ensures ok { OnOk result
-        (block_state (unwrap_or own.new fresh.now) ≡ after shape (block_state (unwrap_or own.old fresh.now)) event.now) }
-    ensures err { OnErr result (own.new ≡ own.old) }
-    ensures clients { length (unwrap_or own.new fresh.now).clients ≡ shape.clients }
+    requires shaped { IsShaped shape (blocks_in states.old) }
+    requires there { block < shape.blocks }
+    requires may { MayOn shape (block_state (slice_index_or (blocks_in states.old) block empty_block)) event.now }
+    ensures ok { OnOk result (IsLedTo shape states.old states.new block event.now) }
+    ensures err { OnErr result (states.new ≡ states.old) }
+    ensures shaped { IsShaped shape (blocks_in states.new) }
 {
-    if let Some(state) = own {
+    let place = block as usize + 1;
+    if let Some(state) = &mut states[place] {
         return state.apply(shape, event);
     }
+    let Some(fresh) = &states[0] else {
+        unreachable!();
+    };
     let mut state = fresh.copied(alloc)?;
     state.apply(shape, event)?;
-    *own = Some(state);
+    states[place] = Some(state);
     Ok(())
 }
 
@@ -120,36 +124,35 @@ impl Plain {
         requires blocks { shape.blocks ≤ BLOCKS }
         ensures { IfOk result (IsReset shape image.now) }
     {
-        let size = shape.block_bytes as usize;
-        let fresh = BlockState::new(alloc, shape.clients, BlockBytes::from_image(&[], 0, size))?;
-        let blocks = blocks_over(alloc, shape, &fresh, image)?;
+        let states = states_over(alloc, shape, image)?;
         Ok(Plain {
             alloc,
             shape,
-            fresh,
-            blocks,
+            states,
         })
     }
 
     /// A block of the memory.
     fn state(&self, block: usize) -> Option<&BlockState>
-        ensures { option_copied result ≡ slice_get self.now.blocks block }
+        ensures value { option_copied result ≡ slice_get self.now.blocks block }
+        ensures shaped { IsShaped self.now.shape self.now.blocks }
     {
-        match self.blocks.get(block)? {
+        let Some((Some(fresh), own)) = self.states.split_first() else {
+            return None;
+        };
+        match own.get(block)? {
             Some(state) => Some(state),
-            None => Some(&self.fresh),
+            None => Some(fresh),
         }
     }
 
     /// A block of the memory that is there.
     fn the_state(&self, block: usize) -> &BlockState
-        requires { block < length self.now.blocks }
-        ensures { result.now ≡ slice_index_or self.now.blocks block empty_block }
+        requires { block < self.now.shape.blocks }
+        ensures value { result.now ≡ slice_index_or self.now.blocks block empty_block }
+        ensures clients { length result.now.clients ≡ self.now.shape.clients }
     {
-        match &self.blocks[block] {
-            Some(state) => state,
-            None => &self.fresh,
-        }
+        self.state(block).unwrap()
     }
 
     /// The numbers of clients and blocks, and the size of a block in bytes.
@@ -167,8 +170,6 @@ impl Plain {
             (λ b. (block < self.now.shape.blocks) × (block_state b.now ≡ state_of_plain self.now block)) }
         ensures clients { IfSome result (λ b. length b.now.clients ≡ self.now.shape.clients) }
     {
-        // For the prover: what the map keeps of its blocks.
-        let _ = &self.blocks;
         self.state(block as usize)
     }
 
@@ -177,8 +178,6 @@ impl Plain {
     pub fn perm(&self, client: ClientId, block: BlockNo) -> Perm
         ensures { result ≡ perm_of ((state_of_plain self.now block).client client).held }
     {
-        // For the prover: what the map keeps of its blocks.
-        let _ = &self.blocks;
         match self.state(block.index()) {
             Some(state) => state.perm(client),
             None => Perm::None,
@@ -203,8 +202,6 @@ impl Plain {
         requires { block < self.now.shape.blocks }
         ensures { result ≡ count_clients has_copy self.now.shape.clients (state_of_plain self.now block).client }
     {
-        // For the prover: what the map keeps of its blocks.
-        let _ = &self.blocks;
         self.the_state(block.index()).held()
     }
 
@@ -213,8 +210,6 @@ impl Plain {
         requires { block < self.now.shape.blocks }
         ensures { result ≡ count_clients is_recorded self.now.shape.clients (state_of_plain self.now block).client }
     {
-        // For the prover: what the map keeps of its blocks.
-        let _ = &self.blocks;
         self.the_state(block.index()).recorded()
     }
 
@@ -223,8 +218,6 @@ impl Plain {
     pub fn is_at_home(&self, block: BlockNo) -> bool
         ensures { result ≡ is_some (state_of_plain self.now block).home }
     {
-        // For the prover: what the map keeps of its blocks.
-        let _ = &self.blocks;
         match self.state(block.index()) {
             Some(state) => state.is_at_home(),
             None => false,
@@ -237,15 +230,8 @@ impl Plain {
         ensures ok { OnOk result (IsStep self.old self.new event.now) }
         ensures err { OnErr result (self.new ≡ self.old) }
     {
-        let shape = self.shape;
-        let block = event.block(shape) as usize;
-        apply_at(
-            self.alloc,
-            &self.fresh,
-            &mut self.blocks[block],
-            shape,
-            event,
-        )?;
+        let block = event.block(self.shape);
+        apply_at(self.alloc, &mut self.states, block, self.shape, event)?;
         Ok(())
     }
 
