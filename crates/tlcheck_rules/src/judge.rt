@@ -15,7 +15,7 @@ use crate::rule::{Rule, client_of};
 use crate::sent::{sent_by, taken_channel};
 use std::alloc::{AllocError, Global};
 use std::marker::Model;
-use tl_rules::{Event, Plain, Shape, may_follow};
+use tl_rules::{Event, Plain, Shape};
 use tl_types::{BLOCK_BYTES, BLOCKS, BlockNo, Body, Channel, ClientId};
 
 /// What an entry of a record breaks.
@@ -128,33 +128,25 @@ impl Judge {
         ensures { let post = post_of self.now.plain.shape (own_block self.now entry.now.event) entry.now.event in
             MatchOption result (IsShown post entry.now.shown) (λ d. Differs post entry.now.shown d) }
     {
-        if entry.shown.is_none() {
-            return None;
-        }
         difference_of(&self.sent(&entry.event), &entry.shown)
     }
 
-    /// Whether an event may come next, and takes no message or the first on the channel.
-    fn is_next(&self, event: &Event) -> bool
-        ensures { IsTrue result ↔ (May self.now.plain.shape (own_block self.now event.now) event.now
-            × IsNextIn self.now.order (block_of self.now.plain.shape event.now) (take_of event.now)) }
+    /// What is left to test of an entry that shows something. It stands apart, since what it gives is large.
+    #[inline(never)]
+    fn breach_of_shown(&self, entry: &Entry) -> Option<Breach>
+        requires may { May self.now.plain.shape (own_block self.now entry.now.event) entry.now.event }
+        requires first { let event = entry.now.event in
+            IsNextIn self.now.order (block_of self.now.plain.shape event) (take_of event) }
+        ensures { MatchOption result (Allows self.now entry.now) (λ breach. Rejects self.now entry.now breach) }
     {
-        may_follow(&self.plain, event) && self.takes_first(event)
+        match self.difference(entry) {
+            Some(difference) => Some(Breach::NotAsShown(difference)),
+            None => None,
+        }
     }
 
     /// The first test that an entry does not meet.
     pub fn breach(&self, entry: &Entry) -> Option<Breach>
-        ensures { MatchOption result (Allows self.now entry.now) (λ breach. Rejects self.now entry.now breach) }
-    {
-        if entry.shown.is_none() && self.is_next(&entry.event) {
-            return None;
-        }
-        self.first_breach(entry)
-    }
-
-    /// The first test that an entry does not meet, test by test. It stands apart, since what it gives is large.
-    #[inline(never)]
-    fn first_breach(&self, entry: &Entry) -> Option<Breach>
         ensures { MatchOption result (Allows self.now entry.now) (λ breach. Rejects self.now entry.now breach) }
     {
         if let Some(rule) = broken_rule(&self.plain, &entry.event) {
@@ -163,10 +155,10 @@ impl Judge {
         if !self.takes_first(&entry.event) {
             return Some(Breach::OutOfOrder);
         }
-        match self.difference(entry) {
-            Some(difference) => Some(Breach::NotAsShown(difference)),
-            None => None,
+        if entry.shown.is_none() {
+            return None;
         }
+        self.breach_of_shown(entry)
     }
 
     /// Carries out an event that may come next.
@@ -184,8 +176,8 @@ impl Judge {
         self.order.join(client, &sent, block)
     }
 
-    /// Takes an entry against which `breach` has nothing. Err is a refused request for memory: then the judge is where nothing
-    /// is claimed.
+    /// Takes an entry against which `breach` has nothing. Err is a refused request for memory: then the judge is where
+    /// nothing is claimed.
     pub fn take_allowed(&mut self, entry: &Entry) -> Result<(), AllocError>
         requires { Allows self.old entry.now }
         ensures { OnOk result
