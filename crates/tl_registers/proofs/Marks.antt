@@ -1,16 +1,17 @@
 -- The marks of the blocks that registers work on.
-use Rattle.std.proofs.Common.{◌≡◌, ℕ, ◌+◌, ◌/◌, ◌%◌, ◌^◌, ◌<◌, ◌≤◌, ◌==◌, ◌||◌, Bool, true, false, List, [], ◌∷◌, length, map, filter, take, get_or, cond, refl, sym, ◌∙◌, arith, bit_and, bit_or}
+use Rattle.std.proofs.Common.{◌≡◌, ℕ, ◌+◌, ◌++◌, ◌/◌, ◌%◌, ◌^◌, ◌<◌, ◌≤◌, ◌==◌, ◌||◌, Bool, true, false, List, [], ◌∷◌, length, map, filter, take, get_or, cond, refl, sym, ◌∙◌, arith, bit_and, bit_or}
 use Rattle.std.proofs.Math.Bool.{or-true}
 use Rattle.std.specs.Int.{bit_at}
 use Rattle.std.specs.List.{refill}
 use Rattle.std.proofs.lemmas.Grind.{common_steps}
-use Rattle.std.proofs.lemmas.List.Folds.{list_any_more}
+use Rattle.std.proofs.lemmas.List.Folds.{list_any_more, list_any-append}
 use Rattle.std.proofs.lemmas.Nat.Bits.{bit_at_or, bit_at-lt, shr_and_one}
 use Rattle.tl_registers.specs.declared.register.Register.{Register}
 use Rattle.tl_registers.specs.declared.register.Task.{Task}
 use Rattle.tl_registers.specs.declared.register.Task.TheVariants.{Acquire, Replace, Evict}
 use Rattle.tl_registers.specs.Register.{works_on, victim_in, is_block}
-use Rattle.tl_registers.specs.Registers.{is_busy, noted, with_probe_of, without_victim, task_without, IsMarked}
+use Rattle.tl_registers.specs.Marks.{IsMarked}
+use Rattle.tl_registers.specs.Registers.{is_busy, noted, with_probe_of, without_victim, task_without}
 
 -- a bit that is set stays so beside others
 pub left-bit : (a b i : ℕ) → bit_at a i ≡ 1 → bit_at (bit_or a b) i ≡ 1
@@ -34,9 +35,21 @@ marked-more xs i marks more d inside before here block busy =
     (λ was. left-bit marks more (block % 64) (before block was))
     (λ is. right-bit marks more (block % 64) (here block is))
 
+-- the marks with those of a register that joins the others
+pub marked-added : (xs : List Register) (r : Register) (marks more : ℕ) → IsMarked xs marks
+    → ((block : ℕ) → works_on r block ≡ true → bit_at more (block % 64) ≡ 1)
+    → IsMarked (xs ++ r ∷ []) (bit_or marks more)
+marked-added xs r marks more before here block busy =
+    either (is_busy block xs) (works_on r block || false)
+    (sym (list_any-append (λ x. works_on x block) xs (r ∷ [])) ∙ busy)
+    (λ was. left-bit marks more (block % 64) (before block was))
+    (λ is.
+    right-bit marks more (block % 64)
+    (here block (either (works_on r block) false is (λ works. works) (λ none. let bad : false ≡ true = none in cc))))
+
 -- where a block's bit is not set, it is not busy
-pub not-marked : (registers : List Register) (marks block : ℕ) → IsMarked registers marks → bit_and (marks / 2 ^ (block % 64)) 1 ≡ 0
-    → is_busy block registers ≡ false
+pub not-marked : (registers : List Register) (marks block : ℕ) → IsMarked registers marks
+    → bit_and (marks / 2 ^ (block % 64)) 1 ≡ 0 → is_busy block registers ≡ false
 not-marked registers marks block marked zero =
     elim (is_busy block registers) as (λ t. is_busy block registers ≡ t → t ≡ false) [
       | true ↦ λ busy.
@@ -49,7 +62,8 @@ not-marked registers marks block marked zero =
 -- ## What changes no mark
 
 -- no more registers are kept than there are
-pub fewer-kept : (keeps : Register → Bool) (registers : List Register) → length (filter keeps registers) ≤ length registers
+pub fewer-kept : (keeps : Register → Bool) (registers : List Register)
+    → length (filter keeps registers) ≤ length registers
 fewer-kept keeps [] = omega arith
 fewer-kept keeps (r ∷ rest) =
     let later = fewer-kept keeps rest in
@@ -63,7 +77,8 @@ pub marked-filter : (keeps : Register → Bool) (registers : List Register) (mar
     → IsMarked (filter keeps registers) marks
 marked-filter keeps registers marks marked block busy = marked block (fewer registers busy)
   where
-    kept : (t : Bool) (r : Register) (rest : List Register) → is_busy block (cond t (r ∷ filter keeps rest) (filter keeps rest)) ≡ true
+    kept : (t : Bool) (r : Register) (rest : List Register)
+        → is_busy block (cond t (r ∷ filter keeps rest) (filter keeps rest)) ≡ true
         → (is_busy block (filter keeps rest) ≡ true → is_busy block rest ≡ true) → is_busy block (r ∷ rest) ≡ true
     kept true r rest is later =
         either (works_on r block) (is_busy block (filter keeps rest)) is
@@ -89,13 +104,16 @@ marked-map f registers marks same marked block busy = marked block (before regis
         (λ there. rw (before rest there) (or-true (works_on r block)))
 
 -- a register that notes a Probe works on the same blocks
-probe-same : (t : Bool) (r : Register) (block c other : ℕ) → (r.own == block) ≡ t → works_on (with_probe_of block c r) other ≡ works_on r other
+probe-same : (t : Bool) (r : Register) (block c other : ℕ) → (r.own == block) ≡ t
+    → works_on (with_probe_of block c r) other ≡ works_on r other
 probe-same true r block c other is = rw is refl
 probe-same false r block c other is = rw is refl
 
-pub marked-noted : (block c : ℕ) (registers : List Register) (marks : ℕ) → IsMarked registers marks → IsMarked (noted block c registers) marks
+pub marked-noted : (block c : ℕ) (registers : List Register) (marks : ℕ) → IsMarked registers marks
+    → IsMarked (noted block c registers) marks
 marked-noted block c registers marks =
-    marked-map (with_probe_of block c) registers marks (λ r other is. sym (probe-same (r.own == block) r block c other refl) ∙ is)
+    marked-map (with_probe_of block c) registers marks
+    (λ r other is. sym (probe-same (r.own == block) r block c other refl) ∙ is)
 
 -- a task without a victim has no other
 task-less : (own victim block : ℕ) (task : Task) → is_block block (victim_in own (task_without victim task)) ≡ true

@@ -1,5 +1,6 @@
 pub mod Agree
 pub mod Fit
+pub mod Marks
 pub mod NextAction
 pub mod Pending
 pub mod Records

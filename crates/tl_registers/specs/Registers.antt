@@ -1,6 +1,5 @@
 -- The open registers of a bank (this project's own).
-use Rattle.std.specs.Prelude.{◌≡◌, ℕ, ◌%◌, ◌==◌, ◌&&◌, not, Bool, true, false, List, map, filter, find, Option, Some, None, if◌then◌else◌}
-use Rattle.std.specs.Int.{bit_at}
+use Rattle.std.specs.Prelude.{ℕ, ◌==◌, ◌&&◌, not, Bool, true, false, List, map, filter, find, Option, Some, None, if◌then◌else◌}
 use Rattle.std.specs.List.{list_any}
 use Rattle.tl_protocol.specs.Protocol.{Block}
 use Rattle.tl_protocol.specs.declared.shape.Shape.{Shape}
@@ -24,10 +23,6 @@ register_of block registers = find (λ r. r.own == block) registers
 -- the block is the own block or the victim of an open register
 abbrev pub is_busy : ℕ → List Register → Bool
 is_busy block registers = list_any (λ r. works_on r block) registers
-
--- of each block that a register works on, the bit is set that the last six bits of its number name
-abbrev pub IsMarked : List Register → ℕ → Type 0
-IsMarked registers marks = (block : ℕ) → is_busy block registers ≡ true → bit_at marks (block % 64) ≡ 1
 
 -- a register holds the way
 abbrev pub is_held : WayOfSet → List Register → Bool

@@ -3,7 +3,8 @@ ghost use Rattle.std.specs.Prelude.{◌≡◌, ◌≤◌, ◌<◌, ◌∷◌, �
 ghost use Rattle.std.specs.Option.{option_copied};
 ghost use Rattle.tl_registers.specs.declared.register.Task.{Task};
 ghost use Rattle.tl_registers.specs.Register.{opened, acquire_task, IsKnown};
-ghost use Rattle.tl_registers.specs.Registers.{register_of, due_of, is_busy, held_in, IsMarked, noted, ended, closed, without_evict, without_victim};
+ghost use Rattle.tl_registers.specs.Marks.{IsMarked};
+ghost use Rattle.tl_registers.specs.Registers.{register_of, due_of, is_busy, held_in, noted, ended, closed, without_evict, without_victim};
 
 use crate::due::Due;
 use crate::register::{Register, Task};
@@ -19,19 +20,22 @@ use tl_types::{BlockNo, CLIENTS, ClientId, REGISTERS};
 pub struct Registers {
     limit: usize,
     registers: ArrayVec<Register, 8>,
-    /// A bit by the last six bits of a block's number: where it is not set, no register works on such a block.
+    /// A bit by the last six bits of a block's number: where it is not set, no register works on such a block. A
+    /// register adds its own as it opens, and `close` makes them anew; of a block that left, one may stay till then.
     marks: u64,
 }
 
 impl Model for Registers {
     ghost use Rattle.std.specs.Prelude.{◌≤◌, length};
-    ghost use Rattle.tl_registers.specs.Registers.{RegisterTable, IsMarked};
+    ghost use Rattle.tl_registers.specs.Marks.{IsMarked};
+    ghost use Rattle.tl_registers.specs.Registers.{RegisterTable};
 
     ghost Value = { RegisterTable };
 
     ghost view = { λ r. record { limit = r.limit; open_registers = r.registers.items } };
 
-    ghost invariant = { λ r. (length r.registers.items ≤ r.limit) × (r.limit ≤ 8) × IsMarked r.registers.items r.marks };
+    ghost invariant = { λ r. (length r.registers.items ≤ r.limit) × (r.limit ≤ 8)
+        × IsMarked r.registers.items r.marks };
 }
 
 impl Registers {
@@ -77,7 +81,8 @@ impl Registers {
         self.len() == self.limit
     }
 
-    /// Opens a register that serves an Acquire of the block `own` in a way, once the victim, where there is one, has left it.
+    /// Opens a register that serves an Acquire of the block `own` in a way, once the victim, where there is one, has
+    /// left it.
     pub fn open_acquire(
         &mut self,
         own: BlockNo,
@@ -90,9 +95,7 @@ impl Registers {
           open_registers = self.old.open_registers ++ opened own way (acquire_task acquire victim) ∷ [];
         } }
     {
-        self.registers
-            .push(Register::open(own, way, Task::acquire(acquire, victim)));
-        self.marks = marks_of(self.registers.as_slice());
+        self.open(own, way, Task::acquire(acquire, victim));
     }
 
     /// Opens a register that sends the block `own` away, which is in a way.
@@ -102,8 +105,17 @@ impl Registers {
           open_registers = self.old.open_registers ++ opened own way Task.Evict ∷ [];
         } }
     {
-        self.registers.push(Register::open(own, way, Task::Evict));
-        self.marks = marks_of(self.registers.as_slice());
+        self.open(own, way, Task::Evict);
+    }
+
+    /// Opens a register. It takes the same time however many are open.
+    fn open(&mut self, own: BlockNo, way: WayOfSet, task: Task)
+        requires { length self.old.open_registers < self.old.limit }
+        ensures { self.new ≡ record self.old { open_registers = self.old.open_registers ++ opened own way task ∷ [] } }
+    {
+        let register = Register::open(own, way, task);
+        self.marks |= register.marks();
+        self.registers.push(register);
     }
 
     /// The register whose own block it is.
@@ -157,8 +169,8 @@ impl Registers {
         note(self.registers.as_mut_slice(), block, client);
     }
 
-    /// A victim is gone, by its drop or by the acknowledgement of its Put: an evict register of it closes, and an acquire
-    /// register goes on without it.
+    /// A victim is gone, by its drop or by the acknowledgement of its Put: an evict register of it closes, and an
+    /// acquire register goes on without it.
     pub fn end_victim(&mut self, victim: BlockNo)
         ensures { self.new ≡ record self.old { open_registers = ended victim self.old.open_registers } }
     {
@@ -177,6 +189,7 @@ impl Registers {
         ensures { self.new ≡ record self.old { open_registers = closed block self.old.open_registers } }
     {
         self.registers.retain(|register| register.own != block);
+        self.marks = marks_of(self.registers.as_slice());
     }
 }
 

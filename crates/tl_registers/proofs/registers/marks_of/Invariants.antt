@@ -1,5 +1,5 @@
 use Rattle.std.proofs.Common.{take}
-use Rattle.tl_registers.specs.Registers.{IsMarked}
+use Rattle.tl_registers.specs.Marks.{IsMarked}
 use Rattle.tl_registers.proofs.registers.marks_of.Given as goal
 
 abbrev pub invariant-loop-register : goal.invariant-loop-register

@@ -10,7 +10,8 @@ invariant_of-self c =
     let items : List Register = c.self.inside.registers.items in
     let moved : c.end.new.registers ≡ map (without_victim c.args.victim) items =
     c.end.ensures ∙ ap (map (without_victim c.args.victim)) c.as_mut_slice.ensures.value in
-    let long : length c.end.new.registers ≡ length items = ap length moved ∙ length-map items (without_victim c.args.victim) in
+    let long : length c.end.new.registers ≡ length items =
+    ap length moved ∙ length-map items (without_victim c.args.victim) in
     rw (refilled items c.end.new.registers long) (
       omega (arith, long, c.self.invariant.0),
       c.self.invariant.1,

@@ -10,7 +10,8 @@ invariant_of-self c =
     let items : List Register = c.self.inside.registers.items in
     let moved : c.note.new.registers ≡ noted c.args.block c.args.client items =
     c.note.ensures ∙ ap (noted c.args.block c.args.client) c.as_mut_slice.ensures.value in
-    let long : length c.note.new.registers ≡ length items = ap length moved ∙ length-map items (with_probe_of c.args.block c.args.client) in
+    let long : length c.note.new.registers ≡ length items =
+    ap length moved ∙ length-map items (with_probe_of c.args.block c.args.client) in
     rw (refilled items c.note.new.registers long) (
       omega (arith, long, c.self.invariant.0),
       c.self.invariant.1,
