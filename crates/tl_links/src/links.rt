@@ -115,8 +115,8 @@ impl Links {
         self.queue(client, channel).first()
     }
 
-    /// The message that a ticket names, where it waits on the ticket's channel; none where that serial was taken or is not sent yet.
-    /// The ticket's bank is not looked at.
+    /// The message that a ticket names, where it waits on the ticket's channel; none where that serial was taken or is
+    /// not sent yet. The ticket's bank is not looked at.
     pub fn message(&self, ticket: Ticket) -> Option<&Message>
         requires { ticket.client < self.now.clients }
         ensures { option_copied result ≡ message_at (lane_in self.now ticket.client ticket.channel) ticket.serial }
@@ -137,7 +137,7 @@ impl Links {
     pub fn some_has(&self, channel: Channel, block: BlockNo, wanted: Wanted) -> bool
         ensures { result ≡ some_has self.now channel block wanted self.now.clients }
     {
-        if self.alike[alike(channel, block)] == 0 {
+        if self.alike[place_by_ending(channel, block)] == 0 {
             return false;
         }
         let all = self.waiting[channel.index()] as usize;
@@ -203,7 +203,7 @@ impl Links {
             ≡ (if is_here client channel x k then with_message (lane_in self.old x k) message else lane_in self.old x k) }
     {
         let serial = self.queue(client, channel).sent();
-        let kind = alike(channel, message.block);
+        let kind = place_by_ending(channel, message.block);
         self.queues[place(client, channel)].push(message);
         self.waiting[channel.index()] += 1;
         self.alike[kind] += 1;
@@ -253,7 +253,7 @@ impl Links {
             return Err(TicketError::NothingThere);
         };
         self.waiting[ticket.channel.index()] -= 1;
-        self.alike[alike(ticket.channel, message.block)] -= 1;
+        self.alike[place_by_ending(ticket.channel, message.block)] -= 1;
         Ok(message)
     }
 
@@ -274,7 +274,7 @@ fn place(client: ClientId, channel: Channel) -> usize
 }
 
 /// The place of a channel's messages whose blocks' numbers end like this one's.
-fn alike(channel: Channel, block: BlockNo) -> usize
+fn place_by_ending(channel: Channel, block: BlockNo) -> usize
     ensures { result ≡ channel_index channel * 16 + block % 16 }
 {
     channel.index() * 16 + (block.number() % 16) as usize

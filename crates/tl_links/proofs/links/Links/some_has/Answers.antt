@@ -12,8 +12,9 @@ use Rattle.tl_links.proofs.Endings.{none-wanted}
 use Rattle.tl_links.proofs.links.Links.some_has.Goals as goal
 
 -- all that wait are passed, and none of them is looked for
-all-passed : (s t : LinkTable) (numbers : List ℕ) (k : Channel) (block : ℕ) (wanted : Wanted) (n passed : ℕ) → s ≡ t → IsCounted s numbers
-    → n < s.clients → passed ≡ waiting_below t k n → passed ≡ slice_index numbers (channel_index k) → some_has t k block wanted n ≡ false
+all-passed : (s t : LinkTable) (numbers : List ℕ) (k : Channel) (block : ℕ) (wanted : Wanted) (n passed : ℕ) → s ≡ t
+    → IsCounted s numbers → n < s.clients → passed ≡ waiting_below t k n
+    → passed ≡ slice_index numbers (channel_index k) → some_has t k block wanted n ≡ false
     → false ≡ some_has t k block wanted t.clients
 all-passed s t numbers k block wanted n passed e counted below here all none =
     let sound : IsCounted t numbers = subst (λ (w : LinkTable). IsCounted w numbers) e counted in
@@ -21,34 +22,40 @@ all-passed s t numbers k block wanted n passed e counted below here all none =
     sym (none-has sound k block wanted n (omega arith) (sym here ∙ all) none)
 
 -- at most 1,024 are passed
-few-passed : (s t : LinkTable) (numbers : List ℕ) (k : Channel) (n : ℕ) → s ≡ t → IsCounted s numbers → n < s.clients → waiting_below t k n ≤ 1024
+few-passed : (s t : LinkTable) (numbers : List ℕ) (k : Channel) (n : ℕ) → s ≡ t → IsCounted s numbers → n < s.clients
+    → waiting_below t k n ≤ 1024
 few-passed s t numbers k n e counted below =
     let sound : IsCounted t numbers = subst (λ (w : LinkTable). IsCounted w numbers) e counted in
     let few : n < t.clients = subst (λ (w : LinkTable). n < w.clients) e below in
     omega (arith, waiting-few sound k n, sound.few)
 
 -- none that waits is of a block like this one
-none-alike : (s t : LinkTable) (waiting numbers : List ℕ) (k : Channel) (block : ℕ) (wanted : Wanted) → s ≡ t → IsCounted s waiting
-    → IsCountedByEnding s numbers → slice_index numbers (channel_index k * 16 + block % 16) ≡ 0 → false ≡ some_has t k block wanted t.clients
+none-alike : (s t : LinkTable) (waiting numbers : List ℕ) (k : Channel) (block : ℕ) (wanted : Wanted) → s ≡ t
+    → IsCounted s waiting → IsCountedByEnding s numbers → slice_index numbers (channel_index k * 16 + block % 16) ≡ 0
+    → false ≡ some_has t k block wanted t.clients
 none-alike s t waiting numbers k block wanted e counted ended zero =
-    subst (λ (w : LinkTable). false ≡ some_has w k block wanted w.clients) e (sym (none-wanted counted ended k block wanted zero))
+    subst (λ (w : LinkTable). false ≡ some_has w k block wanted w.clients) e
+    (sym (none-wanted counted ended k block wanted zero))
 
-pub returns-then-self-alike-eq0 : goal.returns-then-self-alike-eq0
-returns-then-self-alike-eq0 c =
-    none-alike _ c.args.self.now c.self.inside.waiting c.self.inside.alike c.args.channel c.args.block c.args.wanted c.self.view_is
-    c.self.invariant.0 c.self.invariant.1 (ap (λ p. slice_index c.self.inside.alike p) (sym c.alike.ensures) ∙ c.if-self-alike-eq0.true)
+pub returns-then-self-place_by_ending-eq0 : goal.returns-then-self-place_by_ending-eq0
+returns-then-self-place_by_ending-eq0 c =
+    none-alike _ c.args.self.now c.self.inside.waiting c.self.inside.alike c.args.channel c.args.block c.args.wanted
+    c.self.view_is c.self.invariant.0 c.self.invariant.1
+    (ap (λ p. slice_index c.self.inside.alike p) (sym c.place_by_ending.ensures) ∙ c.if-self-place_by_ending-eq0.true)
 
 pub returns-then-passed-all : goal.returns-then-passed-all
 returns-then-passed-all c =
-    all-passed _ c.args.self.now c.self.inside.waiting c.args.channel c.args.block c.args.wanted c.loop-number.number c.loop-number.passed c.self.view_is
-    c.self.invariant.0 c.loop-number-test.true c.loop-number.invariant.1
-    (c.if-passed-all.true ∙ ap (λ p. slice_index c.self.inside.waiting p) c.index.ensures.value) c.loop-number.invariant.0
+    all-passed _ c.args.self.now c.self.inside.waiting c.args.channel c.args.block c.args.wanted c.loop-number.number
+    c.loop-number.passed c.self.view_is c.self.invariant.0 c.loop-number-test.true c.loop-number.invariant.1
+    (c.if-passed-all.true ∙ ap (λ p. slice_index c.self.inside.waiting p) c.index.ensures.value)
+    c.loop-number.invariant.0
 
 pub overflow_add-passed : goal.overflow_add-passed
 overflow_add-passed c =
     omega (
       arith,
-      few-passed _ c.args.self.now c.self.inside.waiting c.args.channel c.loop-number.number c.self.view_is c.self.invariant.0 c.loop-number-test.true,
+      few-passed _ c.args.self.now c.self.inside.waiting c.args.channel c.loop-number.number c.self.view_is
+          c.self.invariant.0 c.loop-number-test.true,
       c.loop-number.invariant.1,
       c.waiting-waiting.ensures.few,
     )
