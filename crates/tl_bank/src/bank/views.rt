@@ -123,7 +123,7 @@ impl Bank {
         let mut blocks = self.blocks_by_age();
         blocks
             .as_mut_slice()
-            .sort_unstable_by_key(|block| block.number());
+            .sort_unstable_by_key(|own| own.number());
         blocks
     }
 
