@@ -1,3 +1,6 @@
 pub mod Explained
 pub mod Left
+pub mod Lists
 pub mod Premises
+pub mod Sought
+pub mod Unsent

@@ -1,8 +1,8 @@
-//! Explains what a monitor on the links saw: finds a run of the protocol that has just these messages, loads and stores.
+//! Explains what a monitor on the links saw: finds a run of the protocol that has just these messages, loads and
+//! stores.
 #![tactic(auto)]
 
 mod answer;
-mod by_block;
 mod clients;
 mod hidden;
 mod marks;
@@ -12,6 +12,7 @@ mod search;
 mod seen;
 mod sight;
 mod sooner;
+mod sought;
 mod target;
 mod walk;
 mod wires;

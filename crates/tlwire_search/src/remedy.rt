@@ -20,48 +20,40 @@ fn outward_step(state: &BlockState, block: BlockNo) -> Option<Event> {
 }
 
 /// The event of what is next of a block on a wire.
-fn next_of(
-    judge: &Judge,
-    wires: &Wires,
-    seen: &[Seen],
-    wire: Wire,
-    block: BlockNo,
-) -> Option<Event> {
-    let place = wires.next_of(judge.plain().shape(), seen, wire, block)?;
+fn next_of(wires: &Wires<'_>, seen: &[Seen], wire: Wire, block: BlockNo) -> Option<Event> {
+    let place = wires.next_of(wire, block)?;
     target(seen.get(place)?)
 }
 
 /// What is next of a block on a client's channel.
 fn on_channel(
-    judge: &Judge,
-    wires: &Wires,
+    wires: &Wires<'_>,
     seen: &[Seen],
     c: ClientId,
     channel: Channel,
     block: BlockNo,
 ) -> Option<Event> {
-    next_of(judge, wires, seen, Wire::Link(c, channel), block)
+    next_of(wires, seen, Wire::Link(c, channel), block)
 }
 
 /// What a client does next that needs more of its copy, or waits for an answer.
 fn client_step(
-    judge: &Judge,
-    wires: &Wires,
+    wires: &Wires<'_>,
     seen: &[Seen],
     k: &Client,
     c: ClientId,
     block: BlockNo,
 ) -> Option<Event> {
     match k.wait {
-        Awaited::Nothing => on_channel(judge, wires, seen, c, Channel::A, block),
+        Awaited::Nothing => on_channel(wires, seen, c, Channel::A, block),
         Awaited::ForGrant => Some(Event::TakeGrant(c, block)),
         Awaited::ForReleaseAck => Some(Event::TakeReleaseAck(c, block)),
     }
 }
 
 /// Whether a client is to be granted a block that home does not serve it yet.
-fn is_before_a_grant(judge: &Judge, wires: &Wires, seen: &[Seen], c: ClientId) -> bool {
-    let Some(granted) = wires.next_granted(seen, c) else {
+fn is_before_a_grant(judge: &Judge, wires: &Wires<'_>, c: ClientId) -> bool {
+    let Some(granted) = wires.next_granted(c) else {
         return false;
     };
     match judge.plain().block(granted.number()) {
@@ -73,12 +65,11 @@ fn is_before_a_grant(judge: &Judge, wires: &Wires, seen: &[Seen], c: ClientId) -
     }
 }
 
-/// A client whose Acquire of a block is first on A, and stands before one that is granted, if there is such a client; else one whose
-/// Acquire is first, else one that has it on A.
+/// A client whose Acquire of a block is first on A, and stands before one that is granted, if there is such a client;
+/// else one whose Acquire is first, else one that has it on A.
 fn asking(
     judge: &Judge,
-    wires: &Wires,
-    seen: &[Seen],
+    wires: &Wires<'_>,
     state: &BlockState,
     clients: u32,
     block: BlockNo,
@@ -87,7 +78,7 @@ fn asking(
     for number in 0..clients {
         let c = ClientId::new(number);
         if judge.first_on(c, Channel::A) == Some(block) {
-            if is_before_a_grant(judge, wires, seen, c) {
+            if is_before_a_grant(judge, wires, c) {
                 return Some(c);
             }
             if first.is_none() {
@@ -104,7 +95,7 @@ fn asking(
 /// What a client does first.
 fn client_before(
     judge: &Judge,
-    wires: &Wires,
+    wires: &Wires<'_>,
     seen: &[Seen],
     event: &Event,
     k: &Client,
@@ -116,22 +107,22 @@ fn client_before(
         Rule::NoAcquireUnanswered
         | Rule::NoReleaseBesideAcquire
         | Rule::CopyIsReadable
-        | Rule::CopyIsWritable => client_step(judge, wires, seen, k, c, block),
-        Rule::LoadHasItsBytes => on_channel(judge, wires, seen, c, Channel::C, block),
+        | Rule::CopyIsWritable => client_step(wires, seen, k, c, block),
+        Rule::LoadHasItsBytes => on_channel(wires, seen, c, Channel::C, block),
         Rule::StartsFromItsCopy => match event {
-            Event::SendRelease(_, _, _) => on_channel(judge, wires, seen, c, Channel::A, block),
-            _ => on_channel(judge, wires, seen, c, Channel::C, block),
+            Event::SendRelease(_, _, _) => on_channel(wires, seen, c, Channel::A, block),
+            _ => on_channel(wires, seen, c, Channel::C, block),
         },
-        Rule::ProbeWaits => on_channel(judge, wires, seen, c, Channel::B, block),
+        Rule::ProbeWaits => on_channel(wires, seen, c, Channel::B, block),
         Rule::NoReleaseUnanswered => Some(Event::TakeReleaseAck(c, block)),
         Rule::GrantIsFirst if k.may_take_release_ack() => Some(Event::TakeReleaseAck(c, block)),
         Rule::ReleaseAckIsFirst if k.may_take_grant() => Some(Event::TakeGrant(c, block)),
         Rule::GrantIsFirst | Rule::ReleaseAckIsFirst | Rule::RecordIsAbove => {
-            on_channel(judge, wires, seen, c, Channel::D, block)
+            on_channel(wires, seen, c, Channel::D, block)
         }
-        Rule::AcquireWaits => on_channel(judge, wires, seen, c, Channel::A, block),
+        Rule::AcquireWaits => on_channel(wires, seen, c, Channel::A, block),
         Rule::ClientHasNoProbe => Some(Event::TakeC(c, block)),
-        Rule::MessageIsOnC => on_channel(judge, wires, seen, c, Channel::C, block),
+        Rule::MessageIsOnC => on_channel(wires, seen, c, Channel::C, block),
         Rule::GrantAckWaits => Some(Event::TakeGrant(c, block)),
         _ => None,
     }
@@ -140,7 +131,7 @@ fn client_before(
 /// What home and the memory do first.
 fn home_before(
     judge: &Judge,
-    wires: &Wires,
+    wires: &Wires<'_>,
     seen: &[Seen],
     event: &Event,
     state: &BlockState,
@@ -173,9 +164,9 @@ fn home_before(
                 Some(Event::Drop(block))
             } else {
                 Some(Event::AcceptAcquire(
-                    match wires.granted_first(clients, seen, block) {
+                    match wires.granted_first(block) {
                         Some(first) => first,
-                        None => asking(judge, wires, seen, state, clients, block)?,
+                        None => asking(judge, wires, state, clients, block)?,
                     },
                     block,
                 ))
@@ -189,7 +180,7 @@ fn home_before(
         Rule::CopyIsClean => Some(Event::SendPut(block)),
         Rule::NothingIsOutward => outward_step(state, block),
         Rule::RequestIsOutward => match state.outward() {
-            Outward::Quiet => next_of(judge, wires, seen, Wire::Memory(Channel::A), block),
+            Outward::Quiet => next_of(wires, seen, Wire::Memory(Channel::A), block),
             _ => outward_step(state, block),
         },
         _ => None,
@@ -208,7 +199,7 @@ fn room_for(state: &BlockState, clients: u32, c: ClientId, block: BlockNo) -> Op
 /// A store that nobody saw, where the next message on C has other bytes than the copy.
 fn unseen_store(
     judge: &Judge,
-    wires: &Wires,
+    wires: &Wires<'_>,
     premises: &[Premise],
     seen: &[Seen],
     k: &Client,
@@ -228,11 +219,11 @@ fn unseen_store(
     }
 }
 
-/// What comes first where an event may come, but is not seen as it would be: a store before a copy is given up, and what others give up
-/// before a Grant.
+/// What comes first where an event may come, but is not seen as it would be: a store before a copy is given up, and
+/// what others give up before a Grant.
 fn unlike(
     judge: &Judge,
-    wires: &Wires,
+    wires: &Wires<'_>,
     premises: &[Premise],
     seen: &[Seen],
     event: &Event,
@@ -242,7 +233,7 @@ fn unlike(
     let block = BlockNo::new(event.block(judge.plain().shape()));
     match event {
         Event::AnswerProbe(_, _) | Event::SendRelease(_, _, _) => {
-            match next_of(judge, wires, seen, Wire::Core(c), block) {
+            match next_of(wires, seen, Wire::Core(c), block) {
                 Some(first) => Some(first),
                 None => unseen_store(judge, wires, premises, seen, state.client(c)?, c, block),
             }
@@ -280,7 +271,7 @@ fn first_taken(judge: &Judge, event: &Event) -> Option<Event> {
 /// An event that has to come before one that breaks something, or that is not seen as it would be.
 pub(crate) fn remedy(
     judge: &Judge,
-    wires: &Wires,
+    wires: &Wires<'_>,
     premises: &[Premise],
     seen: &[Seen],
     event: &Event,

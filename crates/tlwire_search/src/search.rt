@@ -34,9 +34,9 @@ pub enum Limit {
 
 /// A run so far, and where it leads.
 #[derive(Drop)]
-struct Attempt {
+struct Attempt<'a> {
     judge: Judge,
-    wires: Wires,
+    wires: Wires<'a>,
     run: Vec<Event>,
 }
 
@@ -69,8 +69,9 @@ fn acknowledges(judge: &Judge, event: &Event) -> bool {
     }
 }
 
-/// The event that is next on the wire of this one, itself where it sends nothing, or where more may have been sent there than was seen.
-fn in_order(judge: &Judge, wires: &Wires, record: Record<'_>, event: Event) -> Option<Event> {
+/// The event that is next on the wire of this one, itself where it sends nothing, or where more may have been sent
+/// there than was seen.
+fn in_order(judge: &Judge, wires: &Wires<'_>, record: Record<'_>, event: Event) -> Option<Event> {
     let wire = if acknowledges(judge, &event) {
         Some(Wire::Link(client_of(&event), Channel::D))
     } else {
@@ -87,7 +88,7 @@ fn in_order(judge: &Judge, wires: &Wires, record: Record<'_>, event: Event) -> O
 }
 
 /// Whether what is seen of an event that may come next is next on its wire.
-fn is_next(judge: &Judge, wires: &Wires, record: Record<'_>, event: &Event) -> bool
+fn is_next(judge: &Judge, wires: &Wires<'_>, record: Record<'_>, event: &Event) -> bool
     requires { May judge.now.plain.shape (own_block judge.now event.now) event.now }
 {
     let Some(shown) = seen_of(judge, event) else {
@@ -105,7 +106,7 @@ fn is_next(judge: &Judge, wires: &Wires, record: Record<'_>, event: &Event) -> b
 /// An event that may come next, for one that is wanted: itself, or one that has to come before it.
 fn ready_for(
     judge: &Judge,
-    wires: &Wires,
+    wires: &Wires<'_>,
     record: Record<'_>,
     wanted: Event,
 ) -> Result<Entry, Limit>
@@ -131,7 +132,8 @@ fn ready_for(
     Err(Limit::Depth)
 }
 
-/// The event that takes a message on D, where it waits and its client's link was seen at the client's pins: there it is taken as it is seen.
+/// The event that takes a message on D, where it waits and its client's link was seen at the client's pins: there it is
+/// taken as it is seen.
 fn untaken(judge: &Judge, record: Record<'_>, line: &Seen) -> Option<Event> {
     let Seen::OnLink(client, block, message) = line else {
         return None;
@@ -147,8 +149,13 @@ fn untaken(judge: &Judge, record: Record<'_>, line: &Seen) -> Option<Event> {
     }
 }
 
-impl Attempt {
-    fn new(alloc: Global, shape: Shape, image: &[u8], seen: &[Seen]) -> Result<Attempt, AllocError>
+impl<'a> Attempt<'a> {
+    fn new(
+        alloc: Global,
+        shape: Shape,
+        image: &[u8],
+        seen: &'a [Seen],
+    ) -> Result<Attempt<'a>, AllocError>
         requires bytes { (0 < shape.block_bytes) × (shape.block_bytes ≤ BLOCK_BYTES) }
         requires blocks { shape.blocks ≤ BLOCKS }
     {
@@ -178,19 +185,18 @@ impl Attempt {
 
     /// What leads on to what was seen at a place; None where it is reached.
     fn wanted(&self, record: Record<'_>, line: &Seen, place: usize) -> Option<Event> {
-        if self.wires.is_sent(record.seen, place) {
+        if self.wires.is_sent(place) {
             return untaken(&self.judge, record, line);
         }
         target(line)
     }
 
-    /// Takes events until what was seen at a place is sent, and taken where it was seen as it was taken; what ended the attempt, if something
-    /// did.
+    /// Takes events until what was seen at a place is sent, and taken where it was seen as it was taken; what ended the
+    /// attempt, if something did.
     fn reach(&mut self, record: Record<'_>, place: usize) -> Result<Option<Limit>, AllocError> {
         let Some(line) = record.seen.get(place) else {
             return Ok(None);
         };
-        self.wires.pass(record.seen);
         for _ in 0..EVENTS {
             let Some(wanted) = self.wanted(record, line, place) else {
                 return Ok(None);

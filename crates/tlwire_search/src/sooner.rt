@@ -8,30 +8,28 @@ use tlcheck_rules::Judge;
 
 /// What is next of a block on a client's channel, where it is seen.
 fn kind_next(
-    judge: &Judge,
-    wires: &Wires,
+    wires: &Wires<'_>,
     seen: &[Seen],
     c: ClientId,
     channel: Channel,
     block: BlockNo,
 ) -> Option<Kind> {
-    let place = wires.next_of(judge.plain().shape(), seen, Wire::Link(c, channel), block)?;
+    let place = wires.next_of(Wire::Link(c, channel), block)?;
     match seen.get(place)? {
         Seen::OnLink(_, _, message) => Some(message.kind),
         _ => None,
     }
 }
 
-/// Home accepts the Acquires of a block in the order of their Grants; and it has given its copy up where a Get is seen before the Grant.
+/// Home accepts the Acquires of a block in the order of their Grants; and it has given its copy up where a Get is seen
+/// before the Grant.
 fn before_accepting(
-    judge: &Judge,
-    wires: &Wires,
-    seen: &[Seen],
+    wires: &Wires<'_>,
     state: &BlockState,
     c: ClientId,
     block: BlockNo,
 ) -> Option<Event> {
-    match wires.granted_first(judge.plain().shape().clients, seen, block) {
+    match wires.granted_first(block) {
         Some(other) => {
             if other != c {
                 return Some(Event::TakeGrantAck(other, block));
@@ -42,8 +40,8 @@ fn before_accepting(
     if !state.is_at_home() {
         return None;
     }
-    let get = wires.next_get(seen, block)?;
-    match wires.next_grant(seen, c, block) {
+    let get = wires.next_get(block)?;
+    match wires.next_grant(c, block) {
         Some(grant) if grant < get => None,
         _ => Some(Event::Drop(block)),
     }
@@ -51,8 +49,7 @@ fn before_accepting(
 
 /// A client that asks for Tip from Branch does so before it loses its copy.
 fn before_answering(
-    judge: &Judge,
-    wires: &Wires,
+    wires: &Wires<'_>,
     seen: &[Seen],
     k: &Client,
     c: ClientId,
@@ -64,7 +61,7 @@ fn before_answering(
     {
         return None;
     }
-    match kind_next(judge, wires, seen, c, Channel::A, block)? {
+    match kind_next(wires, seen, c, Channel::A, block)? {
         Kind::AcquireBlock(Grow::BtoT) => Some(Event::SendAcquire(c, block, Grow::BtoT)),
         _ => None,
     }
@@ -72,8 +69,7 @@ fn before_answering(
 
 /// The Probe that home may send next to a client, where it is seen before a Grant to it.
 fn crossing(
-    judge: &Judge,
-    wires: &Wires,
+    wires: &Wires<'_>,
     seen: &[Seen],
     k: &Client,
     c: ClientId,
@@ -82,28 +78,23 @@ fn crossing(
     if !k.has_no_probe() {
         return None;
     }
-    let probe = wires.next_of(
-        judge.plain().shape(),
-        seen,
-        Wire::Link(c, Channel::B),
-        block,
-    )?;
-    if let Some(grant) = wires.next_grant(seen, c, block) {
+    let probe = wires.next_of(Wire::Link(c, Channel::B), block)?;
+    if let Some(grant) = wires.next_grant(c, block) {
         if grant < probe {
             return None;
         }
     }
-    match kind_next(judge, wires, seen, c, Channel::B, block)? {
+    match kind_next(wires, seen, c, Channel::B, block)? {
         Kind::ProbeBlock(cap) => Some(cap),
         _ => None,
     }
 }
 
-/// Before home takes a Release, it sends the Probe that crosses it, which asks for no less than the Release leaves; and the Grant toB that
-/// needs the record which the Release ends.
+/// Before home takes a Release, it sends the Probe that crosses it, which asks for no less than the Release leaves; and
+/// the Grant toB that needs the record which the Release ends.
 fn before_taking(
     judge: &Judge,
-    wires: &Wires,
+    wires: &Wires<'_>,
     seen: &[Seen],
     state: &BlockState,
     c: ClientId,
@@ -114,7 +105,7 @@ fn before_taking(
         return None;
     };
     let left = given.prune().to();
-    if let Some(cap) = crossing(judge, wires, seen, k, c, block) {
+    if let Some(cap) = crossing(wires, seen, k, c, block) {
         if left <= cap.perm() {
             return Some(Event::SendProbe(c, block, cap));
         }
@@ -129,18 +120,18 @@ fn before_taking(
 /// The Grant toB to another client, where no third one is recorded.
 fn grant_before(
     judge: &Judge,
-    wires: &Wires,
+    wires: &Wires<'_>,
     seen: &[Seen],
     state: &BlockState,
     c: ClientId,
     block: BlockNo,
 ) -> Option<Event> {
     let clients = judge.plain().shape().clients;
-    let other = wires.granted_first(clients, seen, block)?;
+    let other = wires.granted_first(block)?;
     if other == c || in_way(state, clients, Which::NeitherOf(c, other)).is_some() {
         return None;
     }
-    match seen.get(wires.next_grant(seen, other, block)?)? {
+    match seen.get(wires.next_grant(other, block)?)? {
         Seen::OnLink(_, _, message) => match message.kind {
             Kind::Grant(GrantCap::ToB) | Kind::GrantData(GrantCap::ToB) => Some(Event::SendGrant(
                 other, block,
@@ -152,14 +143,17 @@ fn grant_before(
 }
 
 /// An event that has to come before this one, if one has.
-pub(crate) fn sooner(judge: &Judge, wires: &Wires, seen: &[Seen], event: &Event) -> Option<Event> {
+pub(crate) fn sooner(
+    judge: &Judge,
+    wires: &Wires<'_>,
+    seen: &[Seen],
+    event: &Event,
+) -> Option<Event> {
     let state = judge.plain().block(event.block(judge.plain().shape()))?;
     match event {
-        Event::AcceptAcquire(c, block) => {
-            before_accepting(judge, wires, seen, state, *c, *block)
-        }
+        Event::AcceptAcquire(c, block) => { before_accepting(wires, state, *c, *block) }
         Event::AnswerProbe(c, block) => {
-            before_answering(judge, wires, seen, state.client(*c)?, *c, *block)
+            before_answering(wires, seen, state.client(*c)?, *c, *block)
         }
         Event::TakeC(c, block) => before_taking(judge, wires, seen, state, *c, *block),
         _ => None,

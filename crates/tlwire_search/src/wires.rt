@@ -1,31 +1,52 @@
 //! What was seen on each wire, and how much of it a run has sent.
-ghost use Rattle.std.specs.Prelude.{◌<◌};
+ghost use Rattle.std.specs.Prelude.{◌≡◌, ◌<◌, ◌≤◌, ◌+◌, ◌-◌, ◌^◌, ◌↔◌, ℕ, IfSome, IfNone, IsTrue, Some, length, min};
+ghost use Rattle.std.specs.Prelude.{slice_get, slice_index, slice_set};
+ghost use Rattle.tlwire_search.specs.Lists.{AreOfTheirWires, BeginInTime, HasNoneBetween, IsMovedOn, IsOnWire, PassNoLine};
+ghost use Rattle.tlwire_search.specs.Explained.{wire_of};
+ghost use Rattle.tlwire_search.specs.Lists.{block_of, gap_at, list_at, list_of, number_of};
 
+#[cfg(test)]
+mod scanned;
 #[cfg(test)]
 mod scans;
 
-use crate::by_block::ByBlock;
 use crate::seen::{Seen, Wire};
+use crate::sought::{Sought, granted_block};
 use std::alloc::{AllocError, Global};
 use tl_rules::Shape;
-use tl_types::{BlockNo, Channel, ClientId, Kind};
+use tl_types::{BlockNo, Channel, ClientId};
 
-/// How many of the unsent on a wire are looked at, one by one, before those of a block are looked up.
-const NEAR: usize = 32;
+/// How many lists all wires have together, at most, where each has one at least.
+const LISTS: usize = 8192;
 
-/// The places of what was seen on each wire, in order and by block, and how many of them are sent; the places of all Grants by block; and
-/// how many places from the first on are of what is sent.
+/// How much of what was seen is sent, and what is next. What is unsent stands in lists, by which it is looked up: a
+/// list has the lines on one wire whose blocks leave one remainder by the number of lists that each wire has.
 #[derive(Drop)]
-pub(crate) struct Wires {
-    places: Vec<Vec<usize>>,
-    sent: Vec<usize>,
-    of_blocks: Vec<ByBlock>,
-    grants: ByBlock,
-    passed: usize,
+pub(crate) struct Wires<'a> {
+    shape: Shape,
+    seen: &'a [Seen],
+    /// How many lists each wire has.
+    width: u16,
+    /// The place of what is next on each wire, behind all where nothing is.
+    next: Vec<usize>,
+    /// A place for each list, before which none of its lines is unsent.
+    first: Vec<usize>,
+    /// For each line, the last one first, a number of lines behind it none of which is on its wire.
+    on_wire: Vec<u32>,
+    /// For each line, the last one first, a number of lines behind it none of which is in its list.
+    in_list: Vec<u32>,
+    ghost divides: { 0 < shape.block_bytes },
+    ghost wide: { 0 < width },
+    ghost on_wires: { AreOfTheirWires seen.now next.items },
+    ghost in_time: { BeginInTime (list_at width shape.block_bytes) seen.now next.items first.items },
+    ghost past_none: { PassNoLine (list_at width shape.block_bytes) seen.now in_list.items },
 }
 
 /// A wire's number: the memory's two, then six of each client.
-fn number(wire: &Wire) -> usize {
+fn number(wire: &Wire) -> usize
+    ensures value { result ≡ number_of wire.now }
+    ensures small { result < 2 ^ 35 }
+{
     match wire {
         Wire::Memory(Channel::A) => 0,
         Wire::Memory(_) => 1,
@@ -35,87 +56,151 @@ fn number(wire: &Wire) -> usize {
 }
 
 /// The block that something seen is of.
-fn block_of(shape: Shape, seen: &Seen) -> BlockNo
+fn block_of(shape: Shape, line: &Seen) -> u32
     requires { 0 < shape.block_bytes }
+    ensures { result ≡ block_of shape.block_bytes line.now }
 {
-    match seen {
-        Seen::OnLink(_, block, _) | Seen::OnMemory(block, _) => *block,
-        Seen::Load(_, address, _) | Seen::Store(_, address, _) => BlockNo::new(
-            *address / shape.block_bytes,
-        ),
+    match line {
+        Seen::OnLink(_, block, _) | Seen::OnMemory(block, _) => block.number(),
+        Seen::Load(_, address, _) | Seen::Store(_, address, _) => *address / shape.block_bytes,
     }
 }
 
-impl Wires {
+/// How many lists each of these wires has: no more than there are blocks, and all wires no more than there are lines.
+fn width_of(shape: Shape, wires: usize, lines: usize) -> u16
+    ensures { 0 < result }
+{
+    let most = lines / wires.max(1);
+    most.min(shape.blocks as usize)
+        .min(LISTS / wires.max(1))
+        .min(LISTS)
+        .max(1) as u16
+}
+
+/// The list of a block on a wire.
+fn list_of(width: u16, wire: &Wire, block: u32) -> usize
+    requires { 0 < width }
+    ensures { result ≡ list_of width wire.now block }
+{
+    number(wire) * width as usize + (block % width as u32) as usize
+}
+
+/// The list of something seen.
+fn list_at(shape: Shape, width: u16, line: &Seen) -> usize
+    requires divides { 0 < shape.block_bytes }
+    requires wide { 0 < width }
+    ensures { result ≡ list_at width shape.block_bytes line.now }
+{
+    list_of(width, &line.wire(), block_of(shape, line))
+}
+
+/// Makes a place the beginning of a list; how many lines stand between it and the one so far, at most this many.
+fn put_before(heads: &mut Vec<usize>, list: usize, place: usize, far: u32) -> u32
+    ensures heads { heads.new.items ≡ slice_set heads.old.items list place }
+    ensures gap { result ≤ slice_index heads.old.items list - place - 1 }
+{
+    if list >= heads.len() {
+        return 0;
+    }
+    let gap = heads[list].saturating_sub(place).saturating_sub(1);
+    heads[list] = place;
+    gap.min(far as usize) as u32
+}
+
+/// Writes a number, where there is one.
+fn set(numbers: &mut Vec<usize>, at: usize, number: usize)
+    ensures { numbers.new.items ≡ slice_set numbers.old.items at number }
+{
+    if at < numbers.len() {
+        numbers[at] = number;
+    }
+}
+
+/// Moves what begins at a place, if it does, on to another one.
+fn move_on(heads: &mut Vec<usize>, list: usize, place: usize, behind: usize)
+    ensures { IsMovedOn heads.old.items heads.new.items list place behind }
+{
+    if list < heads.len() && heads[list] == place {
+        heads[list] = behind;
+    }
+}
+
+/// How many lines are known to stand between one and the next of its kind.
+fn gap_at(gaps: &[u32], lines: usize, place: usize) -> usize
+    ensures { result ≡ gap_at gaps.now lines place }
+{
+    match gaps.get(lines.saturating_sub(1).saturating_sub(place)) {
+        Some(gap) => *gap as usize,
+        None => 0,
+    }
+}
+
+impl<'a> Wires<'a> {
+    ghost use Rattle.tlwire_search.specs.Sought.{IsLike};
+    ghost use Rattle.tlwire_search.specs.Unsent.{IsUnsentAt};
+
     /// Nothing is sent.
-    pub(crate) fn new(alloc: Global, shape: Shape, seen: &[Seen]) -> Result<Wires, AllocError>
+    pub(crate) fn new(
+        alloc: Global,
+        shape: Shape,
+        seen: &'a [Seen],
+    ) -> Result<Wires<'a>, AllocError>
         requires { 0 < shape.block_bytes }
     {
-        let mut wires = Wires::of_nothing(alloc, shape.clients)?;
-        for (place, s) in seen.iter().enumerate() {
-            wires.place(shape, s, place)?;
-        }
-        for on in &mut wires.of_blocks {
-            on.sort();
-        }
-        wires.grants.sort();
-        Ok(wires)
+        Wires::up_to(alloc, shape, seen, u32::MAX)
     }
 
-    /// Nothing was seen.
-    fn of_nothing(alloc: Global, clients: u32) -> Result<Wires, AllocError> {
-        let mut places = Vec::new(alloc);
-        let mut sent = Vec::new(alloc);
-        let mut of_blocks = Vec::new(alloc);
-        for _ in 0..2 + clients as usize * 6 {
-            places.push(Vec::new(alloc))?;
-            sent.push(0)?;
-            of_blocks.push(ByBlock::new(alloc))?;
+    /// Nothing is sent, and no gap is kept that is longer than this.
+    fn up_to(
+        alloc: Global,
+        shape: Shape,
+        seen: &'a [Seen],
+        far: u32,
+    ) -> Result<Wires<'a>, AllocError>
+        requires { 0 < shape.block_bytes }
+    {
+        let wires = 2 + shape.clients as usize * 6;
+        let width = width_of(shape, wires, seen.len());
+        let mut next = vec![in alloc; seen.len(); wires]?;
+        let mut first = vec![in alloc; seen.len(); wires * width as usize]?;
+        let mut on_wire = Vec::with_capacity(alloc, seen.len())?;
+        let mut in_list = Vec::with_capacity(alloc, seen.len())?;
+        for place in (0..seen.len()).rev() {
+            let line = &seen[place];
+            on_wire.push(put_before(&mut next, number(&line.wire()), place, far))?;
+            in_list.push(put_before(&mut first, list_at(shape, width, line), place, far))?;
         }
-        let grants = ByBlock::new(alloc);
         Ok(Wires {
-            places,
-            sent,
-            of_blocks,
-            grants,
-            passed: 0,
+            shape,
+            seen,
+            width,
+            next,
+            first,
+            on_wire,
+            in_list,
         })
     }
 
-    /// This was seen at a place, behind all so far.
-    fn place(&mut self, shape: Shape, seen: &Seen, place: usize) -> Result<(), AllocError>
-        requires { 0 < shape.block_bytes }
-    {
-        let number = number(&seen.wire());
-        let Some(on) = self.places.get_mut(number) else {
-            return Ok(());
-        };
-        on.push(place)?;
-        if let Some(on) = self.of_blocks.get_mut(number) {
-            on.push(block_of(shape, seen), place)?;
-        }
-        match (seen.wire(), granted_block(seen)) {
-            (Wire::Link(_, Channel::D), Some(block)) => self.grants.push(block, place),
-            _ => Ok(()),
-        }
-    }
-
-    /// The places of what is not sent yet on a wire.
-    fn unsent(&self, wire: Wire) -> Option<&[usize]> {
-        let number = number(&wire);
-        let (places, sent) = self.places.get(number).zip(self.sent.get(number))?;
-        places.get(*sent..)
-    }
-
     /// The place of what is next on a wire.
-    pub(crate) fn next(&self, wire: Wire) -> Option<usize> {
-        self.unsent(wire)?.first().copied()
+    pub(crate) fn next(&self, wire: Wire) -> Option<usize>
+        ensures next { IfSome result (λ place. slice_get self.now.next.items (number_of wire) ≡ Some place) }
+        ensures within { IfSome result (λ place. place < length self.now.seen.now) }
+        ensures none { IfNone result
+            ((place : ℕ) → slice_get self.now.next.items (number_of wire) ≡ Some place
+            → length self.now.seen.now ≤ place) }
+    {
+        let next = *self.next.get(number(&wire))?;
+        if next < self.seen.len() {
+            Some(next)
+        } else {
+            None
+        }
     }
 
     /// Whether what was seen at a place is sent.
-    pub(crate) fn is_sent(&self, seen: &[Seen], place: usize) -> bool {
-        match seen.get(place) {
-            Some(s) => match self.next(s.wire()) {
+    pub(crate) fn is_sent(&self, place: usize) -> bool {
+        match self.seen.get(place) {
+            Some(line) => match self.next(line.wire()) {
                 Some(next) => place < next,
                 None => true,
             },
@@ -123,128 +208,130 @@ impl Wires {
         }
     }
 
+    /// The place of the first on a wire of this number from one on, behind all where there is none.
+    fn first_on(&self, wire: usize, from: usize) -> usize
+        ensures on { min from (length self.now.seen.now) ≤ result }
+        ensures there { IsOnWire self.now.seen.now wire result }
+    {
+        for place in from..self.seen.len() {
+            if number(&self.seen[place].wire()) == wire {
+                return place;
+            }
+        }
+        self.seen.len()
+    }
+
+    /// The place of the next on a line's wire, behind all where there is none.
+    fn behind_on_wire(&self, place: usize, line: &Seen) -> usize
+        requires { place < length self.now.seen.now }
+        ensures on { place < result }
+        ensures there { IsOnWire self.now.seen.now (number_of (wire_of line.now)) result }
+    {
+        let gap = gap_at(&self.on_wire, self.seen.len(), place);
+        self.first_on(number(&line.wire()), (place + 1).saturating_add(gap))
+    }
+
+    /// A place behind a line up to which its list has no other line.
+    fn behind_in_list(&self, place: usize) -> usize
+        requires { place < length self.now.seen.now }
+        ensures on { place < result }
+        ensures passed { let list = list_at self.now.width self.now.shape.block_bytes in
+            HasNoneBetween list self.now.seen.now place result }
+    {
+        let gap = gap_at(&self.in_list, self.seen.len(), place);
+        (place + 1).saturating_add(gap)
+    }
+
     /// One more is sent on a wire.
     pub(crate) fn advance(&mut self, wire: Wire) {
-        if let Some(sent) = self.sent.get_mut(number(&wire)) {
-            if *sent < usize::MAX {
-                *sent += 1;
-            }
+        let Some(place) = self.next(wire) else {
+            return;
+        };
+        let line = &self.seen[place];
+        let list = list_at(self.shape, self.width, line);
+        let next = self.behind_on_wire(place, line);
+        let behind = self.behind_in_list(place);
+        move_on(&mut self.first, list, place, behind);
+        set(&mut self.next, number(&wire), next);
+    }
+
+    /// The place from which a list is looked at.
+    fn beginning(&self, list: usize) -> usize
+        ensures { result ≡ slice_index self.now.first.items list }
+    {
+        match self.first.get(list) {
+            Some(first) => *first,
+            None => 0,
         }
     }
 
-    /// Passes over what is sent.
-    pub(crate) fn pass(&mut self, seen: &[Seen]) {
-        for place in self.passed..seen.len() {
-            if !self.is_sent(seen, place) {
-                return;
-            }
-            self.passed = place + 1;
-        }
+    /// Whether this is sought of a block on a wire.
+    fn is_sought(&self, line: &Seen, wire: Wire, block: BlockNo, sought: Sought) -> bool
+        ensures { IsTrue result ↔ IsLike self.now.shape.block_bytes wire block sought line.now }
+    {
+        line.wire() == wire && block_of(self.shape, line) == block.number() && sought.is(line)
     }
 
-    /// The places of a block on a wire from one on, and behind them those of later blocks.
-    fn far(&self, wire: Wire, block: BlockNo, place: usize) -> Option<&[(u32, usize)]> {
-        self.of_blocks.get(number(&wire))?.since(block, place)
+    /// The place of the next that is sought of a block on a wire.
+    fn next_like(&self, wire: Wire, block: BlockNo, sought: Sought) -> Option<usize>
+        ensures found { IfSome result (IsUnsentAt self.now wire block sought) }
+        ensures first { IfSome result
+            (λ place. (earlier : ℕ) → earlier < place → ¬ IsUnsentAt self.now wire block sought earlier) }
+        ensures none { IfNone result ((place : ℕ) → ¬ IsUnsentAt self.now wire block sought place) }
+    {
+        let next = self.next(wire)?;
+        let list = list_of(self.width, &wire, block.number());
+        let mut place = next.max(self.beginning(list));
+        while place < self.seen.len() {
+            let line = &self.seen[place];
+            if self.is_sought(line, wire, block, sought) {
+                return Some(place);
+            }
+            if list_at(self.shape, self.width, line) == list {
+                place = self.behind_in_list(place);
+            } else {
+                place += 1;
+            }
+        }
+        None
     }
 
     /// The place of what is next of a block on a wire.
-    pub(crate) fn next_of(
-        &self,
-        shape: Shape,
-        seen: &[Seen],
-        wire: Wire,
-        block: BlockNo,
-    ) -> Option<usize>
-        requires { 0 < shape.block_bytes }
-    {
-        let unsent = self.unsent(wire)?;
-        for place in unsent.iter().take(NEAR) {
-            if block_of(shape, seen.get(*place)?) == block {
-                return Some(*place);
-            }
-        }
-        match self.far(wire, block, *unsent.get(NEAR)?)? {
-            [(of, place), ..] if *of == block.number() => Some(*place),
-            _ => None,
-        }
-    }
-
-    /// The place of the next of a kind of a block on a wire.
-    fn next_like(
-        &self,
-        seen: &[Seen],
-        wire: Wire,
-        block: BlockNo,
-        sought: Sought,
-    ) -> Option<usize> {
-        let unsent = self.unsent(wire)?;
-        for place in unsent.iter().take(NEAR) {
-            if sought.is(seen.get(*place)?, block) {
-                return Some(*place);
-            }
-        }
-        for (of, place) in self.far(wire, block, *unsent.get(NEAR)?)? {
-            if *of != block.number() {
-                return None;
-            }
-            if sought.is(seen.get(*place)?, block) {
-                return Some(*place);
-            }
-        }
-        None
+    pub(crate) fn next_of(&self, wire: Wire, block: BlockNo) -> Option<usize> {
+        self.next_like(wire, block, Sought::Line)
     }
 
     /// The place of the next Grant of a block to a client.
-    pub(crate) fn next_grant(&self, seen: &[Seen], c: ClientId, block: BlockNo) -> Option<usize> {
-        self.next_like(seen, Wire::Link(c, Channel::D), block, Sought::Grant)
+    pub(crate) fn next_grant(&self, c: ClientId, block: BlockNo) -> Option<usize> {
+        self.next_like(Wire::Link(c, Channel::D), block, Sought::Grant)
+    }
+
+    /// The place of the next Get of a block.
+    pub(crate) fn next_get(&self, block: BlockNo) -> Option<usize> {
+        self.next_like(Wire::Memory(Channel::A), block, Sought::Get)
     }
 
     /// The block of the next Grant to a client.
-    pub(crate) fn next_granted(&self, seen: &[Seen], c: ClientId) -> Option<BlockNo> {
-        for place in self.unsent(Wire::Link(c, Channel::D))? {
-            let granted = granted_block(seen.get(*place)?);
+    pub(crate) fn next_granted(&self, c: ClientId) -> Option<BlockNo> {
+        let mut place = self.next(Wire::Link(c, Channel::D))?;
+        while place < self.seen.len() {
+            let line = &self.seen[place];
+            let granted = granted_block(line);
             if granted.is_some() {
                 return granted;
             }
+            place = self.behind_on_wire(place, line);
         }
         None
     }
 
-    /// The place of the next Get of a block.
-    pub(crate) fn next_get(&self, seen: &[Seen], block: BlockNo) -> Option<usize> {
-        self.next_like(seen, Wire::Memory(Channel::A), block, Sought::Get)
-    }
-
     /// The client whose Grant of a block is seen first.
-    pub(crate) fn granted_first(
-        &self,
-        clients: u32,
-        seen: &[Seen],
-        block: BlockNo,
-    ) -> Option<ClientId> {
-        for (of, place) in self
-            .grants
-            .since(block, self.passed)?
-            .iter()
-            .take(clients as usize)
-        {
-            if *of != block.number() {
-                return None;
-            }
-            if !self.is_sent(seen, *place) {
-                return client_at(seen, *place);
-            }
-        }
-        self.first_of_clients(clients, seen, block)
-    }
-
-    /// The same, client by client.
-    fn first_of_clients(&self, clients: u32, seen: &[Seen], block: BlockNo) -> Option<ClientId> {
+    pub(crate) fn granted_first(&self, block: BlockNo) -> Option<ClientId> {
         let mut first = None;
-        let mut least = seen.len();
-        for number in 0..clients {
+        let mut least = self.seen.len();
+        for number in 0..self.shape.clients {
             let c = ClientId::new(number);
-            if let Some(place) = self.next_grant(seen, c, block) {
+            if let Some(place) = self.next_grant(c, block) {
                 if place < least {
                     least = place;
                     first = Some(c);
@@ -252,47 +339,5 @@ impl Wires {
             }
         }
         first
-    }
-}
-
-/// What is looked for of a block on a wire.
-#[derive(Clone, Copy)]
-enum Sought {
-    /// A Grant.
-    Grant,
-    /// A Get.
-    Get,
-}
-
-impl Sought {
-    /// Whether it is this.
-    fn is(self, seen: &Seen, block: BlockNo) -> bool {
-        match self {
-            Sought::Grant => granted_block(seen) == Some(block),
-            Sought::Get => is_get_of(seen, block),
-        }
-    }
-}
-
-/// The client of a message on a link.
-fn client_at(seen: &[Seen], place: usize) -> Option<ClientId> {
-    match seen.get(place)? {
-        Seen::OnLink(c, _, _) => Some(*c),
-        _ => None,
-    }
-}
-
-/// The block of a Grant.
-fn granted_block(seen: &Seen) -> Option<BlockNo> {
-    match seen {
-        Seen::OnLink(_, of, message) if message.kind != Kind::ReleaseAck => Some(*of),
-        _ => None,
-    }
-}
-
-fn is_get_of(seen: &Seen, block: BlockNo) -> bool {
-    match seen {
-        Seen::OnMemory(of, message) => *of == block && message.kind == Kind::Get,
-        _ => false,
     }
 }

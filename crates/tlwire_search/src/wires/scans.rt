@@ -1,7 +1,8 @@
 //! What is looked up by block is what a scan of all that is unsent finds.
 ghost use Rattle.std.specs.Prelude.{◌<◌};
 
-use super::{Wires, block_of, granted_block, is_get_of};
+use super::Wires;
+use super::scanned::Scanned;
 use crate::seen::{Seen, Wire};
 use std::alloc::{AllocError, Global};
 use std::test::Fail;
@@ -16,12 +17,39 @@ const SHAPE: Shape = Shape {
     blocks: 40,
 };
 
+/// More blocks than a wire has lists.
+const WIDE: Shape = Shape {
+    clients: 3,
+    block_bytes: 8,
+    blocks: 1000,
+};
+
 const CLIENTS: u32 = 4;
 
 const CHANNELS: &[Channel] = &[Channel::A, Channel::B, Channel::C, Channel::D, Channel::E];
 
-/// How many lines the made records have.
-const LENGTHS: &[u32] = &[1, 40, 300, 1500];
+/// How many places of a wire are near.
+const NEAR: usize = 32;
+
+/// How many blocks are looked up between two steps.
+const LOOKED_UP: u32 = 8;
+
+/// Made records: their shape, how many lines they have, the longest gap that is kept, and how many steps are taken
+/// along each. With few lines all blocks are in one list, with more there are as many lists as blocks, and with most as
+/// many as there may be.
+const PLANS: &[(Shape, u32, u32, u32)] = &[
+    (SHAPE, 0, u32::MAX, 2),
+    (SHAPE, 1, u32::MAX, 20),
+    (SHAPE, 40, u32::MAX, 40),
+    (SHAPE, 300, u32::MAX, 40),
+    (SHAPE, 300, 0, 40),
+    (SHAPE, 300, 30, 40),
+    (SHAPE, 1500, u32::MAX, 40),
+    (SHAPE, 1500, 100, 40),
+    (WIDE, 1500, u32::MAX, 20),
+    (WIDE, 9000, u32::MAX, 8),
+    (WIDE, 9000, 500, 8),
+];
 
 /// Numbers that look random.
 #[derive(Drop)]
@@ -40,9 +68,9 @@ fn message(kind: Kind) -> Shown {
     Shown { kind, bytes: None }
 }
 
-fn made(numbers: &mut Numbers) -> Seen {
+fn made(numbers: &mut Numbers, blocks: u32) -> Seen {
     let client = ClientId::new(numbers.below(CLIENTS));
-    let block = numbers.below(SHAPE.blocks);
+    let block = numbers.below(blocks.max(1));
     let kind = match numbers.below(12) {
         0 => Kind::AcquireBlock(Grow::NtoB),
         1 | 2 => Kind::ReleaseAck,
@@ -50,16 +78,21 @@ fn made(numbers: &mut Numbers) -> Seen {
         4 => Kind::GrantAck,
         5 => return Seen::OnMemory(BlockNo::new(block), message(Kind::Get)),
         6 => return Seen::OnMemory(BlockNo::new(block), message(Kind::PutFullData)),
-        7 => return Seen::Load(client, numbers.below(320), AccessBytes::new()),
+        7 => return Seen::Load(client, block.wrapping_mul(8), AccessBytes::new()),
         _ => Kind::GrantData(GrantCap::ToB),
     };
     Seen::OnLink(client, BlockNo::new(block), message(kind))
 }
 
-fn made_record(alloc: Global, numbers: &mut Numbers, len: u32) -> Result<Vec<Seen>, AllocError> {
+fn made_record(
+    alloc: Global,
+    numbers: &mut Numbers,
+    blocks: u32,
+    len: u32,
+) -> Result<Vec<Seen>, AllocError> {
     let mut seen = Vec::new(alloc);
     for _ in 0..len {
-        seen.push(made(numbers))?;
+        seen.push(made(numbers, blocks))?;
     }
     Ok(seen)
 }
@@ -75,161 +108,195 @@ fn made_wire(numbers: &mut Numbers) -> Wire {
     }
 }
 
-/// What is looked for on a wire.
-#[derive(Clone, Copy)]
-enum Sought {
-    /// A Grant.
-    Grant,
-    /// A Grant of a block.
-    GrantOf(BlockNo),
-    /// A Get of a block.
-    GetOf(BlockNo),
+/// The lists of a record, and what they are compared with.
+#[derive(Drop)]
+struct Both<'a> {
+    shape: Shape,
+    seen: &'a [Seen],
+    wires: &'a Wires<'a>,
+    scanned: &'a Scanned,
+    ghost divides: { 0 < shape.block_bytes },
 }
 
-impl Sought {
-    /// Whether it is this.
-    fn is(self, seen: &Seen) -> bool {
-        match self {
-            Sought::Grant => granted_block(seen).is_some(),
-            Sought::GrantOf(block) => granted_block(seen) == Some(block),
-            Sought::GetOf(block) => is_get_of(seen, block),
-        }
+impl Both<'_> {
+    fn is_same_on(&self, wire: Wire, block: BlockNo) -> bool {
+        let scanned = self.scanned.next_of(self.shape, self.seen, wire, block);
+        self.wires.next_of(wire, block) == scanned
     }
-}
 
-fn next_of(wires: &Wires, seen: &[Seen], wire: Wire, block: BlockNo) -> Option<usize> {
-    for place in wires.unsent(wire)? {
-        if block_of(SHAPE, seen.get(*place)?) == block {
-            return Some(*place);
-        }
-    }
-    None
-}
-
-fn next_like(wires: &Wires, seen: &[Seen], wire: Wire, sought: Sought) -> Option<usize> {
-    for place in wires.unsent(wire)? {
-        if sought.is(seen.get(*place)?) {
-            return Some(*place);
-        }
-    }
-    None
-}
-
-fn next_granted(wires: &Wires, seen: &[Seen], c: ClientId) -> Option<BlockNo> {
-    let place = next_like(wires, seen, Wire::Link(c, Channel::D), Sought::Grant)?;
-    granted_block(seen.get(place)?)
-}
-
-fn granted_first(wires: &Wires, seen: &[Seen], block: BlockNo) -> Option<ClientId> {
-    let mut first = None;
-    let mut least = seen.len();
-    for number in 0..SHAPE.clients {
-        let c = ClientId::new(number);
-        let wire = Wire::Link(c, Channel::D);
-        if let Some(place) = next_like(wires, seen, wire, Sought::GrantOf(block)) {
-            if place < least {
-                least = place;
-                first = Some(c);
-            }
-        }
-    }
-    first
-}
-
-fn is_same_on_link(
-    wires: &Wires,
-    seen: &[Seen],
-    c: ClientId,
-    channel: Channel,
-    block: BlockNo,
-) -> bool {
-    let scanned = next_of(wires, seen, Wire::Link(c, channel), block);
-    let looked_up = wires.next_of(SHAPE, seen, Wire::Link(c, channel), block);
-    looked_up == scanned
-}
-
-fn is_same_on_memory(wires: &Wires, seen: &[Seen], block: BlockNo) -> bool {
-    let scanned = next_of(wires, seen, Wire::Memory(Channel::A), block);
-    let looked_up = wires.next_of(SHAPE, seen, Wire::Memory(Channel::A), block);
-    looked_up == scanned
-}
-
-fn is_same_at_core(wires: &Wires, seen: &[Seen], c: ClientId, block: BlockNo) -> bool {
-    let scanned = next_of(wires, seen, Wire::Core(c), block);
-    let looked_up = wires.next_of(SHAPE, seen, Wire::Core(c), block);
-    looked_up == scanned
-}
-
-fn is_same_grant(wires: &Wires, seen: &[Seen], c: ClientId, block: BlockNo) -> bool {
-    let scanned = next_like(
-        wires,
-        seen,
-        Wire::Link(c, Channel::D),
-        Sought::GrantOf(block),
-    );
-    let looked_up = wires.next_grant(seen, c, block);
-    looked_up == scanned
-}
-
-fn is_same_granted(wires: &Wires, seen: &[Seen], c: ClientId) -> bool {
-    wires.next_granted(seen, c) == next_granted(wires, seen, c)
-}
-
-fn is_same_get(wires: &Wires, seen: &[Seen], block: BlockNo) -> bool {
-    let scanned = next_like(wires, seen, Wire::Memory(Channel::A), Sought::GetOf(block));
-    let looked_up = wires.next_get(seen, block);
-    looked_up == scanned
-}
-
-fn is_same_client(wires: &Wires, seen: &[Seen], block: BlockNo) -> bool {
-    let scanned = granted_first(wires, seen, block);
-    let looked_up = wires.granted_first(SHAPE.clients, seen, block);
-    looked_up == scanned
-}
-
-/// Whether each is the same of a block and a client.
-fn are_same(wires: &Wires, seen: &[Seen], c: ClientId, block: BlockNo) -> bool {
-    for channel in CHANNELS {
-        if !is_same_on_link(wires, seen, c, *channel, block) {
-            return false;
-        }
-    }
-    is_same_on_memory(wires, seen, block)
-        && is_same_at_core(wires, seen, c, block)
-        && is_same_grant(wires, seen, c, block)
-        && is_same_get(wires, seen, block)
-        && is_same_client(wires, seen, block)
-}
-
-fn are_all_same(wires: &Wires, seen: &[Seen]) -> bool {
-    for client in 0..CLIENTS {
-        if !is_same_granted(wires, seen, ClientId::new(client)) {
-            return false;
-        }
-        for block in 0..SHAPE.blocks {
-            if !are_same(wires, seen, ClientId::new(client), BlockNo::new(block)) {
+    fn are_same_on_links(&self, c: ClientId, block: BlockNo) -> bool {
+        for channel in CHANNELS {
+            if !self.is_same_on(Wire::Link(c, *channel), block) {
                 return false;
             }
         }
+        true
     }
-    true
+
+    fn is_same_grant(&self, c: ClientId, block: BlockNo) -> bool {
+        let scanned = self.scanned.next_grant(self.seen, c, block);
+        self.wires.next_grant(c, block) == scanned
+    }
+
+    fn is_same_granted(&self, c: ClientId) -> bool {
+        let scanned = self.scanned.next_granted(self.seen, c);
+        self.wires.next_granted(c) == scanned
+    }
+
+    fn is_same_get(&self, block: BlockNo) -> bool {
+        let scanned = self.scanned.next_get(self.seen, block);
+        self.wires.next_get(block) == scanned
+    }
+
+    fn is_same_client(&self, block: BlockNo) -> bool {
+        let scanned = self
+            .scanned
+            .granted_first(self.shape.clients, self.seen, block);
+        self.wires.granted_first(block) == scanned
+    }
+
+    fn is_same_next(&self, wire: Wire) -> bool {
+        self.wires.next(wire) == self.scanned.next(wire)
+    }
+
+    /// Whether each is the same of a client and a block.
+    fn are_same(&self, c: ClientId, block: BlockNo) -> bool {
+        self.are_same_on_links(c, block)
+            && self.is_same_on(Wire::Memory(Channel::A), block)
+            && self.is_same_on(Wire::Core(c), block)
+            && self.is_same_grant(c, block)
+            && self.is_same_get(block)
+            && self.is_same_client(block)
+    }
+
+    /// Whether the same are sent.
+    fn are_sent_alike(&self) -> bool {
+        for place in 0..self.seen.len() {
+            if self.wires.is_sent(place) != self.scanned.is_sent(self.seen, place) {
+                return false;
+            }
+        }
+        true
+    }
+
+    /// Whether the same is next on each channel of a client, at its core and on the memory's.
+    fn are_next_alike(&self, c: ClientId) -> bool {
+        for channel in CHANNELS {
+            if !self.is_same_next(Wire::Link(c, *channel)) {
+                return false;
+            }
+        }
+        self.is_same_next(Wire::Core(c))
+            && self.is_same_next(Wire::Memory(Channel::A))
+            && self.is_same_next(Wire::Memory(Channel::D))
+            && self.is_same_granted(c)
+    }
+
+    /// Whether each is the same of a client and some of the blocks.
+    fn are_same_of(&self, numbers: &mut Numbers, c: ClientId) -> bool {
+        for _ in 0..LOOKED_UP {
+            let block = BlockNo::new(numbers.below(self.shape.blocks.max(1)));
+            if !self.are_same(c, block) {
+                return false;
+            }
+        }
+        true
+    }
+
+    /// Whether each is the same of all clients.
+    fn are_all_same(&self, numbers: &mut Numbers) -> bool {
+        for client in 0..CLIENTS {
+            let c = ClientId::new(client);
+            if !self.are_next_alike(c) || !self.are_same_of(numbers, c) {
+                return false;
+            }
+        }
+        self.are_sent_alike()
+    }
+}
+
+/// Where Grants that are looked for stand among what is unsent on their wire.
+#[derive(Drop)]
+struct Met {
+    at_once: bool,
+    near: bool,
+    far: bool,
+}
+
+impl Met {
+    /// The Grant of a block to a client is looked for.
+    fn meet(&mut self, scanned: &Scanned, seen: &[Seen], c: ClientId, block: BlockNo) {
+        let Some(place) = scanned.next_grant(seen, c, block) else {
+            return;
+        };
+        let unsent = scanned.unsent(Wire::Link(c, Channel::D)).unwrap_or(&[]);
+        match unsent.iter().position(|other| *other == place) {
+            Some(0) => self.at_once = true,
+            Some(before) if before < NEAR => self.near = true,
+            _ => self.far = true,
+        }
+    }
+
+    /// The Grants of all blocks to a client are looked for.
+    fn meet_all(&mut self, scanned: &Scanned, seen: &[Seen], c: ClientId) {
+        for block in 0..SHAPE.blocks {
+            self.meet(scanned, seen, c, BlockNo::new(block));
+        }
+    }
+}
+
+/// Some of what is next is sent.
+fn go_on(wires: &mut Wires<'_>, scanned: &mut Scanned, numbers: &mut Numbers) {
+    for _ in 0..numbers.below(20) {
+        let wire = made_wire(numbers);
+        wires.advance(wire);
+        scanned.advance(wire);
+    }
+}
+
+/// The first step after which something is looked up otherwise than it is found.
+fn first_otherwise(
+    alloc: Global,
+    numbers: &mut Numbers,
+    plan: (Shape, u32, u32, u32),
+    met: &mut Met,
+) -> Result<Option<u32>, AllocError> {
+    let (_, len, far, steps) = plan;
+    let shape = Shape {
+        block_bytes: 8,
+        ..plan.0
+    };
+    let seen = made_record(alloc, numbers, shape.blocks, len)?;
+    let mut wires = Wires::up_to(alloc, shape, &seen, far)?;
+    let mut scanned = Scanned::new(alloc, shape.clients, &seen)?;
+    for step in 0..steps {
+        let both = Both {
+            shape,
+            seen: &seen,
+            wires: &wires,
+            scanned: &scanned,
+        };
+        if !both.are_all_same(numbers) {
+            return Ok(Some(step));
+        }
+        met.meet_all(&scanned, &seen, ClientId::new(step % 3));
+        go_on(&mut wires, &mut scanned, numbers);
+    }
+    Ok(None)
 }
 
 #[test]
 fn what_is_looked_up_is_what_a_scan_finds(rt: HostRuntime) -> Result<(), Fail> {
     let mut numbers = Numbers(1);
-    for len in LENGTHS {
-        let seen = made_record(rt.alloc(), &mut numbers, *len)?;
-        let mut wires = Wires::new(rt.alloc(), SHAPE, &seen)?;
-        for step in 0..100 {
-            assert!(rt; are_all_same(&wires, &seen), "{len} lines, step {step}");
-            for _ in 0..numbers.below(20) {
-                wires.advance(made_wire(&mut numbers));
-            }
-            if numbers.below(3) == 0 {
-                wires.pass(&seen);
-            }
-        }
+    let mut met = Met {
+        at_once: false,
+        near: false,
+        far: false,
+    };
+    for plan in PLANS {
+        let otherwise = first_otherwise(rt.alloc(), &mut numbers, *plan, &mut met)?;
+        assert_eq!(rt; otherwise, None, "{} lines", plan.1);
     }
+    assert!(rt; met.at_once && met.near && met.far);
     Ok(())
 }
