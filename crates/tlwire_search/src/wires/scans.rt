@@ -119,14 +119,14 @@ struct Both<'a> {
 }
 
 impl Both<'_> {
-    fn is_same_on(&self, wire: Wire, block: BlockNo) -> bool {
-        let scanned = self.scanned.next_of(self.shape, self.seen, wire, block);
-        self.wires.next_of(wire, block) == scanned
+    fn is_same_on(&self, wire: &Wire, block: BlockNo) -> bool {
+        let scanned = self.scanned.next_of(self.shape, self.seen, *wire, block);
+        self.wires.next_of(*wire, block) == scanned
     }
 
     fn are_same_on_links(&self, c: ClientId, block: BlockNo) -> bool {
         for channel in CHANNELS {
-            if !self.is_same_on(Wire::Link(c, *channel), block) {
+            if !self.is_same_on(&Wire::Link(c, *channel), block) {
                 return false;
             }
         }
@@ -155,15 +155,16 @@ impl Both<'_> {
         self.wires.granted_first(block) == scanned
     }
 
-    fn is_same_next(&self, wire: Wire) -> bool {
-        self.wires.next(wire) == self.scanned.next(wire)
+    fn is_same_next(&self, wire: &Wire) -> bool {
+        let scanned = self.scanned.next(*wire);
+        self.wires.next(*wire) == scanned
     }
 
     /// Whether each is the same of a client and a block.
     fn are_same(&self, c: ClientId, block: BlockNo) -> bool {
         self.are_same_on_links(c, block)
-            && self.is_same_on(Wire::Memory(Channel::A), block)
-            && self.is_same_on(Wire::Core(c), block)
+            && self.is_same_on(&Wire::Memory(Channel::A), block)
+            && self.is_same_on(&Wire::Core(c), block)
             && self.is_same_grant(c, block)
             && self.is_same_get(block)
             && self.is_same_client(block)
@@ -182,13 +183,13 @@ impl Both<'_> {
     /// Whether the same is next on each channel of a client, at its core and on the memory's.
     fn are_next_alike(&self, c: ClientId) -> bool {
         for channel in CHANNELS {
-            if !self.is_same_next(Wire::Link(c, *channel)) {
+            if !self.is_same_next(&Wire::Link(c, *channel)) {
                 return false;
             }
         }
-        self.is_same_next(Wire::Core(c))
-            && self.is_same_next(Wire::Memory(Channel::A))
-            && self.is_same_next(Wire::Memory(Channel::D))
+        self.is_same_next(&Wire::Core(c))
+            && self.is_same_next(&Wire::Memory(Channel::A))
+            && self.is_same_next(&Wire::Memory(Channel::D))
             && self.is_same_granted(c)
     }
 
@@ -245,12 +246,16 @@ impl Met {
     }
 }
 
+/// One more is sent on a wire.
+fn advance(wires: &mut Wires<'_>, scanned: &mut Scanned, wire: &Wire) {
+    wires.advance(*wire);
+    scanned.advance(*wire);
+}
+
 /// Some of what is next is sent.
 fn go_on(wires: &mut Wires<'_>, scanned: &mut Scanned, numbers: &mut Numbers) {
     for _ in 0..numbers.below(20) {
-        let wire = made_wire(numbers);
-        wires.advance(wire);
-        scanned.advance(wire);
+        advance(wires, scanned, &made_wire(numbers));
     }
 }
 
