@@ -1,6 +1,9 @@
+pub mod Buckets
 pub mod Closed
+pub mod Counts
 pub mod Levels
 pub mod Lists
+pub mod Looks
 pub mod Places
 pub mod Tries
 pub mod Wires

@@ -1,8 +1,11 @@
 pub mod Along
+pub mod Buckets
 pub mod Closed
 pub mod Ends
 pub mod Events
+pub mod Keys
 pub mod Nodes
 pub mod Premise
+pub mod States
 pub mod Tables
 pub mod Verdict
