@@ -17,34 +17,22 @@ fn refuse(rt: &HostRuntime, ending: Ending) -> u8 {
     show(&mut rt.stderr(), &ending)
 }
 
-/// Tells how a record ended.
-fn tell(rt: &HostRuntime, ending: &Ending) -> u8 {
-    tell_ending(rt.alloc(), ending, &mut rt.stdout(), &mut rt.stderr())
-}
-
-/// Checks what a reader has, of which nobody counts the lines.
-fn judge_alone<R: Read + Drop>(rt: &HostRuntime, reader: R) -> u8 {
-    match BufReader::with_capacity(rt.alloc(), 65_536, reader) {
-        Ok(mut reader) => tell(rt, &check_record(rt.alloc(), &mut reader)),
-        Err(_) => refuse(rt, Ending::Memory),
-    }
-}
-
 /// Checks what a reader has, of so many bytes where they are known, and tells how far it is where that is asked for, or
 /// where faults go to a terminal.
 fn judge<R: Read + Drop>(rt: &HostRuntime, progress: bool, reader: R, size: Option<u64>) -> u8 {
     let is_terminal = rt.stderr().is_terminal();
-    if !progress && !is_terminal {
-        return judge_alone(rt, reader);
-    }
-    let progress = Progress::begin(rt.stderr(), rt, is_terminal, size);
+    let progress = if progress || is_terminal {
+        Progress::begin(rt.stderr(), rt, is_terminal, size)
+    } else {
+        None
+    };
     match BufReader::with_capacity(rt.alloc(), 65_536, Watched::new(reader, progress)) {
         Ok(mut reader) => {
             let ending = check_record(rt.alloc(), &mut reader);
             if let Some(progress) = reader.into_inner().into_watcher() {
                 progress.end();
             }
-            tell(rt, &ending)
+            tell_ending(rt.alloc(), &ending, &mut rt.stdout(), &mut rt.stderr())
         }
         Err(_) => refuse(rt, Ending::Memory),
     }
