@@ -1,6 +1,6 @@
 pub mod Lines
+pub mod Marks
 pub mod OneMore
 pub mod ReadBack
-pub mod Spaces
 pub mod StateLines
 pub mod Texts

@@ -1,5 +1,5 @@
-//! The text of a record: a line for the geometry, one for the image, and one for each event; and what is said of it: why an entry is not
-//! permitted, and the state of a block.
+//! The text of a record: a line for the geometry, one for the image, and one for each event; and what is said of it: why
+//! an entry is not permitted, and the state of a block.
 #![tactic(auto)]
 
 mod cause;
@@ -16,6 +16,7 @@ mod written;
 
 pub use cause::{Cause, LineError};
 pub use client::{Held, Waits};
+pub use cut::cut_at;
 pub use entries::read_entry;
 pub use header::{read_image_line, read_shape};
 pub use reason::{Place, Reason, Source};

@@ -1,4 +1,3 @@
 pub mod Codes
 pub mod FieldWords
 pub mod Lines
-pub mod Marks

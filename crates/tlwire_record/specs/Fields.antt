@@ -1,6 +1,5 @@
 -- The fields of a message: words KEY=VALUE (this project's own format; the names are TileLink's).
-use Rattle.std.specs.Prelude.{ℕ, ◌==◌, List, [], ◌∷◌, codes, bytes_eq, Option, Some, None, Result, Ok, Err, if◌then◌else◌}
-use Rattle.std.specs.Borrow.{Bor}
+use Rattle.std.specs.Prelude.{ℕ, ◌==◌, List, [], ◌∷◌, codes, bytes_eq, Some, None, Result, Ok, Err, if◌then◌else◌}
 use Rattle.std.specs.List.{slice_split}
 use Rattle.std.specs.Option.{is_some}
 use Rattle.tlcheck_record.specs.Cause.{◌>>=◌}
@@ -14,11 +13,6 @@ use Rattle.tlwire_record.specs.declared.fields.Fields.{Fields}
 -- what stands between the `=` of a word
 abbrev pub pair_of : List ℕ → List (List ℕ)
 pair_of word = slice_split (λ b. b == 61) word
-
--- what stands between these bytes in a text that may be absent
-abbrev pub parts_in : ℕ → Option (Bor (List ℕ)) → List (List ℕ)
-parts_in mark None = []
-parts_in mark (Some text) = slice_split (λ b. b == mark) text.now
 
 -- the field of a key and a value
 unfoldable pub field_by : List ℕ → List ℕ → Result Field Cause

@@ -1,34 +1,14 @@
 //! A line cut into its words, and a word into a key and a value.
-ghost use Rattle.std.specs.Prelude.{◌≡◌, ◌<◌, ◌∷◌, [], ◌==◌, Err, IfSome, MatchOption};
-ghost use Rattle.std.specs.List.{position_or_len, slice_split};
+ghost use Rattle.std.specs.Prelude.{◌≡◌, ◌∷◌, [], Err, IfSome, MatchOption};
 ghost use Rattle.tl_script_words.specs.Words.{texts, words_of};
 ghost use Rattle.tlcheck_record.specs.declared.cause.Cause.TheVariants as cause;
-ghost use Rattle.tlwire_record.specs.Fields.{field_of, pair_of, parts_in};
+ghost use Rattle.tlwire_record.specs.Fields.{field_of, pair_of};
 
 use arrayvec::ArrayVec;
+use tlcheck_record::cut_at;
 
 /// As many words as a line may have that is in the format: a message's, with each field.
 const FEW: usize = 10;
-
-/// How many bytes stand before the first of these, or in all.
-fn first_len(text: &[u8], mark: u8) -> usize
-    ensures { result ≡ position_or_len (λ b. b == mark) text.now }
-{
-    text.iter().take_while(|byte| **byte != mark).count()
-}
-
-/// What stands before the first of these, and what stands behind it, where there is one.
-fn cut(text: &str, mark: u8) -> (&str, Option<&str>)
-    requires { mark < 128 }
-    ensures { slice_split (λ b. b == mark) text.now ≡ result.0.now ∷ parts_in mark result.1 }
-{
-    let end = first_len(text.as_bytes(), mark);
-    if end < text.len() {
-        (&text[..end], Some(&text[end + 1..]))
-    } else {
-        (text, None)
-    }
-}
 
 /// The words of a line, where they are no more than a line may have.
 pub(crate) fn few_words(line: &str) -> Option<ArrayVec<&str, FEW>>
@@ -37,7 +17,7 @@ pub(crate) fn few_words(line: &str) -> Option<ArrayVec<&str, FEW>>
     let mut words = ArrayVec::new();
     let mut rest = line;
     for number in 0..FEW {
-        let (word, after) = cut(rest, b' ');
+        let (word, after) = cut_at(rest, b' ');
         if words.try_push(word).is_err() {
             return None;
         }
@@ -54,10 +34,10 @@ pub(crate) fn cut_pair(word: &str) -> Option<(&str, &str)>
     ensures { MatchOption result (field_of word.now ≡ Err cause.Key)
         (λ parts. pair_of word.now ≡ parts.0.now ∷ parts.1.now ∷ []) }
 {
-    let (key, Some(rest)) = cut(word, b'=') else {
+    let (key, Some(rest)) = cut_at(word, b'=') else {
         return None;
     };
-    match cut(rest, b'=') {
+    match cut_at(rest, b'=') {
         (value, None) => Some((key, value)),
         (_, Some(_)) => None,
     }
