@@ -1,63 +1,153 @@
-/* embed CALLS: what so many calls of each kind take from C, in nanoseconds: lines WORK c NANOS CALLS_A_CYCLE for bench/embed.sh. The work
- * is that of crates/bench_bank: 16 clients, blocks of 64 bytes; two clients where a block goes from one to the other. */
+/* embed CALLS: what so many calls of each kind take from C: lines WORK NANOSECONDS_A_CALL CALLS for bench/embed.sh.
+ * The work is that of crates/bench_bank: 16 clients, blocks of 64 bytes; two clients where a block goes from one to
+ * the other. What a cache logs before it is timed is forgotten, so that its log has room whose pages were touched.
+ * Built with COUNTED, for a run under callgrind, it also dumps the instructions of each kind of work under its name.
+ * */
 #define _POSIX_C_SOURCE 199309L
 #include "jinavoke.h"
 #include <stdio.h>
 #include <time.h>
+#ifdef COUNTED
+#include <valgrind/callgrind.h>
+#define BEGIN() CALLGRIND_ZERO_STATS
+#define END(work) CALLGRIND_DUMP_STATS_AT(work)
+#else
+#define BEGIN() ((void)0)
+#define END(work) ((void)(work))
+#endif
 
-static double now(void) { struct timespec t; clock_gettime(CLOCK_MONOTONIC, &t); return (double)t.tv_sec * 1e9 + (double)t.tv_nsec; }
 static long wrong;
+static uint64_t sum;
+
 static jv_ticket done(jv_answer a) { wrong += a.status != JV_OK; return jv_sent(&a); }
+static void accessed(jv_accessed a) { wrong += a.status != JV_OK; sum += a.bytes[0]; }
+static void told(const jv_answer *a, uint32_t what) {
+    wrong += a->status != JV_OK || a->what != what;
+    sum += a->bytes[0] + a->serial;
+}
+static double now(void) {
+    struct timespec t;
+    clock_gettime(CLOCK_MONOTONIC, &t);
+    return (double)t.tv_sec * 1e9 + (double)t.tv_nsec;
+}
+static double start(void) { BEGIN(); return now(); }
+static void show(const char *work, double from, double calls) {
+    double nanos = now() - from;
+    END(work);
+    printf("%s %.2f %.0f\n", work, nanos / calls, calls);
+}
+
+/* Times a statement, `calls` cycles of `each` calls. */
+#define TIMED(work, each, statement) do { \
+    double from = start(); \
+    for (i = 0; i < calls; i++) { statement; } \
+    show(work, from, (double)calls * (each)); \
+} while (0)
+
 static jv_cache *fresh(int64_t clients, uint64_t events) {
     jv_numbers n; uint32_t why; jv_cache *c;
-    n.version = 2; n.clients = clients; n.banks = 1; n.block_bytes = 64; n.sets = 16; n.ways = 4; n.registers = 8; n.copies = 64;
-    n.memory_blocks = 4096;
+    n.version = 2; n.clients = clients; n.banks = 1; n.block_bytes = 64; n.sets = 16; n.ways = 4; n.registers = 8;
+    n.copies = 64; n.memory_blocks = 4096;
     c = jv_new(&n, NULL, 0, &why);
     if (!c) { fprintf(stderr, "jv_new: %s\n", jv_status_name(why)); exit(1); }
     done(jv_reserve(c, 0, events));
     return c;
 }
-/* A client takes block 0 from whoever has it. */
-static void take(jv_cache *c, uint32_t client, int is_first) {
-    done(jv_accept(c, done(jv_acquire(c, client, 0, JV_NTOT))));
-    if (is_first) { done(jv_advance(c, 0)); done(jv_serve_memory(c, 0)); done(jv_take_memory(c, 0)); }
-    else done(jv_take_c(c, done(jv_answer_probe(c, done(jv_advance(c, 0))))));
-    done(jv_take_grant_ack(c, done(jv_take_grant(c, done(jv_advance(c, 0))))));
+/* A client gets a block at Tip that nobody has. */
+static void begin(jv_cache *c, uint32_t client, uint32_t block) {
+    done(jv_accept(c, done(jv_acquire(c, client, block, JV_NTOT))));
+    done(jv_advance(c, block)); done(jv_serve_memory(c, block)); done(jv_take_memory(c, block));
+    done(jv_take_grant_ack(c, done(jv_take_grant(c, done(jv_advance(c, block))))));
 }
-static void show(const char *work, double nanos, int calls) { printf("%s c %.0f %d\n", work, nanos, calls); }
+/* One of two clients takes block 0 from the other, and stores: nine calls. */
+static void take(jv_cache *c, uint32_t client, const uint8_t *bytes) {
+    done(jv_accept(c, done(jv_acquire(c, client, 0, JV_NTOT))));
+    done(jv_take_c(c, done(jv_answer_probe(c, done(jv_advance(c, 0))))));
+    done(jv_take_grant_ack(c, done(jv_take_grant(c, done(jv_advance(c, 0))))));
+    accessed(jv_store(c, client, 0, bytes, 4, 0));
+}
+/* The same, with each message of a client handed in as one that was seen. */
+static jv_ticket seen(jv_cache *c, uint32_t client, uint32_t channel, uint32_t opcode, uint32_t param,
+                      const uint8_t *bytes) {
+    jv_seen s;
+    memset(&s, 0, sizeof s);
+    s.channel = channel; s.opcode = opcode; s.param = param; s.client = client;
+    if (bytes) { s.len = 64; memcpy(s.bytes, bytes, 4); }
+    return done(jv_saw(c, &s));
+}
+static void take_seen(jv_cache *c, uint32_t client, const uint8_t *bytes) {
+    done(jv_accept(c, seen(c, client, JV_A, JV_OP_ACQUIRE_BLOCK, JV_NTOT, NULL)));
+    done(jv_advance(c, 0));
+    done(jv_take_c(c, seen(c, !client, JV_C, JV_OP_PROBE_ACK_DATA, JV_REPORT_TTON, bytes)));
+    done(jv_advance(c, 0));
+    done(jv_take_grant_ack(c, seen(c, client, JV_E, JV_OP_GRANT_ACK, 0, NULL)));
+    accessed(jv_store(c, client, 0, bytes, 4, 0));
+}
+
+/* Loads 64 at once, and the events from a place on 32 at once. */
+static void at_once(jv_cache *c, uint32_t calls, uint64_t cursor) {
+    static jv_request many[64];
+    static jv_answer answers[64];
+    uint32_t i; size_t n; double from;
+    for (i = 0; i < 64; i++) { many[i] = jv_asks_(JV_CALL_LOAD); many[i].len = 4; }
+    from = start();
+    for (i = 0; i + 64 <= calls; i += 64) {
+        wrong += jv_calls(c, many, 64, answers, 64) != 64;
+        sum += answers[63].bytes[0];
+    }
+    show("many", from, i);
+    from = start();
+    for (i = 0; i < calls && (n = jv_read_events(c, 0, &cursor, answers, 32)) != 0; i += (uint32_t)n) {
+        sum += answers[0].serial;
+    }
+    show("events", from, i);
+}
+/* Accesses and views. Client 0 has block 0, and a Release of block 1 by client 1 waits with its bytes. */
+static void one_bank(uint32_t calls) {
+    uint8_t bytes[8] = {0};
+    uint64_t cursor; uint32_t i; jv_ticket release; jv_answer a;
+    jv_cache *c = fresh(16, (uint64_t)calls * 3 + 200);
+    begin(c, 0, 0);
+    begin(c, 1, 1);
+    accessed(jv_store(c, 1, 64, bytes, 4, 0));
+    release = done(jv_release(c, 1, 1, JV_TTON));
+    for (i = 0; i < calls * 3; i++) accessed(jv_load(c, 0, 0, 4, i));
+    done(jv_forget(c, 0));
+    cursor = jv_forgotten(c, 0).serial;
+    TIMED("loads", 1, accessed(jv_load(c, 0, 0, 4, i)));
+    TIMED("stores", 1, memcpy(bytes, &i, 4); accessed(jv_store(c, 0, 0, bytes, 4, i)));
+    TIMED("refused", 1, wrong += jv_advance(c, 0).status != JV_NOT_YET);
+    TIMED("views", 1, wrong += jv_perm(c, 0, 0).serial != JV_TIP);
+    TIMED("copy", 1, a = jv_copy(c, 0, 0); told(&a, JV_TELLS_NUMBER));
+    TIMED("home", 1, a = jv_home_copy(c, 0); told(&a, JV_TELLS_NUMBER));
+    TIMED("memory", 1, a = jv_memory_block(c, 0); told(&a, JV_TELLS_BYTES));
+    TIMED("event", 1, a = jv_event(c, 0, cursor + i); told(&a, JV_TELLS_EVENT));
+    TIMED("waiting", 1, a = jv_waiting(c, 0, 1, JV_C, 0); told(&a, JV_TELLS_MESSAGE));
+    TIMED("message", 1, a = jv_message(c, release); told(&a, JV_TELLS_MESSAGE));
+    TIMED("reserve", 1, wrong += jv_reserve(c, 0, 1).status != JV_OK);
+    at_once(c, calls, cursor);
+    jv_free(c);
+}
+/* A block that goes from one client to the other. */
+static void two_clients(uint32_t calls) {
+    const uint8_t bytes[4] = {1, 2, 3, 4};
+    uint32_t i;
+    jv_cache *c = fresh(2, (uint64_t)calls * 9 + 100);
+    begin(c, 1, 0);
+    accessed(jv_store(c, 1, 0, bytes, 4, 0));
+    for (i = 0; i < calls; i++) take(c, i & 1, bytes);
+    done(jv_forget(c, 0));
+    TIMED("ping-pong", 9, take(c, i & 1, bytes));
+    done(jv_forget(c, 0));
+    TIMED("seen", 9, take_seen(c, i & 1, bytes));
+    jv_free(c);
+}
 
 int main(int argc, char **argv) {
-    uint32_t calls = argc > 1 ? (uint32_t)strtoul(argv[1], NULL, 10) : 200000, i;
-    jv_cache *c = fresh(16, (uint64_t)calls * 4 + 200);
-    uint8_t bytes[8] = {0}; uint64_t cursor = 0, sum = 0; size_t n; double from;
-    static jv_answer events[32], answers[64]; static jv_request many[64];
-    take(c, 0, 1);
-    from = now();
-    for (i = 0; i < calls; i++) { jv_accessed a = jv_load(c, 0, 0, 4, i); wrong += a.status != JV_OK; sum += a.bytes[0]; }
-    show("loads", now() - from, 1);
-    from = now();
-    for (i = 0; i < calls; i++) { memcpy(bytes, &i, 4); wrong += jv_store(c, 0, 0, bytes, 4, i).status != JV_OK; }
-    show("stores", now() - from, 1);
-    from = now();
-    for (i = 0; i < calls; i++) wrong += jv_advance(c, 0).status != JV_NOT_YET;
-    show("refused", now() - from, 1);
-    from = now();
-    for (i = 0; i < calls; i++) wrong += jv_perm(c, 0, 0).serial != JV_TIP;
-    show("views", now() - from, 1);
-    for (i = 0; i < 64; i++) { many[i] = jv_asks_(JV_CALL_LOAD); many[i].len = 4; }
-    from = now();
-    for (i = 0; i < calls; i += 64) { n = jv_calls(c, many, 64, answers, 64); wrong += n != 64; sum += answers[63].bytes[0]; }
-    show("many", (now() - from) * calls / i, 1);
-    from = now();
-    for (i = 0; i < calls && (n = jv_read_events(c, 0, &cursor, events, 32)) != 0; i += (uint32_t)n) sum += events[0].serial;
-    show("events", (now() - from) * calls / i, 1);
-    jv_free(c);
-    c = fresh(2, (uint64_t)calls * 9 + 100);
-    take(c, 1, 1);
-    from = now();
-    for (i = 0; i < calls; i++) { take(c, i & 1, 0); wrong += jv_store(c, i & 1, 0, bytes, 4, i).status != JV_OK; }
-    show("ping-pong", now() - from, 9);
-    jv_free(c);
+    uint32_t calls = argc > 1 ? (uint32_t)strtoul(argv[1], NULL, 10) : 200000;
+    if (calls < 64 || calls % 2) { fprintf(stderr, "usage: embed CALLS, an even number from 64 on\n"); return 2; }
+    one_bank(calls);
+    two_clients(calls);
     if (wrong) fprintf(stderr, "%ld answers were otherwise (%llu)\n", wrong, (unsigned long long)sum);
     return wrong != 0;
 }
