@@ -91,9 +91,8 @@ impl Answer {
         requires { length bytes.now ≤ 64 }
         ensures { self.new ≡ with_bytes bytes.now self.old }
     {
-        let mut all = [0; 64];
-        all[..bytes.len()].copy_from_slice(bytes);
-        self.bytes = all;
+        self.bytes = [0; 64];
+        self.bytes[..bytes.len()].copy_from_slice(bytes);
         self.len = bytes.len() as u32;
     }
 }
@@ -188,14 +187,12 @@ impl Number {
         }
     }
 
-    /// The same as an answer.
-    pub fn wide(self) -> Answer
-        ensures { result ≡ number_wide self }
+    /// Tells the same as an answer.
+    pub fn tell(self, told: &mut Answer)
+        ensures { told.new ≡ number_wide self }
     {
-        Answer {
-            what: self.what,
-            serial: self.serial,
-            ..Answer::only(self.status)
-        }
+        told.set_status(self.status);
+        told.what = self.what;
+        told.serial = self.serial;
     }
 }

@@ -4,12 +4,11 @@ ghost use Rattle.tl_embed.specs.Asked.{asked};
 ghost use Rattle.tl_embed.specs.Calls.{AsksFor, Calls, IsPlayed, IsStarved};
 ghost use Rattle.tl_embed.specs.Events.{Forgets, Reserves};
 ghost use Rattle.tl_embed.specs.Opens.{Opens, as_given, closed};
-ghost use Rattle.tl_embed.specs.Views.{Views};
 
 use crate::answer::Answer;
 use crate::request::{Asked, Request};
 use crate::tell::{step_told, tell_step};
-use crate::views::view;
+use crate::views::tell_view;
 use std::alloc::Global;
 use tl_map::{Geometry, GeometryNumbers};
 use tl_script_words::Step;
@@ -138,7 +137,7 @@ fn ask(network: &mut Network, request: &Request, told: &mut Answer)
         Asked::BadArgument => told.set_status(17),
         Asked::Forget => forget(network, BankNo::new(request.bank), told),
         Asked::Reserve => reserve_into(network, BankNo::new(request.bank), request.serial, told),
-        Asked::Other => view_into(network, request, told),
+        Asked::Other => tell_view(network, request, told),
     }
 }
 
@@ -194,11 +193,4 @@ fn forget(network: &mut Network, bank: BankNo, told: &mut Answer)
     }
     network.forget(bank);
     told.set_status(0);
-}
-
-/// A view, with its answer in a place that the caller has for it. It stands apart likewise.
-fn view_into(network: &Network, request: &Request, told: &mut Answer)
-    ensures { Views network.now request.now told.new }
-{
-    *told = view(network, request);
 }

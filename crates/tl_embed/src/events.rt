@@ -11,30 +11,28 @@ use tl_map::Geometry;
 use tl_protocol::{Access, Event, Shape};
 use tl_types::{ClientId, Kind, code};
 
-/// The event at a place of a bank's log, from 0; 19 where it is forgotten.
-pub fn event_told(bank: &Bank, place: u64) -> Answer
-    ensures { result ≡ event_shown bank.now place }
+/// Tells the event at a place of a bank's log, from 0; 19 where it is forgotten.
+pub fn tell_event_at(bank: &Bank, place: u64, told: &mut Answer)
+    ensures { told.new ≡ event_shown bank.now place }
 {
     let forgotten = bank.forgotten() as u64;
     if place < forgotten {
-        return Answer::only(19);
+        return told.set_status(19);
     }
     match bank.log().get((place - forgotten) as usize) {
-        Some(event) => event_of(bank.geometry(), event),
-        None => Answer::only(4),
+        Some(event) => tell_event(bank.geometry(), event, told),
+        None => told.set_status(4),
     }
 }
 
-/// A whole event.
-pub fn event_of(geometry: Geometry, event: &Event) -> Answer
-    ensures { result ≡ event_told (shape_of geometry) event.now }
+/// Tells a whole event.
+pub fn tell_event(geometry: Geometry, event: &Event, told: &mut Answer)
+    ensures { told.new ≡ event_told (shape_of geometry) event.now }
 {
-    Answer {
-        what: 6,
-        opcode: event_number(event),
-        place: block_of(geometry, event),
-        ..carried(event)
-    }
+    tell_carried(event, told);
+    told.what = 6;
+    told.opcode = event_number(event);
+    told.place = block_of(geometry, event);
 }
 
 /// The block that an event is of.
@@ -83,53 +81,56 @@ fn event_number(event: &Event) -> u32
     }
 }
 
-/// What an event carries beside its block.
-fn carried(event: &Event) -> Answer
-    ensures { result ≡ carried event.now }
+/// Tells what an event carries beside its block.
+fn tell_carried(event: &Event, told: &mut Answer)
+    ensures { told.new ≡ carried event.now }
 {
     match event {
-        Event::Load(access) | Event::Store(access) => of_access(access),
-        Event::SendAcquire(client, _, grow) => of_client(*client, param(Kind::AcquireBlock(*grow))),
-        Event::SendRelease(client, _, prune) => of_client(*client, param(Kind::Release(*prune))),
-        Event::SendProbe(client, _, cap) => of_client(*client, param(Kind::ProbeBlock(*cap))),
+        Event::Load(access) | Event::Store(access) => tell_access(access, told),
+        Event::SendAcquire(client, _, grow) => {
+            tell_client(*client, param(Kind::AcquireBlock(*grow)), told)
+        }
+        Event::SendRelease(client, _, prune) => {
+            tell_client(*client, param(Kind::Release(*prune)), told)
+        }
+        Event::SendProbe(client, _, cap) => {
+            tell_client(*client, param(Kind::ProbeBlock(*cap)), told)
+        }
         Event::AnswerProbe(client, _)
         | Event::TakeGrant(client, _)
         | Event::TakeReleaseAck(client, _)
         | Event::AcceptAcquire(client, _)
         | Event::TakeC(client, _)
         | Event::SendGrant(client, _)
-        | Event::TakeGrantAck(client, _) => of_client(*client, 0),
+        | Event::TakeGrantAck(client, _) => tell_client(*client, 0, told),
         Event::SendGet(_)
         | Event::Serve(_)
         | Event::TakeData(_)
         | Event::Drop(_)
         | Event::SendPut(_)
-        | Event::TakePutAck(_) => Answer::only(0),
+        | Event::TakePutAck(_) => told.set_status(0),
     }
 }
 
-/// Who makes an access, its address, index and stamp, and its bytes.
-fn of_access(access: &Access) -> Answer
-    ensures { result ≡ of_access access.now }
+/// Tells who makes an access, its address, index and stamp, and its bytes.
+fn tell_access(access: &Access, told: &mut Answer)
+    ensures { told.new ≡ of_access access.now }
 {
-    let told = Answer {
-        client: access.client.number(),
-        address: access.address,
-        index: access.index,
-        serial: access.stamp,
-        ..Answer::only(0)
-    };
-    told.with_bytes(access.bytes.as_slice())
+    told.set_status(0);
+    told.client = access.client.number();
+    told.address = access.address;
+    told.index = access.index;
+    told.serial = access.stamp;
+    told.set_bytes(access.bytes.as_slice());
 }
 
-fn of_client(client: ClientId, param: u32) -> Answer
-    ensures { result ≡ of_client client param }
+/// Tells a client, and the param of the message that it sends or is sent.
+fn tell_client(client: ClientId, param: u32, told: &mut Answer)
+    ensures { told.new ≡ of_client client param }
 {
-    Answer {
-        client: client.number(),
-        param,
-        ..Answer::only(0)
-    }
+    told.set_status(0);
+    told.client = client.number();
+    told.param = param;
 }
 
 /// The param of a kind of message.

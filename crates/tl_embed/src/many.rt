@@ -6,7 +6,7 @@ ghost use Rattle.tl_embed.specs.Many.{BankReads, CallsMany, Reads};
 
 use crate::answer::{Answer, Number};
 use crate::cache::{Cache, call_into};
-use crate::events::event_of;
+use crate::events::tell_event;
 use crate::request::Request;
 use tl_bank::Bank;
 use tl_map::Geometry;
@@ -65,7 +65,8 @@ fn tell_events(geometry: Geometry, log: &[Event], events: &mut [Answer]) -> usiz
 {
     let most = log.len().min(events.len());
     for place in 0..most {
-        events[place] = event_of(geometry, &log[place]);
+        let told = &mut events[place];
+        tell_event(geometry, &log[place], told);
     }
     most
 }

@@ -1,5 +1,6 @@
 //! What is told of messages, steps, events and numbers.
 ghost use Rattle.std.specs.Prelude.{◌≡◌, ◌<◌, Some};
+ghost use Rattle.tl_bank_spec.specs.Views.{outward_at};
 ghost use Rattle.tl_embed.specs.Told.{coded, last_block, message_of, message_told, memory_channel, memory_told, number_told, outward_told, passing, placed, placed_in, step_told};
 
 use crate::answer::Answer;
@@ -9,17 +10,15 @@ use tl_protocol::Outward;
 use tl_script_words::Step;
 use tl_text::{Answer as Shown, BlockSize, MemoryMessage};
 use tl_trace::{Network, bank_asked};
-use tl_types::{BankNo, Body, Kind, Message, Ticket, code};
+use tl_types::{BankNo, BlockNo, Body, Kind, Message, Ticket, code};
 
-/// A number.
-pub fn number_told(number: u64) -> Answer
-    ensures { result ≡ number_told number }
+/// Tells a number.
+pub fn tell_number(number: u64, told: &mut Answer)
+    ensures { told.new ≡ number_told number }
 {
-    Answer {
-        what: 5,
-        serial: number,
-        ..Answer::only(0)
-    }
+    told.set_status(0);
+    told.what = 5;
+    told.serial = number;
 }
 
 /// The codes of a kind are told as well.
@@ -31,16 +30,7 @@ fn tell_codes(kind: Kind, told: &mut Answer)
     told.param = u32::from(param);
 }
 
-/// A message of a client's link, with its block.
-pub fn message_told(ticket: Ticket, body: &Body, block: u32) -> Answer
-    ensures { result ≡ message_told ticket body.now block }
-{
-    let mut told = Answer::only(0);
-    tell_message(ticket, body, block, &mut told);
-    told
-}
-
-/// The same, told in a place for it.
+/// Tells a message of a client's link, with its block.
 pub fn tell_message(ticket: Ticket, body: &Body, block: u32, told: &mut Answer)
     ensures { told.new ≡ message_told ticket body.now block }
 {
@@ -169,25 +159,32 @@ pub fn tell_step(network: &Network, step: &Step, shown: &Shown, told: &mut Answe
     }
 }
 
-/// What passes of a block between home and the memory.
-pub fn outward_told(outward: Option<Outward>) -> Answer
-    ensures { result ≡ outward_told outward }
+/// Tells what passes of a block between home and the memory.
+#[inline(never)]
+pub fn tell_outward(bank: &Bank, block: BlockNo, told: &mut Answer)
+    ensures { told.new ≡ outward_told (outward_at bank.now block) }
 {
-    match outward {
-        None | Some(Outward::Quiet) => passing(0),
-        Some(Outward::Get) => passing(1),
-        Some(Outward::Data(bytes)) => passing(2).with_bytes(bytes.as_slice()),
-        Some(Outward::Put(bytes)) => passing(3).with_bytes(bytes.as_slice()),
-        Some(Outward::PutAck) => passing(4),
+    let outward = bank.outward(block);
+    match &outward {
+        None | Some(Outward::Quiet) => tell_passing(0, told),
+        Some(Outward::Get) => tell_passing(1, told),
+        Some(Outward::Data(bytes)) => {
+            tell_passing(2, told);
+            told.set_bytes(bytes.as_slice());
+        }
+        Some(Outward::Put(bytes)) => {
+            tell_passing(3, told);
+            told.set_bytes(bytes.as_slice());
+        }
+        Some(Outward::PutAck) => tell_passing(4, told),
     }
 }
 
-fn passing(number: u64) -> Answer
-    ensures { result ≡ passing number }
+/// Tells how far an exchange with the memory is.
+fn tell_passing(number: u64, told: &mut Answer)
+    ensures { told.new ≡ passing number }
 {
-    Answer {
-        what: 7,
-        serial: number,
-        ..Answer::only(0)
-    }
+    told.set_status(0);
+    told.what = 7;
+    told.serial = number;
 }

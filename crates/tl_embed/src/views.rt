@@ -2,6 +2,7 @@
 ghost use Rattle.std.specs.Prelude.{◌≡◌, ◌≤◌, ◌⊎◌, true};
 ghost use Rattle.std.specs.Option.{option_map};
 ghost use Rattle.tl_types.specs.Permission.{rank};
+ghost use Rattle.tl_bank.specs.Contents.{copy_at, line_at, memory_at};
 ghost use Rattle.tl_embed.specs.Asked.{channel_at, ticket_named};
 ghost use Rattle.tl_embed.specs.Calls.{Looks, tells_number};
 ghost use Rattle.tl_embed.specs.Told.{message_told, number_told, number_wide};
@@ -9,28 +10,30 @@ ghost use Rattle.tl_embed.specs.Views.{BankTells, OpenTold, QuietTold, Views, aw
 
 use crate::answer::{Answer, Number};
 use crate::cache::Cache;
-use crate::events::event_told;
+use crate::events::tell_event_at;
 use crate::request::{Request, channel_at};
-use crate::tell::{message_of, message_told, number_told, outward_told};
+use crate::tell::{message_of, tell_message, tell_number, tell_outward};
 use tl_bank::Bank;
-use tl_protocol::{CachedCopy, Line};
+use tl_protocol::CachedCopy;
 use tl_trace::Network;
-use tl_types::{Awaited, BankNo, BlockBytes, BlockNo, ClientId, Message, Perm, Ticket};
+use tl_types::{Awaited, BankNo, BlockNo, ClientId, Message, Perm, Ticket};
 
-/// What a request that asks for no step is answered: 20 perm, 21 directory, 22 peek, 23 home, 24 outward, 25 held, 26 recorded,
-/// 27 events, 28 event, 29 room, 30 copies, 31 is_quiet, 32 open block, 33 message, 34 waiting, 35 memory, 36 forgotten, 37 copy, 38 waits
-/// for, 39 the bank of a block; 16 where it is none of these.
-pub fn view(network: &Network, request: &Request) -> Answer
-    ensures { Views network.now request.now result }
+/// Tells what a request that asks for no step shows: 20 perm, 21 directory, 22 peek, 23 home, 24 outward, 25 held,
+/// 26 recorded, 27 events, 28 event, 29 room, 30 copies, 31 is_quiet, 32 open block, 33 message, 34 waiting, 35 memory,
+/// 36 forgotten, 37 copy, 38 waits for, 39 the bank of a block; 16 where it is none of these. It stands apart from
+/// the steps.
+#[inline(never)]
+pub fn tell_view(network: &Network, request: &Request, told: &mut Answer)
+    ensures { Views network.now request.now told.new }
 {
     match request.call {
-        20..=24 | 35 | 37..=39 => of_block(network, request),
+        20..=24 | 35 | 37..=39 => tell_of_block(network, request, told),
         25..=32 | 34 | 36 => match network.bank(BankNo::new(request.bank)) {
-            Some(bank) => of_bank(bank, request),
-            None => Answer::only(10),
+            Some(bank) => tell_of_bank(bank, request, told),
+            None => told.set_status(10),
         },
-        33 => of_ticket(network, request),
-        _ => Answer::only(16),
+        33 => tell_of_ticket(network, request, told),
+        _ => told.set_status(16),
     }
 }
 
@@ -64,29 +67,31 @@ fn number_view(network: &Network, request: &Request) -> Number
     }
 }
 
-/// Of a block, at the bank where it lies.
-fn of_block(network: &Network, request: &Request) -> Answer
-    ensures { result ≡ block_told network.now request.now }
+/// Of a block, at the bank where it lies. What owns the bytes of a block stands apart: the room for them is then
+/// cleared only where they are shown. (And LLVM takes a place that one function uses a hundred times for one that is
+/// kept: a step's answer would be copied once more.)
+fn tell_of_block(network: &Network, request: &Request, told: &mut Answer)
+    ensures { told.new ≡ block_told network.now request.now }
 {
     let client = ClientId::new(request.client);
     let block = BlockNo::new(request.place);
     match request.call {
-        20..=22 | 38 | 39 => number_of_block(network, request).wide(),
+        20..=22 | 38 | 39 => number_of_block(network, request).tell(told),
         23 => match home_of(network, block) {
-            Some(bank) => home_told(bank.line(block)),
-            None => Answer::only(10),
+            Some(bank) => tell_home(bank, block, told),
+            None => told.set_status(10),
         },
         24 => match home_of(network, block) {
-            Some(bank) => outward_told(bank.outward(block)),
-            None => Answer::only(10),
+            Some(bank) => tell_outward(bank, block, told),
+            None => told.set_status(10),
         },
         37 => match bank_for(network, client, block) {
-            Some(bank) => copy_or_none(bank.copy(client, block)),
-            None => Answer::only(10),
+            Some(bank) => tell_copy(bank, client, block, told),
+            None => told.set_status(10),
         },
         _ => match home_of(network, block) {
-            Some(bank) => memory_told(bank.memory(block)),
-            None => Answer::only(10),
+            Some(bank) => tell_memory(bank, block, told),
+            None => told.set_status(10),
         },
     }
 }
@@ -174,27 +179,38 @@ fn awaited_told(awaited: Option<Awaited>) -> Number
     }
 }
 
-/// A client's copy: 0 none, 1 at Branch, 2 at Tip and clean, 3 at Tip and dirty, with its bytes.
-fn copy_or_none(copy: Option<CachedCopy>) -> Answer
-    ensures { result ≡ copy_or_none copy }
+/// Tells a client's copy: 0 none, 1 at Branch, 2 at Tip and clean, 3 at Tip and dirty, with its bytes.
+#[inline(never)]
+fn tell_copy(bank: &Bank, client: ClientId, block: BlockNo, told: &mut Answer)
+    ensures { told.new ≡ copy_or_none (copy_at bank.now client block) }
 {
-    match copy {
-        None => Answer::only(10),
-        Some(CachedCopy::Absent) => number_told(0),
-        Some(CachedCopy::Readable(bytes)) => number_told(1).with_bytes(bytes.as_slice()),
+    let copy = bank.copy(client, block);
+    match &copy {
+        None => told.set_status(10),
+        Some(CachedCopy::Absent) => tell_number(0, told),
+        Some(CachedCopy::Readable(bytes)) => {
+            tell_number(1, told);
+            told.set_bytes(bytes.as_slice());
+        }
         Some(CachedCopy::Writable(bytes, dirty)) => {
-            number_told(dirty_number(dirty) + 1).with_bytes(bytes.as_slice())
+            tell_number(dirty_number(*dirty) + 1, told);
+            told.set_bytes(bytes.as_slice());
         }
     }
 }
 
-/// Home's copy of a block: 0 none, 1 clean, 2 dirty, with its bytes.
-fn home_told(line: Option<Line>) -> Answer
-    ensures { result ≡ home_told line }
+/// Tells home's copy of a block: 0 none, 1 clean, 2 dirty, with its bytes.
+#[inline(never)]
+fn tell_home(bank: &Bank, block: BlockNo, told: &mut Answer)
+    ensures { told.new ≡ home_told (line_at bank.now block) }
 {
-    match line {
-        None => number_told(0),
-        Some(line) => number_told(dirty_number(line.dirty)).with_bytes(line.bytes.as_slice()),
+    let line = bank.line(block);
+    match &line {
+        None => tell_number(0, told),
+        Some(line) => {
+            tell_number(dirty_number(line.dirty), told);
+            told.set_bytes(line.bytes.as_slice());
+        }
     }
 }
 
@@ -204,30 +220,32 @@ fn dirty_number(dirty: bool) -> u64
     if dirty { 2 } else { 1 }
 }
 
-/// The memory's bytes of a block.
-fn memory_told(bytes: Option<BlockBytes>) -> Answer
-    ensures { result ≡ memory_told bytes }
+/// Tells the memory's bytes of a block.
+#[inline(never)]
+fn tell_memory(bank: &Bank, block: BlockNo, told: &mut Answer)
+    ensures { told.new ≡ memory_told (memory_at bank.now block) }
 {
-    match bytes {
-        None => Answer::only(10),
-        Some(bytes) => Answer {
-            what: 8,
-            ..Answer::only(0)
+    let bytes = bank.memory(block);
+    match &bytes {
+        None => told.set_status(10),
+        Some(bytes) => {
+            told.set_status(0);
+            told.what = 8;
+            told.set_bytes(bytes.as_slice());
         }
-        .with_bytes(bytes.as_slice()),
     }
 }
 
 /// Of a bank.
-fn of_bank(bank: &Bank, request: &Request) -> Answer
-    ensures { BankTells bank.now request.now result }
+fn tell_of_bank(bank: &Bank, request: &Request, told: &mut Answer)
+    ensures { BankTells bank.now request.now told.new }
 {
     match request.call {
-        28 => event_told(bank, request.serial),
-        31 => quiet_told(bank),
-        32 => open_told(bank, request.serial),
-        34 => waiting_told(bank, request),
-        _ => number_of_bank(bank, request).wide(),
+        28 => tell_event_at(bank, request.serial, told),
+        31 => tell_quiet(bank, told),
+        32 => tell_open(bank, request.serial, told),
+        34 => tell_waiting(bank, request, told),
+        _ => number_of_bank(bank, request).tell(told),
     }
 }
 
@@ -248,60 +266,64 @@ fn number_of_bank(bank: &Bank, request: &Request) -> Number
     }
 }
 
-fn quiet_told(bank: &Bank) -> Answer
-    ensures { QuietTold bank.now result }
+/// Tells whether nothing is under way.
+fn tell_quiet(bank: &Bank, told: &mut Answer)
+    ensures { QuietTold bank.now told.new }
 {
     if bank.is_quiet() {
-        number_told(1)
+        tell_number(1, told);
     } else {
-        number_told(0)
+        tell_number(0, told);
     }
 }
 
-fn open_told(bank: &Bank, place: u64) -> Answer
-    ensures { OpenTold bank.now place result }
+/// Tells the own block of an open register, by its place.
+fn tell_open(bank: &Bank, place: u64, told: &mut Answer)
+    ensures { OpenTold bank.now place told.new }
 {
     let blocks = bank.open_blocks();
     match blocks.as_slice().get(place as usize) {
-        Some(block) => number_told(u64::from(block.number())),
-        None => Answer::only(4),
+        Some(block) => tell_number(u64::from(block.number()), told),
+        None => told.set_status(4),
     }
 }
 
-/// Of the message at a place among those that wait on a channel.
-fn waiting_told(bank: &Bank, request: &Request) -> Answer
-    ensures { result ≡ waiting_told bank.now request.now.client (channel_at request.now.channel) request.now.serial }
+/// Tells the message at a place among those that wait on a channel.
+fn tell_waiting(bank: &Bank, request: &Request, told: &mut Answer)
+    ensures { told.new ≡ waiting_told bank.now request.now.client (channel_at request.now.channel) request.now.serial }
 {
     let Some(channel) = channel_at(request.channel) else {
-        return Answer::only(17);
+        return told.set_status(17);
     };
     let client = ClientId::new(request.client);
     if client.number() >= bank.geometry().clients() {
-        return Answer::only(10);
+        return told.set_status(10);
     }
-    match bank.waiting(client, channel, request.serial as usize) {
-        Some(waiting) => one_waiting_told(waiting.0, &waiting.1),
-        None => Answer::only(4),
+    let waiting = bank.waiting(client, channel, request.serial as usize);
+    match &waiting {
+        Some(waiting) => tell_one_waiting(waiting.0, &waiting.1, told),
+        None => told.set_status(4),
     }
 }
 
-/// Of the message that a ticket names.
-fn of_ticket(network: &Network, request: &Request) -> Answer
-    ensures { result ≡ ticket_told network.now (ticket_named request.now) }
+/// Tells the message that a ticket names.
+fn tell_of_ticket(network: &Network, request: &Request, told: &mut Answer)
+    ensures { told.new ≡ ticket_told network.now (ticket_named request.now) }
 {
     let Some(ticket) = request.ticket() else {
-        return Answer::only(17);
+        return told.set_status(17);
     };
     let named = ticket;
-    match message_of(network, named) {
-        Some(message) => one_waiting_told(ticket, &message),
-        None => Answer::only(4),
+    let message = message_of(network, named);
+    match &message {
+        Some(message) => tell_one_waiting(ticket, message, told),
+        None => told.set_status(4),
     }
 }
 
-/// A message that waits.
-fn one_waiting_told(ticket: Ticket, message: &Message) -> Answer
-    ensures { result ≡ message_told ticket message.now.body message.now.block }
+/// Tells a message that waits.
+fn tell_one_waiting(ticket: Ticket, message: &Message, told: &mut Answer)
+    ensures { told.new ≡ message_told ticket message.now.body message.now.block }
 {
-    message_told(ticket, &message.body, message.block.number())
+    tell_message(ticket, &message.body, message.block.number(), told);
 }
