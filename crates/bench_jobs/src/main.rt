@@ -27,7 +27,8 @@ fn number_of(words: &[String], place: usize) -> u32 {
 }
 
 /// Does a job: `runs SEED SCRIPTS`, `bank SEED STEPS`, `judge SEED STEPS`, `cover SEED CLIENTS STEPS`, `wire SEED STEPS`,
-/// `closed SEED STEPS RECORDS`. Nothing where there is none of that name.
+/// `closed SEED STEPS RECORDS`; or one as it was before its results were told in full: `runs_before`, with the words of `runs`. Nothing
+/// where there is none of that name.
 fn done<R: Threads + Wait + Clock + Sync>(
     rt: &R,
     alloc: Global,
@@ -38,7 +39,8 @@ fn done<R: Threads + Wait + Clock + Sync>(
         return Ok(None);
     };
     Ok(Some(match job.as_str() {
-        "runs" => runs::run_all(rt, alloc, seed, size)?,
+        "runs" => runs::run_all(rt, alloc, seed, size, true)?,
+        "runs_before" => runs::run_all(rt, alloc, seed, size, false)?,
         "bank" => banks::run_banks(alloc, seed, size)?,
         "judge" => records::judge_all(alloc, seed, size)?,
         "cover" => records::cover_all(alloc, seed, size, number_of(words, 3))?,
@@ -59,7 +61,7 @@ fn main(rt: HostRuntime) -> io::Result<()> {
             println!(rt; "{key:016x} statuses {statuses}")
         }
         None => println!(rt;
-            "usage: bench_jobs runs|bank|judge|cover|wire|closed SEED SIZE [NUMBER]"
+            "usage: bench_jobs runs|bank|judge|cover|wire|closed|runs_before SEED SIZE [NUMBER]"
         ),
     }
 }

@@ -1,32 +1,38 @@
 //! Many scripts, run one after the other, as a regression does.
 
 use crate::numbers::{Digest, Numbers};
-use crate::scripts::{plan_at, script_of};
+use crate::scripts::{Plan, plan_at, script_of};
 use std::alloc::{AllocError, Global};
 use std::sync::Wait;
 use std::thread::Threads;
 use std::time::Clock;
 use tl_runner::{Job, answer};
 
-/// The report without the lines of banks: what each client was answered.
-fn of_clients(report: &[u8]) -> &[u8] {
-    for (place, byte) in report.iter().enumerate() {
-        if *byte == b'b' && place > 0 && report[place - 1] == b'\n' {
-            return &report[..place];
+/// The digest with a report: what each client was answered, `ok`, and the lines of the banks where these are fixed.
+fn with_report(digest: Digest, report: &[u8], has_fixed_banks: bool) -> Digest {
+    let mut digest = digest;
+    let (mut counts, mut begins) = (true, true);
+    for byte in report {
+        if begins {
+            counts = has_fixed_banks || *byte != b'b';
+        }
+        begins = *byte == b'\n';
+        if counts {
+            digest = digest.with(u64::from(*byte));
         }
     }
-    report
+    digest
 }
 
-/// Runs the script at a place, and digests its status and what the clients were answered.
+/// Runs the script of a plan, and digests its status and its report.
 fn run_one<R: Threads + Wait + Clock + Sync>(
     rt: &R,
     alloc: Global,
-    place: u32,
+    plan: Plan,
     numbers: &mut Numbers,
     digest: Digest,
 ) -> Result<Digest, AllocError> {
-    let script = script_of(alloc, plan_at(place), numbers)?;
+    let script = script_of(alloc, plan, numbers)?;
     let mut output = Vec::new(alloc);
     let mut faults = Vec::new(alloc);
     let job = Ok(Job {
@@ -41,25 +47,23 @@ fn run_one<R: Threads + Wait + Clock + Sync>(
         &mut output,
         &mut faults,
     );
-    Ok(
-        digest
-            .with_status(status)
-            .with_bytes(of_clients(&output))
-            .with_bytes(&faults),
-    )
+    let told = with_report(digest.with_status(status), &output, plan.has_fixed_banks());
+    Ok(told.with_bytes(&faults))
 }
 
-/// Runs so many scripts.
+/// Runs so many scripts, which read back or not.
 pub(crate) fn run_all<R: Threads + Wait + Clock + Sync>(
     rt: &R,
     alloc: Global,
     seed: u32,
     scripts: u32,
+    reads_back: bool,
 ) -> Result<Digest, AllocError> {
     let mut numbers = Numbers::new(seed);
     let mut digest = Digest::new();
     for place in 0..scripts {
-        digest = run_one(rt, alloc, place, &mut numbers, digest)?;
+        let plan = plan_at(place, reads_back);
+        digest = run_one(rt, alloc, plan, &mut numbers, digest)?;
     }
     Ok(digest)
 }

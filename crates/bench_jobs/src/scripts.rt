@@ -3,18 +3,20 @@
 use crate::numbers::Numbers;
 use std::alloc::{AllocError, Global};
 
-/// What the clients of a script do.
+/// What the clients of a script do. Where a script reads back, loads also come where the same client has stored, and where nobody
+/// stores lies an image.
 #[derive(Clone, Copy, PartialEq, Eq)]
 pub(crate) enum Kind {
     /// Loads and stores in blocks of their own, which all fit.
     Hits,
     /// Loads of blocks that all read.
     Readers,
-    /// Stores to four blocks.
+    /// Stores to four blocks. To read back, each client has four bytes of its own in each of them.
     Contention,
     /// Loads of blocks that all read, few often, more than the ways hold, and stores to blocks of their own.
     Mixed,
-    /// A walk over more blocks of their own than the ways hold.
+    /// A walk over more blocks of their own than the ways hold, of which each second one is stored to. To read back, a second lap loads
+    /// these and stores to the others.
     Streams,
 }
 
@@ -34,13 +36,14 @@ const BLOCKS: u32 = 4_096;
 #[derive(Clone, Copy)]
 pub(crate) struct Plan {
     pub(crate) kind: Kind,
+    pub(crate) reads_back: bool,
     pub(crate) clients: u32,
     pub(crate) banks: u32,
     pub(crate) commands: u32,
 }
 
 /// The plan at a place of a list without end: each kind with few and many clients, banks and commands.
-pub(crate) fn plan_at(place: u32) -> Plan {
+pub(crate) fn plan_at(place: u32, reads_back: bool) -> Plan {
     let (clients, banks, commands) = match place / 5 % 6 {
         0 => (1, 1, 1_024),
         1 => (2, 2, 512),
@@ -55,23 +58,51 @@ pub(crate) fn plan_at(place: u32) -> Plan {
     };
     Plan {
         kind,
+        reads_back,
         clients,
         banks,
         commands,
     }
 }
 
-fn push_load(text: &mut String, block: u32, numbers: &mut Numbers) -> Result<(), AllocError> {
-    let address = block
+impl Plan {
+    /// Whether what the banks show at the end does not depend on who comes first: all fits, and no client takes a copy from another.
+    pub(crate) fn has_fixed_banks(self) -> bool {
+        match self.kind {
+            Kind::Hits | Kind::Readers => true,
+            Kind::Contention | Kind::Mixed | Kind::Streams => false,
+        }
+    }
+
+    /// How many of the first blocks have an image's bytes.
+    fn image_blocks(self) -> u32 {
+        match self.kind {
+            _ if !self.reads_back => 0,
+            Kind::Mixed => 256,
+            Kind::Hits | Kind::Readers | Kind::Contention | Kind::Streams => 16,
+        }
+    }
+}
+
+/// The address of a word of eight bytes in a block: any.
+fn any_word(block: u32, numbers: &mut Numbers) -> u32 {
+    block
         .wrapping_mul(BLOCK_BYTES)
-        .wrapping_add(numbers.below(8).wrapping_mul(8));
+        .wrapping_add(numbers.below(8).wrapping_mul(8))
+}
+
+/// The address of a word of eight bytes in a block: the same at each time.
+fn one_word(block: u32) -> u32 {
+    block
+        .wrapping_mul(BLOCK_BYTES)
+        .wrapping_add((block % 8).wrapping_mul(8))
+}
+
+fn push_load(text: &mut String, address: u32) -> Result<(), AllocError> {
     write!(text, "load 0x{address:x} 8")
 }
 
-fn push_store(text: &mut String, block: u32, numbers: &mut Numbers) -> Result<(), AllocError> {
-    let address = block
-        .wrapping_mul(BLOCK_BYTES)
-        .wrapping_add(numbers.below(8).wrapping_mul(8));
+fn push_store(text: &mut String, address: u32, numbers: &mut Numbers) -> Result<(), AllocError> {
     let value = numbers.next();
     write!(text, "store 0x{address:x} {value:016x}")
 }
@@ -83,6 +114,102 @@ fn often(numbers: &mut Numbers, blocks: u32) -> u32 {
     numbers.below(fewer.max(1))
 }
 
+fn push_hit(text: &mut String, client: u32, numbers: &mut Numbers) -> Result<(), AllocError> {
+    let block = client.wrapping_mul(64).wrapping_add(numbers.below(16));
+    let stores = numbers.below(5) == 0;
+    let address = any_word(block, numbers);
+    if stores {
+        push_store(text, address, numbers)
+    } else {
+        push_load(text, address)
+    }
+}
+
+/// A store to one of four blocks that all store to.
+fn push_contention(text: &mut String, numbers: &mut Numbers) -> Result<(), AllocError> {
+    let block = numbers.below(4);
+    let address = any_word(block, numbers);
+    push_store(text, address, numbers)
+}
+
+/// A store to the client's own bytes of one of four blocks, or a load of them.
+fn push_own_bytes(text: &mut String, client: u32, numbers: &mut Numbers) -> Result<(), AllocError> {
+    let first = numbers.below(4).wrapping_mul(BLOCK_BYTES);
+    let address = first.wrapping_add(client.wrapping_mul(4));
+    if numbers.below(4) == 0 {
+        return write!(text, "load 0x{address:x} 4");
+    }
+    let value = numbers.next() & 0xffff_ffff;
+    write!(text, "store 0x{address:x} {value:08x}")
+}
+
+/// A load of one of the blocks that all read, or a store to one of the client's own.
+fn push_mixed(text: &mut String, client: u32, numbers: &mut Numbers) -> Result<(), AllocError> {
+    if numbers.below(5) == 0 {
+        let block = client.wrapping_mul(64).wrapping_add(numbers.below(64));
+        let address = any_word(block, numbers);
+        return push_store(text, address, numbers);
+    }
+    let block = often(numbers, 2_048).wrapping_add(1_024);
+    let address = any_word(block, numbers);
+    push_load(text, address)
+}
+
+/// The same, and loads of the client's own blocks, at the words to which it stores.
+fn push_mixed_back(
+    text: &mut String,
+    client: u32,
+    numbers: &mut Numbers,
+) -> Result<(), AllocError> {
+    let choice = numbers.below(5);
+    if choice > 1 {
+        let block = often(numbers, 2_048);
+        let address = any_word(block, numbers);
+        return push_load(text, address);
+    }
+    let own = client.wrapping_mul(64).wrapping_add(2_048);
+    let address = one_word(own.wrapping_add(numbers.below(64)));
+    if choice == 0 {
+        push_store(text, address, numbers)
+    } else {
+        push_load(text, address)
+    }
+}
+
+/// A store to an even one of the client's blocks, or a load of an odd one.
+fn push_streamed(
+    text: &mut String,
+    client: u32,
+    index: u32,
+    numbers: &mut Numbers,
+) -> Result<(), AllocError> {
+    let block = client.wrapping_mul(256).wrapping_add(index % 256);
+    let address = any_word(block, numbers);
+    if index & 1 == 0 {
+        push_store(text, address, numbers)
+    } else {
+        push_load(text, address)
+    }
+}
+
+/// The same in laps, of which each second one stores to the odd blocks and loads the even ones.
+fn push_lap(
+    text: &mut String,
+    plan: Plan,
+    client: u32,
+    index: u32,
+    numbers: &mut Numbers,
+) -> Result<(), AllocError> {
+    let blocks = (plan.commands / 2).min(256).max(1);
+    let (lap, place) = (index / blocks, index % blocks);
+    let address = one_word(client.wrapping_mul(256).wrapping_add(place));
+    if lap.wrapping_add(place) & 1 == 0 {
+        push_store(text, address, numbers)
+    } else {
+        push_load(text, address)
+    }
+}
+
 /// One command of a client.
 fn push_command(
     text: &mut String,
@@ -91,34 +218,19 @@ fn push_command(
     index: u32,
     numbers: &mut Numbers,
 ) -> Result<(), AllocError> {
-    let own = client.wrapping_mul(64);
-    match plan.kind {
-        Kind::Hits => {
-            let block = own.wrapping_add(numbers.below(16));
-            if numbers.below(5) == 0 {
-                push_store(text, block, numbers)
-            } else {
-                push_load(text, block, numbers)
-            }
+    match (plan.kind, plan.reads_back) {
+        (Kind::Hits, _) => push_hit(text, client, numbers),
+        (Kind::Readers, _) => {
+            let block = numbers.below(16);
+            let address = any_word(block, numbers);
+            push_load(text, address)
         }
-        Kind::Readers => push_load(text, numbers.below(16), numbers),
-        Kind::Contention => push_store(text, numbers.below(4), numbers),
-        Kind::Mixed => {
-            if numbers.below(5) == 0 {
-                push_store(text, own.wrapping_add(numbers.below(64)), numbers)
-            } else {
-                let block = often(numbers, 2_048).wrapping_add(1_024);
-                push_load(text, block, numbers)
-            }
-        }
-        Kind::Streams => {
-            let block = client.wrapping_mul(BLOCKS / 16).wrapping_add(index % 256);
-            if index & 1 == 0 {
-                push_store(text, block, numbers)
-            } else {
-                push_load(text, block, numbers)
-            }
-        }
+        (Kind::Contention, false) => push_contention(text, numbers),
+        (Kind::Contention, true) => push_own_bytes(text, client, numbers),
+        (Kind::Mixed, false) => push_mixed(text, client, numbers),
+        (Kind::Mixed, true) => push_mixed_back(text, client, numbers),
+        (Kind::Streams, false) => push_streamed(text, client, index, numbers),
+        (Kind::Streams, true) => push_lap(text, plan, client, index, numbers),
     }
 }
 
@@ -137,6 +249,19 @@ fn push_client(
     text.push_str("],\n")
 }
 
+/// The bytes of so many of the first blocks, where there are any.
+fn push_image(text: &mut String, blocks: u32, numbers: &mut Numbers) -> Result<(), AllocError> {
+    if blocks == 0 {
+        return Ok(());
+    }
+    text.push_str("image = \"")?;
+    for _ in 0..blocks.wrapping_mul(BLOCK_BYTES / 8) {
+        let word = numbers.next();
+        write!(text, "{word:016x}")?;
+    }
+    text.push_str("\"\n")
+}
+
 /// The script of a plan.
 pub(crate) fn script_of(
     alloc: Global,
@@ -152,9 +277,11 @@ pub(crate) fn script_of(
         "version = 2\nclients = {clients}\nbanks = {banks}\nblock_bytes = {BLOCK_BYTES}\n"
     )?;
     let rest = format!(in alloc;
-        "sets = {sets}\nways = {ways}\nregisters = 8\ncopies = 64\nmemory_blocks = {BLOCKS}\nturns = 1000000\ncommands = [\n"
+        "sets = {sets}\nways = {ways}\nregisters = 8\ncopies = 64\nmemory_blocks = {BLOCKS}\nturns = 1000000\n"
     )?;
     text.push_str(rest.as_str())?;
+    push_image(&mut text, plan.image_blocks(), numbers)?;
+    text.push_str("commands = [\n")?;
     for client in 0..plan.clients {
         push_client(&mut text, plan, client, numbers)?;
     }
