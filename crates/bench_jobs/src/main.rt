@@ -5,6 +5,7 @@
 mod banks;
 mod numbers;
 mod records;
+mod results;
 mod runs;
 mod scripts;
 mod session;
@@ -17,6 +18,7 @@ use std::io;
 use std::sync::Wait;
 use std::thread::Threads;
 use std::time::Clock;
+use tlwire_answer::Form;
 
 /// The number at a place, 0 where there is none.
 fn number_of(words: &[String], place: usize) -> u32 {
@@ -27,8 +29,8 @@ fn number_of(words: &[String], place: usize) -> u32 {
 }
 
 /// Does a job: `runs SEED SCRIPTS`, `bank SEED STEPS`, `judge SEED STEPS`, `cover SEED CLIENTS STEPS`, `wire SEED STEPS`,
-/// `closed SEED STEPS RECORDS`; or one as it was before its results were told in full: `runs_before`, with the words of `runs`. Nothing
-/// where there is none of that name.
+/// `closed SEED STEPS RECORDS`; or one as it was before its results were told in full: `runs_before`, `wire_before`, `closed_before`,
+/// with the same words. Nothing where there is none of that name.
 fn done<R: Threads + Wait + Clock + Sync>(
     rt: &R,
     alloc: Global,
@@ -44,8 +46,16 @@ fn done<R: Threads + Wait + Clock + Sync>(
         "bank" => banks::run_banks(alloc, seed, size)?,
         "judge" => records::judge_all(alloc, seed, size)?,
         "cover" => records::cover_all(alloc, seed, size, number_of(words, 3))?,
-        "wire" => wires::search_all(alloc, seed, size)?,
-        "closed" => wires::rule_out_all(alloc, seed, size, number_of(words, 3))?,
+        "wire" => wires::search_all(alloc, Form::Run, seed, size)?,
+        "wire_before" => wires::search_all(alloc, Form::Summary, seed, size)?,
+        "closed" => wires::rule_out_all(alloc, Form::Run, seed, size, number_of(words, 3))?,
+        "closed_before" => wires::rule_out_all(
+            alloc,
+            Form::Summary,
+            seed,
+            size,
+            number_of(words, 3),
+        )?,
         _ => return Ok(None),
     }))
 }
@@ -60,8 +70,6 @@ fn main(rt: HostRuntime) -> io::Result<()> {
             let (key, statuses) = (digest.key, digest.statuses);
             println!(rt; "{key:016x} statuses {statuses}")
         }
-        None => println!(rt;
-            "usage: bench_jobs runs|bank|judge|cover|wire|closed|runs_before SEED SIZE [NUMBER]"
-        ),
+        None => println!(rt; "usage: bench_jobs JOB SEED SIZE [NUMBER]"),
     }
 }

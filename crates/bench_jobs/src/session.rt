@@ -1,11 +1,12 @@
 //! A bank between clients, home and memory that each do what comes to their mind.
 
 use crate::numbers::{Digest, Numbers};
+use crate::results::{with_action, with_end, with_reply, with_ticket};
 use crate::sight::{Sights, Way};
 use arrayvec::ArrayVec;
 use std::alloc::{AllocError, Global};
 use std::marker::Model;
-use tl_bank::{Action, Bank, Share, When};
+use tl_bank::{Action, Bank, Refusal, Share, When};
 use tl_map::{Geometry, GeometryNumbers};
 use tl_protocol::Event;
 use tl_types::{BankNo, BlockNo, Channel, ClientId, Grow, Perm, Prune, Ticket};
@@ -101,19 +102,14 @@ impl Session {
         }
     }
 
-    /// How many events happened.
-    pub(crate) fn events(&self) -> usize {
-        self.bank.events()
-    }
-
     /// What happened, without what is forgotten.
     pub(crate) fn log(&self) -> &[Event] {
         self.bank.log()
     }
 
-    /// What was loaded and stored so far, and when.
+    /// What each call so far answered, and what the bank holds now.
     pub(crate) fn digest(&self) -> Digest {
-        self.digest
+        with_end(self.digest, &self.bank)
     }
 
     /// What was seen of the messages so far.
@@ -154,8 +150,14 @@ impl Session {
         }
     }
 
+    /// A call was refused.
+    fn refused(&mut self, refusal: Refusal) {
+        self.digest = self.digest.with(u64::from(refusal.number()));
+    }
+
     /// A message was sent.
     fn sent(&mut self, ticket: Ticket) -> Result<(), AllocError> {
+        self.digest = with_ticket(self.digest, ticket);
         if self.sights.is_some() {
             self.see(&ticket)?;
         }
@@ -190,8 +192,12 @@ impl Session {
 
     fn load(&mut self, client: ClientId, address: u32, len: usize) -> Result<(), AllocError> {
         let when = self.when(client);
-        let Ok(loaded) = self.bank.load(client, address, len, when) else {
-            return Ok(());
+        let loaded = match self.bank.load(client, address, len, when) {
+            Ok(loaded) => loaded,
+            Err(refusal) => {
+                self.refused(refusal);
+                return Ok(());
+            }
         };
         self.digest = self
             .digest
@@ -208,8 +214,12 @@ impl Session {
         let bytes = (value & 0xffff_ffff).to_le_bytes();
         let given = &bytes[..4];
         let when = self.when(client);
-        let Ok(stamp) = self.bank.store(client, address, given, when) else {
-            return Ok(());
+        let stamp = match self.bank.store(client, address, given, when) {
+            Ok(stamp) => stamp,
+            Err(refusal) => {
+                self.refused(refusal);
+                return Ok(());
+            }
         };
         self.digest = self.digest.with(stamp);
         self.set_clock(client, stamp);
@@ -230,7 +240,10 @@ impl Session {
                 self.sent(ticket)?;
                 Ok(true)
             }
-            Err(_) => Ok(false),
+            Err(refusal) => {
+                self.refused(refusal);
+                Ok(false)
+            }
         }
     }
 
@@ -245,7 +258,10 @@ impl Session {
         };
         match self.bank.release(client, block, prune, share) {
             Ok(ticket) => self.sent(ticket),
-            Err(_) => Ok(()),
+            Err(refusal) => {
+                self.refused(refusal);
+                Ok(())
+            }
         }
     }
 
@@ -330,11 +346,16 @@ impl Session {
         let Some(share) = self.shares.as_mut_slice().get_mut(probe.client.index()) else {
             return Ok(false);
         };
-        let Ok(answer) = self.bank.answer_probe(probe, share) else {
-            return Ok(false);
-        };
-        self.sent(answer)?;
-        Ok(true)
+        match self.bank.answer_probe(probe, share) {
+            Ok(answer) => {
+                self.sent(answer)?;
+                Ok(true)
+            }
+            Err(refusal) => {
+                self.refused(refusal);
+                Ok(false)
+            }
+        }
     }
 
     /// Home takes what a client sent on C; whether it could.
@@ -345,7 +366,10 @@ impl Session {
                 Ok(true)
             }
             Ok(None) => Ok(true),
-            Err(_) => Ok(false),
+            Err(refusal) => {
+                self.refused(refusal);
+                Ok(false)
+            }
         }
     }
 
@@ -354,11 +378,27 @@ impl Session {
         let Some(share) = self.shares.as_mut_slice().get_mut(grant.client.index()) else {
             return Ok(false);
         };
-        let Ok(acknowledged) = self.bank.take_grant(grant, share) else {
-            return Ok(false);
-        };
-        self.sent(acknowledged)?;
-        Ok(true)
+        match self.bank.take_grant(grant, share) {
+            Ok(acknowledged) => {
+                self.sent(acknowledged)?;
+                Ok(true)
+            }
+            Err(refusal) => {
+                self.refused(refusal);
+                Ok(false)
+            }
+        }
+    }
+
+    /// Whether a call that answers nothing was done.
+    fn is_done(&mut self, answer: Result<(), Refusal>) -> bool {
+        match answer {
+            Ok(()) => true,
+            Err(refusal) => {
+                self.refused(refusal);
+                false
+            }
+        }
     }
 
     /// A client takes what home sent on D; whether it could.
@@ -366,17 +406,24 @@ impl Session {
         if self.take_grant(*ticket)? {
             return Ok(true);
         }
-        Ok(self.bank.take_release_ack(*ticket).is_ok())
+        let taken = self.bank.take_release_ack(*ticket);
+        Ok(self.is_done(taken))
     }
 
     /// A message is taken; whether it could be.
     fn take(&mut self, ticket: Ticket) -> Result<bool, AllocError> {
         match ticket.channel {
-            Channel::A => Ok(self.bank.accept(ticket).is_ok()),
+            Channel::A => {
+                let accepted = self.bank.accept(ticket);
+                Ok(self.is_done(accepted))
+            }
             Channel::B => self.answer(ticket),
             Channel::C => self.take_c(ticket),
             Channel::D => self.take_d(&ticket),
-            Channel::E => Ok(self.bank.take_grant_ack(ticket).is_ok()),
+            Channel::E => {
+                let taken = self.bank.take_grant_ack(ticket);
+                Ok(self.is_done(taken))
+            }
         }
     }
 
@@ -398,9 +445,14 @@ impl Session {
 
     /// Home goes on with a block.
     fn advance(&mut self, block: BlockNo) -> Result<(), AllocError> {
-        let Ok(action) = self.bank.advance(block) else {
-            return Ok(());
+        let action = match self.bank.advance(block) {
+            Ok(action) => action,
+            Err(refusal) => {
+                self.refused(refusal);
+                return Ok(());
+            }
         };
+        self.digest = with_action(self.digest, &action);
         match action {
             Action::Get => {
                 self.passed(block, Way::Asked)?;
@@ -417,6 +469,20 @@ impl Session {
         }
     }
 
+    /// The memory answers what home asked about a block; whether it could.
+    fn serve(&mut self, block: BlockNo) -> bool {
+        match self.bank.serve_memory(block) {
+            Ok(reply) => {
+                self.digest = with_reply(self.digest, &reply);
+                true
+            }
+            Err(refusal) => {
+                self.refused(refusal);
+                false
+            }
+        }
+    }
+
     /// One of the blocks that wait for the memory is served, or home takes its answer.
     fn of_memory(&mut self, numbers: &mut Numbers) -> Result<(), AllocError> {
         let waiting = self.outward.len().min(1_000_000) as u32;
@@ -427,10 +493,11 @@ impl Session {
         let Some(block) = self.outward.get(place).copied() else {
             return Ok(());
         };
-        if self.bank.serve_memory(block).is_ok() {
+        if self.serve(block) {
             return self.passed(block, Way::Answered);
         }
-        if self.bank.take_memory(block).is_ok() && place < self.outward.len() {
+        let taken = self.bank.take_memory(block);
+        if self.is_done(taken) && place < self.outward.len() {
             let _ = self.outward.swap_remove(place);
         }
         Ok(())

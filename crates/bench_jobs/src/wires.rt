@@ -185,10 +185,10 @@ fn damaged(alloc: Global, text: &str) -> Result<Vec<u8>, AllocError> {
     Ok(bytes)
 }
 
-fn answer_to(alloc: Global, text: &[u8], digest: Digest) -> Digest {
+fn answer_to(alloc: Global, form: Form, text: &[u8], digest: Digest) -> Digest {
     let mut output = Vec::new(alloc);
     let mut faults = Vec::new(alloc);
-    let status = answer(alloc, Form::Summary, text, &mut output, &mut faults);
+    let status = answer(alloc, form, text, &mut output, &mut faults);
     digest
         .with_status(status)
         .with_bytes(&output)
@@ -198,37 +198,50 @@ fn answer_to(alloc: Global, text: &[u8], digest: Digest) -> Digest {
 /// Answers the record of a plan, and the damaged one.
 fn answer_both(
     alloc: Global,
+    form: Form,
     plan: Plan,
     seed: u32,
     steps: u32,
     digest: Digest,
 ) -> Result<Digest, AllocError> {
     let text = record_of(alloc, plan, seed, plan.steps.wrapping_mul(steps))?;
-    let first = answer_to(alloc, text.as_bytes(), digest);
+    let first = answer_to(alloc, form, text.as_bytes(), digest);
     if !plan.damaged {
         return Ok(first);
     }
     let other = damaged(alloc, text.as_str())?;
-    Ok(answer_to(alloc, &other, first))
+    Ok(answer_to(alloc, form, &other, first))
 }
 
 /// Answers the records of some plans.
-fn answer_all(alloc: Global, plans: &[Plan], seed: u32, steps: u32) -> Result<Digest, AllocError> {
+fn answer_all(
+    alloc: Global,
+    form: Form,
+    plans: &[Plan],
+    seed: u32,
+    steps: u32,
+) -> Result<Digest, AllocError> {
     let mut digest = Digest::new();
     for plan in plans {
-        digest = answer_both(alloc, *plan, seed, steps, digest)?;
+        digest = answer_both(alloc, form, *plan, seed, steps, digest)?;
     }
     Ok(digest)
 }
 
-/// Looks for runs.
-pub(crate) fn search_all(alloc: Global, seed: u32, steps: u32) -> Result<Digest, AllocError> {
-    answer_all(alloc, STRAIGHT, seed, steps)
+/// Looks for runs, which are told in a form.
+pub(crate) fn search_all(
+    alloc: Global,
+    form: Form,
+    seed: u32,
+    steps: u32,
+) -> Result<Digest, AllocError> {
+    answer_all(alloc, form, STRAIGHT, seed, steps)
 }
 
-/// Rules records out, so many of each plan.
+/// Rules records out, so many of each plan, or tells a run in a form.
 pub(crate) fn rule_out_all(
     alloc: Global,
+    form: Form,
     seed: u32,
     steps: u32,
     records: u32,
@@ -236,7 +249,7 @@ pub(crate) fn rule_out_all(
     let mut digest = Digest::new();
     for number in 0..records {
         let own = seed.wrapping_mul(records).wrapping_add(number);
-        digest = digest.and(answer_all(alloc, CLOSED, own, steps)?);
+        digest = digest.and(answer_all(alloc, form, CLOSED, own, steps)?);
     }
     Ok(digest)
 }
