@@ -2,6 +2,7 @@
 //! a digest of all results, the same at each run.
 #![tactic(auto)]
 
+mod asked;
 mod banks;
 mod numbers;
 mod records;
@@ -12,6 +13,7 @@ mod session;
 mod sight;
 mod wires;
 
+use asked::{Asked, Part};
 use numbers::Digest;
 use std::alloc::{AllocError, Global};
 use std::io;
@@ -20,42 +22,29 @@ use std::thread::Threads;
 use std::time::Clock;
 use tlwire_answer::Form;
 
-/// The number at a place, 0 where there is none.
-fn number_of(words: &[String], place: usize) -> u32 {
-    match words.get(place) {
-        Some(word) => word.as_str().parse::<u32>().unwrap_or(0),
-        None => 0,
-    }
-}
-
 /// Does a job: `runs SEED SCRIPTS`, `bank SEED STEPS`, `judge SEED STEPS`, `cover SEED CLIENTS STEPS`, `wire SEED STEPS`,
-/// `closed SEED STEPS RECORDS`; or one as it was before its results were told in full: `runs_before`, `wire_before`, `closed_before`,
-/// with the same words. Nothing where there is none of that name.
+/// `closed SEED STEPS RECORDS`; or, with the same words, one as it was before its results were digested in full: `runs_before`,
+/// `wire_before`, `closed_before`. With the word `inputs` at the end a job makes its inputs alone; `bank` has none, since each of its
+/// calls is drawn from what was answered before. Nothing where there is no such job.
 fn done<R: Threads + Wait + Clock + Sync>(
     rt: &R,
     alloc: Global,
     words: &[String],
 ) -> Result<Option<Digest>, AllocError> {
-    let (seed, size) = (number_of(words, 1), number_of(words, 2));
+    let asked = Asked::new(words);
     let Some(job) = words.first() else {
         return Ok(None);
     };
     Ok(Some(match job.as_str() {
-        "runs" => runs::run_all(rt, alloc, seed, size, true)?,
-        "runs_before" => runs::run_all(rt, alloc, seed, size, false)?,
-        "bank" => banks::run_banks(alloc, seed, size)?,
-        "judge" => records::judge_all(alloc, seed, size)?,
-        "cover" => records::cover_all(alloc, seed, size, number_of(words, 3))?,
-        "wire" => wires::search_all(alloc, Form::Run, seed, size)?,
-        "wire_before" => wires::search_all(alloc, Form::Summary, seed, size)?,
-        "closed" => wires::rule_out_all(alloc, Form::Run, seed, size, number_of(words, 3))?,
-        "closed_before" => wires::rule_out_all(
-            alloc,
-            Form::Summary,
-            seed,
-            size,
-            number_of(words, 3),
-        )?,
+        "runs" => runs::run_all(rt, alloc, asked, true)?,
+        "runs_before" => runs::run_all(rt, alloc, asked, false)?,
+        "bank" if asked.part == Part::Whole => banks::run_banks(alloc, asked.seed, asked.size)?,
+        "judge" => records::judge_all(alloc, asked)?,
+        "cover" => records::cover_all(alloc, asked)?,
+        "wire" => wires::search_all(alloc, Form::Run, asked)?,
+        "wire_before" => wires::search_all(alloc, Form::Summary, asked)?,
+        "closed" => wires::rule_out_all(alloc, Form::Run, asked)?,
+        "closed_before" => wires::rule_out_all(alloc, Form::Summary, asked)?,
         _ => return Ok(None),
     }))
 }
@@ -70,6 +59,6 @@ fn main(rt: HostRuntime) -> io::Result<()> {
             let (key, statuses) = (digest.key, digest.statuses);
             println!(rt; "{key:016x} statuses {statuses}")
         }
-        None => println!(rt; "usage: bench_jobs JOB SEED SIZE [NUMBER]"),
+        None => println!(rt; "usage: bench_jobs JOB SEED SIZE [NUMBER] [inputs]"),
     }
 }

@@ -1,5 +1,6 @@
 //! Records of events that a bank wrote: judged, and counted by the situations that they reach.
 
+use crate::asked::{Asked, Part};
 use crate::numbers::{Digest, Numbers};
 use crate::session::{Session, Sizes};
 use std::alloc::{AllocError, Global};
@@ -49,7 +50,10 @@ fn record_of(
     Ok(text)
 }
 
-fn judge(alloc: Global, text: &str, digest: Digest) -> Digest {
+fn judge(alloc: Global, part: Part, text: &str, digest: Digest) -> Digest {
+    if part == Part::Inputs {
+        return digest.with(text.len() as u64);
+    }
     let mut output = Vec::new(alloc);
     let mut faults = Vec::new(alloc);
     let mut reader = text.as_bytes();
@@ -61,20 +65,30 @@ fn judge(alloc: Global, text: &str, digest: Digest) -> Digest {
 }
 
 /// Judges records of 1, 4 and 16 clients and few and many blocks; the last one ends with an event that is not permitted.
-pub(crate) fn judge_all(alloc: Global, seed: u32, steps: u32) -> Result<Digest, AllocError> {
+pub(crate) fn judge_all(alloc: Global, asked: Asked) -> Result<Digest, AllocError> {
     let mut digest = Digest::new();
     for (clients, blocks) in [(1, 64), (4, 4_096), (16, 256), (16, 65_536), (8, 1_024)] {
-        let mut text = record_of(alloc, seed, clients, blocks, steps)?;
+        let mut text = record_of(alloc, asked.seed, clients, blocks, asked.size)?;
         if clients == 8 {
             text.push_str("take_data 1023\n")?;
         }
-        digest = judge(alloc, text.as_str(), digest);
+        digest = judge(alloc, asked.part, text.as_str(), digest);
     }
     Ok(digest)
 }
 
 /// Counts one record, and digests why it is not counted to its end.
-fn count(alloc: Global, tallies: &mut Tallies, place: usize, text: &str, digest: Digest) -> Digest {
+fn count(
+    alloc: Global,
+    part: Part,
+    tallies: &mut Tallies,
+    place: usize,
+    text: &str,
+    digest: Digest,
+) -> Digest {
+    if part == Part::Inputs {
+        return digest.with(text.len() as u64);
+    }
     let mut reader = text.as_bytes();
     let mut faults = Vec::new(alloc);
     match cover(alloc, &mut reader, tallies, place) {
@@ -87,20 +101,25 @@ fn count(alloc: Global, tallies: &mut Tallies, place: usize, text: &str, digest:
 }
 
 /// Counts a record of each number of clients up to a most, and tells the tables.
-pub(crate) fn cover_all(
-    alloc: Global,
-    seed: u32,
-    most: u32,
-    steps: u32,
-) -> Result<Digest, AllocError> {
+pub(crate) fn cover_all(alloc: Global, asked: Asked) -> Result<Digest, AllocError> {
     let mut tallies = Tallies::new(alloc);
     let mut names = Vec::new(alloc);
     let mut digest = Digest::new();
-    for clients in 1..=most.min(16) {
-        let text = record_of(alloc, seed, clients, 64, steps)?;
+    for clients in 1..=asked.size.min(16) {
+        let text = record_of(alloc, asked.seed, clients, 64, asked.count)?;
         names.push(format!(in alloc; "record{clients}")?)?;
         let place = clients as usize - 1;
-        digest = count(alloc, &mut tallies, place, text.as_str(), digest);
+        digest = count(
+            alloc,
+            asked.part,
+            &mut tallies,
+            place,
+            text.as_str(),
+            digest,
+        );
+    }
+    if asked.part == Part::Inputs {
+        return Ok(digest);
     }
     let mut output = Vec::new(alloc);
     let mut faults = Vec::new(alloc);

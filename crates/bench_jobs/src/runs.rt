@@ -1,5 +1,6 @@
 //! Many scripts, run one after the other, as a regression does.
 
+use crate::asked::{Asked, Part};
 use crate::numbers::{Digest, Numbers};
 use crate::scripts::{Plan, plan_at, script_of};
 use std::alloc::{AllocError, Global};
@@ -28,11 +29,15 @@ fn with_report(digest: Digest, report: &[u8], has_fixed_banks: bool) -> Digest {
 fn run_one<R: Threads + Wait + Clock + Sync>(
     rt: &R,
     alloc: Global,
+    part: Part,
     plan: Plan,
     numbers: &mut Numbers,
     digest: Digest,
 ) -> Result<Digest, AllocError> {
     let script = script_of(alloc, plan, numbers)?;
+    if part == Part::Inputs {
+        return Ok(digest.with(script.len() as u64));
+    }
     let mut output = Vec::new(alloc);
     let mut faults = Vec::new(alloc);
     let job = Ok(Job {
@@ -55,15 +60,14 @@ fn run_one<R: Threads + Wait + Clock + Sync>(
 pub(crate) fn run_all<R: Threads + Wait + Clock + Sync>(
     rt: &R,
     alloc: Global,
-    seed: u32,
-    scripts: u32,
+    asked: Asked,
     reads_back: bool,
 ) -> Result<Digest, AllocError> {
-    let mut numbers = Numbers::new(seed);
+    let mut numbers = Numbers::new(asked.seed);
     let mut digest = Digest::new();
-    for place in 0..scripts {
+    for place in 0..asked.size {
         let plan = plan_at(place, reads_back);
-        digest = run_one(rt, alloc, plan, &mut numbers, digest)?;
+        digest = run_one(rt, alloc, asked.part, plan, &mut numbers, digest)?;
     }
     Ok(digest)
 }

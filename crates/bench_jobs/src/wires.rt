@@ -1,5 +1,6 @@
 //! Records of messages that a monitor on the links wrote.
 
+use crate::asked::{Asked, Part};
 use crate::numbers::{Digest, Numbers};
 use crate::session::{Session, Sizes};
 use crate::sight::{SOURCES, Sights};
@@ -112,6 +113,13 @@ fn sizes_of(plan: Plan) -> Sizes {
     }
 }
 
+/// What is asked of the records of a job.
+#[derive(Clone, Copy)]
+struct Wanted {
+    form: Form,
+    part: Part,
+}
+
 /// The lines before the messages.
 fn header_of(alloc: Global, plan: Plan) -> Result<String, AllocError> {
     let (clients, blocks) = (plan.clients, plan.blocks);
@@ -185,10 +193,13 @@ fn damaged(alloc: Global, text: &str) -> Result<Vec<u8>, AllocError> {
     Ok(bytes)
 }
 
-fn answer_to(alloc: Global, form: Form, text: &[u8], digest: Digest) -> Digest {
+fn answer_to(alloc: Global, wanted: Wanted, text: &[u8], digest: Digest) -> Digest {
+    if wanted.part == Part::Inputs {
+        return digest.with(text.len() as u64);
+    }
     let mut output = Vec::new(alloc);
     let mut faults = Vec::new(alloc);
-    let status = answer(alloc, form, text, &mut output, &mut faults);
+    let status = answer(alloc, wanted.form, text, &mut output, &mut faults);
     digest
         .with_status(status)
         .with_bytes(&output)
@@ -198,58 +209,55 @@ fn answer_to(alloc: Global, form: Form, text: &[u8], digest: Digest) -> Digest {
 /// Answers the record of a plan, and the damaged one.
 fn answer_both(
     alloc: Global,
-    form: Form,
+    wanted: Wanted,
     plan: Plan,
     seed: u32,
     steps: u32,
     digest: Digest,
 ) -> Result<Digest, AllocError> {
     let text = record_of(alloc, plan, seed, plan.steps.wrapping_mul(steps))?;
-    let first = answer_to(alloc, form, text.as_bytes(), digest);
+    let first = answer_to(alloc, wanted, text.as_bytes(), digest);
     if !plan.damaged {
         return Ok(first);
     }
     let other = damaged(alloc, text.as_str())?;
-    Ok(answer_to(alloc, form, &other, first))
+    Ok(answer_to(alloc, wanted, &other, first))
 }
 
 /// Answers the records of some plans.
 fn answer_all(
     alloc: Global,
-    form: Form,
+    wanted: Wanted,
     plans: &[Plan],
     seed: u32,
     steps: u32,
 ) -> Result<Digest, AllocError> {
     let mut digest = Digest::new();
     for plan in plans {
-        digest = answer_both(alloc, form, *plan, seed, steps, digest)?;
+        digest = answer_both(alloc, wanted, *plan, seed, steps, digest)?;
     }
     Ok(digest)
 }
 
 /// Looks for runs, which are told in a form.
-pub(crate) fn search_all(
-    alloc: Global,
-    form: Form,
-    seed: u32,
-    steps: u32,
-) -> Result<Digest, AllocError> {
-    answer_all(alloc, form, STRAIGHT, seed, steps)
+pub(crate) fn search_all(alloc: Global, form: Form, asked: Asked) -> Result<Digest, AllocError> {
+    let wanted = Wanted {
+        form,
+        part: asked.part,
+    };
+    answer_all(alloc, wanted, STRAIGHT, asked.seed, asked.size)
 }
 
 /// Rules records out, so many of each plan, or tells a run in a form.
-pub(crate) fn rule_out_all(
-    alloc: Global,
-    form: Form,
-    seed: u32,
-    steps: u32,
-    records: u32,
-) -> Result<Digest, AllocError> {
+pub(crate) fn rule_out_all(alloc: Global, form: Form, asked: Asked) -> Result<Digest, AllocError> {
+    let wanted = Wanted {
+        form,
+        part: asked.part,
+    };
     let mut digest = Digest::new();
-    for number in 0..records {
-        let own = seed.wrapping_mul(records).wrapping_add(number);
-        digest = digest.and(answer_all(alloc, form, CLOSED, own, steps)?);
+    for number in 0..asked.count {
+        let own = asked.seed.wrapping_mul(asked.count).wrapping_add(number);
+        digest = digest.and(answer_all(alloc, wanted, CLOSED, own, asked.size)?);
     }
     Ok(digest)
 }
