@@ -11,6 +11,7 @@ mod runs;
 mod scripts;
 mod session;
 mod sight;
+mod traces;
 mod wires;
 
 use asked::{Asked, Part};
@@ -23,9 +24,9 @@ use std::time::Clock;
 use tlwire_answer::Form;
 
 /// Does a job: `runs SEED SCRIPTS`, `bank SEED STEPS`, `judge SEED STEPS`, `cover SEED CLIENTS STEPS`, `wire SEED STEPS`,
-/// `closed SEED STEPS RECORDS`; or, with the same words, one as it was before its results were digested in full: `runs_before`,
-/// `wire_before`, `closed_before`. With the word `inputs` at the end a job makes its inputs alone; `bank` has none, since each of its
-/// calls is drawn from what was answered before. Nothing where there is no such job.
+/// `closed SEED STEPS RECORDS`, `trace SEED STEPS`; or, with the same words, one as it was before its results were digested in full:
+/// `runs_before`, `wire_before`, `closed_before`. With the word `inputs` at the end a job makes its inputs alone; `bank` and `trace`
+/// have none, since each of their calls is drawn from what was answered before. Nothing where there is no such job.
 fn done<R: Threads + Wait + Clock + Sync>(
     rt: &R,
     alloc: Global,
@@ -37,13 +38,14 @@ fn done<R: Threads + Wait + Clock + Sync>(
     };
     Ok(Some(match job.as_str() {
         "runs" => runs::run_all(rt, alloc, asked, true)?,
-        "runs_before" => runs::run_all(rt, alloc, asked, false)?,
         "bank" if asked.part == Part::Whole => banks::run_banks(alloc, asked.seed, asked.size)?,
         "judge" => records::judge_all(alloc, asked)?,
         "cover" => records::cover_all(alloc, asked)?,
         "wire" => wires::search_all(alloc, Form::Run, asked)?,
-        "wire_before" => wires::search_all(alloc, Form::Summary, asked)?,
         "closed" => wires::rule_out_all(alloc, Form::Run, asked)?,
+        "trace" if asked.part == Part::Whole => traces::play_all(alloc, asked.seed, asked.size)?,
+        "runs_before" => runs::run_all(rt, alloc, asked, false)?,
+        "wire_before" => wires::search_all(alloc, Form::Summary, asked)?,
         "closed_before" => wires::rule_out_all(alloc, Form::Summary, asked)?,
         _ => return Ok(None),
     }))

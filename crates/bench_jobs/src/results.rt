@@ -1,9 +1,10 @@
 //! What calls of a bank answer and what a bank holds, in a digest.
 
 use crate::numbers::Digest;
-use tl_bank::{Action, Bank, Reply};
+use tl_bank::{Action, Bank, Refusal, Reply};
 use tl_protocol::CachedCopy;
-use tl_types::{Awaited, BlockNo, Channel, ClientId, Message, Perm, Ticket, code};
+use tl_text::{Answer, MemoryMessage};
+use tl_types::{Awaited, BlockNo, Body, Channel, ClientId, Message, Perm, Ticket, code};
 
 /// The digest with a ticket more.
 pub(crate) fn with_ticket(digest: Digest, ticket: Ticket) -> Digest {
@@ -34,16 +35,54 @@ pub(crate) fn with_reply(digest: Digest, reply: &Reply) -> Digest {
     }
 }
 
-/// The digest with what a message says.
-pub(crate) fn with_message(digest: Digest, message: &Message) -> Digest {
-    let (opcode, param) = code(message.body.kind());
+/// The digest with what a message says of a block.
+fn with_body(digest: Digest, block: BlockNo, body: &Body) -> Digest {
+    let (opcode, param) = code(body.kind());
     let said = digest
-        .with(u64::from(message.block.number()))
+        .with(u64::from(block.number()))
         .with(u64::from(opcode))
         .with(u64::from(param));
-    match message.body.bytes() {
+    match body.bytes() {
         Some(bytes) => said.with_bytes(bytes.as_slice()),
         None => said,
+    }
+}
+
+/// The digest with what passes between home and the memory.
+fn with_memory_message(digest: Digest, message: &MemoryMessage) -> Digest {
+    match message {
+        MemoryMessage::Get { address } => digest.with(u64::from(*address)),
+        MemoryMessage::PutFullData { address, bytes } => digest
+            .with(u64::from(*address))
+            .with_bytes(bytes.as_slice()),
+        MemoryMessage::AccessAckData { bytes } => digest.with_bytes(bytes.as_slice()),
+        MemoryMessage::AccessAck => digest.with(0),
+    }
+}
+
+/// The digest with what a step was answered.
+pub(crate) fn with_answer(digest: Digest, answer: &Answer) -> Digest {
+    match answer {
+        Answer::Sent {
+            ticket,
+            block,
+            body,
+        } => with_body(with_ticket(digest, *ticket), *block, body),
+        Answer::Memory { size, message } => {
+            with_memory_message(digest.with(u64::from(size.log2())), message)
+        }
+        Answer::Dropped => digest.with(1),
+        Answer::Loaded(bytes) => digest.with_bytes(bytes.as_slice()),
+        Answer::Done => digest.with(2),
+        Answer::Refused(refusal) => digest.with(u64::from(refusal.number())),
+    }
+}
+
+/// The digest with what a step would send, or why it would be refused.
+pub(crate) fn with_outlook(digest: Digest, outlook: &Result<Message, Refusal>) -> Digest {
+    match outlook {
+        Ok(message) => with_body(digest, message.block, &message.body),
+        Err(refusal) => digest.with(u64::from(refusal.number())),
     }
 }
 
@@ -131,7 +170,7 @@ fn with_waiting(digest: Digest, bank: &Bank, client: ClientId, channel: Channel)
     for place in 0..64 {
         match bank.waiting(client, channel, place) {
             Some((ticket, message)) => {
-                digest = with_message(with_ticket(digest, ticket), &message);
+                digest = with_body(with_ticket(digest, ticket), message.block, &message.body);
             }
             None => return digest,
         }
