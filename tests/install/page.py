@@ -82,7 +82,7 @@ def cell(fault, wrong):
 
 
 def plants(page, planted, bench):
-    shown = [it for it in rows(page, 4) if re.search(r", [\d,]+$", it[1])]
+    shown = [it for it in rows(page, 4) if re.fullmatch(r"(`[a-z ]+`|scoreboard), [\d,]+", it[1])]
     names = [line.split()[0] for line in lines_of(planted)]
     wrong = 0
     for row, plant in zip(shown, names):
