@@ -1,5 +1,5 @@
-// numbers: a home of a bus, a link or a tap that cannot be is refused, from C++ and by the calls for DPI. Status 1
-// where one is taken, or one that can be is refused.
+// numbers: a home of a bus, a link or a tap that cannot be is refused, from C++ and by the calls for DPI; a message of
+// TileLink that the model has not is told, and not as a fault of the client. Status 1 where it is otherwise.
 #include "jinavoke_dpi.cpp"
 #include <iostream>
 
@@ -21,7 +21,38 @@ static void *made_for_dpi(int beat_bytes) {
     return jvh_new(2, 1, 64, 16, 4, 8, 64, 4096, 0, beat_bytes, 16, 16, 1, 3, 20, 0, 20000, 0, 1, 0, 0, "", "", "");
 }
 
+// How a message of one beat is told that a client sends to a fresh home, and whether as its fault.
+static std::pair<std::string, bool> told_of(uint32_t channel, uint32_t opcode, uint32_t param) {
+    jinavoke::Home home({});
+    std::pair<std::string, bool> told = {"nothing", false};
+    home.on_fault = [&](const jinavoke::Fault &f) { told = {f.name(), f.is_of_device()}; };
+    jinavoke::Beat beat;
+    beat.opcode = opcode; beat.param = param;
+    if (channel == JV_A) home.a(0, beat); else home.c(0, beat);
+    return told;
+}
+static void messages() {
+    struct Row { uint32_t channel, opcode, param; std::string name; bool is_of_device; };
+    const Row rows[] = {
+        {JV_A, 4, 0, "outside the model", false},  // Get
+        {JV_A, 5, 0, "outside the model", false},  // Intent, the Hint
+        {JV_A, 7, 1, "outside the model", false},  // AcquirePerm NtoT
+        {JV_C, 2, 0, "outside the model", false},  // HintAck
+        {JV_A, 6, 3, "codes", true},               // AcquireBlock of no grow
+        {JV_C, 3, 0, "codes", true},               // no message
+        {JV_C, 6, 3, "codes", true},               // Release of no prune
+        {JV_C, 4, 5, "unasked", true},             // ProbeAck NtoN, and no Probe
+        {JV_C, 6, 2, "wrong from", true},          // Release BtoN, and no copy
+        {JV_A, 6, 1, "nothing", false},            // AcquireBlock NtoT
+    };
+    for (const Row &row : rows) {
+        auto told = told_of(row.channel, row.opcode, row.param);
+        want(told == std::make_pair(row.name, row.is_of_device), told.first.c_str(), row.opcode);
+    }
+}
+
 int main() {
+    messages();
     for (uint32_t bus : {8u, 16u, 32u, 64u}) want(is_made(bus), "a bus of", bus);
     for (uint32_t bus : {0u, 1u, 4u, 7u, 12u, 24u, 63u, 65u, 128u, 1u << 31, ~0u})
         want(!is_made(bus), "no bus of", bus);
