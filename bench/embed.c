@@ -143,11 +143,35 @@ static void two_clients(uint32_t calls) {
     jv_free(c);
 }
 
+/* A bank whose log nobody reads, with room for one event: it is forgotten before each step that logs one. */
+static jv_cache *unread;
+static jv_cache *lean(void) { wrong += jv_forget(unread, 0).status != JV_OK; return unread; }
+static void take_lean(uint32_t client, const uint8_t *bytes) {
+    jv_ticket t;
+    t = done(jv_acquire(lean(), client, 0, JV_NTOT)); done(jv_accept(lean(), t));
+    t = done(jv_advance(lean(), 0)); t = done(jv_answer_probe(lean(), t)); done(jv_take_c(lean(), t));
+    t = done(jv_advance(lean(), 0)); t = done(jv_take_grant(lean(), t)); done(jv_take_grant_ack(lean(), t));
+    accessed(jv_store(lean(), client, 0, bytes, 4, 0));
+}
+static void nobody_reads(uint32_t calls) {
+    const uint8_t bytes[4] = {1, 2, 3, 4};
+    uint32_t i;
+    unread = fresh(2, 1);
+    begin(unread, 1, 0);
+    accessed(jv_store(unread, 1, 0, bytes, 4, 0));
+    for (i = 0; i < calls; i++) take_lean(i & 1, bytes);
+    TIMED("unread-ping-pong", 9, take_lean(i & 1, bytes));
+    TIMED("unread-loads", 1, accessed(jv_load(lean(), 1, 0, 4, i)));
+    TIMED("forget", 1, lean());
+    jv_free(unread);
+}
+
 int main(int argc, char **argv) {
     uint32_t calls = argc > 1 ? (uint32_t)strtoul(argv[1], NULL, 10) : 200000;
     if (calls < 64 || calls % 2) { fprintf(stderr, "usage: embed CALLS, an even number from 64 on\n"); return 2; }
     one_bank(calls);
     two_clients(calls);
+    nobody_reads(calls);
     if (wrong) fprintf(stderr, "%ld answers were otherwise (%llu)\n", wrong, (unsigned long long)sum);
     return wrong != 0;
 }

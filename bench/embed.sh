@@ -125,4 +125,7 @@ sort -k1,2 -k3,3n "$out/costs" | awk -v unit=$unit -v heads="$heads" '
         row("reserve", "`jv_reserve`")
         row("many", "a load, 64 at once (`jv_calls`)")
         row("events", "an event, 32 read at once (`jv_read`)")
+        row("forget", "`jv_forget`")
+        row("unread-loads", "`jv_load`, behind a `jv_forget`")
+        row("unread-ping-pong", "a block goes from one client to the other, each of the nine calls behind a `jv_forget`")
     }'

@@ -1,4 +1,4 @@
-"""Runs programs on generated scripts, in turn, and prints accesses a second. Called by run.sh."""
+"""Runs programs on generated scripts, in turn, and prints accesses a second. Called by accesses.sh."""
 import math
 import os
 import statistics

@@ -55,3 +55,12 @@ kit_folder() {
 
 # Which interface the header has: it rises with each change of a struct, a number or a meaning.
 interface() { sed -n 's/^#define JV_VERSION \([0-9]*\).*/\1/p' "$top/include/jinavoke.h"; }
+
+# The documents with their pictures and pages, and the examples: what ./install lays below share/ at the same paths, so that
+# their links hold (scripts/links.py).
+shared_files() (
+    cd "$top" || exit 1
+    find README.md CONTRIBUTING.md docs examples -type f ! -name check ! -name '*.pyc'
+    find crates -name out -prune -o -name CALLING.md -print
+    find crates/golden/data -name '*.svg' -o -name '*.html'
+)

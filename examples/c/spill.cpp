@@ -2,6 +2,7 @@
 // no end but its caller's, in memory that does not grow.
 //   spill EVENTS | tlcheck -     at least so many events; figures on standard error
 //   spill EVENTS quiet           the same with nothing written: what the banks and the reading of the log cost alone
+//   spill EVENTS unread          a log that nobody reads, forgotten behind each step: the bank keeps room for one event
 #include "jinavoke.h"
 #include <cinttypes>
 #include <cstdio>
@@ -16,7 +17,11 @@ static const uint64_t room = 65536; // events that are kept until they are read
 
 static jv_cache *cache;
 static long refused;
-static jv_ticket done(const jv_answer &a) { refused += a.status != 0; return jv_sent(&a); }
+static bool is_unread;
+static void forget() { refused += jv_forget(cache, 0).status != 0; }
+// A step is done.
+static jv_ticket done(const jv_answer &a) { refused += a.status != 0; if (is_unread) forget(); return jv_sent(&a); }
+static void done(const jv_accessed &a) { refused += a.status != 0; if (is_unread) forget(); }
 
 // The events of the log so far as lines of a record, in a buffer that is written whole.
 class Record {
@@ -51,7 +56,7 @@ public:
             if (!quiet) for (size_t i = 0; i < n; i++) add(out[i]);
         std::fwrite(text.data(), 1, text.size(), stdout);
         text.clear();
-        done(jv_forget(cache, 0));
+        forget();
     }
 };
 
@@ -73,27 +78,39 @@ static void turn(uint32_t client, uint32_t block, uint32_t hits, uint32_t &index
     }
     for (uint32_t i = 0; i < hits; i++, index++) {
         uint8_t bytes[8] = {uint8_t(index), uint8_t(index >> 8), uint8_t(client)};
-        if (i & 1) refused += jv_load(cache, client, block * block_bytes, 8, index).status != 0;
-        else refused += jv_store(cache, client, block * block_bytes, bytes, 8, index).status != 0;
+        if (i & 1) done(jv_load(cache, client, block * block_bytes, 8, index));
+        else done(jv_store(cache, client, block * block_bytes, bytes, 8, index));
     }
     jv_answer a = jv_release(cache, client, block, JV_TTON); // with the bytes; the next client finds the copy at home
     a = jv_take_c(cache, done(a));
     done(jv_take_release_ack(cache, done(a)));
 }
+static void any_turn() {
+    static uint32_t index = 0, seed = 1;
+    seed = seed * 1664525 + 1013904223;
+    turn(seed >> 8 & 3, seed >> 16 & 63, seed >> 24 & 31, index);
+}
 int main(int argc, char **argv) {
-    if (argc < 2) { std::fprintf(stderr, "usage: spill EVENTS [quiet]\n"); return 2; }
+    std::string how = argc > 2 ? argv[2] : "";
+    if (argc < 2 || argc > 3 || (argc == 3 && how != "quiet" && how != "unread")) {
+        std::fprintf(stderr, "usage: spill EVENTS [quiet|unread]\n");
+        return 2;
+    }
     uint64_t wanted = std::strtoull(argv[1], nullptr, 10);
-    Record record(argc > 2 && !std::strcmp(argv[2], "quiet"));
+    is_unread = how == "unread";
+    Record record(!how.empty());
     jv_numbers n = {1, clients, 1, block_bytes, 4, 4, 4, 16, blocks};
-    uint32_t why, index = 0, seed = 1;
+    uint32_t why;
     cache = jv_new(&n, nullptr, 0, &why);
     if (!cache) { std::fprintf(stderr, "jv_new: %u\n", why); return 1; }
-    refused += jv_reserve(cache, 0, room).status != 0;
+    refused += jv_reserve(cache, 0, is_unread ? 1 : room).status != 0;
     while (record.cursor < wanted && !refused) {
-        while (jv_room(cache, 0).serial >= 256 && !refused) {
-            seed = seed * 1664525 + 1013904223;
-            turn(seed >> 8 & 3, seed >> 16 & 63, seed >> 24 & 31, index);
+        if (is_unread) {
+            any_turn();
+            record.cursor = jv_events(cache, 0).serial;
+            continue;
         }
+        while (jv_room(cache, 0).serial >= 256 && !refused) any_turn();
         record.spill();
     }
     rusage use;

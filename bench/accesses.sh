@@ -1,5 +1,5 @@
 #!/usr/bin/env bash
-# bench/run.sh [PROGRAM [PROGRAM]]: a table of accesses a second for hits, readers, contention, one block, a mix and streams, over clients and banks.
+# bench/accesses.sh [PROGRAM [PROGRAM]]: a table of accesses a second for hits, readers, contention, one block, a mix and streams, over clients and banks.
 # With no word it measures the program of this repository, proved and built first. With two programs (for instance a copy of an earlier build of
 # crates/tlcache/out/tlcache) it runs them in turn on the same scripts, so that both meet the same load of the machine, and prints their ratio.
 # KINDS="hits streams" and SHAPES="1x1 4x4" (clients x banks) choose a part; REPEATS (5) says how often each script is run.
