@@ -1,4 +1,4 @@
-"""Runs programs on generated scripts, in turn, and prints accesses a second. Called by accesses.sh."""
+"""Runs programs on generated scripts, in turn, and prints accesses a second, times and pages. Called by accesses.sh."""
 import math
 import os
 import statistics
@@ -10,30 +10,34 @@ import time
 import generate
 
 # How many commands all clients of a kind have together.
-COMMANDS = {'hits': 32768, 'readers': 32768, 'contention': 4096, 'one-block': 4096, 'mixed': 8192, 'streams': 8192}
+COMMANDS = {'hits': 32768, 'readers': 32768, 'contention': 4096, 'one-block': 4096, 'mixed': 8192, 'streams': 8192, 'idle': 0}
 
 
-def seconds(program, path):
-    """How long one run takes, and its fault line."""
+def run(program, path):
+    """How long one run takes, how many pages it touches for the first time, and its fault line."""
     start = time.perf_counter()
-    ran = subprocess.run([program, 'run', path], stdin=subprocess.DEVNULL, stdout=subprocess.DEVNULL, stderr=subprocess.PIPE)
-    return time.perf_counter() - start, ran.stderr.decode().strip()
+    child = subprocess.Popen([program, 'run', path], stdin=subprocess.DEVNULL, stdout=subprocess.DEVNULL, stderr=subprocess.PIPE)
+    fault = child.stderr.read().decode().strip()
+    _, status, usage = os.wait4(child.pid, 0)
+    child.returncode = os.waitstatus_to_exitcode(status)
+    return time.perf_counter() - start, usage.ru_minflt, fault
 
 
 def measured(programs, text, repeats):
-    """The median time of each program on a script, run in turn, and the fault lines."""
+    """The median time and pages of each program on a script, run in turn, and the fault lines."""
     with tempfile.NamedTemporaryFile('w', suffix='.toml') as file:
         file.write(text)
         file.flush()
-        times, faults = [[] for _ in programs], set()
+        times, pages, faults = [[] for _ in programs], [[] for _ in programs], set()
         for repeat in range(repeats):
             order = range(len(programs)) if repeat % 2 == 0 else reversed(range(len(programs)))
             for number in order:
-                took, fault = seconds(programs[number], file.name)
+                took, touched, fault = run(programs[number], file.name)
                 times[number].append(took)
+                pages[number].append(touched)
                 if fault:
                     faults.add(f'{"AB"[number]}: {fault}')
-    return [statistics.median(each) for each in times], faults
+    return [statistics.median(each) for each in times], [statistics.median(each) for each in pages], faults
 
 
 def main():
@@ -46,15 +50,16 @@ def main():
     for letter, program in zip('AB', programs):
         print(f'{letter}: {program}')
     print(f'medians of {repeats} runs, reading and printing included; load average {os.getloadavg()[0]:.1f}')
-    heads = ''.join(f'{letter + " accesses/s":>16}' for letter, _ in zip('AB', programs))
+    heads = ''.join(f'{letter + " accesses/s":>16}{letter + " ms":>10}{letter + " pages":>9}' for letter, _ in zip('AB', programs))
     print(f'{"kind":12}{"clients":>8}{"banks":>6}{"accesses":>10}{heads}' + (f'{"A/B":>8}' if len(programs) == 2 else ''))
     ratios = []
     for kind in kinds:
         for clients, banks in shapes:
-            commands = min(4096, max(64, COMMANDS[kind] // clients))
-            times, faults = measured(programs, generate.script(kind, clients, banks, commands), repeats)
+            commands = 0 if kind == 'idle' else min(4096, max(64, COMMANDS[kind] // clients))
+            times, pages, faults = measured(programs, generate.script(kind, clients, banks, commands), repeats)
             accesses = clients * commands
-            line = f'{kind:12}{clients:>8}{banks:>6}{accesses:>10}' + ''.join(f'{accesses / took:>16.0f}' for took in times)
+            line = f'{kind:12}{clients:>8}{banks:>6}{accesses:>10}' + ''.join(
+                f'{accesses / took:>16.0f}{took * 1e3:>10.2f}{touched:>9.0f}' for took, touched in zip(times, pages))
             if len(times) == 2:
                 ratios.append(times[1] / times[0])
                 line += f'{ratios[-1]:>8.2f}'

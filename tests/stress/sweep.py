@@ -1,8 +1,8 @@
 #!/usr/bin/env python3
 """sweep.py PROGRAM [MOST]: refuses each request for memory and each start of a thread in turn, and each with all that follow it.
 
-PROGRAM is a built tlcache. For each script, for N from 1 on until no Nth request is met (or MOST), the Nth request alone is refused, and
-then the Nth and all later ones. Each time the answer must be the whole output with status 0, or `error 41 memory` with status 4 and nothing
+PROGRAM is a built tlcache. For each script, for N from 1 on until no Nth request is met, the Nth request alone is refused, and then the Nth
+and all later ones. With MOST, at most so many N are tried of a script, evenly spread. Each time the answer must be the whole output with status 0, or `error 41 memory` with status 4 and nothing
 on standard output. A C compiler (cc) builds refuse.c. Prints a line for each script, and ends with status 1 where an answer was another.
 """
 import os
@@ -63,8 +63,9 @@ class Sweep:
         if status != 0 or fault:
             return f"not swept: status {status}", 1
         lawful, tried, whole_ones, faults, wrong = reports(words[1], whole), 0, 0, 0, []
-        last = min(met + 16, most)
-        tries = [(setting, number) for setting in ("REFUSE_AT", "REFUSE_FROM") for number in range(1, last + 1)]
+        last = met + 16
+        numbers = range(1, last + 1, -(-last // most))
+        tries = [(setting, number) for setting in ("REFUSE_AT", "REFUSE_FROM") for number in numbers]
         with ThreadPoolExecutor(2) as pool:
             for (setting, number), (_, status, output, fault) in zip(tries, pool.map(lambda it: self.answer(words, *it), tries)):
                 tried += 1

@@ -7,14 +7,10 @@ use Rattle.tl_bank_spec.specs.View.{View, shape_of}
 -- a bank whose log is a run is coherent
 pub run-coherent : (v : View) → IsRun (shape_of v.geometry) v.image v.log → IsCoherent v
 run-coherent v run =
-    let kept = every_run_keeps_copies (shape_of v.geometry) v.image v.log run in
     let read = every_run_reads_last (shape_of v.geometry) v.image v.log run in
     record {
       run = run;
-      alone = λ block. (kept block).alone;
-      recorded = λ block. (kept block).recorded;
-      at_home = λ block. (kept block).at_home;
-      whole = λ block. (read.0 block).sized;
-      newest = λ block. (read.0 block).newest;
+      kept = every_run_keeps_copies (shape_of v.geometry) v.image v.log run;
+      newest = read.0;
       loads = read.1;
     }

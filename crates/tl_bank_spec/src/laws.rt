@@ -10,13 +10,15 @@ pub fn every_refusal()
     ensures { EveryRefusalIsTheProtocols }
 {}
 
-/// An event leaves the number of copies of each client but the one whose share its call takes.
+/// An event that the protocol permits at the end of a bank's log (`MayAt`) leaves the number of copies of each client but the one
+/// whose share its call takes: in the view whose log has that event more (`Extends`).
 pub fn every_count()
     ensures { EveryEventLeavesOtherCounts }
 {}
 
-/// What an event sends waits under the next ticket of its channel; what an event took was the first message of its channel,
-/// which lost just that; and a ticket that is not refused names the first message.
+/// What an event sends that is permitted at the end of a bank's log (`MayAt`) waits under the next ticket of its channel, in the view
+/// whose log has that event more (`Extends`). What the last event of a lawful log took (`Lawful`) was the first message of its
+/// channel, which lost just that. A ticket that no case of a call refuses names the first message, in every view.
 pub fn every_ticket()
     ensures sends { EveryMessageSentWaits }
     ensures takes { EveryMessageTakenIsFirst }
