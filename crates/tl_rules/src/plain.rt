@@ -137,12 +137,12 @@ impl Plain {
         ensures value { option_copied result ≡ slice_get self.now.blocks block }
         ensures shaped { IsShaped self.now.shape self.now.blocks }
     {
-        let Some((Some(fresh), own)) = self.states.split_first() else {
+        if block >= self.shape.blocks as usize {
             return None;
-        };
-        match own.get(block)? {
+        }
+        match &self.states[block + 1] {
             Some(state) => Some(state),
-            None => Some(fresh),
+            None => self.states[0].as_ref(),
         }
     }
 
