@@ -224,8 +224,8 @@ impl Plain {
         }
     }
 
-    /// Carries out an event that may come next. For want of memory nothing changes.
-    fn carry_out(&mut self, event: &Event) -> Result<(), AllocError>
+    /// Carries out an event that is known to be permitted. Err is a refused request for memory: then nothing has changed.
+    pub fn carry_out(&mut self, event: &Event) -> Result<(), AllocError>
         requires { May self.old.shape (state_of_plain self.old (block_of self.old.shape event.now)) event.now }
         ensures ok { OnOk result (IsStep self.old self.new event.now) }
         ensures err { OnErr result (self.new ≡ self.old) }
