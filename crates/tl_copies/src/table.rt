@@ -1,5 +1,5 @@
 //! One client's table: keys in the order of age, beside the slots with what the client holds.
-ghost use Rattle.std.specs.Prelude.{◌≡◌, ◌↔◌, ◌≤◌, ◌<◌, ◌+◌, ◌%◌, ◌∷◌, ◌++◌, [], false, length, count_by, not, None, Some, IfErr, IsErr, OnErr, OnOk, MatchOption, option_copied, slice_index_or, slice_set, if◌then◌else◌};
+ghost use Rattle.std.specs.Prelude.{◌≡◌, ◌↔◌, ◌≤◌, ◌<◌, ◌+◌, ◌%◌, ◌∷◌, ◌++◌, [], false, length, count_by, not, None, Some, IfErr, IsErr, IsTrue, OnErr, OnOk, MatchOption, option_copied, slice_index_or, slice_set, if◌then◌else◌};
 ghost use Rattle.std.specs.List.{list_all, remove};
 ghost use Rattle.tl_copies.specs.declared.held.Held.{Held};
 ghost use Rattle.tl_copies.specs.Slots.{IsNotBefore};
@@ -156,34 +156,55 @@ impl Table {
         None
     }
 
+    /// Whether the entry at a place, if there is one, is a block's.
+    fn is_at(&self, place: usize, block: BlockNo) -> bool
+        requires { HasEachOnce self.now }
+        ensures { IsTrue result → IsPlace block self.now place }
+    {
+        place < self.len() && self.block(place) == block
+    }
+
     /// Where the entry of a block is: at `place` if that is the block's, and else where a search finds it.
     fn place_near(&self, block: BlockNo, place: usize) -> Option<usize>
         requires { HasEachOnce self.now }
         ensures { MatchOption result (found block self.now ≡ None) (λ place. IsPlace block self.now place) }
     {
-        if place < self.len() && self.block(place) == block {
+        if self.is_at(place, block) {
             return Some(place);
         }
         self.search(block)
     }
 
-    /// Where the entry of a block is.
+    /// Whether no entry is of a block that shares this one's hint: then it has none.
+    fn has_none_near(&self, block: BlockNo) -> bool
+        ensures { IsTrue result → found block self.now ≡ None }
+    {
+        self.sharing[hint_of(block)] == 0
+    }
+
+    /// Where the entry of a block is, which mostly is there: at its hint, or where a search finds it.
     pub(crate) fn place_of(&self, block: BlockNo) -> Option<usize>
         requires { HasEachOnce self.now }
         ensures { MatchOption result (found block self.now ≡ None) (λ place. IsPlace block self.now place) }
     {
-        let hint = hint_of(block);
-        if self.sharing[hint] == 0 {
+        let place = usize::from(self.hints[hint_of(block)]);
+        if self.is_at(place, block) {
+            return Some(place);
+        }
+        if self.has_none_near(block) {
             return None;
         }
-        self.place_near(block, usize::from(self.hints[hint]))
+        self.search(block)
     }
 
-    /// The entry of a block.
+    /// The entry of a block, of which mostly there is none.
     pub(crate) fn of(&self, block: BlockNo) -> Option<&Held>
         requires { HasEachOnce self.now }
         ensures { option_copied result ≡ found block self.now }
     {
+        if self.has_none_near(block) {
+            return None;
+        }
         let place = self.place_of(block)?;
         Some(self.held(place))
     }

@@ -3,7 +3,7 @@ use Rattle.std.proofs.Common.{◌≡◌, ℕ, ◌+◌, ◌<◌, List, [], ◌∷
 use Rattle.std.specs.Prelude.{slice_get, slice_index_or, slice_set}
 use Rattle.std.proofs.lemmas.List.{get_or-map, get_or-set_other, get_or-set_same, get_or_past, get_or_read, length-map, length-set, map-set}
 use Rattle.std.proofs.lemmas.List.Elements.{All-get_or, All-set}
-use Rattle.std.proofs.lemmas.Option.{get_or_from_slice_get, slice_get_cases}
+use Rattle.std.proofs.lemmas.Option.{get_or_from_slice_get, slice_get-get_or, slice_get_cases}
 use Rattle.tl_protocol.specs.Protocol.{May, after, block_of}
 use Rattle.tl_protocol.specs.declared.event.Event.{Event}
 use Rattle.tl_protocol.specs.declared.shape.Shape.{Shape}
@@ -130,6 +130,26 @@ fresh_at shape (Some fresh ∷ own) i here first b before lt is none some =
     subst (λ (x : PlainBlock). IsAt shape (each_block fresh own) i x) same
     (subst (λ (o : Option PlainBlock). IsAt shape (each_block fresh own) i (unwrap_or o fresh)) none
     (at_place shape fresh own i here before lt is))
+
+-- a block that is there is its own state
+pub own_there : (shape : Shape) (states : List (Option PlainBlock)) (i : ℕ) (here : Option PlainBlock) (b : PlainBlock)
+    → IsShaped shape (blocks_in states) → i < shape.blocks → here ≡ get_or states (i + 1) here → here ≡ Some b
+    → slice_get (blocks_in states) i ≡ Some b
+own_there shape states i here b before lt is some =
+    slice_get-get_or (blocks_in states) i empty_block (omega (arith, lt, before.all_blocks))
+    ∙ ap Some (own_at shape states i here b before lt is some).0
+
+-- or the fresh one
+pub fresh_there : (shape : Shape) (states : List (Option PlainBlock)) (i : ℕ) (here first : Option PlainBlock)
+    → IsShaped shape (blocks_in states) → i < shape.blocks → here ≡ get_or states (i + 1) here → here ≡ None
+    → first ≡ get_or states 0 first → slice_get (blocks_in states) i ≡ first
+fresh_there shape [] i here first before lt is none read = absurd (omega (arith, lt, before.all_blocks))
+fresh_there shape (None ∷ own) i here first before lt is none read = absurd (omega (arith, lt, before.all_blocks))
+fresh_there shape (Some fresh ∷ own) i here first before lt is none read =
+    let at : IsAt shape (each_block fresh own) i fresh
+    = subst (λ (o : Option PlainBlock). IsAt shape (each_block fresh own) i (unwrap_or o fresh)) none
+    (at_place shape fresh own i here before lt is) in
+    slice_get-get_or (each_block fresh own) i empty_block (omega (arith, lt, before.all_blocks)) ∙ ap Some at.0 ∙ sym read
 
 -- the map stays in shape where a block gets a state
 pub shaped_at : (shape : Shape) (states : List (Option PlainBlock)) (i : ℕ) (b : PlainBlock) → IsShaped shape (blocks_in states)

@@ -137,12 +137,12 @@ impl Plain {
         ensures value { option_copied result ≡ slice_get self.now.blocks block }
         ensures shaped { IsShaped self.now.shape self.now.blocks }
     {
-        let Some((Some(fresh), own)) = self.states.split_first() else {
+        if block >= self.shape.blocks as usize {
             return None;
-        };
-        match own.get(block)? {
+        }
+        match &self.states[block + 1] {
             Some(state) => Some(state),
-            None => Some(fresh),
+            None => self.states[0].as_ref(),
         }
     }
 
@@ -224,8 +224,8 @@ impl Plain {
         }
     }
 
-    /// Carries out an event that may come next. For want of memory nothing changes.
-    fn carry_out(&mut self, event: &Event) -> Result<(), AllocError>
+    /// Carries out an event that is known to be permitted. Err is a refused request for memory: then nothing has changed.
+    pub fn carry_out(&mut self, event: &Event) -> Result<(), AllocError>
         requires { May self.old.shape (state_of_plain self.old (block_of self.old.shape event.now)) event.now }
         ensures ok { OnOk result (IsStep self.old self.new event.now) }
         ensures err { OnErr result (self.new ≡ self.old) }

@@ -168,9 +168,7 @@ impl Judge {
     {
         let sent = self.sent(event);
         let block = BlockNo::new(event.block(self.plain.shape()));
-        if self.plain.apply(event).is_err() {
-            return Err(AllocError);
-        }
+        self.plain.carry_out(event)?;
         let client = client_of(event);
         self.order.leave(client, taken_channel(event));
         self.order.join(client, &sent, block)

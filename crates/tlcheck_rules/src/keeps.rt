@@ -148,6 +148,14 @@ pub fn broken_rule_on(block: &BlockState, shape: Shape, event: &Event) -> Option
         .copied()
 }
 
+/// Whether rules of an event ask each client of its block: then they are asked once, and not all of them first.
+fn asks_each_client(event: &Event) -> bool {
+    matches!(
+        event,
+        Event::SendProbe(_, _, _) | Event::SendGrant(_, _) | Event::Drop(_) | Event::SendPut(_)
+    )
+}
+
 /// The first rule that an event breaks, in the order of the protocol's tests; none exactly where the event is permitted.
 pub fn broken_rule(plain: &Plain, event: &Event) -> Option<Rule>
     ensures first { IsFirstBroken plain.now.shape (state_of_plain plain.now (block_of plain.now.shape event.now)) event.now result }
@@ -158,7 +166,7 @@ pub fn broken_rule(plain: &Plain, event: &Event) -> Option<Rule>
     let Some(block) = plain.block(event.block(shape)) else {
         return Some(Rule::BlockIsThere);
     };
-    if block.may_follow(shape, event) {
+    if !asks_each_client(event) && block.may_follow(shape, event) {
         return None;
     }
     for rule in rules_of(event) {

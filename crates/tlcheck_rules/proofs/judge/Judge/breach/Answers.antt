@@ -1,4 +1,4 @@
-use Rattle.std.proofs.Common.{Some, subst, rules}
+use Rattle.std.proofs.Common.{Some, subst}
 use Rattle.tlcheck_rules.specs.Judged.{JudgeState, own_block}
 use Rattle.tlcheck_rules.specs.Rules.{IsFirstBroken}
 use Rattle.tlcheck_rules.proofs.judge.Judge.breach.Goals as goal
