@@ -3,6 +3,7 @@
 #![tactic(auto)]
 
 mod cells;
+mod drawing;
 mod film;
 mod json;
 mod page;

@@ -4,6 +4,7 @@ ghost use Rattle.tlchart_draw.specs.Draw.{IsWhy};
 ghost use Rattle.tlchart_page.specs.Page.{IsPaged};
 
 use crate::cells::{blocks_named, cells_of};
+use crate::drawing::DRAWING;
 use crate::film::film_of;
 use crate::json::{Sheet, push_data};
 use crate::script::SCRIPT;
@@ -31,6 +32,7 @@ pub fn push_head(ink: &mut Ink, title: &str) {
 pub fn push_tail(ink: &mut Ink) {
     ink.put("</script>\n<script>\n");
     ink.put(SCRIPT);
+    ink.put(DRAWING);
     ink.put("</script>\n</body>\n</html>\n")
 }
 

@@ -1,4 +1,4 @@
-//! The page's style: page/page.css, as scripts/page_files.py writes it.
+//! The page's style: of page/page.css, as scripts/page_files.py writes it.
 
 /// The style.
 pub(crate) const STYLE: &str = r##":root { color-scheme: light dark;
@@ -23,17 +23,26 @@ input { width: 5.5em; }
 button:disabled { color: var(--quiet); }
 :focus-visible { outline: 2px solid var(--link); outline-offset: 1px; }
 main { display: grid; grid-template-columns: minmax(0, 1.35fr) minmax(21em, 1fr); height: calc(100vh - var(--top, 48px)); }
-#chart, #state { overflow: auto; padding: 8px 16px; }
-#chart { border-right: 1px solid var(--line); padding-left: 8px; }
+#chart { overflow: auto; border-right: 1px solid var(--line); padding: 0 16px 8px 0; scroll-padding: 44px 80px 8px 260px; }
+#state { display: flex; flex-direction: column; min-height: 0; }
+#chart, #tables { contain: layout paint; }
+#about { flex: none; max-height: 60%; overflow: auto; padding: 8px 16px; }
+#tables { flex: 1; overflow: auto; padding: 0 16px 8px; border-top: 1px solid var(--line); }
 @media (max-width: 900px) { main { display: block; height: auto; } #chart { max-height: 60vh; border-right: 0; } }
+#rows, .sheets { width: max-content; }
+.sheets { display: grid; grid-template-columns: max-content max-content; }
+.sheets svg { display: block; }
+.corner, .heads { position: sticky; top: 0; z-index: 2; background: var(--paper); }
+.names { position: sticky; left: 0; z-index: 1; }
+.corner { left: 0; z-index: 3; }
 code, td, svg text, .code { font-family: ui-monospace, SFMono-Regular, Menlo, Consolas, 'DejaVu Sans Mono', monospace; }
 code, td, .code { font-size: 12px; }
 table { border-collapse: collapse; width: 100%; }
 caption { text-align: left; font-weight: bold; padding: 12px 0 2px; }
 th { text-align: left; font-weight: normal; color: var(--quiet); font-size: 12px; padding: 1px 8px 1px 0; vertical-align: bottom; }
-td:first-child, td:nth-child(2) { white-space: nowrap; }
-td { padding: 1px 8px 1px 0; border-top: 1px solid var(--line); vertical-align: top; overflow-wrap: anywhere; }
-details { margin: 0 8px 4px; }
+.whole { white-space: nowrap; }
+td { padding: 1px 8px 1px 0; border-top: 1px solid var(--line); vertical-align: top; }
+details { margin: 0; padding: 8px 16px 4px; }
 a { color: var(--link); }
 summary { cursor: pointer; color: var(--link); }
 ul { margin: 2px 0; padding-left: 18px; }
@@ -42,6 +51,9 @@ p { margin: 4px 0; }
 .changed { background: var(--here); box-shadow: inset 2px 0 0 var(--mark); padding-left: 4px; }
 .refused { border: 1px solid var(--bad); border-radius: 4px; padding: 4px 10px; margin: 6px 0; }
 .refused strong { color: var(--bad); }
+.gone { text-decoration: line-through; }
+.news { display: inline-block; text-decoration: none; }
+.more { margin: 6px 0; }
 .sr { position: absolute; width: 1px; height: 1px; overflow: hidden; clip-path: inset(50%); }
 svg text { font-size: 11px; fill: var(--ink); }
 svg .quiet { fill: var(--quiet); }
@@ -49,9 +61,9 @@ svg .head { font-weight: bold; text-anchor: middle; }
 svg .end { text-anchor: end; }
 .life { stroke: var(--line); }
 .stripe { fill: var(--stripe); } .plain { fill: var(--paper); }
-.row, .message { cursor: pointer; }
-.row:hover .stripe, .row:hover .plain { fill: var(--here); }
-.row[aria-selected=true] rect { fill: var(--here); stroke: var(--mark); }
+.row, .message, [data-row] { cursor: pointer; }
+[data-row]:hover, .row:hover rect { fill: var(--here); }
+.row[aria-selected=true] rect, .here { fill: var(--here); stroke: var(--mark); }
 .halo { paint-order: stroke; stroke: var(--paper); stroke-width: 3px; stroke-linejoin: round; }
 .Branch { fill: var(--branch); } .Tip { fill: var(--tip); }
 .dot, .store { fill: var(--ink); } .load { fill: var(--paper); stroke: var(--ink); stroke-width: 1.5; }
