@@ -65,14 +65,15 @@ static void turn(uint32_t client, uint32_t block, uint32_t hits, uint32_t &index
     done(jv_accept(cache, done(jv_acquire(cache, client, block, JV_NTOT))));
     for (;;) { // what home does until the Grant: Probes, a write-back or a drop of a victim, the fetch
         jv_answer a = jv_advance(cache, block);
-        if (a.status) { refused++; return; }
+        jv_ticket sent = done(a);
+        if (a.status) return;
         if (a.what == JV_TELLS_MEMORY) {
             uint32_t of = a.address / block_bytes;
             done(jv_serve_memory(cache, of)); done(jv_take_memory(cache, of));
         } else if (a.what == JV_TELLS_MESSAGE && a.channel == JV_B) {
-            done(jv_take_c(cache, done(jv_answer_probe(cache, jv_sent(&a)))));
+            done(jv_take_c(cache, done(jv_answer_probe(cache, sent))));
         } else if (a.what == JV_TELLS_MESSAGE) {
-            done(jv_take_grant_ack(cache, done(jv_take_grant(cache, jv_sent(&a)))));
+            done(jv_take_grant_ack(cache, done(jv_take_grant(cache, sent))));
             break;
         }
     }
