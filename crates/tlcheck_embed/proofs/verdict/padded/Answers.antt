@@ -1,0 +1,7 @@
+use Rattle.std.proofs.Common.{ℕ, length}
+use Rattle.std.proofs.lemmas.List.{drop-replicate}
+use Rattle.tlcheck_embed.proofs.verdict.padded.Goals as goal
+
+-- past the bytes there are zeros
+pub returns : goal.returns
+returns c = let zero_byte : ℕ = 0 in cc (c.copy_from_slice.ensures.after, drop-replicate (length c.args.bytes.now) 64 zero_byte)

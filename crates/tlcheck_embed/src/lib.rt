@@ -1,0 +1,16 @@
+//! A judge of events beside a bench: entries in plain numbers, a verdict at once, and after a fault that same fault.
+#![tactic(auto)]
+
+mod bench;
+mod entry;
+mod history;
+mod kinds;
+mod number;
+mod room;
+mod verdict;
+
+pub use bench::Bench;
+pub use entry::BenchEntry;
+pub use history::every_judging;
+pub use room::{JudgeNumbers, JudgeRoom, opened, see};
+pub use verdict::Verdict;
