@@ -2,7 +2,7 @@
 use Rattle.std.specs.Prelude.{ℕ, ◌==◌, ◌||◌, not, Bool, true, false, List}
 use Rattle.std.specs.List.{list_any}
 use Rattle.tlwire_search.specs.declared.premise.Premise.{Premise}
-use Rattle.tlwire_search.specs.declared.premise.Premise.TheVariants.{AtClient, AtClients, Whole, MemoryUnseen, CoresUnseen}
+use Rattle.tlwire_search.specs.declared.premise.Premise.TheVariants.{AtClient, AtClients, AtHome, Whole, MemoryUnseen, CoresUnseen}
 use Rattle.tlwire_search.specs.declared.seen.Wire.{Wire}
 use Rattle.tlwire_search.specs.declared.seen.Wire.TheVariants.{Link, Memory, Core}
 
@@ -34,3 +34,12 @@ is_of_pins client _ = false
 -- A client's link was seen at the client's pins.
 abbrev pub is_seen_at_pins : List Premise → ℕ → Bool
 is_seen_at_pins premises client = list_any (is_of_pins client) premises
+
+-- `seen at home`
+abbrev pub is_home_line : Premise → Bool
+is_home_line AtHome = true
+is_home_line _ = false
+
+-- Each message was seen at home's pins.
+abbrev pub is_seen_at_home : List Premise → Bool
+is_seen_at_home premises = list_any is_home_line premises

@@ -18,7 +18,7 @@ mod walk;
 mod wires;
 
 pub use answer::{Explanation, explain};
-pub use premise::{Premise, is_seen_at_pins, is_unseen, is_whole, may_have_more};
+pub use premise::{Premise, is_seen_at_home, is_seen_at_pins, is_unseen, is_whole, may_have_more};
 pub use search::Limit;
 pub use seen::{Seen, Wire};
 pub use sight::{seen_of, seen_on};

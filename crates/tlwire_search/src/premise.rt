@@ -1,7 +1,7 @@
 //! What the header of a record says of how it was seen.
 ghost use Rattle.std.specs.Prelude.{◌≡◌};
 ghost use Rattle.std.specs.List.{list_any};
-ghost use Rattle.tlwire_search.specs.Premises.{is_of_pins, is_seen_at_pins, is_unseen_on, is_whole, is_whole_line, may_have_more};
+ghost use Rattle.tlwire_search.specs.Premises.{is_home_line, is_of_pins, is_seen_at_home, is_seen_at_pins, is_unseen_on, is_whole, is_whole_line, may_have_more};
 
 use crate::seen::Wire;
 use tl_types::ClientId;
@@ -9,7 +9,7 @@ use tl_types::ClientId;
 /// A line of a record's header that says how the record was seen. Several hold together.
 #[derive(Clone, Copy, Debug, PartialEq, Eq)]
 pub enum Premise {
-    /// `seen at client N`: at this client's pins, where A, C and E are sent as they are seen, and B and D taken as they are seen.
+    /// `seen at client N`: at this client's pins, where A and C are sent as they are seen, and D taken as it is seen.
     AtClient(ClientId),
     /// `seen at clients`: each client's link at its pins.
     AtClients,
@@ -55,6 +55,12 @@ impl Premise {
             _ => false,
         }
     }
+
+    fn is_home_line(&self) -> bool
+        ensures { result ≡ is_home_line self.now }
+    {
+        matches!(self, Premise::AtHome)
+    }
 }
 
 /// Whether a record is not cut.
@@ -83,4 +89,11 @@ pub fn is_seen_at_pins(premises: &[Premise], client: ClientId) -> bool
     ensures { result ≡ is_seen_at_pins premises.now client }
 {
     premises.iter().any(|premise| premise.is_of_pins(client))
+}
+
+/// Whether each message was seen at home's pins.
+pub fn is_seen_at_home(premises: &[Premise]) -> bool
+    ensures { result ≡ is_seen_at_home premises.now }
+{
+    premises.iter().any(|premise| premise.is_home_line())
 }

@@ -3,7 +3,7 @@ ghost use Rattle.std.specs.Prelude.{◌<◌, ◌≤◌, IfOk};
 ghost use Rattle.tl_protocol.specs.Protocol.{May};
 ghost use Rattle.tlcheck_rules.specs.Judged.{Allows, own_block};
 
-use crate::premise::{Premise, is_seen_at_pins, may_have_more};
+use crate::premise::{Premise, is_seen_at_home, is_seen_at_pins, may_have_more};
 use crate::remedy::remedy;
 use crate::seen::{Seen, Wire};
 use crate::sight::seen_of;
@@ -11,8 +11,8 @@ use crate::sooner::sooner;
 use crate::target::{target, wire_of};
 use crate::wires::Wires;
 use std::alloc::{AllocError, Global};
-use tl_rules::{Event, Shape};
-use tl_types::{BLOCK_BYTES, BLOCKS, Channel, Downward, Upward};
+use tl_rules::{Client, Event, Outward, Shape};
+use tl_types::{BLOCK_BYTES, BLOCKS, BlockNo, Channel, ClientId, Downward, Upward};
 use tlcheck_rules::{Entry, Judge, client_of};
 
 /// How many events may come before one that something seen stands for.
@@ -132,20 +132,55 @@ fn ready_for(
     Err(Limit::Depth)
 }
 
-/// The event that takes a message on D, where it waits and its client's link was seen at the client's pins: there it is
-/// taken as it is seen.
-fn untaken(judge: &Judge, record: Record<'_>, line: &Seen) -> Option<Event> {
-    let Seen::OnLink(client, block, message) = line else {
-        return None;
-    };
-    if message.kind.channel() != Channel::D || !is_seen_at_pins(record.premises, *client) {
-        return None;
+/// The event that takes what waits first on a client's channel.
+fn taking(k: &Client, client: ClientId, block: BlockNo, channel: Channel) -> Option<Event> {
+    match channel {
+        Channel::A if k.may_take_a() => Some(Event::AcceptAcquire(client, block)),
+        Channel::C if k.may_take_c() => Some(Event::TakeC(client, block)),
+        Channel::D => match k.d.as_slice() {
+            [Downward::Grant(_, _), ..] => Some(Event::TakeGrant(client, block)),
+            [Downward::ReleaseAck, ..] => Some(Event::TakeReleaseAck(client, block)),
+            [] => None,
+        },
+        Channel::E if k.may_take_grant_ack() => Some(Event::TakeGrantAck(client, block)),
+        Channel::A | Channel::B | Channel::C | Channel::E => None,
     }
-    let k = judge.plain().block(block.number())?.client(*client)?;
-    match k.d.as_slice() {
-        [Downward::Grant(_, _), ..] => Some(Event::TakeGrant(*client, *block)),
-        [Downward::ReleaseAck, ..] => Some(Event::TakeReleaseAck(*client, *block)),
-        [] => None,
+}
+
+/// Whether a message on a client's channel is taken as it is seen: D at the client's pins, A, C and E at home's.
+fn is_taken_as_seen(record: Record<'_>, client: ClientId, channel: Channel) -> bool {
+    match channel {
+        Channel::D => is_seen_at_pins(record.premises, client),
+        Channel::A | Channel::C | Channel::E => is_seen_at_home(record.premises),
+        Channel::B => false,
+    }
+}
+
+/// The event that takes what the memory answered of a block, where it waits.
+fn taking_answer(judge: &Judge, block: BlockNo) -> Option<Event> {
+    match judge.plain().block(block.number())?.outward() {
+        Outward::Data(_) => Some(Event::TakeData(block)),
+        Outward::PutAck => Some(Event::TakePutAck(block)),
+        Outward::Quiet | Outward::Get | Outward::Put(_) => None,
+    }
+}
+
+/// The event that takes a message, where it waits and is taken as it is seen.
+fn untaken(judge: &Judge, record: Record<'_>, line: &Seen) -> Option<Event> {
+    match line {
+        Seen::OnLink(client, block, message) => {
+            let channel = message.kind.channel();
+            if !is_taken_as_seen(record, *client, channel) {
+                return None;
+            }
+            let k = judge.plain().block(block.number())?.client(*client)?;
+            taking(k, *client, *block, channel)
+        }
+        Seen::OnMemory(block, message)
+            if message.kind.channel() == Channel::D && is_seen_at_home(record.premises) => {
+            taking_answer(judge, *block)
+        }
+        _ => None,
     }
 }
 
