@@ -39,7 +39,6 @@ static void messages() {
         {JV_A, 7, 1, "outside the model", false},  // AcquirePerm NtoT
         {JV_C, 2, 0, "outside the model", false},  // HintAck
         {JV_A, 6, 3, "codes", true},               // AcquireBlock of no grow
-        {JV_C, 3, 0, "codes", true},               // no message
         {JV_C, 6, 3, "codes", true},               // Release of no prune
         {JV_C, 4, 5, "unasked", true},             // ProbeAck NtoN, and no Probe
         {JV_C, 6, 2, "wrong from", true},          // Release BtoN, and no copy

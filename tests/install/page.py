@@ -71,8 +71,9 @@ def told(bench, plant, **words):
     """Of a run with a plant: the first fault's cycle and name, and the scoreboard's first cycle; or None."""
     command = [bench, "quiet=1", f"plant={plant}", *(f"{k}={v}" for k, v in words.items())]
     said = subprocess.run(command, stdout=subprocess.PIPE, text=True, check=False).stdout
-    fault, end = FAULT.search(said), SUMMARY.search(said)
-    return fault and (int(fault[1]), fault[2]), end and end[4] and int(end[4])
+    faults = [(int(cycle), name) for cycle, name in FAULT.findall(said) if name != "scoreboard"]
+    end = SUMMARY.search(said)
+    return faults[0] if faults else None, end and end[4] and int(end[4])
 
 
 def cell(fault, wrong):
