@@ -199,10 +199,10 @@ fn call_in_room(session: &mut Session) -> bool {
     true
 }
 
-/// The same at a new bank with room for two steps, or where there is no memory for them.
+/// The same at a new bank, once it made room for two steps.
 fn goes_in_room(alloc: Global) -> Result<bool, Fail> {
     let mut session = Session::new(alloc, NUMBERS)?;
-    Ok(session.reserve_steps(2).is_err() || call_in_room(&mut session))
+    Ok(session.reserve_steps(2).is_ok() && call_in_room(&mut session))
 }
 
 /// Two steps need no memory where there is room for them; the first later one whose growth is refused changes nothing.
