@@ -20,7 +20,7 @@ function bankOf(banks, block) {
 }
 // A client asks for each of 512 blocks, and each comes home.
 function manyAtHome() {
-  const numbers = { clients: 16, banks: 8, block_bytes: 64, sets: 64, ways: 8, registers: 8, copies: 64, memory_blocks: 65536 };
+  const numbers = { clients: 8, banks: 8, block_bytes: 64, sets: 64, ways: 8, registers: 8, copies: 64, memory_blocks: 65536 };
   const serials = new Map();
   const ticket = (bank, client, channel) => {
     const key = `${bank}.${client}.${channel}`;
@@ -29,16 +29,17 @@ function manyAtHome() {
   };
   const steps = [];
   for (let block = 0; block < 512; block += 1) {
-    const [client, bank] = [block % 16, bankOf(8, block)];
-    steps.push(`acquire ${client} ${block} NtoT`, `accept ${ticket(bank, client, "A")}`, `advance ${block}`, `serve_memory ${block}`,
-      `take_memory ${block}`, `advance ${block}`, `take_grant ${ticket(bank, client, "D")}`, `take_grant_ack ${ticket(bank, client, "E")}`);
+    const [client, bank] = [block % 8, bankOf(8, block)];
+    steps.push(`acquire ${client} ${block} NtoT`, `accept ${ticket(bank, client, "A")}`, `advance ${block}`,
+      `serve_memory ${block}`, `take_memory ${block}`, `advance ${block}`, `take_grant ${ticket(bank, client, "D")}`,
+      `take_grant_ack ${ticket(bank, client, "E")}`);
   }
   return GROUPS(numbers, steps);
 }
-// As many blocks as steps.
+// As many blocks as steps: half of the Acquires wait, and the others find no room among the client's copies.
 function manyNamed() {
-  const numbers = { clients: 8, banks: 8, block_bytes: 64, sets: 64, ways: 8, registers: 8, copies: 64, memory_blocks: 65536 };
-  return GROUPS(numbers, Array.from({ length: 4096 }, (_, block) => `acquire ${Math.floor(block / 8) % 8} ${block} NtoT`));
+  const numbers = { clients: 4, banks: 8, block_bytes: 64, sets: 64, ways: 8, registers: 8, copies: 64, memory_blocks: 65536 };
+  return GROUPS(numbers, Array.from({ length: 4096 }, (_, block) => `acquire ${Math.floor(block / 8) % 4} ${block} NtoT`));
 }
 function madeBy(program, words, input) {
   const { status, stdout } = spawnSync(program, words, { input, encoding: "utf8", maxBuffer: 1 << 28 });
@@ -50,9 +51,10 @@ const AGAIN = (id, count) => `for (let i = 0; i < ${count}; i += 1) { document.g
   document.body.getBoundingClientRect(); }`;
 const HEADS_IN_VIEW = `(() => { const chart = document.getElementById("chart").getBoundingClientRect();
   const is = (one) => { const at = one.getBoundingClientRect();
-    return at.left >= chart.left - 1 && at.right <= chart.right + 1 && at.top >= chart.top - 1 && at.bottom <= chart.bottom + 1; };
-  return is(document.querySelector(".names [aria-selected=true] text:last-child")) && is(document.querySelector(".corner"))
-    && document.querySelector(".heads").getBoundingClientRect().top >= chart.top - 1
+    return at.left >= chart.left - 1 && at.right <= chart.right + 1 && at.top >= chart.top - 1
+      && at.bottom <= chart.bottom + 1; };
+  return is(document.querySelector(".names [aria-selected=true] text:last-child"))
+    && is(document.querySelector(".corner")) && document.querySelector(".heads").getBoundingClientRect().top >= chart.top - 1
     && is(document.querySelector("[id='mark-" + document.getElementById("step").value + "'] > :first-child")); })()`;
 // Each kind of refusal, as each kind of step meets it, has its reason.
 async function reasons(browser, tally, name) {
@@ -102,7 +104,8 @@ async function opens(browser, tally, name, file, steps) {
   tally.check(`${name}: a step back is a page back`, await browser.ask(textOf("pageName")) === `page ${pages - 2} of ${pages}`);
   await reasons(browser, tally, name);
   tally.check(`${name}: no error`, browser.faults.length === 0, browser.faults.slice(0, 3).join("\n"));
-  console.log(`${name}, processor time: opens in ${timed[0]} ms, at the last step in ${timed[2]} ms; a step takes ${timed[1]} and ${timed[3]} ms`);
+  console.log(`${name}, processor time: opens in ${timed[0]} ms, at the last step in ${timed[2]} ms; a step takes `
+    + `${timed[1]} and ${timed[3]} ms`);
 }
 // What is more than a table shows is counted, and a block that is chosen is shown.
 async function chosen(browser, tally, name) {
@@ -116,7 +119,8 @@ async function chosen(browser, tally, name) {
 }
 async function large(browser, tally, tlchart, tlgen) {
   const random = madeBy(tlgen, ["7", "trace", "version=2", "clients=8", "banks=8", "steps=4096", "spots=64"]);
-  for (const [name, script] of [["4,096 random steps", random], ["512 blocks at home", manyAtHome()], ["4,096 blocks named", manyNamed()]]) {
+  const scripts = { "4,096 random steps": random, "512 blocks at home": manyAtHome(), "4,096 blocks named": manyNamed() };
+  for (const [name, script] of Object.entries(scripts)) {
     const page = script && madeBy(tlchart, ["--html", "-"], script);
     tally.check(`${name}: a page is made`, page !== undefined);
     if (page === undefined) continue;

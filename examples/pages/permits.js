@@ -26,7 +26,9 @@ function candidates(clients, blocks, blockBytes, tickets) {
       for (const prune of ["TtoB", "TtoN", "BtoN"]) found.push(`release ${client} ${block} ${prune}`);
     }
   }
-  for (const ticket of tickets) for (const verb of ["answer_probe", "take_grant", "take_release_ack"]) found.push(verb + " " + ticket);
+  for (const ticket of tickets) {
+    for (const verb of ["answer_probe", "take_grant", "take_release_ack"]) found.push(verb + " " + ticket);
+  }
   return found;
 }
 
@@ -40,14 +42,19 @@ function inUse(data, state, step) {
     if (kind === "home" && text !== "- -") found.add(Number(one));
     if (kind === "channel") for (const m of text.split(";").slice(0, -1)) found.add(Number(m.split(",")[1]));
     if (kind === "registers") {
-      for (const r of text.split(";").slice(0, -1)) for (const place of [0, 5]) if (/\d/.test(r.split(",")[place])) found.add(Number(r.split(",")[place]));
+      for (const [own, , , , , victim] of text.split(";").slice(0, -1).map((r) => r.split(","))) {
+        found.add(Number(own));
+        if (victim !== "-") found.add(Number(victim));
+      }
     }
   });
-  const named = /^(?:advance|evict|serve_memory|take_memory) (\d+)$/.exec(step) || /^(?:acquire|release) \d+ (\d+)/.exec(step);
+  const named = /^(?:advance|evict|serve_memory|take_memory) (\d+)$/.exec(step)
+    || /^(?:acquire|release) \d+ (\d+)/.exec(step);
   if (named && Number(named[1]) < data.geometry.blocks) found.add(Number(named[1]));
   return found;
 }
-const LISTED = `[...document.querySelectorAll("[data-step]")].map((step) => [Number(step.closest("tr").cells[1].textContent.slice(1)), step.dataset.step])`;
+const LISTED = `[...document.querySelectorAll("[data-step]")].map((step) =>
+  [Number(step.closest("tr").cells[1].textContent.slice(1)), step.dataset.step])`;
 const BLOCKS = `[...document.getElementById("block").options].map((one) => one.value).filter((value) => value)`;
 
 async function permits(browser, tally, url, name, tlcache) {
@@ -61,7 +68,8 @@ async function permits(browser, tally, url, name, tlcache) {
   const state = data.start.slice();
   const [wrong, uncovered] = [[], []];
   for (let step = -1; step < steps.length; step += 1) {
-    if (step >= 0) for (let i = 0; i < data.changes[step].length; i += 2) state[data.changes[step][i]] = data.changes[step][i + 1];
+    const changes = step < 0 ? [] : data.changes[step];
+    for (let i = 0; i < changes.length; i += 2) state[changes[i]] = changes[i + 1];
     const listed = new Set((await browser.ask(LISTED)).map(([, words]) => words));
     const permitted = [];
     for (const number of numbers) {
@@ -70,12 +78,15 @@ async function permits(browser, tally, url, name, tlcache) {
     }
     await browser.ask(choose("block", ""));
     const used = inUse(data, state, steps[step] || "");
-    for (const [block, words] of permitted) if (used.has(block) !== listed.has(words)) uncovered.push(`after ${step}: ${words}`);
+    for (const [block, words] of permitted) {
+      if (used.has(block) !== listed.has(words)) uncovered.push(`after ${step}: ${words}`);
+    }
     const past = steps.slice(0, step + 1);
     if (tlcache) {
       const may = new Set(permitted.map(([, words]) => words));
       for (const one of may) {
-        if (/^refused/.test(answers(tlcache, script, [...past, one])[past.length])) wrong.push(`after ${step}: ${one} is refused`);
+        const answer = answers(tlcache, script, [...past, one])[past.length];
+        if (/^refused/.test(answer)) wrong.push(`after ${step}: ${one} is refused`);
       }
       const others = all.filter((one) => !may.has(one));
       answers(tlcache, script, [...past, ...others]).slice(past.length).forEach((answer, place) => {

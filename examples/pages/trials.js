@@ -240,8 +240,8 @@ async function filters(browser, tally, url) {
   await browser.ask(choose("block", "0"));
   tally.check("the rows of a block", await browser.ask(ROWS) === "0 1 2 3 4 5 6 7 8 12 13 16 17", await browser.ask(ROWS));
   const tables = await browser.ask(TABLES);
-  tally.check("the state of a block", tables.length > 0 && tables.every((row) => row.home === undefined ? row.block === undefined
-    || row.block === "0" : row.home === "0"), JSON.stringify(tables));
+  const isIts = (row) => [undefined, "0"].includes(row.block) && [undefined, "0"].includes(row.home);
+  tally.check("the state of a block", tables.length > 0 && tables.every(isIts), JSON.stringify(tables));
   await browser.key("End");
   tally.check("End stays in the filter", await browser.ask(STEP) === "17");
   await browser.key("PageDown");
@@ -256,7 +256,8 @@ async function filters(browser, tally, url) {
   tally.check("Page Down goes to the last of few", await browser.ask(STEP) === "23");
   await browser.ask(choose("block", ""));
   await browser.ask(choose("client", "1"));
-  tally.check("the rows of a client", await browser.ask(ROWS) === "2 3 4 9 10 14 15 16 17 18 19 20 21 22 23", await browser.ask(ROWS));
+  const rows = await browser.ask(ROWS);
+  tally.check("the rows of a client", rows === "2 3 4 9 10 14 15 16 17 18 19 20 21 22 23", rows);
   tally.check("the state of a client", (await browser.ask(TABLES)).every((row) => row.client !== "0"));
   await browser.ask(choose("client", ""));
   tally.check("every row again", await browser.ask(ROWS) === all);
@@ -282,13 +283,14 @@ async function names(browser, tally, url) {
 
 // The chart: each arrow from the row and the lifeline that sent it to those that took it; each client's bands.
 const CHART = `(() => { const number = (node, name) => Number(node.getAttribute(name));
-  return { lifelines: Object.fromEntries([...document.querySelectorAll(".heads text")].map((one) => [one.textContent, number(one, "x")])),
+  return { lifelines: Object.fromEntries([...document.querySelectorAll(".heads text")].map((one) =>
+      [one.textContent, number(one, "x")])),
     rows: Object.fromEntries([...document.querySelectorAll(".lines [data-row]")].map((one) =>
       [one.dataset.row, number(one, "y") + number(one, "height") / 2])),
     arrows: [...document.querySelectorAll(".message")].map((one) => [Number(one.dataset.arrow),
       one.querySelector(".arrow").getAttribute("d").match(/-?[\\d.]+/g).map(Number)]),
-    bands: [...document.querySelectorAll("[data-band]")].map((one) => [number(one, "x") + number(one, "width") / 2, number(one, "y"),
-      number(one, "y") + number(one, "height"), one.getAttribute("class")].join(" ")) }; })()`;
+    bands: [...document.querySelectorAll("[data-band]")].map((one) => [number(one, "x") + number(one, "width") / 2,
+      number(one, "y"), number(one, "y") + number(one, "height"), one.getAttribute("class")].join(" ")) }; })()`;
 function bandsOf(perms, chart, clients) {
   const found = [];
   const bottom = Math.max(...Object.values(chart.rows)) + 14;
@@ -297,7 +299,8 @@ function bandsOf(perms, chart, clients) {
     for (let step = 1; step <= perms.length; step += 1) {
       if (step < perms.length && perms[step][who] === perms[since][who]) continue;
       if (perms[since][who] !== "None") {
-        found.push([chart.lifelines["client " + who], chart.rows[since], chart.rows[step] || bottom, perms[since][who]].join(" "));
+        const end = chart.rows[step] || bottom;
+        found.push([chart.lifelines["client " + who], chart.rows[since], end, perms[since][who]].join(" "));
       }
       since = step;
     }
@@ -316,7 +319,8 @@ async function draws(browser, tally, url, name) {
     const isTaken = taken < 0 || (end === chart.rows[taken] - 8 && right === chart.lifelines[to] - side * 6);
     return !(left === chart.lifelines[from] + side * 6 && start === chart.rows[sent] + 8 && isTaken);
   });
-  tally.check(`${name}: arrows`, wrong.length === 0 && chart.arrows.length === data.arrows.length, JSON.stringify(wrong.slice(0, 3)));
+  tally.check(`${name}: arrows`, wrong.length === 0 && chart.arrows.length === data.arrows.length,
+    JSON.stringify(wrong.slice(0, 3)));
   // The bands are of the first message's block: what the table of clients says of it at each step.
   const block = String(data.arrows[0][5]);
   const perms = [];
@@ -329,7 +333,8 @@ async function draws(browser, tally, url, name) {
     await browser.key("ArrowRight");
   }
   const wanted = bandsOf(perms, chart, data.geometry.clients);
-  tally.check(`${name}: bands`, wanted.sort().join("; ") === chart.bands.sort().join("; "), `${chart.bands.join("; ")}, not ${wanted.join("; ")}`);
+  const [drawn, told] = [chart.bands, wanted].map((bands) => bands.sort().join("; "));
+  tally.check(`${name}: bands`, drawn === told, `${drawn}, not ${told}`);
 }
 
 async function schemes(browser, tally, url, shots) {
