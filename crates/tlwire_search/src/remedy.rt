@@ -66,13 +66,14 @@ fn is_before_a_grant(judge: &Judge, wires: &Wires<'_>, c: ClientId) -> bool {
 }
 
 /// A client whose Acquire of a block is first on A, and stands before one that is granted, if there is such a client;
-/// else one whose Acquire is first, else one that has it on A.
+/// else one whose Acquire is first, this one before others; else one that has it on A.
 fn asking(
     judge: &Judge,
     wires: &Wires<'_>,
     state: &BlockState,
     clients: u32,
     block: BlockNo,
+    preferred: &Option<ClientId>,
 ) -> Option<ClientId> {
     let mut first = None;
     for number in 0..clients {
@@ -81,7 +82,7 @@ fn asking(
             if is_before_a_grant(judge, wires, c) {
                 return Some(c);
             }
-            if first.is_none() {
+            if first.is_none() || *preferred == Some(c) {
                 first = Some(c);
             }
         }
@@ -136,6 +137,7 @@ fn home_before(
     event: &Event,
     state: &BlockState,
     rule: Rule,
+    preferred: &Option<ClientId>,
 ) -> Option<Event> {
     let clients = judge.plain().shape().clients;
     let c = client_of(event);
@@ -166,7 +168,7 @@ fn home_before(
                 Some(Event::AcceptAcquire(
                     match wires.granted_first(block) {
                         Some(first) => first,
-                        None => asking(judge, wires, state, clients, block)?,
+                        None => asking(judge, wires, state, clients, block, preferred)?,
                     },
                     block,
                 ))
@@ -268,7 +270,8 @@ fn first_taken(judge: &Judge, event: &Event) -> Option<Event> {
     }
 }
 
-/// An event that has to come before one that breaks something, or that is not seen as it would be.
+/// An event that has to come before one that breaks something, or that is not seen as it would be. Where no Grant says
+/// whose Acquire home accepts first, it is this client's.
 pub(crate) fn remedy(
     judge: &Judge,
     wires: &Wires<'_>,
@@ -276,6 +279,7 @@ pub(crate) fn remedy(
     seen: &[Seen],
     event: &Event,
     breach: Option<Breach>,
+    preferred: &Option<ClientId>,
 ) -> Option<Event> {
     let state = judge.plain().block(event.block(judge.plain().shape()))?;
     match breach {
@@ -283,7 +287,7 @@ pub(crate) fn remedy(
         Some(Breach::NotAsShown(_)) => None,
         Some(Breach::OutOfOrder) => first_taken(judge, event),
         Some(Breach::NotPermitted(rule)) => {
-            match home_before(judge, wires, seen, event, state, rule) {
+            match home_before(judge, wires, seen, event, state, rule, preferred) {
                 Some(first) => Some(first),
                 None => client_before(
                     judge,

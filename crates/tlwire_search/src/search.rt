@@ -3,6 +3,7 @@ ghost use Rattle.std.specs.Prelude.{◌<◌, ◌≤◌, IfOk};
 ghost use Rattle.tl_protocol.specs.Protocol.{May};
 ghost use Rattle.tlcheck_rules.specs.Judged.{Allows, own_block};
 
+use crate::clients::{Which, in_way};
 use crate::premise::{Premise, is_seen_at_home, is_seen_at_pins, may_have_more};
 use crate::remedy::remedy;
 use crate::seen::{Seen, Wire};
@@ -38,6 +39,8 @@ struct Attempt<'a> {
     judge: Judge,
     wires: Wires<'a>,
     run: Vec<Event>,
+    /// The client whose Acquire home accepts first where no Grant says whose.
+    preferred: Option<ClientId>,
 }
 
 /// What a search found, and the first place that it did not reach.
@@ -46,6 +49,8 @@ pub(crate) struct Found {
     pub(crate) run: Vec<Event>,
     pub(crate) place: usize,
     pub(crate) limit: Limit,
+    /// The client that the attempt held up there.
+    held_up: Option<ClientId>,
 }
 
 /// What was seen, and how.
@@ -109,6 +114,7 @@ fn ready_for(
     wires: &Wires<'_>,
     record: Record<'_>,
     wanted: Event,
+    preferred: &Option<ClientId>,
 ) -> Result<Entry, Limit>
     ensures { IfOk result (λ entry. Allows judge.now entry) }
 {
@@ -125,9 +131,16 @@ fn ready_for(
         if breach.is_none() && is_next(judge, wires, record, &entry.event) {
             return Ok(entry);
         }
-        event = remedy(judge, wires, record.premises, seen, &entry.event, breach).ok_or(
-            Limit::NoWay,
-        )?;
+        event = remedy(
+            judge,
+            wires,
+            record.premises,
+            seen,
+            &entry.event,
+            breach,
+            preferred,
+        )
+        .ok_or(Limit::NoWay)?;
     }
     Err(Limit::Depth)
 }
@@ -198,6 +211,7 @@ impl<'a> Attempt<'a> {
             judge: Judge::new(alloc, shape, image)?,
             wires: Wires::new(alloc, shape, seen)?,
             run: Vec::new(alloc),
+            preferred: None,
         })
     }
 
@@ -236,7 +250,8 @@ impl<'a> Attempt<'a> {
             let Some(wanted) = self.wanted(record, line, place) else {
                 return Ok(None);
             };
-            let entry = match ready_for(&self.judge, &self.wires, record, wanted) {
+            let preferred = &self.preferred;
+            let entry = match ready_for(&self.judge, &self.wires, record, wanted, preferred) {
                 Ok(entry) => entry,
                 Err(limit) => return Ok(Some(limit)),
             };
@@ -246,7 +261,20 @@ impl<'a> Attempt<'a> {
     }
 }
 
-/// Looks for a run that has what was seen, line by line.
+/// A client that waits for home to accept the Acquire which a line comes of: its own, or one of its block.
+fn held_up(judge: &Judge, line: &Seen) -> Option<ClientId> {
+    match line {
+        Seen::OnLink(client, _, _) | Seen::Load(client, _, _) | Seen::Store(client, _, _) => {
+            Some(*client)
+        }
+        Seen::OnMemory(block, _) => {
+            let clients = judge.plain().shape().clients;
+            in_way(judge.plain().block(block.number())?, clients, Which::Asking)
+        }
+    }
+}
+
+/// Looks for a run that has what was seen, line by line: again for the client that was held up, as long as that leads further on.
 pub(crate) fn search(
     alloc: Global,
     shape: Shape,
@@ -257,14 +285,44 @@ pub(crate) fn search(
     requires bytes { (0 < shape.block_bytes) × (shape.block_bytes ≤ BLOCK_BYTES) }
     requires blocks { shape.blocks ≤ BLOCKS }
 {
+    let mut found = search_once(alloc, shape, premises, image, seen, None)?;
+    for _ in 0..shape.clients {
+        let preferred = found.held_up;
+        if preferred.is_none() {
+            return Ok(found);
+        }
+        let other = search_once(alloc, shape, premises, image, seen, preferred)?;
+        if other.place <= found.place {
+            return Ok(found);
+        }
+        found = other;
+    }
+    Ok(found)
+}
+
+/// Looks for a run line by line, once.
+fn search_once(
+    alloc: Global,
+    shape: Shape,
+    premises: &[Premise],
+    image: &[u8],
+    seen: &[Seen],
+    preferred: Option<ClientId>,
+) -> Result<Found, AllocError>
+    requires bytes { (0 < shape.block_bytes) × (shape.block_bytes ≤ BLOCK_BYTES) }
+    requires blocks { shape.blocks ≤ BLOCKS }
+{
     let record = Record { premises, seen };
     let mut attempt = Attempt::new(alloc, shape, image, seen)?;
+    attempt.preferred = preferred;
     for place in 0..seen.len() {
         if let Some(limit) = attempt.reach(record, place)? {
+            let held_up = held_up(&attempt.judge, &seen[place]);
             return Ok(Found {
                 run: attempt.run,
                 place,
                 limit,
+                held_up,
             });
         }
     }
@@ -272,5 +330,6 @@ pub(crate) fn search(
         run: attempt.run,
         place: seen.len(),
         limit: Limit::NoWay,
+        held_up: None,
     })
 }
