@@ -275,14 +275,17 @@ jv_number jv_read(jv_cache *cache, const jv_request *request, jv_answer *events,
                         opcode, param, place, bytes, len), without a serial: it has no ticket
      JV_NO_MEMORY       the log has no room for the events
      JV_OK              the call is done, and answered as it answers: with the ticket, by which home takes the message.
-   Nothing is changed unless it is JV_OK.
+   Unless it is JV_OK the call is not done, and nothing is changed but by the stores of JV_STORES: as many as `stores` of the answer
+   says, which is 0 without that option.
 
    JV_STORES: nobody tells the cache what the device's core stores. Where ProbeAckData or ReleaseData was seen and the client would send a
    message of the same param from a copy at Tip, the stores that lead there are made first: of each eight bytes that differ from the
    copy, at their address, in rising order; or, where the copy has these bytes and is clean, one store of its first eight bytes, since
-   TileLink allows data of a clean copy. `stores` of the answer is how many, and their events stand before the call's in the log. Room
-   for all of them and the call is got first, so that JV_NO_MEMORY changed nothing. Should one of them be refused nevertheless, as
-   JV_CLOCK_FULL after 2^64 - 1 accesses, its status is told with how many were made before it. */
+   TileLink allows data of a clean copy. What the call would be refused for is asked first, and then it makes no store; room for all
+   of them and the call is got next, and where there is none JV_NO_MEMORY changed nothing. `stores` of the answer is how many were made,
+   their events stand before the call's in the log, and they stay, whatever the status is. With another status than JV_OK it is more
+   than 0 where a later one of them was refused, as JV_CLOCK_FULL after 2^64 - 1 accesses, or the call after them was, or differs: no
+   other case is known, and none of them is proved away. Nothing but those stores, and the room, is then changed. */
 jv_answer jv_saw(jv_cache *cache, const jv_seen *seen);
 
 /* ---- a status in words */

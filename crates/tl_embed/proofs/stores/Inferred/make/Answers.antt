@@ -17,7 +17,7 @@ loop-place-preserved c =
         subst (λ (x : NetworkState). StoresUpTo c.args.self.now c.args.seen.now (place + 1) c.args.network.now x c.if-is_stored.made) (sym w.network-is)
             (subst (λ (n : ℕ). StoresUpTo c.args.self.now c.args.seen.now (place + 1) c.args.network.now w.store-told.new.network n) (sym w.made-is)
             (stored-next c.args.self.now c.args.seen.now place c.args.network.now c.loop-place.network w.store-told.new.network c.loop-place.made
-            w.store-told.result c.loop-place.invariant.0 (test ∙ w.if-is_stored.true) w.store-told.ensures w.if-told-ne0.false)),
+            w.store-told.result c.loop-place.invariant.0 (test ∙ w.if-is_stored.true) w.store-told.ensures.asked w.if-told-ne0.false)),
         omega (arith, w.made-is, c.loop-place.invariant.1),
       )
       | else-is_stored w ↦ (
