@@ -16,6 +16,8 @@
  *   jv_read            the events of a bank's log from a place on, each as jv_call tells it (`Reads`).
  *   jv_saw             the client's call that sends a message which was seen, done only where it sends just that one; or what the
  *                      client would send, and nothing changed (`Saws`).
+ *   jj_size, jj_align, jj_open, jj_see   a judge beside a bench, which tells of each entry at once whether it is permitted after those
+ *                      before it, and of the first that is not the rule that it breaks (`OpensJudge`, `SeesRoom`, `EveryJudging`).
  *   jv_echo            the request again (`echoed`); jv_echo_seen likewise (`seen_echoed`); jv_version the number 5.
  * The functions that are `static inline` are C: they fill in a request and call one of these, and are tested (examples/c), not
  * proved. After any sequence of calls of an opened cache, each of which met its contract, each bank's log is a run of the protocol
@@ -93,7 +95,8 @@ enum jv_status { /* the status of an answer, and why a cache is closed */
     JV_FORGOTTEN = 19,       /* the event at that place is forgotten */
                              /* 20 to 28: a number that is not lawful */
     JV_DIFFERS = 29,         /* the client would send another message than the one that was seen: the answer tells it */
-    JV_OUTSIDE = 30          /* this profile has no message of that channel, opcode and param */
+    JV_OUTSIDE = 30,         /* this profile has no message of that channel, opcode and param */
+    JV_NOT_PERMITTED = 31    /* of a judge: the entry breaks a rule, which `rule` tells */
 };
 
 /* What a status means to a bench: the model is asked again later; the device did what no client may; a limit of this cache, or of the
@@ -275,14 +278,17 @@ jv_number jv_read(jv_cache *cache, const jv_request *request, jv_answer *events,
                         opcode, param, place, bytes, len), without a serial: it has no ticket
      JV_NO_MEMORY       the log has no room for the events
      JV_OK              the call is done, and answered as it answers: with the ticket, by which home takes the message.
-   Nothing is changed unless it is JV_OK.
+   Unless it is JV_OK the call is not done, and nothing is changed but by the stores of JV_STORES: as many as `stores` of the answer
+   says, which is 0 without that option.
 
    JV_STORES: nobody tells the cache what the device's core stores. Where ProbeAckData or ReleaseData was seen and the client would send a
    message of the same param from a copy at Tip, the stores that lead there are made first: of each eight bytes that differ from the
    copy, at their address, in rising order; or, where the copy has these bytes and is clean, one store of its first eight bytes, since
-   TileLink allows data of a clean copy. `stores` of the answer is how many, and their events stand before the call's in the log. Room
-   for all of them and the call is got first, so that JV_NO_MEMORY changed nothing. Should one of them be refused nevertheless, as
-   JV_CLOCK_FULL after 2^64 - 1 accesses, its status is told with how many were made before it. */
+   TileLink allows data of a clean copy. What the call would be refused for is asked first, and then it makes no store; room for all
+   of them and the call is got next, and where there is none JV_NO_MEMORY changed nothing. `stores` of the answer is how many were made,
+   their events stand before the call's in the log, and they stay, whatever the status is. With another status than JV_OK it is more
+   than 0 where a later one of them was refused, as JV_CLOCK_FULL after 2^64 - 1 accesses, or the call after them was, or differs: no
+   other case is known, and none of them is proved away. Nothing but those stores, and the room, is then changed. */
 jv_answer jv_saw(jv_cache *cache, const jv_seen *seen);
 
 /* ---- a status in words */
@@ -292,14 +298,15 @@ static inline const char *jv_status_name(uint32_t status) {
         "ok", "no permission", "waiting", "wrong from", "nothing there", "not head", "release pending", "no register", "block busy",
         "not yet", "out of range", "wrong bank", "copies full", "link full", "no memory", "clock full", "no call", "bad argument", "closed",
         "forgotten", "clients", "banks", "block bytes", "sets", "ways", "registers", "copies", "memory blocks", "version", "differs",
-        "outside the profile"};
+        "outside the profile", "not permitted"};
     return status < sizeof names / sizeof *names ? names[status] : "no such status";
 }
 static inline enum jv_status_class_number jv_status_class(uint32_t status) {
     switch (status) {
     case JV_OK: return JV_CLASS_DONE;
     case JV_NO_REGISTER: case JV_BLOCK_BUSY: case JV_NOT_YET: case JV_LINK_FULL: return JV_CLASS_WAIT;
-    case JV_NO_PERMISSION: case JV_WAITING: case JV_WRONG_FROM: case JV_RELEASE_PENDING: case JV_DIFFERS: return JV_CLASS_DEVICE;
+    case JV_NO_PERMISSION: case JV_WAITING: case JV_WRONG_FROM: case JV_RELEASE_PENDING: case JV_DIFFERS: case JV_NOT_PERMITTED:
+        return JV_CLASS_DEVICE;
     case JV_COPIES_FULL: case JV_NO_MEMORY: case JV_CLOCK_FULL: case JV_OUTSIDE: return JV_CLASS_LIMIT;
     case JV_NOTHING_THERE: case JV_NOT_HEAD: return JV_CLASS_ORDER;
     default: return JV_CLASS_CALLER;
@@ -541,6 +548,144 @@ static inline jv_answer jv_waiting(const jv_cache *c, uint32_t bank, uint32_t cl
 static inline jv_answer jv_message(const jv_cache *c, jv_ticket t) {
     jv_request r = jv_asks_(JV_VIEW_MESSAGE); r.bank = t.bank; r.client = t.client; r.channel = t.channel; r.serial = t.serial;
     return jv_view_(c, &r);
+}
+
+/* ---- a judge of events beside a bench
+
+   It is handed the events of a bench one after another, and tells of each at once whether the protocol permits it after those before it, as
+   `tlcheck` does of a record (docs/RECORD.md). It needs no cache: the events may be those of a design under test. It takes memory for
+   blocks, clients and the messages that wait, and none for the events. One judge is of one home. */
+
+typedef struct jj_judge jj_judge; /* opaque, in room of jj_size() bytes; the promises above hold of it as of a cache */
+
+typedef struct {
+    uint32_t clients;       /* 1 to 64 (20) */
+    uint32_t block_bytes;   /* 8, 16, 32, 64 (22) */
+    uint32_t memory_blocks; /* 1 to 65536 (27) */
+} jj_numbers;
+
+typedef struct { /* an event, and the message that was seen to be sent by it; what an event does not use it takes no notice of */
+    uint32_t event;       /* jv_event_kind */
+    uint32_t client;
+    uint32_t place;       /* the block, or the address of an access */
+    uint32_t param;       /* jv_grow of SEND_ACQUIRE, jv_prune of SEND_RELEASE, jv_cap of SEND_PROBE */
+    uint32_t shown;       /* 1 where the message is shown, else 0: then nothing is compared */
+    uint32_t channel;     /* of the message: jv_channel, A to E */
+    uint32_t opcode;      /* jv_opcode */
+    uint32_t shown_param; /* its param */
+    uint32_t len;         /* how many bytes: 1 to 8 of an access; of the message those of a block where it carries data, else 0 */
+    uint8_t bytes[64];
+} jj_entry;
+
+typedef struct { /* what is not told is 0 */
+    uint32_t status;      /* JV_OK: permitted; JV_NOT_PERMITTED; JV_BAD_ARGUMENT: no entry, and nothing changed; JV_NO_MEMORY; JV_CLOSED */
+    uint32_t rule;        /* of JV_NOT_PERMITTED: jj_rule */
+    uint32_t opcode, param, len; /* of a rule from JJ_OTHER_MESSAGE on: what the event sends, its bytes with JJ_OTHER_BYTES alone */
+    uint32_t perm;        /* what the client may do with the block (jv_perm_number): after the entry; before it where it is not permitted.
+                             Of an event without a client, client 0 */
+    uint32_t is_at_home;  /* 1 where home has a copy of the block, likewise */
+    uint32_t why;         /* of JV_CLOSED: 20, 22, 27, JV_OUT_OF_RANGE (the image), JV_NO_MEMORY, or JV_CLOSED by its caller */
+    uint8_t bytes[64];
+} jj_verdict;
+
+enum jj_rule { /* what an entry breaks, in words by jj_rule_name: the sentences of tlcheck */
+    JJ_NO_RULE, JJ_BLOCK_IS_THERE, JJ_CLIENT_IS_THERE, JJ_ACCESS_FITS, JJ_COPY_IS_READABLE, JJ_LOAD_HAS_ITS_BYTES, JJ_COPY_IS_WRITABLE,
+    JJ_NO_ACQUIRE_UNANSWERED, JJ_NO_RELEASE_BESIDE_ACQUIRE, JJ_STARTS_FROM_ITS_COPY, JJ_PROBE_WAITS, JJ_NO_RELEASE_UNANSWERED,
+    JJ_GRANT_IS_FIRST, JJ_RELEASE_ACK_IS_FIRST, JJ_ACQUIRE_WAITS, JJ_SERVES_NO_ACQUIRE, JJ_RECORD_IS_ABOVE, JJ_CLIENT_HAS_NO_PROBE,
+    JJ_NO_GRANT_IS_PENDING, JJ_ONE_GRANT_IS_PENDING, JJ_MESSAGE_IS_ON_C, JJ_SERVES_THIS_CLIENT, JJ_OTHERS_LEAVE_ROOM,
+    JJ_HOME_HAS_THE_BLOCK, JJ_NO_PROBE_IS_PENDING, JJ_NOTHING_IS_PENDING, JJ_GRANT_ACK_WAITS, JJ_SERVES_AN_ACQUIRE,
+    JJ_HOME_LACKS_THE_BLOCK, JJ_NOTHING_IS_OUTWARD, JJ_REQUEST_IS_OUTWARD, JJ_DATA_IS_OUTWARD, JJ_PUT_ACK_IS_OUTWARD, JJ_COPY_IS_CLEAN,
+    JJ_COPY_IS_DIRTY, JJ_NOBODY_IS_RECORDED,
+    JJ_OUT_OF_ORDER, /* another message is first on the channel */
+    /* the message that is shown is not the one that the event sends */
+    JJ_NOTHING_IS_SENT, JJ_OTHER_MESSAGE, JJ_OTHER_PARAM, JJ_DATA_IS_MISSING, JJ_DATA_IS_EXTRA, JJ_OTHER_BYTES
+};
+
+#define JJ_CLOSES 255u /* the event that closes a judge */
+
+JV_AT_(jj_entry, event, 0); JV_AT_(jj_entry, client, 4); JV_AT_(jj_entry, place, 8); JV_AT_(jj_entry, param, 12);
+JV_AT_(jj_entry, shown, 16); JV_AT_(jj_entry, channel, 20); JV_AT_(jj_entry, opcode, 24); JV_AT_(jj_entry, shown_param, 28);
+JV_AT_(jj_entry, len, 32); JV_AT_(jj_entry, bytes, 36); JV_ASSERT_(sizeof(jj_entry) == 100, whole_entry);
+JV_AT_(jj_verdict, status, 0); JV_AT_(jj_verdict, rule, 4); JV_AT_(jj_verdict, opcode, 8); JV_AT_(jj_verdict, param, 12);
+JV_AT_(jj_verdict, len, 16); JV_AT_(jj_verdict, perm, 20); JV_AT_(jj_verdict, is_at_home, 24); JV_AT_(jj_verdict, why, 28);
+JV_AT_(jj_verdict, bytes, 32); JV_ASSERT_(sizeof(jj_verdict) == 96, whole_verdict);
+JV_ASSERT_(sizeof(jj_numbers) == 12, whole_judge_numbers);
+
+size_t jj_size(void);  /* how many bytes of room a judge needs */
+size_t jj_align(void); /* what the room's address divides by */
+/* Puts a judge into the room: at reset over the image (0 past it), or closed, for the reason that `why` of each call tells. */
+void jj_open(const jj_numbers *numbers, const uint8_t *image, size_t image_len, void *room);
+/* Takes the entry where it is permitted after those before it. Where it is not, JV_NOT_PERMITTED and the first rule that it breaks are
+   told, nothing is taken, and each later call answers just that again, whatever it is handed. Likewise JV_NO_MEMORY from the first request
+   for memory on that was refused. Numbers that are no entry are the caller's fault (JV_BAD_ARGUMENT), and change nothing: another event,
+   param, channel or opcode; more than 8 bytes of an access; a message with a load, a store or an event of home and the memory; bytes with
+   a message that carries none, or more than 64. */
+jj_verdict jj_see(jj_judge *judge, const jj_entry *entry);
+
+/* A judge in room of malloc's; or NULL, with the reason in *status (which may be NULL) as `why`. */
+static inline jj_judge *jj_new(const jj_numbers *numbers, const uint8_t *image, size_t image_len, uint32_t *status) {
+    uint32_t why = JV_NO_MEMORY; jj_judge *j = NULL; jj_entry none;
+    void *room = jj_align() <= 16 ? malloc(jj_size()) : NULL;
+    if (room) {
+        jj_verdict v;
+        jj_open(numbers, image_len ? image : (const uint8_t *)"", image_len, room);
+        j = (jj_judge *)room;
+        memset(&none, 0, sizeof none); none.event = 254; /* no entry: an open judge answers 17 */
+        v = jj_see(j, &none);
+        why = v.status == JV_CLOSED ? v.why : 0;
+        if (why) { free(room); j = NULL; }
+    }
+    if (status) *status = why;
+    return j;
+}
+/* Gives all that the judge holds back; the room is the caller's again. */
+static inline void jj_close(jj_judge *j) {
+    if (j) { jj_entry e; memset(&e, 0, sizeof e); e.event = JJ_CLOSES; (void)jj_see(j, &e); }
+}
+/* Closes a judge of jj_new and gives its room back. */
+static inline void jj_free(jj_judge *j) { if (j) { jj_close(j); free(j); } }
+/* An entry of an event that is no access, with nothing shown. */
+static inline jj_entry jj_event(uint32_t event, uint32_t client, uint32_t block, uint32_t param) {
+    jj_entry e; memset(&e, 0, sizeof e); e.event = event; e.client = client; e.place = block; e.param = param; return e;
+}
+/* The entry of an event of a log, as jv_event and jv_read_events tell it. */
+static inline jj_entry jj_of_event(const jv_answer *a) {
+    jj_entry e; int accesses = a->opcode == JV_EVENT_LOAD || a->opcode == JV_EVENT_STORE;
+    e = jj_event(a->opcode, a->client, accesses ? a->address : a->place, a->param);
+    if (accesses) { e.len = a->len; memcpy(e.bytes, a->bytes, 8); }
+    return e;
+}
+/* The entry with the message that was seen, as an answer of a call tells it. */
+static inline jj_entry jj_showing(jj_entry e, const jv_answer *message) {
+    e.shown = 1; e.channel = message->channel; e.opcode = message->opcode; e.shown_param = message->param; e.len = message->len;
+    memcpy(e.bytes, message->bytes, 64);
+    return e;
+}
+static inline const char *jj_rule_name(uint32_t rule) {
+    static const char *const names[] = {
+        "no rule", "the block is one of the memory", "the client is one of the clients", "an access is of 1 to 8 bytes in one block",
+        "a load needs a copy at Branch or Tip", "a load gets the bytes of its copy", "a store needs a copy at Tip",
+        "no Acquire is sent between an Acquire and its Grant", "no Release is sent between an Acquire and its Grant",
+        "what is asked for or given up starts from the permission of the copy", "an answer to a Probe needs a Probe on B",
+        "no ProbeAck, Acquire or Release is sent between a Release and its ReleaseAck", "a Grant is taken where one is first on D",
+        "a ReleaseAck is taken where one is first on D", "an Acquire is accepted where one is on A",
+        "home serves no other Acquire of the block", "a Probe asks for less than home records",
+        "no earlier Probe of the block is unanswered at the client", "no Grant of the block is pending",
+        "one Grant of the block is pending at a time", "home takes a message of C where one waits",
+        "a Grant answers the Acquire that home serves",
+        "beside a Grant toT every other record is None, and beside a Grant toB none is Tip", "home has a copy of the block",
+        "no Probe of the block is unanswered", "home gives up only a block of which no Probe and no Grant is pending",
+        "a GrantAck is taken where one is on E", "home serves an Acquire of the block", "home has no copy of the block",
+        "nothing passes between home and the memory for the block",
+        "the memory answers a Get or a PutFullData that is on its way", "home takes data where the answer to a Get is on its way",
+        "home takes an acknowledgement where that of a PutFullData is on its way", "a copy that is dropped is clean",
+        "a copy that is written back is dirty", "home gives up only a block of which nobody has a copy",
+        "a message is taken where it is the first of its channel", "what is shown is what the event sends: it sends no message",
+        "what is shown is what the event sends: it sends another message",
+        "what is shown is what the event sends: it sends another parameter",
+        "what is shown is what the event sends: the data is missing", "what is shown is what the event sends: it sends no data",
+        "what is shown is what the event sends: it sends other bytes"};
+    return rule < sizeof names / sizeof *names ? names[rule] : "no such rule";
 }
 #ifdef __cplusplus
 }

@@ -76,6 +76,23 @@ inline std::string hex(const uint8_t *bytes, size_t len) {
 }
 } // namespace words
 
+// ---- a judge of events beside a bench
+
+class Judge { // jj_judge of jinavoke.h, which says what each entry and verdict is
+public:
+    explicit Judge(const jj_numbers &numbers, const std::vector<uint8_t> &image = {}) {
+        uint32_t why = 0;
+        judge_ = jj_new(&numbers, image.data(), image.size(), &why);
+        if (!judge_) throw std::runtime_error("jinavoke: no judge: " + words::number(why) + " " + jv_status_name(why));
+    }
+    Judge(const Judge &) = delete;
+    Judge &operator=(const Judge &) = delete;
+    ~Judge() { jj_free(judge_); }
+    jj_verdict see(const jj_entry &entry) { return jj_see(judge_, &entry); }
+private:
+    jj_judge *judge_;
+};
+
 // ---- beats and messages
 
 struct Beat { // what the wires of a channel carry in one cycle

@@ -50,11 +50,24 @@ def at_once(cache):
         (0, b"\xaa" + bytes(7)), (0, b""), (0, b"\xbb" + bytes(7)), (jv.JV_NO_PERMISSION, b"")]
 
 
+def judged(cache, path):
+    """A judge takes each event of the log, and stops at one that is out of its turn."""
+    with jv.Judge(path=path, clients=2, block_bytes=8, memory_blocks=4) as judge:
+        for it in cache.events():
+            place = it.address if it.opcode <= jv.JV_EVENT_STORE else it.place
+            if judge.see(it.opcode, it.data, client=it.client, place=place, param=it.param).status:
+                return False
+        none, fault, again = judge.see(99), judge.see("take_put_ack", place=0), judge.see("load", b"\xbb", client=1, place=0)
+        return (none.status, fault.status, bytes(fault)) == (jv.JV_BAD_ARGUMENT, jv.JV_NOT_PERMITTED, bytes(again)) \
+            and fault.rule == jv.JJ_PUT_ACK_IS_OUTWARD
+
+
 def main():
     path = sys.argv[1] if len(sys.argv) > 1 else None
     with jv.Cache(path=path, clients=2, banks=1, block_bytes=8, sets=1, ways=2, registers=2, copies=2, memory_blocks=4) as cache:
         is_well = race(cache)
         is_well = at_once(cache) and is_well
+        is_well = judged(cache, path) and is_well
         load = jv.asked("load", client=1, place=0, len=8)
         for text, batch, rounds in ("one call", cache.batch(load), 100000), ("a call of 64", cache.batch(*[load] * 64), 2000):
             start = time.perf_counter()

@@ -1,6 +1,6 @@
 /* Each request for memory refused in turn, by malloc and realloc of this file's own (linked with --wrap): opening answers 14 and leaves
- * nothing behind; a step or jv_reserve that is answered with 14 changed nothing, and is done when it is asked again; and at the end
- * all memory was given back. Status 1 where one does not. */
+ * nothing behind; a step or jv_reserve that is answered with 14 changed nothing, and is done when it is asked again; a judge that answered
+ * 14 does so from then on; and at the end all memory was given back. Status 1 where one does not. */
 #include "jinavoke.h"
 #include <stdio.h>
 
@@ -153,12 +153,44 @@ static void scenario(void) {
     for (b = 0; b < 2; b++) expect(jv_is_quiet(c, b).serial == 1, "not quiet");
     jv_free(c);
 }
-int main(void) {
+/* A judge sees a client get each block: it is opened and takes each entry; or 14 is told, and from then on by each call. */
+static void judged(void) {
+    static const uint32_t kinds[] = {JV_EVENT_SEND_ACQUIRE, JV_EVENT_ACCEPT_ACQUIRE, JV_EVENT_SEND_GET, JV_EVENT_SERVE, JV_EVENT_TAKE_DATA,
+        JV_EVENT_SEND_GRANT, JV_EVENT_TAKE_GRANT, JV_EVENT_TAKE_GRANT_ACK};
+    jj_numbers n = {2, 8, 8};
+    uint32_t why, block, k;
+    jj_verdict v, zero;
+    jj_judge *j = jj_new(&n, NULL, 0, &why);
+    memset(&zero, 0, sizeof zero); zero.status = JV_NO_MEMORY;
+    if (!j) {
+        expect(why == JV_NO_MEMORY, "opening a judge tells another reason");
+        expect(live == 0, "opening a judge kept memory");
+        return;
+    }
+    for (block = 0; block < 8; block++) for (k = 0; k < 8; k++) {
+        jj_entry e = jj_event(kinds[k], block % 2, block, JV_NTOT);
+        v = jj_see(j, &e);
+        if (v.status == JV_OK) continue;
+        expect(!memcmp(&v, &zero, sizeof v), "an entry is told as other than want of memory");
+        e = jj_event(JV_EVENT_LOAD, 0, 0, 0);
+        v = jj_see(j, &e);
+        expect(!memcmp(&v, &zero, sizeof v), "want of memory is not told again");
+        block = 8; break;
+    }
+    jj_free(j);
+}
+static void each_refused(void (*one)(void), const char *what) {
     long all, i;
-    scenario();
+    asked = refuse_at = refused = 0;
+    one();
     all = asked;
     expect(live == 0, "memory was kept");
-    for (i = 1; i <= all; i++) { asked = 0; refuse_at = i; scenario(); expect(live == 0, "memory was kept"); }
-    printf("%ld requests, each refused in turn, %ld refused, %ld wrong\n", all, refused, wrong);
-    return wrong != 0 || refused != all;
+    for (i = 1; i <= all; i++) { asked = 0; refuse_at = i; one(); expect(live == 0, "memory was kept"); }
+    expect(refused == all, "not each request was refused");
+    printf("%s: %ld requests, each refused in turn, %ld refused, %ld wrong\n", what, all, refused, wrong);
+}
+int main(void) {
+    each_refused(scenario, "a cache");
+    each_refused(judged, "a judge");
+    return wrong != 0;
 }

@@ -7,9 +7,10 @@
 
 A design's links have a home of their own, `jv.Home` (links.py).
 
-Each JV_ name of the header is a name of this module. To import it opens no file: the header is read where a number is first
-needed, and the shared library is loaded by the first cache. Both are those that were installed with this file, or, in a checkout,
-the repository's header. JINAVOKE_HEADER and JINAVOKE_LIBRARY name others.
+Each JV_ and JJ_ name of the header is a name of this module, and `jv.Judge` judges events as a bench runs. To import it opens
+no file: the header is read where a number is first needed, and the shared library is loaded by the first cache. Both are
+those that were installed with this file, or, in a checkout, the repository's header. JINAVOKE_HEADER and JINAVOKE_LIBRARY
+name others.
 """
 import ctypes as c
 import functools
@@ -21,6 +22,8 @@ NUMBERS = "version clients banks block_bytes sets ways registers copies memory_b
 ASKED = "call index client place param bank channel len".split()
 TOLD = "status what bank client channel opcode param place address size index len stores reserved".split()
 SEEN = "channel opcode param client block len options index".split()
+ENTRY = "event client place param shown channel opcode shown_param len".split()
+VERDICT = "status rule opcode param len perm is_at_home why".split()
 # What a ticket is made of.
 TICKET = "bank client channel serial".split()
 
@@ -53,6 +56,21 @@ class Seen(c.Structure):
 class Number(c.Structure):
     """What `jv_read` answers (jv_number)."""
     _fields_ = [("status", c.c_uint32), ("what", c.c_uint32), ("serial", c.c_uint64)]
+
+
+class JudgeNumbers(c.Structure):
+    """The numbers of a judge (jj_numbers)."""
+    _fields_ = [(name, c.c_uint32) for name in ("clients", "block_bytes", "memory_blocks")]
+
+
+class Entry(c.Structure):
+    """An event, with the message that was seen to be sent by it (jj_entry)."""
+    _fields_ = [(name, c.c_uint32) for name in ENTRY] + [("bytes", c.c_uint8 * 64)]
+
+
+class Verdict(c.Structure):
+    """What a judge tells of an entry (jj_verdict)."""
+    _fields_ = [(name, c.c_uint32) for name in VERDICT] + [("bytes", c.c_uint8 * 64)]
 
 
 class Refused(Exception):
@@ -93,7 +111,7 @@ def enums():
 
 def __getattr__(name):
     """A number of the header, by its name there."""
-    if name.startswith("JV_"):
+    if name.startswith(("JV_", "JJ_")):
         for words in enums().values():
             if name in words:
                 return words[name]
@@ -117,6 +135,9 @@ def library(path):
     lib.jv_read.argtypes, lib.jv_read.restype = [c.c_void_p, c.POINTER(Request), c.c_void_p, c.c_size_t], Number
     lib.jv_echo_seen.argtypes, lib.jv_echo_seen.restype = [c.POINTER(Seen)], Answer
     lib.jv_saw.argtypes, lib.jv_saw.restype = [c.c_void_p, c.POINTER(Seen)], Answer
+    lib.jj_size.restype = lib.jj_align.restype = c.c_size_t
+    lib.jj_open.argtypes, lib.jj_open.restype = [c.POINTER(JudgeNumbers), c.c_char_p, c.c_size_t, c.c_void_p], None
+    lib.jj_see.argtypes, lib.jj_see.restype = [c.c_void_p, c.POINTER(Entry)], Verdict
     lib.jv_calls.restype = c.c_size_t  # a Batch hands over what needs no conversion
     back = lib.jv_echo(Request(101, 102, 103, 104, 105, 106, 107, 108, 109))
     told = [back.what, back.index, back.client, back.place, back.param, back.bank, back.channel, back.opcode, back.serial]
@@ -218,6 +239,42 @@ class Cache:
         """Gives all that the cache holds back; a closed one is closed again without harm."""
         if self.at:
             self.ask("close")
+            self.at = None
+
+    def __enter__(self):
+        return self
+
+    def __exit__(self, *_):
+        self.close()
+
+    def __del__(self):
+        self.close()
+
+
+class Judge:
+    """A judge of events at reset over an image: clients, block_bytes, memory_blocks (jj_numbers)."""
+
+    def __init__(self, image=b"", path=None, **numbers):
+        self.at = None
+        self.lib = library(path or library_file())
+        self.room = c.create_string_buffer(self.lib.jj_size() + self.lib.jj_align())
+        begin = c.addressof(self.room)
+        self.at = c.c_void_p(begin + -begin % self.lib.jj_align())
+        self.lib.jj_open(JudgeNumbers(**numbers), bytes(image), len(image), self.at)
+        why = self.see(event=254)  # no entry: an open judge answers JV_BAD_ARGUMENT
+        if why.status == enums()["jv_status"]["JV_CLOSED"]:
+            raise Refused("the judge is not opened", why.why)
+
+    def see(self, event, bytes=b"", **words):
+        """The verdict on the next entry: its event by number, or named as in the header (JV_EVENT_..), in small letters."""
+        number = event if isinstance(event, int) else enums()["jv_event_kind"]["JV_EVENT_" + event.upper()]
+        held = (c.c_uint8 * 64)(*bytes[:64])
+        return self.lib.jj_see(self.at, Entry(event=number, len=len(bytes), bytes=held, **words))
+
+    def close(self):
+        """Gives all that the judge holds back; a closed one is closed again without harm."""
+        if self.at:
+            self.see(event=255)
             self.at = None
 
     def __enter__(self):

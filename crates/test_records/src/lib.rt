@@ -1,7 +1,9 @@
 //! Tests of records by the public calls: whole records and their verdicts, each damage of one, entries and states as lines, messages that
-//! are explained or not, and readers that fail.
+//! are explained or not, readers that fail, and a judge beside a bench.
 #![tactic(auto)]
 
+#[cfg(test)]
+mod bench;
 #[cfg(test)]
 mod brief;
 #[cfg(test)]

@@ -122,13 +122,14 @@ pub record StoresUpTo (i : Inferred) (s : Seen) (upto : ℕ) (old mid : NetworkS
   pub stored : AreStored i s (places_below (is_stored i (bytes_seen s)) upto) old mid
   pub count : made ≡ length (places_below (is_stored i (bytes_seen s)) upto)
 
--- a store at a place was not done
+-- A store at a place was not done, which changed nothing: those before it stay, and so many are told.
 pub record StopsAt (i : Inferred) (s : Seen) (upto : ℕ) (mid new : NetworkState) (made : ℕ) (told : Answer) : Type 0 where
   pub below : upto < 8
   pub wanted : is_stored i (bytes_seen s) upto ≡ true
   pub last : Answer
   pub asked : IsPlayed s.index (store_of i s upto) mid new last ⊎ IsStarved (store_of i s upto) mid new last
   pub refused : last.status ≢ 0
+  pub same : new ≡ mid
   pub tells : told ≡ record last { stores = made }
 
 -- the stores are made, or end at one that is not done
@@ -137,7 +138,8 @@ Stores i s old new (Ok made) = StoresUpTo i s 8 old new made
 Stores i s old new (Err told) =
     (upto : ℕ) × (made : ℕ) × (mid : NetworkState) × StoresUpTo i s upto old mid made × StopsAt i s upto mid new made told
 
--- After the stores the call is compared with what was seen, and how many there were is told.
+-- After the stores the call is compared with what was seen, and how many there were is told. Where it is refused, or differs, or a
+-- store was not done, just the stores that are told stay.
 pub record StoresAndSends (i : Inferred) (kind : Kind) (s : Seen) (step : Step) (ready new : NetworkState) (told : Answer) : Type 0 where
   pub made : Result ℕ Answer
   pub mid : NetworkState

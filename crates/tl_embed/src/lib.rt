@@ -7,6 +7,7 @@ mod cache;
 mod events;
 mod export;
 mod history;
+mod judge;
 mod many;
 mod request;
 mod saw;

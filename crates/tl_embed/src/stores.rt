@@ -117,7 +117,8 @@ impl Inferred {
         count
     }
 
-    /// Makes the stores, one after another; how many. An error is the answer of one that was not done, with how many were done before.
+    /// Makes the stores, one after another; how many. An error is the answer of one that was not done, with how many were done before,
+    /// which stay.
     pub fn make(&self, network: &mut Network, seen: &Seen) -> Result<u32, Answer>
         requires { self.now.first < 2 ^ 31 }
         ensures { Stores self.now seen.now network.old network.new result }
@@ -138,12 +139,13 @@ impl Inferred {
         Ok(made)
     }
 
-    /// One of the stores.
+    /// One of the stores. It changes nothing where it is not done.
     fn store(&self, network: &mut Network, seen: &Seen, place: u32) -> Answer
         requires first { self.now.first < 2 ^ 31 }
         requires place { place < 8 }
-        ensures { IsPlayed seen.now.index (store_of self.now seen.now place) network.old network.new result
+        ensures asked { IsPlayed seen.now.index (store_of self.now seen.now place) network.old network.new result
             ⊎ IsStarved (store_of self.now seen.now place) network.old network.new result }
+        ensures refused { result.status ≢ 0 → network.new ≡ network.old }
     {
         let bytes = AccessBytes::from_slice(piece(seen.bytes(), place)).unwrap();
         let step = Step::Store {
