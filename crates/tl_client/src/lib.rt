@@ -10,6 +10,7 @@ mod turn;
 
 pub use agent::Agent;
 pub use home::Home;
-pub use tl_client_ports::{Free, Gate, HomePort, Locked, Port, Who};
+pub use tl_client_mail::Mail;
+pub use tl_client_ports::{Asked, FirstStep, Free, Gate, HomePort, Locked, Port, Success, Who};
 pub use tl_script_words::Command;
 pub use turn::Turn;
