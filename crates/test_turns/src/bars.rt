@@ -15,7 +15,7 @@ use tl_tickets::{Ringer, Sender};
 use tl_types::{BankNo, Channel, ClientId, Ticket};
 
 /// One client, and one bank with one block.
-const NUMBERS: GeometryNumbers = GeometryNumbers {
+pub const NUMBERS: GeometryNumbers = GeometryNumbers {
     version: 1,
     clients: 1,
     banks: 1,
@@ -90,7 +90,7 @@ impl Scene<'_> {
 }
 
 /// The share of the one client in the one bank.
-fn shares(alloc: Global, geometry: Geometry) -> Option<Vec<Share>> {
+pub fn shares(alloc: Global, geometry: Geometry) -> Option<Vec<Share>> {
     let (_bank, mut given) = Bank::new(alloc, geometry, BankNo::new(0), &[]).ok()?;
     Vec::from_array(alloc, [given.pop()?]).ok()
 }

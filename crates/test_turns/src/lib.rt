@@ -6,6 +6,8 @@ mod bars;
 #[cfg(test)]
 mod counts;
 #[cfg(test)]
+mod froms;
+#[cfg(test)]
 mod idle;
 #[cfg(test)]
 mod left;

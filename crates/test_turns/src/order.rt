@@ -19,8 +19,8 @@ use tl_tickets::{Ringer, Sender};
 use tl_types::{BankNo, BlockNo, Channel, ClientId, Ticket};
 
 /// A port to no bank: it counts its calls, keeps what was asked, and on channel A refuses, or has no memory, as long as
-/// it is told to. So many blocks, from 0 on, have an open register; those asked for a step are kept. Such a step is a Get where it
-/// is told to, else there is none; what was asked of the memory is kept too.
+/// it is told to. So many blocks, from 0 on, have an open register; those asked for a step are kept. Such a step is what it is told;
+/// what was asked of the memory is kept too.
 #[derive(Drop)]
 pub struct Recorder {
     calls: Cell<u32>,
@@ -29,18 +29,29 @@ pub struct Recorder {
     has_memory: bool,
     open: u32,
     advanced: Vec<BlockNo>,
-    gets: bool,
+    next: Next,
     memory: Vec<MemoryCall>,
     is_quiet: bool,
 }
 
-/// What is asked of the memory for a block.
+/// What the next step of each open register is.
+#[derive(Clone, Copy)]
+enum Next {
+    /// There is none yet.
+    NotYet,
+    /// The block is asked of the memory.
+    Get,
+    /// The block with this number, the victim, goes to the memory.
+    Put(u32),
+}
+
+/// What is asked of the memory for the block with a number.
 #[derive(Clone, Copy, Debug, PartialEq, Eq)]
 enum MemoryCall {
     /// It is to serve what was sent.
-    Serve,
+    Serve(u32),
     /// Home takes its answer.
-    Take,
+    Take(u32),
 }
 
 impl Recorder {
@@ -91,10 +102,10 @@ impl HomePort for Recorder {
     fn advance(&mut self, block: BlockNo) -> Result<Action, Refusal> {
         self.count();
         let _ = self.advanced.push(block);
-        if self.gets {
-            Ok(Action::Get)
-        } else {
-            Err(Refusal::NotYet)
+        match self.next {
+            Next::NotYet => Err(Refusal::NotYet),
+            Next::Get => Ok(Action::Get),
+            Next::Put(victim) => Ok(Action::Put(BlockNo::new(victim))),
         }
     }
 
@@ -103,15 +114,15 @@ impl HomePort for Recorder {
         Err(Refusal::NotYet)
     }
 
-    fn serve_memory(&mut self, _block: BlockNo) -> Result<Reply, Refusal> {
+    fn serve_memory(&mut self, block: BlockNo) -> Result<Reply, Refusal> {
         self.count();
-        let _ = self.memory.push(MemoryCall::Serve);
+        let _ = self.memory.push(MemoryCall::Serve(block.number()));
         Ok(Reply::AccessAck { size: 3 })
     }
 
-    fn take_memory(&mut self, _block: BlockNo) -> Result<(), Refusal> {
+    fn take_memory(&mut self, block: BlockNo) -> Result<(), Refusal> {
         self.count();
-        let _ = self.memory.push(MemoryCall::Take);
+        let _ = self.memory.push(MemoryCall::Take(block.number()));
         Ok(())
     }
 
@@ -162,8 +173,8 @@ enum Step {
     Memory(bool),
     /// So many blocks have an open register.
     Open(u32),
-    /// Whether the next step of each open register is a Get.
-    Gets(bool),
+    /// The next step of each open register is this.
+    Next(Next),
     /// Just this was asked of the memory, in order.
     Memories(&'static [MemoryCall]),
     /// The bank is quiet from now on.
@@ -202,10 +213,19 @@ const STEPS: &[Step] = &[
     // After a Get the memory serves, and home takes its answer.
     Step::Memories(&[]),
     Step::Open(1),
-    Step::Gets(true),
+    Step::Next(Next::Get),
     Step::Turn(Turn::Worked),
-    Step::Memories(&[MemoryCall::Serve, MemoryCall::Take]),
-    Step::Gets(false),
+    Step::Memories(&[MemoryCall::Serve(0), MemoryCall::Take(0)]),
+    // After a Put it is asked for the victim, and not for the register's own block.
+    Step::Next(Next::Put(5)),
+    Step::Turn(Turn::Worked),
+    Step::Memories(&[
+        MemoryCall::Serve(0),
+        MemoryCall::Take(0),
+        MemoryCall::Serve(5),
+        MemoryCall::Take(5),
+    ]),
+    Step::Next(Next::NotYet),
     Step::Open(0),
     Step::Turn(Turn::Worked),
     Step::Asked(&[]),
@@ -305,7 +325,7 @@ impl Scene<'_> {
             Step::Accept => self.port.refuses = false,
             Step::Memory(has_memory) => self.port.has_memory = has_memory,
             Step::Open(open) => self.port.open = open,
-            Step::Gets(gets) => self.port.gets = gets,
+            Step::Next(next) => self.port.next = next,
             Step::Quiet => self.port.is_quiet = true,
             Step::CountAnew => self.port.calls.set(0),
             _ => {}
@@ -348,7 +368,7 @@ pub fn refusing_port(alloc: Global) -> Recorder {
         has_memory: true,
         open: 0,
         advanced: Vec::new(alloc),
-        gets: false,
+        next: Next::NotYet,
         memory: Vec::new(alloc),
         is_quiet: false,
     }

@@ -10,13 +10,19 @@ use tl_bank::{Loaded, Refusal, Share, When};
 use tl_client_ports::{Asked, Port, Success};
 use tl_types::{BankNo, BlockNo, Channel, ClientId, Grow, Perm, Prune, Ticket};
 
-/// A port to no bank: it counts its calls, and refuses all of them. The tickets that it is asked it keeps, and it serves Grants and
-/// Probes once it is told to.
+/// A port to no bank: it counts its calls, and refuses all of them, an acquire and a release as it is told. The tickets that it is
+/// asked it keeps, and what was to grow and to be pruned. It serves Grants and Probes once it is told to.
 #[derive(Drop)]
 pub struct Recorder {
     pub calls: Cell<u32>,
     pub asked: Vec<Asked>,
     pub refuses: bool,
+    pub grows: Vec<Grow>,
+    pub prunes: Vec<Prune>,
+    /// Why it refuses an acquire and a release.
+    pub why: Refusal,
+    /// What each client may do with each block, as it says.
+    pub perm: Perm,
 }
 
 impl Recorder {
@@ -26,6 +32,10 @@ impl Recorder {
             calls: Cell::new(0),
             asked: Vec::new(alloc),
             refuses: true,
+            grows: Vec::new(alloc),
+            prunes: Vec::new(alloc),
+            why: Refusal::NotYet,
+            perm: Perm::None,
         }
     }
 
@@ -96,21 +106,23 @@ impl Port for Recorder {
         &mut self,
         _client: ClientId,
         _block: BlockNo,
-        _grow: Grow,
+        grow: Grow,
     ) -> Result<Ticket, Refusal> {
         count(&self.calls);
-        Err(Refusal::NotYet)
+        let _ = self.grows.push(grow);
+        Err(self.why)
     }
 
     fn release(
         &mut self,
         _client: ClientId,
         _block: BlockNo,
-        _prune: Prune,
+        prune: Prune,
         _share: &mut Share,
     ) -> Result<Ticket, Refusal> {
         count(&self.calls);
-        Err(Refusal::NotYet)
+        let _ = self.prunes.push(prune);
+        Err(self.why)
     }
 
     fn answer_probe(&mut self, ticket: Ticket, _share: &mut Share) -> Result<Ticket, Refusal> {
@@ -128,7 +140,7 @@ impl Port for Recorder {
 
     fn perm(&self, _client: ClientId, _block: BlockNo) -> Perm {
         count(&self.calls);
-        Perm::None
+        self.perm
     }
 
     fn oldest_copy(&self, _client: ClientId, _bank: BankNo) -> Option<BlockNo> {
