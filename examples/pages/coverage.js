@@ -1,7 +1,8 @@
 "use strict";
 // coverage.js BROWSER TLCHECK [--shots FOLDER]: opens a page of `tlcheck --coverage --html` in a headless Chromium, and tries
-// what a reader does: sums, races, filters, the order of the rows, the command in each row; the words of the command line; and
-// that each fault that is planted into the page is found. Each trial that fails prints a line; the last line is 'N passed, M failed'.
+// what a reader does: sums, races, filters, the order of the rows, the command in each row; then the words of the command line,
+// and that each fault that is planted into the page is found. Each trial that fails prints a line; the last line is 'N passed, M
+// failed'.
 const { execFileSync, spawnSync } = require("child_process");
 const fs = require("fs");
 const path = require("path");
