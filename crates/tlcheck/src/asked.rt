@@ -13,18 +13,34 @@ pub(crate) enum Asked<'a> {
     Reached(&'a str),
 }
 
+/// Whether a word names a file, or is `-` for standard input: an option, which begins with a dash, does neither.
+fn is_file(word: &str) -> bool {
+    word == "-" || !word.starts_with('-')
+}
+
+/// Files to be covered in a form: there is one at least.
+fn covered(form: Form, words: &[String]) -> Option<Asked<'_>> {
+    if !words.is_empty() && words.iter().all(|word| is_file(word.as_str())) {
+        Some(Asked::Covered(form, words))
+    } else {
+        None
+    }
+}
+
+/// A file to be judged.
+fn judged(word: &str, is_progress_told: bool) -> Option<Asked<'_>> {
+    if is_file(word) {
+        Some(Asked::Judged(word, is_progress_told))
+    } else {
+        None
+    }
+}
+
 /// What stands behind `--coverage`.
-fn covered(words: &[String]) -> Option<Asked<'_>> {
+fn asked_to_cover(words: &[String]) -> Option<Asked<'_>> {
     match words {
-        [] => None,
-        [first, rest @ ..] if first.as_str() == "--html" => {
-            if rest.is_empty() {
-                None
-            } else {
-                Some(Asked::Covered(Form::Page, rest))
-            }
-        }
-        _ => Some(Asked::Covered(Form::Text, words)),
+        [first, rest @ ..] if first.as_str() == "--html" => covered(Form::Page, rest),
+        _ => covered(Form::Text, words),
     }
 }
 
@@ -32,10 +48,10 @@ fn covered(words: &[String]) -> Option<Asked<'_>> {
 pub(crate) fn asked_by(words: &[String]) -> Option<Asked<'_>> {
     let (first, rest) = words.split_first()?;
     match (first.as_str(), rest) {
-        ("--coverage", _) => covered(rest),
+        ("--coverage", _) => asked_to_cover(rest),
         ("--how", [number]) => Some(Asked::Reached(number.as_str())),
-        ("--progress", [file]) => Some(Asked::Judged(file.as_str(), true)),
-        (file, []) => Some(Asked::Judged(file, false)),
+        ("--progress", [file]) => judged(file.as_str(), true),
+        (file, []) => judged(file, false),
         _ => None,
     }
 }

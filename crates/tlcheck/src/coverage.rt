@@ -1,22 +1,34 @@
 //! What records have reached, and a run that reaches a situation.
 
 use std::fs::File;
-use std::io::BufReader;
+use std::io::{BufReader, Read};
 use tlcheck_coverage::{Fault, Form, Number, Tallies, cover, tell_fault, tell_run, tell_tables};
 use tlcheck_reader::{Ending, show};
 
-/// Counts the events of a file.
-fn count(rt: &HostRuntime, name: &str, tallies: &mut Tallies, place: usize) -> Result<(), Fault> {
-    let file = match File::open(rt, name) {
-        Ok(file) => file,
-        Err(_) => return Err(Fault::File),
-    };
-    match BufReader::with_capacity(rt.alloc(), 65_536, file) {
+/// Counts the events of what a reader has.
+fn count_read<R: Read + Drop>(
+    rt: &HostRuntime,
+    reader: R,
+    tallies: &mut Tallies,
+    place: usize,
+) -> Result<(), Fault> {
+    match BufReader::with_capacity(rt.alloc(), 65_536, reader) {
         Ok(mut reader) => {
             cover(rt.alloc(), &mut reader, tallies, place)?;
             Ok(())
         }
         Err(_) => Err(Fault::Memory),
+    }
+}
+
+/// Counts the events of a file, or of standard input where its name is `-`.
+fn count(rt: &HostRuntime, name: &str, tallies: &mut Tallies, place: usize) -> Result<(), Fault> {
+    if name == "-" {
+        return count_read(rt, rt.reader(), tallies, place);
+    }
+    match File::open(rt, name) {
+        Ok(file) => count_read(rt, file, tallies, place),
+        Err(_) => Err(Fault::File),
     }
 }
 

@@ -1,55 +1,51 @@
-//! A tally as a page.
+//! A tally as a page: how much was reached of each action and of each race, and each situation with the command that
+//! reaches it.
 
+mod escape;
+mod flight;
+mod look;
+mod races;
+mod rows;
+
+use crate::page::look::{HEAD, TAIL};
+use crate::page::races::push_races;
+use crate::page::rows::push_rows;
 use crate::tallies::Tallies;
 use crate::tally::Tally;
-use crate::text::{Spot, reached};
+use crate::text::reached;
 use std::alloc::{AllocError, Global};
 use std::fmt::Write;
+use tlcheck_situations::ACTIONS;
 
-const HEAD: &str =
-    "<!doctype html>\n<html lang=\"en\">\n<meta charset=\"utf-8\">\n<title>Situations reached</title>\n<style>\nbody { font: 15px/1.4 system-ui, sans-serif; margin: 2em; color: #222; background: #fff }\ntable { border-collapse: collapse }\ntd, th { padding: 2px 10px; text-align: left; border-bottom: 1px solid #ddd }\ntd.count { text-align: right; font-variant-numeric: tabular-nums }\ntr.never { background: #fdf0d5 }\n@media (prefers-color-scheme: dark) { body { color: #ddd; background: #181818 } td, th { border-color: #444 } tr.never { background: #3a2f16 } }\n</style>\n";
-
-/// A text in which the characters that mark up a page are written as references.
-fn push_escaped(text: &mut String, plain: &str) -> Result<(), AllocError> {
-    for c in plain.chars() {
-        match c {
-            '<' => text.push_str("&lt;")?,
-            '>' => text.push_str("&gt;")?,
-            '&' => text.push_str("&amp;")?,
-            other => text.push(other)?,
-        }
+/// The sums by action.
+fn push_sums(text: &mut String, tally: &Tally) -> Result<(), AllocError> {
+    text.push_str("<h2>By action</h2>\n<table class=\"sums\">\n")?;
+    text.push_str("<thead><tr><th>action<th>reached<th>of<th>never\n<tbody>\n")?;
+    for action in ACTIONS {
+        let (reached, all) = reached(tally, Some(*action));
+        let style = if reached == 0 { "never" } else { "met" };
+        let never = all.saturating_sub(reached);
+        write!(text, "<tr class=\"{style}\"><th scope=\"row\">")?;
+        write!(text, "<button data-action=\"{action}\">{action}</button>")?;
+        writeln!(text, "<td>{reached}<td>{all}<td>{never}")?;
     }
-    Ok(())
+    text.push_str("</table>\n")
 }
 
-fn push_rows(
-    alloc: Global,
-    text: &mut String,
-    tally: &Tally,
-    names: &[String],
-) -> Result<(), AllocError> {
-    let clients = tally.table().clients();
-    let mut number: u64 = 0;
-    for (situation, count) in tally.table().situations().iter().zip(tally.counts()) {
-        number = number.saturating_add(1);
-        let events = count.events;
-        let row = if events == 0 { " class=\"never\"" } else { "" };
-        write!(
-            text,
-            "<tr{row}><td>{clients}.{number}<td>{situation}<td class=\"count\">{events}<td>"
-        )?;
-        let spot = Spot {
-            names,
-            first: count.first,
-        };
-        let first = format!(in alloc; "{spot}")?;
-        push_escaped(text, first.as_str())?;
-        text.push_str("\n")?;
+/// What the rows may be limited to.
+fn push_filters(text: &mut String) -> Result<(), AllocError> {
+    text.push_str("<h2>Situations</h2>\n<p class=\"filters\">")?;
+    text.push_str("<label><input type=\"checkbox\" name=\"never\"> never reached</label>\n")?;
+    text.push_str("<label>action <select name=\"action\"><option value=\"\">all")?;
+    for action in ACTIONS {
+        write!(text, "<option>{action}")?;
     }
-    Ok(())
+    text.push_str("</select></label>\n<label>in flight <select name=\"race\">")?;
+    text.push_str("<option value=\"\">anything</select></label>\n<span role=\"status\"></span>\n")
 }
 
-fn push_table(
+/// What was reached of one number of clients.
+fn push_section(
     alloc: Global,
     text: &mut String,
     tally: &Tally,
@@ -58,16 +54,24 @@ fn push_table(
     let clients = tally.table().clients();
     let (reached, all) = reached(tally, None);
     let beyond = tally.beyond();
+    writeln!(text, "<section id=\"clients-{clients}\">")?;
+    writeln!(
+        text,
+        "<h1>clients {clients}: {reached} of {all} situations reached</h1>"
+    )?;
     write!(
         text,
-        "<h1>{clients} clients: {reached} of {all} situations reached</h1>\n<p>{beyond} events in situations that need more clients. What was never reached is shaded.</p>\n"
+        "<p>{beyond} events in situations that need more clients. "
     )?;
-    text.push_str("<table>\n<tr><th>number<th>situation<th>events<th>first\n")?;
+    text.push_str("What was never reached is shaded.</p>\n")?;
+    push_sums(text, tally)?;
+    push_races(text, tally)?;
+    push_filters(text)?;
     push_rows(alloc, text, tally, names)?;
-    text.push_str("</table>\n")
+    text.push_str("</section>\n")
 }
 
-/// A page with the table of each number of clients that was met.
+/// A page with a section for each number of clients that was met.
 pub(crate) fn push_page(
     alloc: Global,
     text: &mut String,
@@ -76,7 +80,7 @@ pub(crate) fn push_page(
 ) -> Result<(), AllocError> {
     text.push_str(HEAD)?;
     for tally in tallies.all() {
-        push_table(alloc, text, tally, names)?;
+        push_section(alloc, text, tally, names)?;
     }
-    text.push_str("</html>\n")
+    text.push_str(TAIL)
 }
