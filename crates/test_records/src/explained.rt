@@ -139,19 +139,23 @@ fn what_is_explained_and_what_is_not(rt: HostRuntime) -> Result<(), Fail> {
     Ok(())
 }
 
-/// The place of the first line that no run reaches, where each message was seen between its sending and its taking.
+/// Each message was seen between its sending and its taking, and nothing else was sent.
+const BETWEEN: tlwire_closed::Premise = tlwire_closed::Premise {
+    way: Way::Between,
+    skew: 0,
+    whole: true,
+    memory_unseen: false,
+    cores_unseen: false,
+};
+
+/// The place of the first line that no run reaches.
 fn ruled_out(
     alloc: Global,
     damage: Damage,
     order: &[usize],
-    whole: bool,
+    premise: tlwire_closed::Premise,
 ) -> Result<Option<usize>, AllocError> {
     let seen = seen_in(alloc, damage, order)?;
-    let premise = tlwire_closed::Premise {
-        way: Way::Between,
-        skew: 0,
-        whole,
-    };
     Ok(match rule_out(alloc, SHAPE, premise, &[], &seen)? {
         Answer::Impossible(stuck) => Some(stuck.place),
         Answer::NotDecided(_) => None,
@@ -178,8 +182,123 @@ const RULED_OUT: &[(Damage, &[usize], bool, Option<usize>)] = &[
 #[test]
 fn what_is_impossible_and_what_is_not(rt: HostRuntime) -> Result<(), Fail> {
     for (damage, order, whole, place) in RULED_OUT {
-        let found = ruled_out(rt.alloc(), *damage, *order, *whole)?;
+        let premise = tlwire_closed::Premise {
+            whole: *whole,
+            ..BETWEEN
+        };
+        let found = ruled_out(rt.alloc(), *damage, *order, premise)?;
         assert_eq!(rt; found, *place, "at {damage:?}");
+    }
+    Ok(())
+}
+
+/// Lines of which none is on the memory's link.
+const WITHOUT_MEMORY: &[usize] = &[0, 3, 4, 5, 6, 7, 8, 9, 10, 11];
+
+/// The second client has its Grant before the first is probed.
+const GRANTED_BEFORE: &[usize] = &[0, 1, 2, 3, 4, 5, 6, 9, 10, 7, 8, 11];
+
+/// The first client's Grant stands two lines behind its GrantAck.
+const GRANT_BEHIND: &[usize] = &[0, 1, 2, 4, 5, 3, 6, 7, 8, 9, 10, 11];
+
+/// Records, what is wrong with them, how they were seen (the way, by how many lines one may stand behind a later one, whether nobody
+/// watched the memory's link, or the cores), and the first line that no run reaches.
+const SEEN_SO: &[(Damage, &[usize], Way, usize, bool, bool, Option<usize>)] = &[
+    (
+        Damage::Nothing,
+        IN_ORDER,
+        Way::AtHome,
+        0,
+        false,
+        false,
+        None,
+    ),
+    (
+        Damage::Nothing,
+        IN_ORDER,
+        Way::AtClients,
+        0,
+        false,
+        false,
+        None,
+    ),
+    (
+        Damage::Nothing,
+        WITHOUT_MEMORY,
+        Way::Between,
+        0,
+        true,
+        false,
+        None,
+    ),
+    (
+        Damage::Nothing,
+        WITHOUT_MEMORY,
+        Way::Between,
+        0,
+        false,
+        false,
+        Some(1),
+    ),
+    (
+        Damage::GrantsOldBytes,
+        WITHOUT_MEMORY,
+        Way::Between,
+        0,
+        true,
+        false,
+        Some(7),
+    ),
+    (
+        Damage::GrantsOldBytes,
+        IN_ORDER,
+        Way::Between,
+        0,
+        false,
+        true,
+        None,
+    ),
+    (
+        Damage::Nothing,
+        GRANTED_BEFORE,
+        Way::AtClients,
+        0,
+        false,
+        false,
+        Some(7),
+    ),
+    (
+        Damage::Nothing,
+        GRANT_BEHIND,
+        Way::Between,
+        1,
+        false,
+        false,
+        Some(3),
+    ),
+    (
+        Damage::Nothing,
+        GRANT_BEHIND,
+        Way::Between,
+        2,
+        false,
+        false,
+        None,
+    ),
+];
+
+#[test]
+fn what_is_impossible_by_how_it_was_seen(rt: HostRuntime) -> Result<(), Fail> {
+    for (damage, order, way, skew, memory_unseen, cores_unseen, place) in SEEN_SO {
+        let premise = tlwire_closed::Premise {
+            way: *way,
+            skew: *skew,
+            whole: true,
+            memory_unseen: *memory_unseen,
+            cores_unseen: *cores_unseen,
+        };
+        let found = ruled_out(rt.alloc(), *damage, *order, premise)?;
+        assert_eq!(rt; found, *place, "at {damage:?} {way:?}");
     }
     Ok(())
 }

@@ -13,8 +13,8 @@ use Rattle.tlwire_pins.specs.Pins.{KeepsOrder, lines_from}
 use Rattle.tlwire_pins.specs.Walk.{IsWrong}
 use Rattle.tlwire_pins.specs.declared.pass.Wrong.{Wrong}
 use Rattle.tlwire_closed.specs.Along.{IsImpossible as IsSeenByNone}
-use Rattle.tlwire_closed.specs.declared.premise.Premise.{Premise as SetPremise}
-use Rattle.tlwire_answer.specs.Named.{premise_named}
+use Rattle.tlwire_closed.specs.declared.premise.Way.{Way}
+use Rattle.tlwire_answer.specs.Named.{names, premise_of}
 use Rattle.tlwire_record.specs.Messages.{MessagesState}
 use Rattle.tlwire_record.specs.Read.{IsRead}
 use Rattle.tlwire_record.specs.declared.record.ReadFault.TheVariants as read
@@ -35,11 +35,11 @@ pub record IsNo (m : MessagesState) (w : Wrong) : Type 0 where
   pub wrong : IsWrong m.setting.shape client m.seen w
   pub impossible : IsImpossible m.setting.shape client m.seen
 
--- The header says when each message was seen, and no lawful run over the image is seen so.
+-- The header names a way of seeing, and no lawful run over the image is seen so.
 pub record IsRuledOut (m : MessagesState) : Type 0 where
-  pub premise : SetPremise
-  pub named : premise_named m.setting.premises ≡ Some premise
-  pub impossible : IsSeenByNone m.setting.shape premise m.image m.seen
+  pub way : Way
+  pub named : names m.setting.premises way ≡ true
+  pub impossible : IsSeenByNone m.setting.shape (premise_of m.setting.premises way) m.image m.seen
 
 -- lines at the pins of clients have the record's in their order, of a client, where it was seen there
 abbrev pub ClientKeepsOrder : MessagesState → List Seen → ℕ → Type 0

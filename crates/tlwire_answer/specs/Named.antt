@@ -1,48 +1,67 @@
--- Which premise of closed sets a header names (this project's own).
-use Rattle.std.specs.Prelude.{◌||◌, Bool, true, false, List, Option, Some, None, if◌then◌else◌}
+-- Which premises of closed sets a header names (this project's own).
+use Rattle.std.specs.Prelude.{◌||◌, ◌&&◌, not, ℕ, Bool, true, false, List, [], ◌∷◌, Option, Some, None, if◌then◌else◌, nat_le}
 use Rattle.std.specs.List.{list_any}
 use Rattle.tl_types.specs.declared.channel.Channel.TheVariants.{A}
-use Rattle.tlwire_search.specs.Premises.{is_unseen_on, is_whole}
+use Rattle.tlwire_search.specs.Premises.{is_seen_at_home, is_unseen_on, is_whole}
 use Rattle.tlwire_search.specs.declared.premise.Premise.{Premise}
 use Rattle.tlwire_search.specs.declared.premise.Premise.TheVariants as header
 use Rattle.tlwire_search.specs.declared.seen.Wire.TheVariants.{Core, Memory}
 use Rattle.tlwire_closed.specs.declared.premise.Premise.{Premise as SetPremise}
 use Rattle.tlwire_closed.specs.declared.premise.Way.{Way}
-use Rattle.tlwire_closed.specs.declared.premise.Way.TheVariants as way
+use Rattle.tlwire_closed.specs.declared.premise.Way.TheVariants.{Between, AtSending, AtHome, AtClients}
 
 -- `seen between`
 abbrev pub is_between : Premise → Bool
 is_between header.Between = true
 is_between p = false
 
--- `seen at home`
-abbrev pub is_at_home : Premise → Bool
-is_at_home header.AtHome = true
-is_at_home p = false
+-- `seen at clients`
+abbrev pub is_at_clients : Premise → Bool
+is_at_clients header.AtClients = true
+is_at_clients p = false
 
 -- `skew D`
 abbrev pub is_skew : Premise → Bool
 is_skew (header.Skew most) = true
 is_skew p = false
 
--- nobody watched the memory's link, or the cores
-abbrev pub is_something_unseen : List Premise → Bool
-is_something_unseen premises = list_any (is_unseen_on (Memory A)) premises || list_any (is_unseen_on (Core 0)) premises
+-- the lesser of a number that may be absent and another
+abbrev pub least : Option ℕ → ℕ → Option ℕ
+least None most = Some most
+least (Some one) most = if nat_le one most then Some one else Some most
 
--- when each message was seen, where the header says that, everything was watched, and lines stand in order of time
-abbrev pub way_named : List Premise → Option Way
-way_named premises =
-    if is_something_unseen premises then None
-    else if list_any is_skew premises then None
-    else if list_any is_between premises then Some way.Between
-    else if list_any is_at_home premises then Some way.AtHome
-    else None
+-- with the number that a line gives, if it gives one
+abbrev pub least_with : Option ℕ → Premise → Option ℕ
+least_with found (header.Skew most) = least found most
+least_with found p = found
 
--- and with that the premise
-abbrev pub premise_by : List Premise → Option Way → Option SetPremise
-premise_by premises None = None
-premise_by premises (Some w) = Some (record { way = w; skew = 0; whole = is_whole premises })
+-- the least of the numbers that lines `skew D` give, of these and what was found before
+abbrev pub least_of : Option ℕ → List Premise → Option ℕ
+least_of found [] = found
+least_of found (p ∷ rest) = least_of (least_with found p) rest
 
--- the premise that the header names
-abbrev pub premise_named : List Premise → Option SetPremise
-premise_named premises = premise_by premises (way_named premises)
+-- by how many lines one may stand behind a later one: 0 where the header says nothing
+abbrev pub or_zero : Option ℕ → ℕ
+or_zero None = 0
+or_zero (Some most) = most
+
+-- A header names a way of seeing. `skew D` beside no other way says that each message is seen between its sending and its taking. No
+-- header says that all is seen as it is sent.
+abbrev pub names : List Premise → Way → Bool
+names premises Between =
+    list_any is_between premises
+    || (list_any is_skew premises && not (is_seen_at_home premises) && not (list_any is_at_clients premises))
+names premises AtHome = is_seen_at_home premises
+names premises AtClients = list_any is_at_clients premises
+names premises AtSending = false
+
+-- the premise of a way: lines stand in order of time but for the skew, and of what nobody watched there are none
+abbrev pub premise_of : List Premise → Way → SetPremise
+premise_of premises way =
+    record {
+      way = way;
+      skew = or_zero (least_of None premises);
+      whole = is_whole premises;
+      memory_unseen = list_any (is_unseen_on (Memory A)) premises;
+      cores_unseen = list_any (is_unseen_on (Core 0)) premises;
+    }

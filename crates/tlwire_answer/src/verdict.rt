@@ -1,8 +1,8 @@
 //! What is said of what was seen.
 ghost use Rattle.std.specs.List.{list_any};
-ghost use Rattle.std.specs.Prelude.{◌≡◌, ◌⊎◌, IfOk, IfSome, IsTrue};
+ghost use Rattle.std.specs.Prelude.{◌≡◌, ◌⊎◌, None, IfOk, IfSome, IsTrue};
 ghost use Rattle.std.specs.Bool.{OnFalse};
-ghost use Rattle.tlwire_answer.specs.Named.{is_at_home, is_between, is_skew, is_something_unseen, premise_named, way_named};
+ghost use Rattle.tlwire_answer.specs.Named.{is_at_clients, is_between, is_skew, least_of, least_with, names, or_zero, premise_of};
 ghost use Rattle.tlwire_answer.specs.Answer.{ClientKeepsOrder, EachKeepsOrder, IsInOrder, IsNo, IsRuledOut, IsVerdict, NobodyIsTold, is_told_at_pins};
 ghost use Rattle.tlwire_search.specs.Explained.{Explains};
 
@@ -13,7 +13,8 @@ use tlwire_closed::{Answer, Stuck, Way, rule_out};
 use tlwire_pins::{Wrong, first_wrong, keeps_order, lines_at_pins};
 use tlwire_record::Messages;
 use tlwire_search::{
-    Explanation, Limit, Premise, Seen, Wire, explain, is_seen_at_pins, is_unseen, is_whole,
+    Explanation, Limit, Premise, Seen, Wire, explain, is_seen_at_home, is_seen_at_pins, is_unseen,
+    is_whole,
 };
 
 /// What is said of what was seen.
@@ -123,6 +124,100 @@ fn is_in_order(alloc: Global, messages: &Messages, run: &[Event]) -> Result<bool
     }
 }
 
+fn is_between(line: &Premise) -> bool
+    ensures { result ≡ is_between line.now }
+{
+    matches!(line, Premise::Between)
+}
+
+fn is_at_clients(line: &Premise) -> bool
+    ensures { result ≡ is_at_clients line.now }
+{
+    matches!(line, Premise::AtClients)
+}
+
+fn is_skew(line: &Premise) -> bool
+    ensures { result ≡ is_skew line.now }
+{
+    matches!(line, Premise::Skew(_))
+}
+
+/// Whether the header says that each message was seen between its sending and its taking.
+fn is_any_between(premises: &[Premise]) -> bool
+    ensures { result ≡ list_any is_between premises.now }
+{
+    premises.iter().any(|line| is_between(line))
+}
+
+/// Whether the header says that each client's link was seen at the client's pins.
+fn is_any_at_clients(premises: &[Premise]) -> bool
+    ensures { result ≡ list_any is_at_clients premises.now }
+{
+    premises.iter().any(|line| is_at_clients(line))
+}
+
+/// Whether the header says how far lines may stand behind later ones.
+fn is_any_skew(premises: &[Premise]) -> bool
+    ensures { result ≡ list_any is_skew premises.now }
+{
+    premises.iter().any(|line| is_skew(line))
+}
+
+/// Whether a header names a way of seeing.
+fn names(premises: &[Premise], way: Way) -> bool
+    ensures { result ≡ names premises.now way }
+{
+    match way {
+        Way::Between => {
+            is_any_between(premises)
+                || (is_any_skew(premises)
+                    && !is_seen_at_home(premises)
+                    && !is_any_at_clients(premises))
+        }
+        Way::AtHome => is_seen_at_home(premises),
+        Way::AtClients => is_any_at_clients(premises),
+        Way::AtSending => false,
+    }
+}
+
+/// With the number that a line `skew D` gives, the least so far.
+fn least_with(found: Option<u32>, line: &Premise) -> Option<u32>
+    ensures { result ≡ least_with found line.now }
+{
+    match (found, line) {
+        (None, Premise::Skew(most)) => Some(*most),
+        (Some(one), Premise::Skew(most)) => { if one <= *most { Some(one) } else { Some(*most) } }
+        (found, _) => found,
+    }
+}
+
+/// By how many lines one may stand behind a later one.
+fn skew_of(premises: &[Premise]) -> usize
+    ensures { result ≡ or_zero (least_of None premises.now) }
+{
+    let mut found = None;
+    for line in premises {
+        found = least_with(found, line);
+    }
+    match found {
+        Some(most) => most as usize,
+        None => 0,
+    }
+}
+
+/// The premise of a way of seeing.
+fn premise_of(premises: &[Premise], way: Way) -> tlwire_closed::Premise
+    ensures { result ≡ premise_of premises.now way }
+{
+    tlwire_closed::Premise {
+        way,
+        skew: skew_of(premises),
+        whole: is_whole(premises),
+        memory_unseen: is_unseen(premises, Wire::Memory(Channel::A)),
+        cores_unseen: is_unseen(premises, Wire::Core(ClientId::new(0))),
+    }
+}
+
 /// That a run explains what was seen, where it does so at the pins of clients too.
 fn ordered(alloc: Global, messages: &Messages, run: Vec<Event>) -> Result<Verdict, AllocError>
     requires { Explains messages.now.setting.premises messages.now.setting.shape messages.now.image messages.now.seen run.items }
@@ -152,95 +247,18 @@ fn explained(alloc: Global, messages: &Messages) -> Result<Verdict, AllocError>
     }
 }
 
-fn is_between(line: &Premise) -> bool
-    ensures { result ≡ is_between line.now }
-{
-    matches!(line, Premise::Between)
-}
-
-fn is_at_home(line: &Premise) -> bool
-    ensures { result ≡ is_at_home line.now }
-{
-    matches!(line, Premise::AtHome)
-}
-
-fn is_skew(line: &Premise) -> bool
-    ensures { result ≡ is_skew line.now }
-{
-    matches!(line, Premise::Skew(_))
-}
-
-/// Whether the header says that each message was seen between its sending and its taking.
-fn is_any_between(premises: &[Premise]) -> bool
-    ensures { result ≡ list_any is_between premises.now }
-{
-    premises.iter().any(|line| is_between(line))
-}
-
-/// Whether the header says that each message was seen at home's pins.
-fn is_any_at_home(premises: &[Premise]) -> bool
-    ensures { result ≡ list_any is_at_home premises.now }
-{
-    premises.iter().any(|line| is_at_home(line))
-}
-
-/// Whether the header says how far lines may stand behind later ones.
-fn is_any_skew(premises: &[Premise]) -> bool
-    ensures { result ≡ list_any is_skew premises.now }
-{
-    premises.iter().any(|line| is_skew(line))
-}
-
-/// Whether nobody watched the memory's link, or the cores.
-fn is_something_unseen(premises: &[Premise]) -> bool
-    ensures { result ≡ is_something_unseen premises.now }
-{
-    is_unseen(premises, Wire::Memory(Channel::A))
-        || is_unseen(premises, Wire::Core(ClientId::new(0)))
-}
-
-/// When each message was seen, where the header says that, everything was watched, and lines stand in order of time.
-fn way_named(premises: &[Premise]) -> Option<Way>
-    ensures { result ≡ way_named premises.now }
-{
-    if is_something_unseen(premises) || is_any_skew(premises) {
-        None
-    } else if is_any_between(premises) {
-        Some(Way::Between)
-    } else if is_any_at_home(premises) {
-        Some(Way::AtHome)
-    } else {
-        None
-    }
-}
-
-/// The premise of closed sets that the header names.
-fn premise_named(premises: &[Premise]) -> Option<tlwire_closed::Premise>
-    ensures { result ≡ premise_named premises.now }
-{
-    match way_named(premises) {
-        Some(way) => Some(tlwire_closed::Premise {
-            way,
-            skew: 0,
-            whole: is_whole(premises),
-        }),
-        None => None,
-    }
-}
-
-/// Where each run of a block is stuck, by the premise that the header names.
-fn ruled_out(alloc: Global, messages: &Messages) -> Result<Option<Stuck>, AllocError>
+/// Where each run of a block is stuck, in a way of seeing that the header names.
+fn ruled_out_by(alloc: Global, messages: &Messages, way: Way) -> Result<Option<Stuck>, AllocError>
     ensures { IfOk result (λ found. IfSome found (λ stuck. IsRuledOut messages.now)) }
 {
     let setting = messages.setting();
-    let premise = match premise_named(setting.premises()) {
-        Some(premise) => premise,
-        None => return Ok(None),
-    };
+    if !names(setting.premises(), way) {
+        return Ok(None);
+    }
     match rule_out(
         alloc,
         setting.shape(),
-        premise,
+        premise_of(setting.premises(), way),
         messages.image(),
         messages.seen(),
     )? {
@@ -249,14 +267,65 @@ fn ruled_out(alloc: Global, messages: &Messages) -> Result<Option<Stuck>, AllocE
     }
 }
 
-/// What is said of what may be seen at the pins of its clients.
+/// Whether somebody watched the memory's link and the cores, and lines stand in order of time.
+fn is_all_in_order(premises: &[Premise]) -> bool {
+    !is_any_skew(premises)
+        && !is_unseen(premises, Wire::Memory(Channel::A))
+        && !is_unseen(premises, Wire::Core(ClientId::new(0)))
+}
+
+/// Where each run of a block is stuck, in the ways of seeing that are told between the links' ends or at home.
+fn ruled_out_between(alloc: Global, messages: &Messages) -> Result<Option<Stuck>, AllocError>
+    ensures { IfOk result (λ found. IfSome found (λ stuck. IsRuledOut messages.now)) }
+{
+    match ruled_out_by(alloc, messages, Way::Between)? {
+        Some(stuck) => Ok(Some(stuck)),
+        None => ruled_out_by(alloc, messages, Way::AtHome),
+    }
+}
+
+/// Where each run of a block is stuck, in the ways of seeing that were not asked before a run was sought.
+fn ruled_out_behind(
+    alloc: Global,
+    messages: &Messages,
+    asked: bool,
+) -> Result<Option<Stuck>, AllocError>
+    ensures { IfOk result (λ found. IfSome found (λ stuck. IsRuledOut messages.now)) }
+{
+    if !asked {
+        if let Some(stuck) = ruled_out_between(alloc, messages)? {
+            return Ok(Some(stuck));
+        }
+    }
+    ruled_out_by(alloc, messages, Way::AtClients)
+}
+
+/// A run that explains what was seen; else where each run of a block is stuck, in the ways of seeing that were not asked before.
+fn sought(alloc: Global, messages: &Messages, asked: bool) -> Result<Verdict, AllocError>
+    ensures { IfOk result (IsVerdict messages.now) }
+{
+    let verdict = explained(alloc, messages)?;
+    if let Verdict::Explained(_) = &verdict {
+        return Ok(verdict);
+    }
+    match ruled_out_behind(alloc, messages, asked)? {
+        Some(stuck) => Ok(Verdict::RuledOut(stuck)),
+        None => Ok(verdict),
+    }
+}
+
+/// What is said of what may be seen at the pins of its clients. Closed sets take longer than the search for a run, so it comes first; but
+/// not between the links' ends or at home, where all was watched in order of time: there a set is small.
 fn weighed(alloc: Global, messages: &Messages) -> Result<Verdict, AllocError>
     ensures { IfOk result (IsVerdict messages.now) }
 {
-    match ruled_out(alloc, messages)? {
-        Some(stuck) => Ok(Verdict::RuledOut(stuck)),
-        None => explained(alloc, messages),
+    let first = is_all_in_order(messages.setting().premises());
+    if first {
+        if let Some(stuck) = ruled_out_between(alloc, messages)? {
+            return Ok(Verdict::RuledOut(stuck));
+        }
     }
+    sought(alloc, messages, first)
 }
 
 /// What is said of what was seen. Err is a refused request for memory.

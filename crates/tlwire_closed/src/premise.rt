@@ -1,6 +1,6 @@
 //! What is known of when a monitor sees a message.
 ghost use Rattle.std.specs.Prelude.{◌≡◌};
-ghost use Rattle.tlwire_closed.specs.Premise.{closes_at_taking, is_from_memory, is_to_client, is_to_home, opens_at_taking};
+ghost use Rattle.tlwire_closed.specs.Premise.{closes_at_taking, is_free, is_from_memory, is_grant_channel, is_late_at_clients, is_seen_by_sending, is_seen_by_taking, is_to_home, may_end_early, opens_at_taking};
 
 use tl_types::Channel;
 use tlwire_search::Wire;
@@ -14,7 +14,8 @@ pub enum Way {
     AtSending,
     /// At home's pins: what home sends as it is sent, what home takes as it is taken.
     AtHome,
-    /// At the clients' pins: what a client sends as it is sent, what it takes as it is taken; the memory's link between.
+    /// At the clients' pins: what a client sends on A and C as it is sent, a Grant and a ReleaseAck as they are taken; what is on B and E,
+    /// and on the memory's link, between.
     AtClients,
 }
 
@@ -27,6 +28,10 @@ pub struct Premise {
     pub skew: usize,
     /// Whether each message that was sent was seen; else what was sent at the end may be missing.
     pub whole: bool,
+    /// Whether nobody watched the memory's link.
+    pub memory_unseen: bool,
+    /// Whether nobody watched the cores.
+    pub cores_unseen: bool,
 }
 
 fn is_to_home(channel: Channel) -> bool
@@ -38,12 +43,21 @@ fn is_to_home(channel: Channel) -> bool
     }
 }
 
-fn is_to_client(channel: Channel) -> bool
-    ensures { result ≡ is_to_client channel }
+fn is_grant_channel(channel: Channel) -> bool
+    ensures { result ≡ is_grant_channel channel }
 {
     match channel {
-        Channel::B | Channel::D => true,
-        Channel::A | Channel::C | Channel::E => false,
+        Channel::D => true,
+        Channel::A | Channel::B | Channel::C | Channel::E => false,
+    }
+}
+
+fn is_late_at_clients(channel: Channel) -> bool
+    ensures { result ≡ is_late_at_clients channel }
+{
+    match channel {
+        Channel::B | Channel::D | Channel::E => true,
+        Channel::A | Channel::C => false,
     }
 }
 
@@ -65,14 +79,14 @@ impl Way {
             (Way::Between | Way::AtSending, _) => false,
             (Way::AtHome, Wire::Link(_, channel)) => is_to_home(*channel),
             (Way::AtHome, Wire::Memory(channel)) => is_from_memory(*channel),
-            (Way::AtClients, Wire::Link(_, channel)) => is_to_client(*channel),
+            (Way::AtClients, Wire::Link(_, channel)) => is_grant_channel(*channel),
             (Way::AtClients, Wire::Memory(_)) => false,
             (Way::AtHome | Way::AtClients, Wire::Core(_)) => false,
         }
     }
 
     /// Whether a message on a wire is seen no later than it is taken; else no later than it is sent.
-    pub(crate) fn closes_at_taking(self, wire: &Wire) -> bool
+    fn closes_at_taking(self, wire: &Wire) -> bool
         ensures { result ≡ closes_at_taking self wire.now }
     {
         match (self, wire) {
@@ -80,8 +94,42 @@ impl Way {
             (Way::Between, Wire::Link(_, _) | Wire::Memory(_)) => true,
             (Way::AtHome, Wire::Link(_, channel)) => is_to_home(*channel),
             (Way::AtHome, Wire::Memory(channel)) => is_from_memory(*channel),
-            (Way::AtClients, Wire::Link(_, channel)) => is_to_client(*channel),
+            (Way::AtClients, Wire::Link(_, channel)) => is_late_at_clients(*channel),
             (Way::AtClients, Wire::Memory(_)) => true,
         }
+    }
+}
+
+impl Premise {
+    /// Whether nobody watched a wire.
+    fn is_free(self, wire: &Wire) -> bool
+        ensures { result ≡ is_free self wire.now }
+    {
+        match wire {
+            Wire::Link(_, _) => false,
+            Wire::Memory(_) => self.memory_unseen,
+            Wire::Core(_) => self.cores_unseen,
+        }
+    }
+
+    /// Whether more may have been sent on a wire than the record has.
+    pub(crate) fn may_end_early(self, wire: &Wire) -> bool
+        ensures { result ≡ may_end_early self wire.now }
+    {
+        !self.whole || self.is_free(wire)
+    }
+
+    /// Whether a message on a wire that was watched is seen no later than it is taken.
+    pub(crate) fn is_seen_by_taking(self, wire: &Wire) -> bool
+        ensures { result ≡ is_seen_by_taking self wire.now }
+    {
+        self.way.closes_at_taking(wire) && !self.is_free(wire)
+    }
+
+    /// Whether a message on a wire that was watched is seen no later than it is sent.
+    pub(crate) fn is_seen_by_sending(self, wire: &Wire) -> bool
+        ensures { result ≡ is_seen_by_sending self wire.now }
+    {
+        !self.way.closes_at_taking(wire) && !self.is_free(wire)
     }
 }
