@@ -1,11 +1,13 @@
 //! Tests of records by the public calls: whole records and their verdicts, each damage of one, entries and states as lines, messages that
-//! are explained or not, readers that fail, and a judge beside a bench.
+//! are explained or not, readers that fail, a judge beside a bench, and what records reached.
 #![tactic(auto)]
 
 #[cfg(test)]
 mod bench;
 #[cfg(test)]
 mod brief;
+#[cfg(test)]
+mod coverage;
 #[cfg(test)]
 mod damages;
 #[cfg(test)]

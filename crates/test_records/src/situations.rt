@@ -9,12 +9,12 @@ use tlcheck_record::EventLine;
 use tlcheck_situations::{Situation, Table, TableError};
 
 /// The digest of no text.
-const EMPTY: u64 = 0xcbf2_9ce4_8422_2325;
+pub(crate) const EMPTY: u64 = 0xcbf2_9ce4_8422_2325;
 
 /// The digest of a text that grows by some more: FNV-1a of 64 bits.
-fn digest_on(digest: u64, text: &str) -> u64 {
+pub(crate) fn digest_on(digest: u64, text: &[u8]) -> u64 {
     let mut grown = digest;
-    for byte in text.as_bytes() {
+    for byte in text {
         grown = (grown ^ u64::from(*byte)).wrapping_mul(0x0100_0000_01b3);
     }
     grown
@@ -41,7 +41,7 @@ fn reached(alloc: Global, clients: u32) -> Result<Option<(usize, u64)>, TableErr
         let Some(run) = table.run_to(alloc, situation)? else {
             return Ok(None);
         };
-        digest = digest_on(digest, &lines_of(alloc, situation, &run)?);
+        digest = digest_on(digest, lines_of(alloc, situation, &run)?.as_bytes());
     }
     Ok(Some((table.situations().len(), digest)))
 }
