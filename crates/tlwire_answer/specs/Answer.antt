@@ -12,7 +12,7 @@ use Rattle.tlwire_pins.specs.Impossible.{IsImpossible}
 use Rattle.tlwire_pins.specs.Pins.{KeepsOrder, lines_from}
 use Rattle.tlwire_pins.specs.Walk.{IsWrong}
 use Rattle.tlwire_pins.specs.declared.pass.Wrong.{Wrong}
-use Rattle.tlwire_closed.specs.Along.{IsImpossible as IsSeenByNone}
+use Rattle.tlwire_closed.specs.Along.{IsImpossible as IsSeenByNone, IsSeenSo}
 use Rattle.tlwire_closed.specs.declared.premise.Way.{Way}
 use Rattle.tlwire_answer.specs.Named.{names, premise_of}
 use Rattle.tlwire_record.specs.Messages.{MessagesState}
@@ -57,11 +57,16 @@ IsInOrder m run = EachKeepsOrder m (lines_from m.setting.shape (at_reset m.setti
 abbrev pub NobodyIsTold : MessagesState → Type 0
 NobodyIsTold m = (client : ℕ) → client < m.setting.shape.clients → is_told_at_pins m.setting.premises client ≡ false
 
--- A run explains a record: it has what was seen on each wire; and the lines at the pins of each client that the header names in their
--- order of time, so that it is seen so there (`IsSeenAt`).
+-- A run is seen so, where the header names the way of seeing.
+abbrev pub Meets : MessagesState → List Event → Way → Type 0
+Meets m run way = names m.setting.premises way ≡ true → IsSeenSo m.setting.shape (premise_of m.setting.premises way) m.image m.seen run
+
+-- A run explains a record: it has what was seen on each wire; the lines at the pins of each client that the header names in their order of
+-- time, so that it is seen so there (`IsSeenAt`); and it is seen so in each way that the header names.
 pub record IsExplained (m : MessagesState) (run : List Event) : Type 0 where
   pub wires : Explains m.setting.premises m.setting.shape m.image m.seen run
   pub pins : IsInOrder m run
+  pub ways : (way : Way) → Meets m run way
 
 -- What may be said of what was seen: a run that explains it; or that there is none; or a place in it, of which nothing else is claimed.
 abbrev pub IsVerdict : MessagesState → Verdict → Type 0
@@ -69,7 +74,7 @@ IsVerdict m (Explained run) = IsExplained m run.items
 IsVerdict m (Impossible w) = IsNo m w
 IsVerdict m (RuledOut stuck) = IsRuledOut m
 IsVerdict m (NotDecided place limit) = place < length m.seen
-IsVerdict m OtherOrder = Unit {0}
+IsVerdict m (OtherOrder order) = Unit {0}
 
 -- What may be said of a record's lines: what was seen is what they say, and what is said of it holds; or the first line that is outside
 -- the format, and what is wrong with it; or that there is nothing seen.

@@ -24,6 +24,8 @@ use Rattle.tlcheck_record.specs.declared.cause.Cause.{Cause}
 use Rattle.tlwire_answer.specs.Run.{run_text}
 use Rattle.tlwire_answer.specs.declared.ending.Ending.{Ending}
 use Rattle.tlwire_answer.specs.declared.ending.Ending.TheVariants.{Usage, Answered, Wrong as WrongLine, Empty, Memory, File}
+use Rattle.tlwire_answer.specs.declared.verdict.Order.{Order}
+use Rattle.tlwire_answer.specs.declared.verdict.Order.TheVariants.{AtPins, Between, AtHome, AtClients}
 use Rattle.tlwire_answer.specs.declared.verdict.Verdict.{Verdict}
 use Rattle.tlwire_answer.specs.declared.verdict.Verdict.TheVariants.{Explained, Impossible, RuledOut, NotDecided, OtherOrder}
 use Rattle.tlwire_answer.specs.declared.ending.Form.{Form}
@@ -35,7 +37,7 @@ verdict_status (Explained events) = 0
 verdict_status (Impossible wrong) = 1
 verdict_status (RuledOut stuck) = 1
 verdict_status (NotDecided place limit) = 6
-verdict_status OtherOrder = 6
+verdict_status (OtherOrder order) = 6
 
 -- usage ends with 2, what is no record of messages with 3, want of memory with 4, the file with 5
 abbrev pub status_of : Ending → ℕ
@@ -125,10 +127,17 @@ abbrev pub not_decided_text : ℕ → List ℕ → Limit → List ℕ
 not_decided_text number line limit =
     codes "not decided: line " ++ decimal number ++ codes ": " ++ line ++ limit_line limit
 
--- a run that was found is seen in another order at the pins
-abbrev pub other_order_text : List ℕ
-other_order_text =
-    codes "not decided: the run that was found has another order at a client's pins; this is no verdict that it is unlawful\n"
+-- where the order is another one
+abbrev pub order_text : Order → List ℕ
+order_text AtPins = codes "at a client's pins"
+order_text Between = codes "between sending and taking"
+order_text AtHome = codes "at home's pins"
+order_text AtClients = codes "at the clients' pins"
+
+-- a run that was found is seen in another order there
+abbrev pub other_order_text : Order → List ℕ
+other_order_text order =
+    codes "not decided: the run that was found has another order " ++ order_text order ++ codes "; this is no verdict that it is unlawful\n"
 
 -- what a line breaks that may not be seen at its client's pins
 abbrev pub rule_line : ℕ → Breach → List ℕ
@@ -167,7 +176,7 @@ answer_text form lines m (Impossible w) = impossible_text (number_at m.lines w.p
 answer_text form lines m (RuledOut stuck) = ruled_out_text (number_at m.lines stuck.place) (text_at lines (number_at m.lines stuck.place)) stuck
 answer_text form lines m (NotDecided place limit) =
     not_decided_text (number_at m.lines place) (text_at lines (number_at m.lines place)) limit
-answer_text form lines m OtherOrder = other_order_text
+answer_text form lines m (OtherOrder order) = other_order_text order
 
 -- what is written of an ending that is an answer
 abbrev pub ending_text : Form → List (List ℕ) → Ending → List ℕ

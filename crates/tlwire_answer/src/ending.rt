@@ -2,10 +2,10 @@
 ghost use Rattle.std.specs.Prelude.{◌≡◌, ◌++◌, Some, IfOk, OnOk, slice_get, string_bytes};
 ghost use Rattle.tl_streams.specs.Written.{AppendsBeginning};
 ghost use Rattle.tl_script_words.specs.Words.{texts};
-ghost use Rattle.tlwire_answer.specs.Ending.{answer_text, ending_of_read, ending_of_words, explained_text, fault_line, fault_text, impossible_text, lent_line, limit_line, limit_text, not_decided_text, number_at, other_order_text, rule_line, ruled_out_text, stuck_line, block_line, run_of, status_of, summary_line, summary_text, text_at, view_line};
+ghost use Rattle.tlwire_answer.specs.Ending.{answer_text, ending_of_read, ending_of_words, explained_text, fault_line, fault_text, impossible_text, lent_line, limit_line, limit_text, not_decided_text, number_at, order_text, other_order_text, rule_line, ruled_out_text, stuck_line, block_line, run_of, status_of, summary_line, summary_text, text_at, view_line};
 
 use crate::run::RunText;
-use crate::verdict::Verdict;
+use crate::verdict::{Order, Verdict};
 use std::alloc::{AllocError, Global};
 use std::fmt;
 use std::fmt::Write as WriteText;
@@ -99,7 +99,7 @@ impl Ending {
             Ending::Answered(_, Verdict::Impossible(_)) => 1,
             Ending::Answered(_, Verdict::RuledOut(_)) => 1,
             Ending::Answered(_, Verdict::NotDecided(_, _)) => 6,
-            Ending::Answered(_, Verdict::OtherOrder) => 6,
+            Ending::Answered(_, Verdict::OtherOrder(_)) => 6,
             Ending::Usage => 2,
             Ending::Wrong(_, _) | Ending::Empty => 3,
             Ending::Memory => 4,
@@ -237,12 +237,31 @@ fn not_decided(alloc: Global, number: u64, line: &[u8], limit: Limit) -> Result<
     Ok(text)
 }
 
-fn other_order(alloc: Global) -> Result<Vec<u8>, AllocError>
-    ensures { IfOk result (λ text. text.items ≡ other_order_text) }
+// Where a run that was found has another order.
+#[derive(Clone, Copy)]
+struct OrderText(Order);
+
+impl fmt::Display for OrderText {
+    ghost output = { λ x. Some (order_text x.0) };
+
+    fn fmt<W: fmt::Write>(&self, f: &mut fmt::Formatter<W>) -> fmt::Result {
+        match self.0 {
+            Order::AtPins => f.write_str("at a client's pins"),
+            Order::Between => f.write_str("between sending and taking"),
+            Order::AtHome => f.write_str("at home's pins"),
+            Order::AtClients => f.write_str("at the clients' pins"),
+        }
+    }
+}
+
+fn other_order(alloc: Global, order: Order) -> Result<Vec<u8>, AllocError>
+    ensures { IfOk result (λ text. text.items ≡ other_order_text order) }
 {
-    let text =
-        "not decided: the run that was found has another order at a client's pins; this is no verdict that it is unlawful\n";
-    text.as_bytes().to_vec(alloc)
+    let place = OrderText(order);
+    let text = format!(in alloc;
+        "not decided: the run that was found has another order {place}; this is no verdict that it is unlawful\n"
+    )?;
+    Ok(text.into_bytes())
 }
 
 // What a line breaks that may not be seen at its client's pins.
@@ -373,7 +392,7 @@ pub(crate) fn text_of(
             let number = number_at(messages, *place);
             not_decided(alloc, number, text_at(lines, number), *limit)
         }
-        Verdict::OtherOrder => other_order(alloc),
+        Verdict::OtherOrder(order) => other_order(alloc, *order),
     }
 }
 

@@ -8,4 +8,4 @@ mod verdict;
 
 pub use ending::{Ending, Form, show};
 pub use reply::answer;
-pub use verdict::Verdict;
+pub use verdict::{Order, Verdict};

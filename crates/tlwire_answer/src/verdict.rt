@@ -1,21 +1,36 @@
 //! What is said of what was seen.
 ghost use Rattle.std.specs.List.{list_any};
-ghost use Rattle.std.specs.Prelude.{◌≡◌, ◌⊎◌, None, IfOk, IfSome, IsTrue};
+ghost use Rattle.std.specs.Prelude.{◌≡◌, ◌⊎◌, None, IfOk, IfSome, IsNone, IsTrue};
 ghost use Rattle.std.specs.Bool.{OnFalse};
 ghost use Rattle.tlwire_answer.specs.Named.{is_at_clients, is_between, is_skew, least_of, least_with, names, or_zero, premise_of};
-ghost use Rattle.tlwire_answer.specs.Answer.{ClientKeepsOrder, EachKeepsOrder, IsInOrder, IsNo, IsRuledOut, IsVerdict, NobodyIsTold, is_told_at_pins};
+ghost use Rattle.tlwire_answer.specs.Answer.{ClientKeepsOrder, EachKeepsOrder, IsInOrder, IsNo, IsRuledOut, IsVerdict, Meets, NobodyIsTold, is_told_at_pins};
+ghost use Rattle.tl_protocol.specs.Runs.{IsRun};
+ghost use Rattle.tlwire_closed.specs.declared.premise.Way.{Way};
 ghost use Rattle.tlwire_search.specs.Explained.{Explains};
 
 use std::alloc::{AllocError, Global};
 use tl_rules::Event;
 use tl_types::{Channel, ClientId};
-use tlwire_closed::{Answer, Stuck, Way, rule_out};
+use tlwire_closed::{Answer, Stuck, Way, is_seen_so, rule_out};
 use tlwire_pins::{Wrong, first_wrong, keeps_order, lines_at_pins};
 use tlwire_record::Messages;
 use tlwire_search::{
     Explanation, Limit, Premise, Seen, Wire, explain, is_seen_at_home, is_seen_at_pins, is_unseen,
     is_whole,
 };
+
+/// An order of lines that the header asks for, and a run does not have.
+#[derive(Clone, Copy, Debug, PartialEq, Eq)]
+pub enum Order {
+    /// That of the lines of a client at its pins.
+    AtPins,
+    /// That of messages seen between sending and taking.
+    Between,
+    /// That of messages seen at home's pins.
+    AtHome,
+    /// That of messages seen at the pins of all clients.
+    AtClients,
+}
 
 /// What is said of what was seen.
 #[derive(Drop)]
@@ -28,8 +43,8 @@ pub enum Verdict {
     RuledOut(Stuck),
     /// Neither was found; the attempt ended before the thing seen at this place, by this.
     NotDecided(usize, Limit),
-    /// A run was found that has what was seen on each wire, but not in the order of the lines at a client's pins.
-    OtherOrder,
+    /// A run was found that has what was seen on each wire, but not in this order.
+    OtherOrder(Order),
 }
 
 /// That of the two whose line comes first, if there is one.
@@ -218,15 +233,58 @@ fn premise_of(premises: &[Premise], way: Way) -> tlwire_closed::Premise
     }
 }
 
-/// That a run explains what was seen, where it does so at the pins of clients too.
+/// Whether a run is seen so, where a header names the way of seeing.
+fn meets(alloc: Global, messages: &Messages, run: &[Event], way: Way) -> Result<bool, AllocError>
+    ensures { IfOk result (λ yes. IsTrue yes → IsRun messages.now.setting.shape messages.now.image run.now → Meets messages.now run.now way) }
+{
+    let setting = messages.setting();
+    if !names(setting.premises(), way) {
+        return Ok(true);
+    }
+    let shape = setting.shape();
+    let premise = premise_of(setting.premises(), way);
+    is_seen_so(
+        alloc,
+        shape,
+        premise,
+        messages.image(),
+        messages.seen(),
+        run,
+    )
+}
+
+/// An order that the header asks for, and a run does not have.
+fn other_order(
+    alloc: Global,
+    messages: &Messages,
+    run: &[Event],
+) -> Result<Option<Order>, AllocError>
+    ensures { IfOk result (λ found. IsNone found → IsRun messages.now.setting.shape messages.now.image run.now
+        → IsInOrder messages.now run.now × ((way : Way) → Meets messages.now run.now way)) }
+{
+    if !is_in_order(alloc, messages, run)? {
+        return Ok(Some(Order::AtPins));
+    }
+    if !meets(alloc, messages, run, Way::Between)? {
+        return Ok(Some(Order::Between));
+    }
+    if !meets(alloc, messages, run, Way::AtHome)? {
+        return Ok(Some(Order::AtHome));
+    }
+    if !meets(alloc, messages, run, Way::AtClients)? {
+        return Ok(Some(Order::AtClients));
+    }
+    Ok(None)
+}
+
+/// That a run explains what was seen, where it has each order that the header asks for.
 fn ordered(alloc: Global, messages: &Messages, run: Vec<Event>) -> Result<Verdict, AllocError>
     requires { Explains messages.now.setting.premises messages.now.setting.shape messages.now.image messages.now.seen run.items }
     ensures { IfOk result (IsVerdict messages.now) }
 {
-    if is_in_order(alloc, messages, &run)? {
-        Ok(Verdict::Explained(run))
-    } else {
-        Ok(Verdict::OtherOrder)
+    match other_order(alloc, messages, &run)? {
+        Some(order) => Ok(Verdict::OtherOrder(order)),
+        None => Ok(Verdict::Explained(run)),
     }
 }
 

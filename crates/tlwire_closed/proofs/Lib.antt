@@ -1,9 +1,10 @@
 pub mod Buckets
 pub mod Closed
 pub mod Counts
+pub mod Groups
 pub mod Levels
 pub mod Lists
 pub mod Looks
-pub mod Places
+pub mod Runs
 pub mod Tries
 pub mod Wires

@@ -1,8 +1,10 @@
 pub mod Along
+pub mod Blocks
 pub mod Buckets
 pub mod Closed
 pub mod Ends
 pub mod Events
+pub mod Follow
 pub mod Keys
 pub mod Nodes
 pub mod Premise
