@@ -66,7 +66,7 @@ impl Model for Locked {
 }
 
 impl Locked {
-    /// The banks behind locks, in the order of their numbers.
+    /// The banks behind locks, in the order of their numbers. The error is want of memory.
     pub fn new(alloc: Global, geometry: Geometry, banks: Vec<Bank>) -> Result<Locked, AllocError>
         ensures { IfOk result (λ l. l ≡ record { geometry = geometry; numbers = numbers_of banks.items }) }
     {
@@ -138,7 +138,7 @@ impl Locked {
         Some(BankPort::new(rt, bank, gate))
     }
 
-    /// The banks again, as many as there are locks.
+    /// The banks again, as many as there are locks. The error is want of memory.
     pub fn into_banks(self, alloc: Global) -> Result<Vec<Bank>, AllocError>
         ensures { IfOk result (λ banks. vec_len banks ≡ length self.numbers) }
     {

@@ -45,7 +45,11 @@ pub struct FirstStep {
     pub answer: Option<Result<Action, Refusal>>,
 }
 
-/// A client's calls. `asked` is the list of the tickets that were asked in a turn, in order, each with whether the call served it.
+/// A client's calls of the banks. `asked` is the list of the tickets that were asked in a turn, in order, each with
+/// whether the call served it.
+///
+/// The calls have the meanings and the refusals of the bank's calls of the same names (`tl_bank::Bank`), and a port may
+/// refuse any of them for `Memory`. A refused call adds no success.
 pub trait Port {
     ghost successes: { Self → List Success };
 
@@ -60,6 +64,8 @@ pub trait Port {
     fn successes(&self) -> &[Success]
         ensures { result.now ≡ successes self.now };
 
+    /// Reads `len` bytes of a client's copy, from an address on, and stores that as a success. The errors are those of
+    /// `Bank::load`.
     fn load(
         &mut self,
         client: ClientId,
@@ -72,6 +78,8 @@ pub trait Port {
             (λ _. successes self.new ≡ successes self.old) }
         ensures asked { asked self.new ≡ asked self.old };
 
+    /// Writes bytes over a client's copy, from an address on, and stores that as a success; the answer is the stamp.
+    /// The errors are those of `Bank::store`.
     fn store(
         &mut self,
         client: ClientId,
@@ -84,10 +92,12 @@ pub trait Port {
             (λ _. successes self.new ≡ successes self.old) }
         ensures asked { asked self.new ≡ asked self.old };
 
+    /// Asks home for a copy, or for a better one: the ticket of the Acquire. The errors are those of `Bank::acquire`.
     fn acquire(&mut self, client: ClientId, block: BlockNo, grow: Grow) -> Result<Ticket, Refusal>
         ensures successes { successes self.new ≡ successes self.old }
         ensures asked { asked self.new ≡ asked self.old };
 
+    /// Gives up a part of a copy, or all of it: the ticket of the Release. The errors are those of `Bank::release`.
     fn release(
         &mut self,
         client: ClientId,
@@ -98,14 +108,17 @@ pub trait Port {
         ensures successes { successes self.new ≡ successes self.old }
         ensures asked { asked self.new ≡ asked self.old };
 
+    /// Answers a Probe: the ticket of the ProbeAck. The errors are those of `Bank::answer_probe`.
     fn answer_probe(&mut self, ticket: Ticket, share: &mut Share) -> Result<Ticket, Refusal>
         ensures successes { successes self.new ≡ successes self.old }
         ensures asked { Asks ticket result (asked self.old) (asked self.new) };
 
+    /// Takes a Grant: the ticket of the GrantAck. The errors are those of `Bank::take_grant`.
     fn take_grant(&mut self, ticket: Ticket, share: &mut Share) -> Result<Ticket, Refusal>
         ensures successes { successes self.new ≡ successes self.old }
         ensures asked { Asks ticket result (asked self.old) (asked self.new) };
 
+    /// Takes the answer to a Release. The errors are those of `Bank::take_release_ack`.
     fn take_release_ack(&mut self, ticket: Ticket) -> Result<(), Refusal>
         ensures successes { successes self.new ≡ successes self.old }
         ensures asked { Asks ticket result (asked self.old) (asked self.new) };
@@ -119,6 +132,9 @@ pub trait Port {
 
 /// The calls of a bank's home. `asked` is the list of the tickets that were asked in a turn, in order, each with
 /// whether the call served it.
+///
+/// The calls have the meanings and the refusals of the bank's calls of the same names (`tl_bank::Bank`), and a port may
+/// refuse any of them for `Memory`.
 pub trait HomePort {
     ghost asked: { Self → List Asked };
 
@@ -126,24 +142,32 @@ pub trait HomePort {
     fn begin(&mut self)
         ensures { asked self.new ≡ [] };
 
+    /// Takes an Acquire, and opens a register for it. The errors are those of `Bank::accept`.
     fn accept(&mut self, ticket: Ticket) -> Result<(), Refusal>
         ensures { Asks ticket result (asked self.old) (asked self.new) };
 
+    /// Takes a ProbeAck or a Release: the ticket of the ReleaseAck, where it is a Release. The errors are those of
+    /// `Bank::take_c`.
     fn take_c(&mut self, ticket: Ticket) -> Result<Option<Ticket>, Refusal>
         ensures { Asks ticket result (asked self.old) (asked self.new) };
 
+    /// Takes a GrantAck, and closes the register. The errors are those of `Bank::take_grant_ack`.
     fn take_grant_ack(&mut self, ticket: Ticket) -> Result<(), Refusal>
         ensures { Asks ticket result (asked self.old) (asked self.new) };
 
+    /// Carries out what the register of a block does next. The errors are those of `Bank::advance`.
     fn advance(&mut self, block: BlockNo) -> Result<Action, Refusal>
         ensures { asked self.new ≡ asked self.old };
 
+    /// Opens a register that sends a block away. The errors are those of `Bank::evict`.
     fn evict(&mut self, block: BlockNo) -> Result<(), Refusal>
         ensures { asked self.new ≡ asked self.old };
 
+    /// The memory answers what home asked of it. The errors are those of `Bank::serve_memory`.
     fn serve_memory(&mut self, block: BlockNo) -> Result<Reply, Refusal>
         ensures { asked self.new ≡ asked self.old };
 
+    /// Home takes what the memory answered. The errors are those of `Bank::take_memory`.
     fn take_memory(&mut self, block: BlockNo) -> Result<(), Refusal>
         ensures { asked self.new ≡ asked self.old };
 
@@ -162,8 +186,8 @@ pub trait HomePort {
         FirstStep { open, answer }
     }
 
-    /// The memory serves what was asked of a block, and home takes its answer: `serve_memory` and then `take_memory`, for a port that
-    /// can ask both at once.
+    /// The memory serves what was asked of a block, and home takes its answer: `serve_memory` and then `take_memory`,
+    /// for a port that can ask both at once. The error is the first of the two that is refused.
     fn pass_memory(&mut self, block: BlockNo) -> Result<(), Refusal>
         ensures { asked self.new ≡ asked self.old }
     {
