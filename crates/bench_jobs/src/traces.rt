@@ -264,7 +264,7 @@ impl Session {
         self.keep(step)
     }
 
-    /// A store, likewise.
+    /// Asks a store of four bytes, by a step or by its own call.
     fn store(
         &mut self,
         client: ClientId,

@@ -47,7 +47,7 @@ fn report_with_one_place<R: Threads + Wait + Clock + Sync>(
     Ok(report.text(alloc)?.into_bytes())
 }
 
-/// The text of a script.
+/// The text of a script. The error is the file's, or want of memory.
 pub fn script_of(rt: &HostRuntime, name: &str) -> io::Result<Vec<u8>> {
     fs::read(rt, format!(in rt.alloc(); "{name}.toml")?.as_str())
 }
@@ -207,7 +207,7 @@ fn print_refused<R: Threads + Wait + Clock + Sync>(rt: &R, host: &HostRuntime) -
     print_count(host, count, other)
 }
 
-/// Prints for each script whether it is answered as it may be.
+/// Prints for each script whether it is answered as it may be. The error is a file's or standard output's.
 pub fn print_rows<R: Threads + Wait + Clock + Sync>(rt: &R, host: &HostRuntime) -> io::Result<()> {
     for (name, traces) in DECIDED {
         print_decided(rt, host, name, *traces)?;

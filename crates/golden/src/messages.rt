@@ -15,7 +15,7 @@ fn print_answer(rt: &HostRuntime, name: &str) -> io::Result<()> {
     rt.stdout().write_all(&faults)
 }
 
-/// Prints the status and the answer to each record.
+/// Prints the status and the answer to each record. The error is a file's or standard output's.
 pub fn print_rows(rt: &HostRuntime) -> io::Result<()> {
     for name in RECORDS {
         print_answer(rt, name)?;

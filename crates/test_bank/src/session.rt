@@ -50,7 +50,7 @@ impl Session {
         Ok(Session { bank, shares })
     }
 
-    /// Makes room for so many steps.
+    /// Makes room for so many steps. The errors are those of `Bank::reserve_steps`.
     pub fn reserve_steps(&mut self, count: usize) -> Result<(), Refusal> {
         self.bank.reserve_steps(count)
     }
@@ -60,7 +60,7 @@ impl Session {
         self.bank.forget();
     }
 
-    /// Loads bytes: the stamp.
+    /// Loads bytes, and answers the stamp. The errors are those of `Bank::load`.
     pub fn load(
         &mut self,
         client: ClientId,
@@ -72,7 +72,7 @@ impl Session {
         Ok(loaded.stamp)
     }
 
-    /// Stores bytes: the stamp.
+    /// Stores bytes, and answers the stamp. The errors are those of `Bank::store`.
     pub fn store(
         &mut self,
         client: ClientId,
@@ -83,7 +83,7 @@ impl Session {
         self.bank.store(client, address, bytes, when)
     }
 
-    /// Asks for a block.
+    /// Asks for a block. The errors are those of `Bank::acquire`.
     pub fn acquire(
         &mut self,
         client: ClientId,
@@ -114,7 +114,8 @@ impl Session {
         Ok(None)
     }
 
-    /// Answers a Probe, with the share of a client.
+    /// Answers a Probe, with the share of a client. The errors are those of `Bank::answer_probe`, and `OutOfRange`
+    /// where that client has no share.
     pub fn answer_probe(&mut self, ticket: Ticket, holder: ClientId) -> Result<Ticket, Refusal> {
         let Some(share) = self.shares.as_mut_slice().get_mut(holder.number() as usize) else {
             return Err(Refusal::OutOfRange);
@@ -122,7 +123,8 @@ impl Session {
         self.bank.answer_probe(ticket, share)
     }
 
-    /// Takes a Grant, with the share of a client.
+    /// Takes a Grant, with the share of a client. The errors are those of `Bank::take_grant`, and `OutOfRange` where
+    /// that client has no share.
     pub fn take_grant(&mut self, ticket: Ticket, holder: ClientId) -> Result<Ticket, Refusal> {
         let Some(share) = self.shares.as_mut_slice().get_mut(holder.number() as usize) else {
             return Err(Refusal::OutOfRange);
@@ -130,7 +132,8 @@ impl Session {
         self.bank.take_grant(ticket, share)
     }
 
-    /// Gives up a part of a client's copy, with the share of a client.
+    /// Gives up a part of a client's copy, with the share of a client. The errors are those of `Bank::release`, and
+    /// `OutOfRange` where that client has no share.
     pub fn release(
         &mut self,
         client: ClientId,
@@ -151,28 +154,28 @@ impl Session {
         }
     }
 
-    /// Takes a ReleaseAck.
+    /// Takes a ReleaseAck. The errors are those of `Bank::take_release_ack`.
     pub fn take_release_ack(&mut self, ticket: Ticket) -> Result<(), Refusal> {
         self.bank.take_release_ack(ticket)
     }
 
-    /// Does the next action of a block's register.
+    /// Does the next action of a block's register. The errors are those of `Bank::advance`.
     pub fn advance(&mut self, block: BlockNo) -> Result<Action, Refusal> {
         self.bank.advance(block)
     }
 
-    /// Starts to evict a block.
+    /// Starts to evict a block. The errors are those of `Bank::evict`.
     pub fn evict(&mut self, block: BlockNo) -> Result<(), Refusal> {
         self.bank.evict(block)
     }
 
-    /// The memory serves a request of a block.
+    /// The memory serves a request of a block. The errors are those of `Bank::serve_memory`.
     pub fn serve_memory(&mut self, block: BlockNo) -> Result<(), Refusal> {
         let _reply = self.bank.serve_memory(block)?;
         Ok(())
     }
 
-    /// Home takes what the memory replied.
+    /// Home takes what the memory replied. The errors are those of `Bank::take_memory`.
     pub fn take_memory(&mut self, block: BlockNo) -> Result<(), Refusal> {
         self.bank.take_memory(block)
     }

@@ -19,7 +19,7 @@ copies = 1\n\
 memory_blocks = 1\n\
 turns = 1000000\n";
 
-/// The job of a trace or of a run.
+/// The job of a trace or of a run. The error is want of memory.
 pub fn job_of(alloc: Global, traces: bool) -> Result<Job, JobError> {
     let file = String::from_str(alloc, "script")?;
     Ok(Job { traces, file })

@@ -39,7 +39,8 @@ const SHAPE: Shape = Shape {
     block_bytes: 8,
 };
 
-/// Client 0 gets block 0 to write it, by calls alone.
+/// Client 0 gets block 0 to write it, by calls alone. The errors are those of the calls, and `NotYet` where home sends
+/// a Probe or a block away first.
 pub fn fetch(bank: &mut Bank, share: &mut Share) -> Result<(), Refusal> {
     let block = BlockNo::new(0);
     let asked = bank.acquire(ClientId::new(0), block, Grow::NtoT)?;

@@ -43,7 +43,7 @@ mod tickets;
 mod views;
 mod would;
 
-/// A bank can't be made for want of memory alone.
+/// Why a bank can't be made: want of memory, and nothing else.
 pub type BankError = AllocError;
 
 /// One bank: the log of what happened on its blocks, and what that leaves.
@@ -75,8 +75,9 @@ impl Model for Bank {
 }
 
 impl Bank {
-    /// A bank of a geometry at reset, over a memory that holds an image no longer than it and 0 past the image; and a share for
-    /// each client, in their order. All memory that the bank ever takes is taken here, but for the log's.
+    /// A bank of a geometry at reset, over a memory that holds an image no longer than it and 0 past the image; and a
+    /// share for each client, in their order. All memory that the bank ever takes is taken here, but for the log's; the
+    /// error is want of it.
     pub fn new(
         alloc: Global,
         geometry: Geometry,
@@ -114,8 +115,9 @@ impl Bank {
         Ok((bank, first_shares(number, geometry.clients())))
     }
 
-    /// Makes room for `count` more events, which then need no memory. It is refused only for want of memory, and where there
-    /// was less room.
+    /// Makes room for `count` more events, which then need no memory.
+    ///
+    /// `Memory` where memory is refused, which happens only where there was less room. Nothing changes then.
     pub fn reserve_steps(&mut self, count: usize) -> Result<(), Refusal>
         ensures refused { IfErr result (λ refusal. (refusal ≡ Refusal.Memory) × (self.old.room < count)) }
         ensures unchanged { OnErr result (self.new ≡ self.old) }
@@ -169,9 +171,10 @@ impl Bank {
         self.log.len()
     }
 
-    /// What happened, oldest first, without what is forgotten. All that happened is a run of the protocol on this bank's blocks, whose
-    /// stamps rise, and which takes each message of a channel once, in the order of sending. So the bank is coherent: one writer or readers of each block, each copy in the
-    /// directory and at home, and the bytes last stored in each copy and each load.
+    /// What happened, oldest first, without what is forgotten. All that happened is a run of the protocol on this
+    /// bank's blocks, whose stamps rise, and which takes each message of a channel once, in the order of sending. So
+    /// the bank is coherent: one writer or readers of each block, each copy in the directory and at home, and the bytes
+    /// last stored in each copy and each load.
     pub fn log(&self) -> &[Event]
         ensures is { result.now ≡ drop self.now.forgotten self.now.log }
         ensures coherent { IsCoherent self.now }

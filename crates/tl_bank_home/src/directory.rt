@@ -35,7 +35,7 @@ impl Model for Directory {
 }
 
 impl Directory {
-    /// A directory in which no block lies. Takes all memory that it needs.
+    /// A directory in which no block lies. All memory that it ever uses is taken here; the error is want of it.
     pub fn new(alloc: Global, geometry: Geometry, bank: BankNo) -> Result<Directory, AllocError>
         ensures geometry { IfOk result (λ d. d.geometry ≡ geometry) }
         ensures bank { IfOk result (λ d. d.bank ≡ bank) }

@@ -48,8 +48,9 @@ impl Model for Home {
 
 #[tactic(auto, unfolding(crate::specs::Homes::geometry_in, crate::specs::Homes::bank_in, crate::specs::Homes::line_in, crate::specs::Homes::recorded_in, crate::specs::Homes::outward_in, crate::specs::Homes::crossing_count, crate::specs::Homes::memory_in, crate::specs::Homes::way_in, crate::specs::Homes::free_at, crate::specs::Homes::order_at))]
 impl Home {
-    /// Home of one bank over a memory that holds an image no longer than it, and 0 past the image: it holds no block. All
-    /// memory that it ever uses is taken here, and only the bytes of the bank's own blocks grow with the blocks.
+    /// Home of one bank over a memory that holds an image no longer than it, and 0 past the image: it holds no block.
+    /// All memory that it ever uses is taken here, and only the bytes of the bank's own blocks grow with the blocks;
+    /// the error is want of it.
     pub fn new(
         alloc: Global,
         geometry: Geometry,

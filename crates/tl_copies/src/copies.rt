@@ -34,7 +34,8 @@ impl Model for Copies {
 }
 
 impl Copies {
-    /// The tables of the clients of a geometry for one bank, with no entry. All memory that they ever use is taken here.
+    /// The tables of the clients of a geometry for one bank, with no entry. All memory that they ever use is taken
+    /// here; the error is want of it.
     #[tactic(auto, unfolding(crate::specs::Copies::clients_of, crate::specs::Copies::held_at, crate::specs::Copies::order_in))]
     pub fn new(alloc: Global, geometry: Geometry, bank: BankNo) -> Result<Copies, AllocError>
         ensures bank { IfOk result (λ v. v.bank ≡ bank) }
@@ -157,9 +158,9 @@ impl Copies {
         self.table(client).awaits_nothing()
     }
 
-    /// Keeps what a client holds of a block. A new entry goes last in the order of age, and so does one that waited for a
-    /// Grant and no longer does; every other one stays in its place. The copy comes back, and nothing changes, where the table
-    /// has no entry of the block and may have no more.
+    /// Keeps what a client holds of a block. A new entry goes last in the order of age, and so does one that waited for
+    /// a Grant and no longer does; every other one stays in its place. `Full`, with the copy, where the table has no
+    /// entry of the block and may have no more; nothing changes then.
     #[tactic(auto, unfolding(crate::specs::Copies::clients_of, crate::specs::Copies::held_at, crate::specs::Copies::order_in))]
     pub fn keep(&mut self, client: ClientId, block: BlockNo, held: Held) -> Result<(), Full>
         requires client { client < clients_of self.old }

@@ -45,6 +45,7 @@ fn block_of(geometry: Geometry, event: &Event) -> u32
     }
 }
 
+/// The sizes of a geometry that the rules depend on.
 pub fn shape_of(geometry: Geometry) -> Shape
     ensures { result ≡ shape_of geometry }
 {

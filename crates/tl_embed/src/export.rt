@@ -57,7 +57,7 @@ pub extern "C" fn jv_echo(request: &Request) -> Answer
     request.echo()
 }
 
-/// A message that was seen again, likewise.
+/// A message that was seen again, each of its fields in one of an answer.
 #[unsafe(no_mangle)]
 pub extern "C" fn jv_echo_seen(seen: &Seen) -> Answer
     ensures { result ≡ seen_echoed seen.now }

@@ -1,4 +1,5 @@
-//! The banks of a cache for callers in C: an opaque cache in room that C gives, and one function that asks a step or a view of it.
+//! The banks of a cache and the judge of events for callers in C (`include/jinavoke.h`): an opaque cache and an opaque
+//! judge in room that C gives, and functions that ask steps and views of them, one at a time or many at once.
 #![tactic(auto)]
 
 mod access;

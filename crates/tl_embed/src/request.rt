@@ -196,6 +196,7 @@ pub fn channel_at(number: u32) -> Option<Channel>
     }
 }
 
+/// The grow value with a number: 0 to 2 for NtoB, NtoT, BtoT.
 pub fn grow_at(param: u32) -> Option<Grow>
     ensures { result ≡ grow_at param }
 {
@@ -207,6 +208,7 @@ pub fn grow_at(param: u32) -> Option<Grow>
     }
 }
 
+/// The prune value with a number: 0 to 2 for TtoB, TtoN, BtoN.
 pub fn prune_at(param: u32) -> Option<Prune>
     ensures { result ≡ prune_at param }
 {

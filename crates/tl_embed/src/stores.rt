@@ -117,8 +117,8 @@ impl Inferred {
         count
     }
 
-    /// Makes the stores, one after another; how many. An error is the answer of one that was not done, with how many were done before,
-    /// which stay.
+    /// Makes the stores, one after another; the answer is how many. The error is the answer of the first that was not
+    /// done, with how many were done before, which stay.
     pub fn make(&self, network: &mut Network, seen: &Seen) -> Result<u32, Answer>
         requires { self.now.first < 2 ^ 31 }
         ensures { Stores self.now seen.now network.old network.new result }

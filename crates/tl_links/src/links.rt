@@ -45,7 +45,8 @@ pub struct Full {
 }
 
 impl Links {
-    /// The links of a bank to so many clients, with no message on them. All memory that they ever use is taken here.
+    /// The links of a bank to so many clients, with no message on them. All memory that they ever use is taken here;
+    /// the error is want of it.
     #[tactic(auto, unfolding(crate::specs::Table::lane_in))]
     pub fn new(alloc: Global, bank: BankNo, clients: u32) -> Result<Links, AllocError>
         requires { clients ≤ CLIENTS }
@@ -159,7 +160,8 @@ impl Links {
         false
     }
 
-    /// Sends a message. The answer is its ticket, or the message where 64 wait already, and then nothing changes.
+    /// Sends a message. The answer is its ticket. `Full`, with the message, where 64 wait already; nothing changes
+    /// then.
     #[tactic(auto, unfolding(crate::specs::Table::lane_in))]
     pub fn send(
         &mut self,
@@ -215,7 +217,8 @@ impl Links {
         }
     }
 
-    /// The message that a ticket names, where it is the first that waits on its channel.
+    /// The message that a ticket names, the first that waits on its channel. `NothingThere` where no message waits,
+    /// `NotHead` where the first has another serial.
     pub fn head(&self, ticket: Ticket) -> Result<&Message, TicketError>
         requires bank { ticket.bank ≡ self.now.bank }
         requires here { ticket.client < self.now.clients }
@@ -229,7 +232,8 @@ impl Links {
         queue.first().ok_or(TicketError::NothingThere)
     }
 
-    /// Takes the message that a ticket names, where it is the first that waits on its channel; else nothing changes.
+    /// Takes the message that a ticket names, the first that waits on its channel. `NothingThere` where no message
+    /// waits, `NotHead` where the first has another serial. Nothing changes then.
     #[tactic(auto, unfolding(crate::specs::Table::lane_in))]
     pub fn take(&mut self, ticket: Ticket) -> Result<Message, TicketError>
         requires bank { ticket.bank ≡ self.old.bank }

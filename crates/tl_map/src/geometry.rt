@@ -41,8 +41,8 @@ impl Model for Geometry {
 impl Copy for Geometry {}
 
 impl Geometry {
-    /// The geometry of these numbers, or the first of them that is not lawful: the version first, then in the order of
-    /// the fields.
+    /// The geometry of these numbers. The error is the first number that is out of its range (`GeometryError`): the
+    /// version first, then in the order of the fields.
     pub fn new(numbers: GeometryNumbers) -> Result<Geometry, GeometryError>
         ensures refused { IfErr result (λ e. refusal_of numbers ≡ Some e) }
         ensures made { IfOk result (λ g. (refusal_of numbers ≡ None) × (numbers_of g ≡ numbers)) }

@@ -39,7 +39,8 @@ impl Model for Memory {
 }
 
 impl Memory {
-    /// A memory that holds an image no longer than it, and 0 past the image. All memory that it ever uses is taken here.
+    /// A memory that holds an image no longer than it, and 0 past the image. All memory that it ever uses is taken
+    /// here; the error is want of it.
     #[tactic(auto, unfolding(crate::specs::Blocks::block_in))]
     pub fn new(alloc: Global, geometry: Geometry, image: &[u8]) -> Result<Memory, AllocError>
         requires { length image.now ≤ geometry.memory_blocks * geometry.block_bytes }
@@ -60,8 +61,8 @@ impl Memory {
         })
     }
 
-    /// The blocks of one bank of a memory that holds an image no longer than the whole memory, and 0 past the image. All
-    /// memory that it ever uses is taken here: a bank's part of the whole.
+    /// The blocks of one bank of a memory that holds an image no longer than the whole memory, and 0 past the image.
+    /// All memory that it ever uses is taken here, for the bank's part of the whole; the error is want of it.
     pub fn of_bank(
         alloc: Global,
         geometry: Geometry,

@@ -55,7 +55,7 @@ impl Client {
         }
     }
 
-    /// The same again.
+    /// A copy, with channels of its own. The error is want of memory.
     pub fn copied(&self, alloc: Global) -> Result<Client, AllocError>
         ensures { IfOk result (λ k. k ≡ self.now) }
     {
@@ -199,7 +199,7 @@ impl Client {
         self.held.store(offset, access);
     }
 
-    /// Sends an Acquire, and waits for its Grant. Out of memory leaves it as it was.
+    /// Sends an Acquire, and waits for its Grant. The error is want of memory; nothing changes then.
     pub fn send_acquire(&mut self, grow: Grow) -> Result<(), AllocError>
         ensures ok { OnOk result (self.new ≡ sent_acquire self.old grow) }
         ensures err { OnErr result (self.new ≡ self.old) }
@@ -209,8 +209,8 @@ impl Client {
         Ok(())
     }
 
-    /// Sends a Release with the bytes of a dirty copy, keeps what `prune` leaves and waits for the ReleaseAck. Out of memory leaves it
-    /// as it was.
+    /// Sends a Release with the bytes of a dirty copy, keeps what `prune` leaves and waits for the ReleaseAck. The
+    /// error is want of memory; nothing changes then.
     pub fn send_release(&mut self, prune: Prune) -> Result<(), AllocError>
         ensures ok { OnOk result (self.new ≡ released self.old prune) }
         ensures err { OnErr result (self.new ≡ self.old) }
@@ -222,8 +222,8 @@ impl Client {
         Ok(())
     }
 
-    /// Answers the first Probe, where there is one: gives the bytes of a dirty copy, and keeps what the Probe leaves. Out of memory
-    /// leaves it as it was.
+    /// Answers the first Probe, where there is one: gives the bytes of a dirty copy, and keeps what the Probe leaves.
+    /// The error is want of memory; nothing changes then.
     pub fn answer_probe(&mut self) -> Result<(), AllocError>
         ensures ok { OnOk result (self.new ≡ answered self.old self.old.b) }
         ensures err { OnErr result (self.new ≡ self.old) }
@@ -238,7 +238,7 @@ impl Client {
         Ok(())
     }
 
-    /// Takes the Grant at the front of D, and sends its GrantAck. Out of memory leaves it as it was.
+    /// Takes the Grant at the front of D, and sends its GrantAck. The error is want of memory; nothing changes then.
     pub fn take_grant(&mut self) -> Result<(), AllocError>
         requires { MayTakeGrant self.old }
         ensures ok { OnOk result (self.new ≡ took_grant self.old self.old.d) }
@@ -261,7 +261,7 @@ impl Client {
         self.wait = Awaited::Nothing;
     }
 
-    /// Sends a Probe to the client. Out of memory leaves it as it was.
+    /// Sends a Probe to the client. The error is want of memory; nothing changes then.
     pub fn send_probe(&mut self, cap: ProbeCap) -> Result<(), AllocError>
         ensures ok { OnOk result (self.new ≡ sent_probe self.old cap) }
         ensures err { OnErr result (self.new ≡ self.old) }
@@ -269,8 +269,8 @@ impl Client {
         self.b.push(cap)
     }
 
-    /// Takes the first message of C for home, records what it leaves, and answers a Release. Gives the bytes that the message carries.
-    /// Out of memory leaves it as it was.
+    /// Takes the first message of C for home, records what it leaves, and answers a Release. Gives the bytes that the
+    /// message carries. The error is want of memory; nothing changes then.
     pub fn take_c(&mut self) -> Result<Option<BlockBytes>, AllocError>
         requires { MayTakeC self.old }
         ensures ok { OnOk result (self.new ≡ took_c_from self.old self.old.c) }
@@ -296,8 +296,8 @@ impl Client {
         self.e.remove();
     }
 
-    /// Sends a Grant and records what it gives, with home's bytes where home recorded nothing of the client. Out of memory leaves it
-    /// as it was.
+    /// Sends a Grant and records what it gives, with home's bytes where home recorded nothing of the client. The error
+    /// is want of memory; nothing changes then.
     pub fn send_grant(&mut self, cap: GrantCap, home: &BlockBytes) -> Result<(), AllocError>
         ensures ok { OnOk result (self.new ≡ sent_grant self.old cap home.now) }
         ensures err { OnErr result (self.new ≡ self.old) }

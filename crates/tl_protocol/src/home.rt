@@ -63,7 +63,7 @@ impl Outward {
         matches!(self, Outward::PutAck)
     }
 
-    /// The same again.
+    /// A copy, with bytes of its own.
     pub fn copied(&self) -> Outward
         ensures { result ≡ self.now }
     {

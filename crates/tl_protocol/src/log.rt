@@ -66,7 +66,8 @@ impl Log {
         }
     }
 
-    /// Asks for room for `count` more events. Only a room below `count` can be refused.
+    /// Makes room for `count` more events. The error is want of memory, which only a room below `count` can meet;
+    /// nothing changes then.
     pub fn reserve(&mut self, count: usize) -> Result<(), AllocError>
         ensures events { self.new.events ≡ self.old.events }
         ensures forgotten { self.new.forgotten ≡ self.old.forgotten }

@@ -31,7 +31,7 @@ impl<T: Drop> Queue<T> {
         }
     }
 
-    /// A message joins the end. Out of memory leaves the list as it was.
+    /// A message joins the end. The error is want of memory; nothing changes then.
     pub fn push(&mut self, item: T) -> Result<(), AllocError>
         ensures ok { OnOk result (self.new ≡ self.old ++ item ∷ []) }
         ensures err { OnErr result (self.new ≡ self.old) }
@@ -74,7 +74,7 @@ impl<T: Drop> Queue<T> {
 }
 
 impl<T: Same> Queue<T> {
-    /// The same again.
+    /// A queue of copies, in their order. The error is want of memory.
     pub fn copied(&self, alloc: Global) -> Result<Queue<T>, AllocError>
         ensures { IfOk result (λ q. q ≡ self.now) }
     {
@@ -127,7 +127,7 @@ impl AckCount {
         }
     }
 
-    /// One more. Out of memory leaves the count as it was.
+    /// One more. The error is want of memory; nothing changes then.
     pub fn add(&mut self) -> Result<(), AllocError>
         ensures ok { OnOk result (self.new ≡ self.old + 1) }
         ensures err { OnErr result (self.new ≡ self.old) }
@@ -136,7 +136,7 @@ impl AckCount {
         Ok(())
     }
 
-    /// The same again.
+    /// An equal count. The error is want of memory.
     pub fn copied(&self, alloc: Global) -> Result<AckCount, AllocError>
         ensures { IfOk result (λ q. q ≡ self.now) }
     {

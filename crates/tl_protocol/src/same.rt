@@ -1,4 +1,4 @@
-//! The same again, and whether two are the same: for the messages of a channel, and for what a client has of a block.
+//! Copies of the messages of a channel and of what a client has of a block, and whether two are equal.
 ghost use Rattle.std.specs.Prelude.{◌≡◌, ◌↔◌, IsTrue};
 
 use crate::copy::CachedCopy;
@@ -7,11 +7,11 @@ use tl_types::{BlockBytes, Downward, Grow, ProbeAnswer, ProbeCap, Surrender, Upw
 
 /// A value that can be copied without memory, and compared.
 pub trait Same: Drop {
-    /// The same again.
+    /// A copy with equal contents, made without memory.
     fn copied(&self) -> Self
         ensures { result ≡ self.now };
 
-    /// Whether two are the same.
+    /// Whether two have equal contents.
     fn is_same(&self, other: &Self) -> bool
         ensures { IsTrue result ↔ (self.now ≡ other.now) };
 }

@@ -113,7 +113,7 @@ fn copy_clients(clients: &mut [Client], others: &[Client]) -> Result<(), AllocEr
 }
 
 impl BlockState {
-    /// A block that nobody but the memory holds.
+    /// A block that nobody but the memory holds. The error is want of memory.
     pub fn new(alloc: Global, clients: u32, memory: BlockBytes) -> Result<BlockState, AllocError>
         ensures reset { IfOk result (λ b. block_state b ≡ reset memory) }
         ensures clients { IfOk result (λ b. length b.clients ≡ clients) }
@@ -138,7 +138,7 @@ impl BlockState {
         self.clients.len()
     }
 
-    /// The same again.
+    /// A copy, with clients of its own. The error is want of memory.
     pub fn copied(&self, alloc: Global) -> Result<BlockState, AllocError>
         ensures { IfOk result (λ b. b ≡ self.now) }
     {
@@ -161,7 +161,8 @@ impl BlockState {
         }
     }
 
-    /// Becomes the same as another, in the room that its clients have. For want of memory it is some block, of no use.
+    /// Becomes a copy of another, in the room that its clients have. The error is want of memory; it is then some
+    /// block, of no use.
     pub fn copy_from(&mut self, alloc: Global, other: &BlockState) -> Result<(), AllocError>
         ensures { OnOk result (self.new ≡ other.now) }
     {
@@ -584,7 +585,7 @@ impl BlockState {
         }
     }
 
-    /// Carries out an event that may come next. For want of memory nothing changes.
+    /// Carries out an event that may come next. The error is want of memory; nothing changes then.
     pub fn apply(&mut self, shape: Shape, event: &Event) -> Result<(), AllocError>
         requires size { length self.old.clients ≡ shape.clients }
         requires bytes { (0 < shape.block_bytes) × (shape.block_bytes ≤ BLOCK_BYTES) }

@@ -1,5 +1,6 @@
-//! The protocol as a program: its events, the log that keeps them, a plain map of the state that says which event may come next,
-//! and the order of several logs' accesses. The definitions that contracts cite, and the theorem on every run, are those of `tl_protocol`.
+//! The protocol's rules as a program, for one block and for all of them: which event may come next and what it leaves;
+//! the order of several banks' accesses; and the theorem on every run. `tl_protocol` defines the events, their log, and
+//! what contracts cite.
 #![tactic(auto)]
 
 mod block;

@@ -118,7 +118,7 @@ fn apply_at(
 }
 
 impl Plain {
-    /// The map at reset, with the image as the first bytes of the memory, 0 past its end. Err is a refused request for memory.
+    /// The map at reset, with the image as the first bytes of the memory, 0 past its end. The error is want of memory.
     pub fn new(alloc: Global, shape: Shape, image: &[u8]) -> Result<Plain, AllocError>
         requires bytes { (0 < shape.block_bytes) × (shape.block_bytes ≤ BLOCK_BYTES) }
         requires blocks { shape.blocks ≤ BLOCKS }
@@ -224,7 +224,7 @@ impl Plain {
         }
     }
 
-    /// Carries out an event that is known to be permitted. Err is a refused request for memory: then nothing has changed.
+    /// Carries out an event that is known to be permitted. The error is want of memory; nothing changes then.
     pub fn carry_out(&mut self, event: &Event) -> Result<(), AllocError>
         requires { May self.old.shape (state_of_plain self.old (block_of self.old.shape event.now)) event.now }
         ensures ok { OnOk result (IsStep self.old self.new event.now) }
@@ -235,8 +235,8 @@ impl Plain {
         Ok(())
     }
 
-    /// Carries out an event that may come next: NotPermitted exactly where it may not, Memory where a request for memory was
-    /// refused. After an error nothing has changed.
+    /// Carries out an event that may come next: `NotPermitted` exactly where it may not, `Memory` where memory is
+    /// refused. Nothing changes then.
     pub fn apply(&mut self, event: &Event) -> Result<(), ApplyError>
         ensures ok { OnOk result (IsStep self.old self.new event.now) }
         ensures err { OnErr result (self.new ≡ self.old) }

@@ -16,7 +16,8 @@ use tl_map::Geometry;
 use tl_script_words::{COMMANDS, Command};
 use toml::{Table, Value};
 
-/// The list of each client's commands: each an array of texts.
+/// The list of each client's commands, each an array of texts; none where the key is absent. `Missing(Commands)` where
+/// the value has another shape.
 #[tactic(auto, unfolding(crate::specs::Commands::command_texts_of))]
 pub fn command_lists(table: &Table) -> Result<&[Value], ScriptError>
     ensures { Gives (λ v. lists v.now) result (command_texts_of (table_view table.now)) }
@@ -60,7 +61,8 @@ fn is_long(list: &Value) -> bool
     values_of(list).len() > COMMANDS
 }
 
-/// The commands of all clients, in the grammar and in the memory.
+/// The commands of all clients. `Command(CLIENT, INDEX)` at the first that is outside the grammar, or whose bytes do
+/// not lie in the memory and in one block; `Memory` where memory is refused.
 #[tactic(auto, unfolding(crate::specs::Commands::commands_of))]
 pub fn commands(
     alloc: Global,

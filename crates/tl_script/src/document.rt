@@ -14,7 +14,7 @@ use crate::key::Key;
 use std::alloc::Global;
 use toml::{Table, Value};
 
-/// The document that the bytes write.
+/// The document that the bytes write. `NotToml` where they are no UTF-8 or no TOML, `Memory` where memory is refused.
 pub fn document(alloc: Global, bytes: &[u8]) -> Result<Table, ScriptError>
     ensures { Gives table_view result (or_fault ScriptError.NotToml (document_of bytes.now)) }
 {
@@ -37,7 +37,7 @@ pub fn value_at(table: &Table, key: Key) -> Option<&Value>
     table.get(key.name())
 }
 
-/// The whole number at a key.
+/// The whole number at a key. `Missing(key)` where there is none.
 #[tactic(auto, unfolding(crate::specs::Document::integer_at))]
 pub fn integer_at(table: &Table, key: Key) -> Result<i64, ScriptError>
     ensures { Gives (λ n. n) result (integer_at key (table_view table.now)) }
@@ -48,7 +48,7 @@ pub fn integer_at(table: &Table, key: Key) -> Result<i64, ScriptError>
     }
 }
 
-/// The text that a value at a key is.
+/// The text that a value at a key is. `Missing(key)` where it is none.
 #[tactic(auto, unfolding(crate::specs::Document::text_in))]
 pub fn text_in(key: Key, value: &Value) -> Result<&str, ScriptError>
     ensures { Gives (λ t. t.now) result (text_in key (view value.now)) }
@@ -56,7 +56,8 @@ pub fn text_in(key: Key, value: &Value) -> Result<&str, ScriptError>
     value.as_str().ok_or(ScriptError::Missing(key))
 }
 
-/// The texts that an array at a key has.
+/// The texts that an array at a key has. `Missing(key)` where the value is no array of texts, `Memory` where memory is
+/// refused.
 #[tactic(auto, unfolding(crate::specs::Document::texts_in))]
 pub fn texts_in(alloc: Global, key: Key, value: &Value) -> Result<Vec<&str>, ScriptError>
     ensures { Gives (λ v. texts v.items) result (texts_in key (view value.now)) }

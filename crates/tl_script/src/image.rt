@@ -13,7 +13,8 @@ use tl_map::Geometry;
 use tl_script_words::{ParseError, parse_bytes};
 use toml::{Table, Value};
 
-/// The first bytes of the memory: no more than it has.
+/// The first bytes of the memory, no more than it has; none where the key is absent. `Missing(Image)` where the value
+/// is no text of such bytes in hexadecimal, `Memory` where memory is refused.
 #[tactic(auto, unfolding(crate::specs::Image::image_of))]
 pub fn image(alloc: Global, table: &Table, geometry: Geometry) -> Result<Vec<u8>, ScriptError>
     ensures { Gives (λ v. v.items) result (image_of geometry (table_view table.now)) }

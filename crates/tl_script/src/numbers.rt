@@ -23,7 +23,8 @@ fn version(table: &Table) -> Result<i64, ScriptError>
     }
 }
 
-/// The numbers of the geometry, as the document gives them.
+/// The numbers of the geometry, as the document gives them. `Missing(KEY)` at the first key that has no whole number,
+/// or a version that is not 1 or 2, in the order of the fields; whether they make a geometry is `geometry`'s to say.
 #[tactic(auto, unfolding(crate::specs::Numbers::numbers_of))]
 pub fn numbers(table: &Table) -> Result<GeometryNumbers, ScriptError>
     ensures { Gives (λ n. n) result (numbers_of (table_view table.now)) }
@@ -41,7 +42,7 @@ pub fn numbers(table: &Table) -> Result<GeometryNumbers, ScriptError>
     })
 }
 
-/// How many turns a thread makes at most: 1 to 1,000,000.
+/// How many turns a thread makes at most: 1 to 1,000,000. `Missing(Turns)` where the key has no such number.
 #[tactic(auto, unfolding(crate::specs::Numbers::turns_of))]
 pub fn turns(table: &Table) -> Result<u32, ScriptError>
     ensures { Gives (λ n. n) result (turns_of (table_view table.now)) }
@@ -53,7 +54,8 @@ pub fn turns(table: &Table) -> Result<u32, ScriptError>
     Ok(turns as u32)
 }
 
-/// The geometry that the numbers make.
+/// The geometry that the numbers make. `Geometry(CAUSE)` where they make none: the first number that is out of its
+/// range.
 pub fn geometry(numbers: GeometryNumbers) -> Result<Geometry, ScriptError>
     ensures { Gives (λ g. g) result (geometry_of numbers) }
 {

@@ -13,7 +13,8 @@ use std::alloc::Global;
 use tl_script_words::{ParseError, Step};
 use toml::Table;
 
-/// The texts of the steps.
+/// The texts of the steps; none where the key is absent. `Missing(Steps)` where the value is no array of texts,
+/// `Memory` where memory is refused.
 #[tactic(auto, unfolding(crate::specs::Steps::step_texts_of))]
 pub fn step_texts(alloc: Global, table: &Table) -> Result<Vec<&str>, ScriptError>
     ensures { Gives (λ v. texts v.items) result (step_texts_of (table_view table.now)) }
@@ -24,7 +25,7 @@ pub fn step_texts(alloc: Global, table: &Table) -> Result<Vec<&str>, ScriptError
     }
 }
 
-/// The steps, in the grammar.
+/// The steps. `Step(INDEX)` at the first that is outside the grammar, `Memory` where memory is refused.
 #[tactic(auto, unfolding(crate::specs::Steps::steps_of))]
 pub fn steps(alloc: Global, all: &[&str]) -> Result<Vec<Step>, ScriptError>
     ensures { Gives (λ v. v.items) result (steps_of (texts all.now)) }

@@ -58,7 +58,8 @@ fn push_few(text: &mut String, bytes: &[u8]) -> Result<(), AllocError>
     push_ascii(text, &digits[..2 * bytes.len()])
 }
 
-/// Bytes as pairs of lower-case hexadecimal digits, at the end of a text.
+/// Bytes as pairs of lower-case hexadecimal digits, at the end of a text. The error is want of memory; the text is then
+/// of no use.
 pub fn push_hex(text: &mut String, bytes: &[u8]) -> Result<(), AllocError>
     ensures { OnOk result (string_bytes text.new ≡ string_bytes text.old ++ hex_text bytes.now) }
 {
@@ -71,7 +72,8 @@ pub fn push_hex(text: &mut String, bytes: &[u8]) -> Result<(), AllocError>
     Ok(())
 }
 
-/// An address as `0x` and eight lower-case hexadecimal digits, at the end of a text.
+/// An address as `0x` and eight lower-case hexadecimal digits, at the end of a text. The error is want of memory; the
+/// text is then of no use.
 pub fn push_address(text: &mut String, address: u32) -> Result<(), AllocError>
     ensures { OnOk result (string_bytes text.new ≡ string_bytes text.old ++ address_text address) }
 {
@@ -79,7 +81,8 @@ pub fn push_address(text: &mut String, address: u32) -> Result<(), AllocError>
     push_few(text, &address.to_be_bytes())
 }
 
-/// An address, a space, and at most eight bytes, at the end of a text: as `push_address` and `push_hex`, at once.
+/// An address, a space, and at most eight bytes, at the end of a text: as `push_address` and `push_hex`, at once. The
+/// error is want of memory; the text is then of no use.
 pub fn push_bytes_at(text: &mut String, address: u32, bytes: &[u8]) -> Result<(), AllocError>
     requires { length bytes.now ≤ 8 }
     ensures { OnOk result (string_bytes text.new ≡ string_bytes text.old ++ address_text address ++ codes " " ++ hex_text bytes.now) }

@@ -10,7 +10,7 @@ use crate::words::{parse_number, split_fields};
 use std::alloc::Global;
 use tl_types::{BankNo, Channel, ClientId, Grow, Prune, Ticket};
 
-/// The channel that a letter names.
+/// The channel that a letter names, A to E. `Malformed` where the text is none of them.
 #[tactic(auto, unfolding(crate::specs::Ticket::channel_of))]
 pub fn parse_channel(text: &str) -> Result<Channel, ParseError>
     ensures { Reads (λ channel. channel) result (channel_of text.now) }
@@ -25,7 +25,7 @@ pub fn parse_channel(text: &str) -> Result<Channel, ParseError>
     }
 }
 
-/// What an Acquire starts from and asks for.
+/// What an Acquire starts from and asks for: `NtoB`, `NtoT` or `BtoT`. `Malformed` where the text is none of them.
 #[tactic(auto, unfolding(crate::specs::Ticket::grow_of))]
 pub fn parse_grow(text: &str) -> Result<Grow, ParseError>
     ensures { Reads (λ grow. grow) result (grow_of text.now) }
@@ -38,7 +38,7 @@ pub fn parse_grow(text: &str) -> Result<Grow, ParseError>
     }
 }
 
-/// What a Release starts from and leaves.
+/// What a Release starts from and leaves: `TtoB`, `TtoN` or `BtoN`. `Malformed` where the text is none of them.
 #[tactic(auto, unfolding(crate::specs::Ticket::prune_of))]
 pub fn parse_prune(text: &str) -> Result<Prune, ParseError>
     ensures { Reads (λ prune. prune) result (prune_of text.now) }
@@ -51,7 +51,7 @@ pub fn parse_prune(text: &str) -> Result<Prune, ParseError>
     }
 }
 
-/// The ticket that a text writes.
+/// The ticket that a text writes. `Malformed` exactly where the text writes none, `Memory` where memory is refused.
 pub fn parse_ticket(alloc: Global, text: &str) -> Result<Ticket, ParseError>
     ensures { Reads (λ ticket. ticket) result (ticket_of text.now) }
 {

@@ -12,7 +12,7 @@ use arrayvec::ArrayVec;
 use std::alloc::{AllocError, Global};
 use tl_types::{ACCESS_BYTES, AccessBytes};
 
-/// The words of a text, which stand apart by one space each.
+/// The words of a text, which stand apart by one space each. The error is want of memory.
 pub fn split_words(alloc: Global, text: &str) -> Result<Vec<&str>, AllocError>
     ensures { IfOk result (λ words. texts words.items ≡ words_of text.now) }
 {
@@ -39,7 +39,7 @@ pub(crate) fn split_word(text: &[u8]) -> (&[u8], Option<&[u8]>)
     }
 }
 
-/// The fields of a text, which stand apart by one dot each.
+/// The fields of a text, which stand apart by one dot each. The error is want of memory.
 pub fn split_fields(alloc: Global, text: &str) -> Result<Vec<&str>, AllocError>
     ensures { IfOk result (λ fields. texts fields.items ≡ slice_split (λ b. b == 46) text.now) }
 {
@@ -144,7 +144,8 @@ fn parse_byte(high: u8, low: u8) -> Option<u8>
     }
 }
 
-/// The bytes that pairs of lower-case hexadecimal digits write.
+/// The bytes that pairs of lower-case hexadecimal digits write. `Malformed` exactly where the text has another
+/// character or half a pair, `Memory` where memory is refused.
 pub fn parse_bytes(alloc: Global, text: &str) -> Result<Vec<u8>, ParseError>
     ensures { Reads (λ bytes. bytes.items) result (bytes_of text.now) }
 {

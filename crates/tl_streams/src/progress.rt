@@ -155,6 +155,7 @@ pub struct Watched<R, T> {
 }
 
 impl<R, T> Watched<R, T> {
+    /// A reader whose reads are told to a watcher.
     pub fn new(reader: R, watcher: T) -> Watched<R, T> {
         Watched { reader, watcher }
     }

@@ -13,7 +13,8 @@ pub enum ReadError {
     File,
 }
 
-/// The bytes that the reader has left, all of them.
+/// The bytes that the reader has left, all of them. `Memory` where memory is refused, `File` where a read fails
+/// otherwise.
 pub fn read_whole<R: Read>(alloc: Global, reader: &mut R) -> Result<Vec<u8>, ReadError>
     ensures { IfOk result (λ bytes. IfSome (R.remaining reader.old) (λ known. bytes.items ≡ known)) }
 {

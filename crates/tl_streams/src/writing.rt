@@ -10,8 +10,8 @@ use std::{fmt, io};
 /// The bytes of the longest line of a fault, with room.
 const LINE: usize = 128;
 
-/// Writes the whole text and flushes, or writes a beginning of it where a write fails. Err is what the writer answered, `WriteZero` where
-/// it takes no byte more.
+/// Writes the whole text and flushes, or writes a beginning of it where a write fails. The error is what the writer
+/// answered, `WriteZero` where it takes no byte more.
 pub fn write_whole<W: Write>(writer: &mut W, text: &[u8]) -> io::Result<()>
     ensures ok { OnOk result (Appends (W.contents writer.old) (W.contents writer.new) text.now) }
     ensures err { OnErr result (AppendsBeginning (W.contents writer.old) (W.contents writer.new) text.now) }
@@ -34,8 +34,8 @@ pub fn write_whole<W: Write>(writer: &mut W, text: &[u8]) -> io::Result<()>
     Err(io::Error::from(ErrorKind::TimedOut))
 }
 
-/// Writes the line of a fault, of at most 128 bytes, or a beginning of it where a write fails. The line is made on the stack, since want of
-/// memory is one of the faults.
+/// Writes the line of a fault, of at most 128 bytes. The error is what the writer answered, after a beginning of the
+/// line. The line is made on the stack, since want of memory is one of the faults.
 pub fn tell<W: Write, D: fmt::Display>(faults: &mut W, line: &D) -> io::Result<()>
     ensures ok { OnOk result (IfSome (D.output line.now) (λ text. Appends (W.contents faults.old) (W.contents faults.new) (text ++ codes "\n"))) }
     ensures line { IfSome (D.output line.now) (λ text. AppendsBeginning (W.contents faults.old) (W.contents faults.new) (text ++ codes "\n")) }

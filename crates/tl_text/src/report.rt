@@ -44,7 +44,7 @@ impl Report {
         count
     }
 
-    /// The report as text, each line with a line feed at its end.
+    /// The report as text, each line with a line feed at its end. The error is want of memory.
     pub fn text(&self, alloc: Global) -> Result<String, AllocError>
         ensures { IfOk result (λ text. string_bytes text ≡ report_text self.now) }
     {

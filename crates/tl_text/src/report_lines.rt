@@ -44,7 +44,8 @@ fn push_answered(text: &mut String, answered: &Answered) -> Result<(), AllocErro
     }
 }
 
-/// The line of each command that was answered.
+/// Writes the line of each command that was answered, at the end of a text. The error is want of memory; the text is
+/// then of no use.
 pub fn push_answers(text: &mut String, answers: &[Answered]) -> Result<(), AllocError>
     ensures { OnOk result (string_bytes text.new ≡ string_bytes text.old ++ lines_from answered_line 0 answers.now) }
 {
@@ -57,7 +58,7 @@ pub fn push_answers(text: &mut String, answers: &[Answered]) -> Result<(), Alloc
     Ok(())
 }
 
-/// The lines of each client.
+/// Writes the lines of each client, at the end of a text. The error is want of memory; the text is then of no use.
 pub fn push_clients(text: &mut String, clients: &[Vec<Answered>]) -> Result<(), AllocError>
     ensures { OnOk result (string_bytes text.new ≡ string_bytes text.old ++ lines_from client_lines 0 clients.now) }
 {
@@ -83,7 +84,7 @@ fn push_bank(text: &mut String, bank: u64, line: &BankLine) -> Result<(), AllocE
     text.push('\n')
 }
 
-/// The line of each bank.
+/// Writes the line of each bank, at the end of a text. The error is want of memory; the text is then of no use.
 pub fn push_banks(text: &mut String, banks: &[BankLine]) -> Result<(), AllocError>
     ensures { OnOk result (string_bytes text.new ≡ string_bytes text.old ++ lines_from bank_line 0 banks.now) }
 {

@@ -16,7 +16,7 @@ pub struct Trace {
 }
 
 impl Trace {
-    /// The trace as text, each line with a line feed at its end. An error is a request for memory that was refused.
+    /// The trace as text, each line with a line feed at its end. The error is want of memory.
     pub fn text(&self, alloc: Global) -> Result<String, AllocError>
         ensures { IfOk result (λ text. string_bytes text ≡ trace_text self.now) }
     {

@@ -11,7 +11,7 @@ use crate::closing::{BankClosing, BlockLine};
 use std::alloc::AllocError;
 use std::fmt::Write;
 
-/// The line of a step.
+/// Writes the line of a step, at the end of a text. The error is want of memory; the text is then of no use.
 pub fn push_answer(text: &mut String, index: usize, answer: &Answer) -> Result<(), AllocError>
     ensures { OnOk result (string_bytes text.new ≡ string_bytes text.old ++ answer_line index answer.now) }
 {
@@ -19,7 +19,7 @@ pub fn push_answer(text: &mut String, index: usize, answer: &Answer) -> Result<(
     Ok(())
 }
 
-/// The line of each step.
+/// Writes the line of each step, at the end of a text. The error is want of memory; the text is then of no use.
 pub fn push_answers(text: &mut String, answers: &[Answer]) -> Result<(), AllocError>
     ensures { OnOk result (string_bytes text.new ≡ string_bytes text.old ++ lines_from answer_line 0 answers.now) }
 {
@@ -29,7 +29,8 @@ pub fn push_answers(text: &mut String, answers: &[Answer]) -> Result<(), AllocEr
     Ok(())
 }
 
-/// The line of each block that home holds.
+/// Writes the line of each block that home holds, at the end of a text. The error is want of memory; the text is then
+/// of no use.
 pub fn push_blocks(text: &mut String, blocks: &[BlockLine]) -> Result<(), AllocError>
     ensures { OnOk result (string_bytes text.new ≡ string_bytes text.old ++ flat_map block_line blocks.now) }
 {
@@ -39,7 +40,7 @@ pub fn push_blocks(text: &mut String, blocks: &[BlockLine]) -> Result<(), AllocE
     Ok(())
 }
 
-/// A bank's own line.
+/// Writes a bank's own line, at the end of a text. The error is want of memory; the text is then of no use.
 pub fn push_bank(text: &mut String, bank: usize, closing: &BankClosing) -> Result<(), AllocError>
     ensures { OnOk result (string_bytes text.new ≡ string_bytes text.old ++ bank_line bank closing.now) }
 {
@@ -51,7 +52,8 @@ pub fn push_bank(text: &mut String, bank: usize, closing: &BankClosing) -> Resul
     Ok(())
 }
 
-/// The closing lines of each bank.
+/// Writes the closing lines of each bank, at the end of a text. The error is want of memory; the text is then of no
+/// use.
 pub fn push_banks(text: &mut String, banks: &[BankClosing]) -> Result<(), AllocError>
     ensures { OnOk result (string_bytes text.new ≡ string_bytes text.old ++ lines_from closing_lines 0 banks.now) }
 {

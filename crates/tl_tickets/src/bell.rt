@@ -153,8 +153,8 @@ impl Bell {
         self.word.shared.load::<Hear>(&mut seat.place, 0)
     }
 
-    /// How often all seats rang, once they are back. `Missing` where not each seat is there once. The bell and the seats are
-    /// used up either way.
+    /// How often all seats rang, once they are back. `Missing` exactly where not each seat is there once. The bell and
+    /// the seats are used up either way.
     pub fn total(self, seats: Vec<Seat>) -> Result<u64, Missing>
         requires { All (IsSeatOf self) seats.items }
         ensures { MatchResult result (λ total. IsEachSeatOnce self.seats seats.items × (total ≡ rings_of seats.items) × All (λ s. s.seen ≤ total) seats.items) (λ _. ¬ IsEachSeatOnce self.seats seats.items) }

@@ -38,7 +38,7 @@ impl<'a> Sender<'a> {
         Sender { inbox, pass }
     }
 
-    /// Puts a ticket, or hands it back where the inbox was full at that step.
+    /// Puts a ticket. `Full`, with the ticket, where the inbox was full at that step; nothing changes then.
     pub fn put<R: Wait>(&mut self, rt: &R, ticket: Ticket) -> Result<(), Full>
         ensures { MatchResult result (λ _. self.new ≡ record self.old { pass = after_put self.old.pass ticket }) (λ full. (full.0 ≡ ticket) × (self.new ≡ self.old) × WasFull self.old.inbox self.old.pass) }
     {

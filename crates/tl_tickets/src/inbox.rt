@@ -160,8 +160,8 @@ impl Inbox {
         Ok((Inbox { queue, senders }, passes))
     }
 
-    /// Puts a ticket behind those that wait, or hands it back where the inbox was full at that step. It takes no memory, and waits
-    /// for no room: only for a step of another thread that is under way.
+    /// Puts a ticket behind those that wait. `Full`, with the ticket, where the inbox was full at that step; nothing
+    /// changes then. It takes no memory, and waits for no room: only for a step of another thread that is under way.
     pub fn put<R: Wait>(&self, rt: &R, pass: &mut Pass, ticket: Ticket) -> Result<(), Full>
         requires { IsSenderOf self.now pass.old }
         ensures pass { IsSamePass pass.old pass.new }
@@ -192,8 +192,8 @@ impl Inbox {
         Some(sent.ticket)
     }
 
-    /// How many tickets wait, once all passes are back. `Missing` where not each pass is there once. The inbox and the passes are
-    /// used up either way.
+    /// How many tickets wait, once all passes are back. `Missing` exactly where not each pass is there once. The inbox
+    /// and the passes are used up either way.
     pub fn settle(self, passes: Vec<Pass>) -> Result<u64, Missing>
         requires { All (IsPassOf self) passes.items }
         ensures { MatchResult result (λ waiting. IsEachOnce self.senders passes.items × Settles self.senders passes.items waiting) (λ _. ¬ IsEachOnce self.senders passes.items) }

@@ -49,7 +49,8 @@ fn sum(shares: &[Share]) -> u64
     sum
 }
 
-/// How many copies the clients hold in a bank: the sum of their shares, which each client gives back once, in any order.
+/// How many copies the clients hold in a bank: the sum of their shares, which each client gives back once, in any
+/// order. `Missing` exactly where not each client's share of this bank is there once.
 pub fn gather(bank: &Bank, shares: &[Share]) -> Result<u64, Missing>
     ensures exact { IsOk result ↔ AreShares bank.now shares.now }
     ensures sum { IfOk result (λ held. held ≡ sum_of shares.now) }

@@ -38,7 +38,7 @@ impl Model for Network {
 }
 
 impl Network {
-    /// All banks at reset over an image that is no longer than the memory.
+    /// All banks at reset over an image that is no longer than the memory. The error is want of memory.
     pub fn new(alloc: Global, geometry: Geometry, image: &[u8]) -> Result<Network, AllocError>
         requires { length image.now ≤ geometry.memory_blocks * geometry.block_bytes }
         ensures { IfOk result (IsReset geometry image.now) }
@@ -50,8 +50,8 @@ impl Network {
         })
     }
 
-    /// One step, and its answer. An error is a request for memory that was refused: then nothing changed, and the log of the bank
-    /// that the step names had no room.
+    /// One step, and its answer: a refusal is one. The error is want of memory; then nothing changes, and the log of
+    /// the bank that the step names had no room.
     pub fn step(&mut self, index: u32, step: &Step) -> Result<Answer, AllocError>
         ensures memory { OnErr result (IsStarvedNetwork step.now self.old self.new) }
         ensures answer { IfOk result (IsNetworkStep index step.now self.old self.new) }
@@ -61,7 +61,8 @@ impl Network {
         Ok(answer)
     }
 
-    /// The same, with the answer in a place that the caller has for it. Where there was no memory, what is in that place says nothing.
+    /// One step, as `step`, with the answer in a place that the caller has for it. After an error what is in that place
+    /// says nothing.
     pub fn step_into(
         &mut self,
         index: u32,
@@ -79,7 +80,8 @@ impl Network {
         done
     }
 
-    /// A load, as `step` of one. Its refusals are errors here, want of memory too.
+    /// A load, as a step of its own. The errors are the bank's refusals (`Bank::load`), `Memory` too; nothing changes
+    /// then.
     pub fn load(
         &mut self,
         index: u32,
@@ -98,7 +100,8 @@ impl Network {
         loaded
     }
 
-    /// A store, as `step` of one. Its refusals are errors here, want of memory too.
+    /// A store, as a step of its own. The errors are the bank's refusals (`Bank::store`), `Memory` too; nothing changes
+    /// then.
     pub fn store(
         &mut self,
         index: u32,
@@ -117,7 +120,8 @@ impl Network {
         stored
     }
 
-    /// What a Release would send, were it asked now, or the first refusal that stands against it, but for want of memory.
+    /// What a Release would send, were it asked now. The error is the first refusal that stands against it
+    /// (`Bank::release`), but for `Memory`.
     pub fn would_release(
         &self,
         client: ClientId,
@@ -130,7 +134,8 @@ impl Network {
         self.shared_banks[place].would_release(client, block, prune)
     }
 
-    /// What the answer to a Probe would send, likewise.
+    /// What the answer to a Probe would send, were it asked now. The error is the first refusal that stands against it
+    /// (`Bank::answer_probe`), but for `Memory`.
     pub fn would_answer(&self, ticket: Ticket) -> Result<Message, Refusal>
         ensures { WouldComeTo self.now (Step.Ticket TicketCall.AnswerProbe ticket) result }
     {
@@ -152,8 +157,8 @@ impl Network {
         Some(self.shared_banks.get(number.index())?.bank())
     }
 
-    /// Makes room in a bank's log for `count` more events, which then need no memory. It is refused only for want of memory, and
-    /// where there was less room; then nothing changed.
+    /// Makes room in a bank's log for `count` more events, which then need no memory. `Memory` where memory is refused,
+    /// which happens only where there was less room; nothing changes then.
     pub fn reserve_steps(&mut self, bank: BankNo, count: usize) -> Result<(), Refusal>
         requires { bank < self.now.geometry.banks }
         ensures short { OnErr result (IsShort bank count self.old self.new) }

@@ -97,7 +97,7 @@ impl SharedBank {
         load_bytes(&mut self.bank, clock, index, client, address, len)
     }
 
-    /// A store, asked likewise.
+    /// A store, asked of the bank with the clock of the client, which becomes the stamp of the access.
     pub(crate) fn store(
         &mut self,
         clock: &mut u64,
@@ -134,7 +134,7 @@ impl SharedBank {
         }
     }
 
-    /// What the answer to a Probe would send, likewise.
+    /// What the answer to a Probe would send, or the first refusal that stands against it, but for want of memory.
     pub(crate) fn would_answer(&self, ticket: Ticket) -> Result<Message, Refusal>
         ensures { MatchResult result
             (λ message. (clock : ℕ) → WouldSendAt self.now clock (Step.Ticket TicketCall.AnswerProbe ticket) message)

@@ -8,9 +8,9 @@ use tl_map::Geometry;
 use tl_script_words::{STEPS, Step};
 use tl_text::Trace;
 
-/// Plays steps, at most `STEPS`, over all banks of a geometry at reset over an image that is no longer than the memory: what each
-/// step answers, with its index as the index of its access, and what each bank shows at the end. A refused step is answered with
-/// its refusal. An error is a request for memory that was refused, also in a step.
+/// Plays steps, at most `STEPS`, over all banks of a geometry at reset over an image that is no longer than the memory:
+/// what each step answers, with its index as the index of its access, and what each bank shows at the end. A refused
+/// step is answered with its refusal. The error is want of memory, also in a step.
 pub fn play(
     alloc: Global,
     geometry: Geometry,

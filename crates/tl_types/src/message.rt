@@ -198,7 +198,7 @@ impl Surrender {
         }
     }
 
-    /// The same again.
+    /// A copy, with bytes of its own.
     pub fn copied(&self) -> Surrender
         ensures { result ≡ self.now }
     {
@@ -334,7 +334,7 @@ impl Body {
         }
     }
 
-    /// The same again.
+    /// A copy, with bytes of its own.
     pub fn copied(&self) -> Body
         ensures { result ≡ self.now }
     {

@@ -28,7 +28,8 @@ impl Model for BankedStore {
 
 #[tactic(auto, unfolding(crate::specs::Stores::bytes_at))]
 impl BankedStore {
-    /// A store for a geometry's sets and ways, each with no bytes. Takes all memory that it needs.
+    /// A store for a geometry's sets and ways, each with no bytes. All memory that it ever uses is taken here; the
+    /// error is want of it.
     pub fn new(alloc: Global, geometry: Geometry) -> Result<BankedStore, AllocError>
         ensures sets { IfOk result (λ store. store.sets ≡ geometry.sets) }
         ensures ways { IfOk result (λ store. store.ways ≡ geometry.ways) }

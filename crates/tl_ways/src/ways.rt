@@ -30,7 +30,7 @@ impl Model for Ways {
 
 #[tactic(auto, unfolding(crate::specs::Tables::set_count, crate::specs::Tables::row_at, crate::specs::Tables::entry_at, crate::specs::Tables::order_at))]
 impl Ways {
-    /// The ways of a geometry's sets, all free. Takes all memory that they need.
+    /// The ways of a geometry's sets, all free. All memory that they ever use is taken here; the error is want of it.
     pub fn new(alloc: Global, geometry: Geometry) -> Result<Ways, AllocError>
         ensures { IfOk result (λ ways. IsFresh geometry.sets geometry.ways ways) }
     {

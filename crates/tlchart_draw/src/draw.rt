@@ -82,8 +82,9 @@ fn drawn(
     picture_of(alloc, sheet, form)
 }
 
-/// The picture of the trace of the script that the bytes write, under a title, with bands for a block: the one that is asked for, or
-/// else that of the first message. The errors are those of the script, more than 200 steps, or want of memory.
+/// The picture of the trace of the script that the bytes write, under a title, with bands for a block: the one that is
+/// asked for, or else that of the first message. The errors are those of `read_script`, then `TooMany` where there are
+/// more than 200 steps; `Memory` where memory is refused.
 pub fn draw_script(
     alloc: Global,
     bytes: &[u8],

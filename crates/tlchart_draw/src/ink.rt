@@ -12,6 +12,7 @@ pub struct Ink {
 }
 
 impl Ink {
+    /// An empty text.
     pub fn new(alloc: Global) -> Ink {
         Ink {
             text: String::new(alloc),
@@ -26,7 +27,7 @@ impl Ink {
         }
     }
 
-    /// All that was written. Err where a request for memory was refused.
+    /// All that was written. The error is want of memory, at any of the writes.
     pub fn text(self) -> Result<String, AllocError> {
         if self.is_whole {
             Ok(self.text)

@@ -50,7 +50,7 @@ pub struct Sheet<'a> {
     pub foot: Foot<'a>,
 }
 
-/// The chart as text. An error is a request for memory that was refused.
+/// The chart as text. The error is want of memory.
 pub fn picture_of(alloc: Global, sheet: Sheet<'_>, form: Form) -> Result<String, AllocError> {
     let mut ink = Ink::new(alloc);
     match form {

@@ -34,8 +34,8 @@ fn chosen(block: Option<BlockNo>, arrows: &[Arrow]) -> BlockNo
     }
 }
 
-/// The chart of what was done in turns between so many clients and banks, with the permissions to the block that is asked for, or else to
-/// that of the first message. An error is a request for memory that was refused.
+/// The chart of what was done in turns between so many clients and banks, with the permissions to the block that is
+/// asked for, or else to that of the first message. The error is want of memory.
 pub fn chart_of_turns(
     alloc: Global,
     clients: u32,
@@ -58,8 +58,8 @@ pub fn chart_of_turns(
     })
 }
 
-/// The chart of the trace of some steps, with the permissions to the block that is asked for, or else to that of the first message.
-/// An error is a request for memory that was refused.
+/// The chart of the trace of some steps, with the permissions to the block that is asked for, or else to that of the
+/// first message. The error is want of memory.
 pub fn chart_of(
     alloc: Global,
     geometry: Geometry,

@@ -22,9 +22,11 @@ use tl_types::{
 use tl_ways::{Entry, Way};
 
 impl Bank {
-    /// Carries out what the miss register of a block does next, and says what that was. It is refused with OutOfRange where the
-    /// block is not there, WrongBank where it is another bank's, NotYet where its register waits or it has none, LinkFull where
-    /// 64 messages are on the channel of a Probe or Grant that is next, and Memory where the log has no room and can't grow.
+    /// Carries out what the miss register of a block does next, and says what that was.
+    ///
+    /// The first of these that holds: `OutOfRange` where the block is not there; `WrongBank` where it is another
+    /// bank's; `NotYet` where its register waits or it has none; `LinkFull` where 64 messages are on the channel of a
+    /// Probe or Grant that is next; `Memory` where the log can't grow. Nothing changes then.
     pub fn advance(&mut self, block: BlockNo) -> Result<Action, Refusal>
         ensures refused { IfErr result (λ r. IsRefused (first_of (advance_cases self.old block)) self.old.room r) }
         ensures unchanged { OnErr result (self.new ≡ self.old) }

@@ -26,7 +26,13 @@ use tl_types::{
 };
 
 impl Bank {
-    /// Reads `len` bytes of a client's copy from an address on: one to eight, in one block.
+    /// Reads one to eight bytes of a client's copy, from an address on, in one block. The answer has the bytes and the
+    /// stamp.
+    ///
+    /// The first of these that holds: `OutOfRange` where the client is not there, or the bytes are none, more than
+    /// eight, or not in one block of the memory; `WrongBank` where their block is another bank's; `NoPermission` where
+    /// the copy is below Branch; `ClockFull` where the bank's clock or the client's stands at its end; `Memory` where
+    /// the log can't grow. Nothing changes then.
     pub fn load(
         &mut self,
         client: ClientId,
@@ -71,6 +77,11 @@ impl Bank {
     }
 
     /// Writes one to eight bytes over a client's copy, from an address on, in one block. The answer is the stamp.
+    ///
+    /// The first of these that holds: `OutOfRange` where the client is not there, or the bytes are none, more than
+    /// eight, or not in one block of the memory; `WrongBank` where their block is another bank's; `NoPermission` where
+    /// the copy is below Tip; `ClockFull` where the bank's clock or the client's stands at its end; `Memory` where the
+    /// log can't grow. Nothing changes then.
     pub fn store(
         &mut self,
         client: ClientId,
@@ -109,7 +120,13 @@ impl Bank {
         Ok(stamp)
     }
 
-    /// Asks home for a copy, or for a better one.
+    /// Asks home for a copy, or for a better one. The answer is the ticket of the AcquireBlock on channel A.
+    ///
+    /// The first of these that holds: `OutOfRange` where the client or the block is not there; `WrongBank` where the
+    /// block is another bank's; `Waiting` where an Acquire or a Release of the block by the client is unanswered;
+    /// `WrongFrom` where `grow` does not start from the copy's permission; `CopiesFull` where the client's table is
+    /// full and has no entry of the block; `LinkFull` where 64 messages are on channel A; `Memory` where the log can't
+    /// grow. Nothing changes then.
     pub fn acquire(
         &mut self,
         client: ClientId,
@@ -132,7 +149,14 @@ impl Bank {
         Ok(ticket)
     }
 
-    /// Gives up a part of a copy, or all of it.
+    /// Gives up a part of a copy, or all of it; the share counts what is left. The answer is the ticket of the Release
+    /// on channel C, which has the bytes of a dirty copy.
+    ///
+    /// The first of these that holds: `OutOfRange` where the client or the block is not there, or the share is another
+    /// client's or counts otherwise than the client's copies here; `WrongBank` where the block or the share is another
+    /// bank's; `Waiting` where an Acquire or a Release of the block by the client is unanswered; `WrongFrom` where
+    /// `prune` does not start from the copy's permission; `LinkFull` where 64 messages are on channel C; `Memory` where
+    /// the log can't grow. Nothing changes then, nor does the share.
     pub fn release(
         &mut self,
         client: ClientId,
@@ -169,7 +193,12 @@ impl Bank {
         Ok(ticket)
     }
 
-    /// Takes home's answer to a Release.
+    /// Takes home's answer to a Release, the first message on its way to a client on channel D.
+    ///
+    /// The first of these that holds: `OutOfRange` where the client is not there; `WrongBank` where the ticket is
+    /// another bank's; `NotHead` where it names another channel; `NothingThere` where no message waits; `NotHead` where
+    /// it names another message than the first, or that is no ReleaseAck; `Memory` where the log can't grow. Nothing
+    /// changes then.
     pub fn take_release_ack(&mut self, ticket: Ticket) -> Result<(), Refusal>
         ensures refused { IfErr result (λ r. IsRefused (first_of (take_release_ack_cases self.old ticket)) self.old.room r) }
         ensures unchanged { OnErr result (self.new ≡ self.old) }
@@ -185,7 +214,15 @@ impl Bank {
         Ok(())
     }
 
-    /// Answers the first Probe on its way to a client.
+    /// Answers the first Probe on its way to a client; the share counts what is left. The answer is the ticket of the
+    /// ProbeAck on channel C, which has the bytes of a dirty copy.
+    ///
+    /// The first of these that holds: `OutOfRange` where the client is not there, or the share is another client's or
+    /// counts otherwise than the client's copies here; `WrongBank` where the ticket or the share is another bank's;
+    /// `NotHead` where the ticket names another channel than B; `NothingThere` where no message waits; `NotHead` where
+    /// it names another message than the first; `ReleasePending` where a Release of the block by the client is
+    /// unanswered; `LinkFull` where 64 messages are on channel C; `Memory` where the log can't grow. Nothing changes
+    /// then, nor does the share.
     pub fn answer_probe(&mut self, ticket: Ticket, share: &mut Share) -> Result<Ticket, Refusal>
         ensures refused { IfErr result (λ r. IsRefused (first_of (answer_probe_cases self.old ticket share.old)) self.old.room r) }
         ensures unchanged { OnErr result (self.new ≡ self.old) }
@@ -227,7 +264,14 @@ impl Bank {
         Ok(sent)
     }
 
-    /// Takes the Grant that is first on its way to a client, and sends the GrantAck.
+    /// Takes the Grant that is first on its way to a client on channel D, and sends the GrantAck; the share counts the
+    /// copy. The answer is the ticket of the GrantAck on channel E.
+    ///
+    /// The first of these that holds: `OutOfRange` where the client is not there, or the share is another client's or
+    /// counts otherwise than the client's copies here; `WrongBank` where the ticket or the share is another bank's;
+    /// `NotHead` where the ticket names another channel; `NothingThere` where no message waits; `NotHead` where it
+    /// names another message than the first, or that is no Grant; `LinkFull` where 64 messages are on channel E;
+    /// `Memory` where the log can't grow. Nothing changes then, nor does the share.
     pub fn take_grant(&mut self, ticket: Ticket, share: &mut Share) -> Result<Ticket, Refusal>
         ensures refused { IfErr result (λ r. IsRefused (first_of (take_grant_cases self.old ticket share.old)) self.old.room r) }
         ensures unchanged { OnErr result (self.new ≡ self.old) }

@@ -25,13 +25,14 @@ use tl_protocol::Event;
 use tl_types::{BlockBytes, BlockNo, Body, Channel, ClientId, Downward, Message, Perm, Ticket};
 
 impl Bank {
-    /// Home takes the message that a ticket names, the first on its way from a client on channel C: what home records of the
-    /// client falls, and bytes that come along are home's from then on. A Release is answered, and its ReleaseAck's ticket is
-    /// what comes back; an answer to a Probe is not.
+    /// Home takes the message that a ticket names, the first on its way from a client on channel C: what home records
+    /// of the client falls, and bytes that come along are home's from then on. A Release is answered, and its
+    /// ReleaseAck's ticket is what comes back; an answer to a Probe is not.
     ///
-    /// `OutOfRange` where the client is not there, `WrongBank` where the ticket is of another bank, `NothingThere` where no
-    /// message waits, `NotHead` where it names another channel or another message than the first, `LinkFull` where a Release
-    /// is first and 64 messages are on channel D, `Memory` where the log can't grow. Nothing changes then.
+    /// The first of these that holds: `OutOfRange` where the client is not there; `WrongBank` where the ticket is
+    /// another bank's; `NotHead` where it names another channel; `NothingThere` where no message waits; `NotHead` where
+    /// it names another message than the first; `LinkFull` where a Release is first and 64 messages are on channel D;
+    /// `Memory` where the log can't grow. Nothing changes then.
     pub fn take_c(&mut self, ticket: Ticket) -> Result<Option<Ticket>, Refusal>
         ensures refused { IfErr result (λ r. IsRefused (first_of (take_c_cases self.old ticket)) self.old.room r) }
         ensures unchanged { OnErr result (self.new ≡ self.old) }
@@ -56,10 +57,10 @@ impl Bank {
         Ok(sent)
     }
 
-    /// Home takes the GrantAck that a ticket names, the first on its way from a client on channel E. The Acquire of its block
-    /// is served then, and the block's register closes.
+    /// Home takes the GrantAck that a ticket names, the first on its way from a client on channel E. The Acquire of its
+    /// block is served then, and the block's register closes.
     ///
-    /// `OutOfRange`, `WrongBank`, `NothingThere`, `NotHead` and `Memory` as at `take_c`. Nothing changes then.
+    /// `OutOfRange`, `WrongBank`, `NotHead`, `NothingThere` and `Memory` as at `take_c`. Nothing changes then.
     pub fn take_grant_ack(&mut self, ticket: Ticket) -> Result<(), Refusal>
         ensures refused { IfErr result (λ r. IsRefused (first_of (take_grant_ack_cases self.old ticket)) self.old.room r) }
         ensures unchanged { OnErr result (self.new ≡ self.old) }

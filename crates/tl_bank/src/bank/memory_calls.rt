@@ -18,9 +18,12 @@ use tl_types::BlockNo;
 use tl_ways::Way;
 
 impl Bank {
-    /// The memory answers what home asked of it: a Get with the block's bytes, in beats, a PutFullData once it is written. It is
-    /// refused with OutOfRange where the block is not there, WrongBank where it is another bank's, NothingThere where the memory has no
-    /// request of it, and Memory where the log has no room and can't grow.
+    /// The memory answers what home asked of it: a Get with the block's bytes, in beats, a PutFullData once it is
+    /// written.
+    ///
+    /// The first of these that holds: `OutOfRange` where the block is not there; `WrongBank` where it is another
+    /// bank's; `NothingThere` where the memory has no request of it; `Memory` where the log can't grow. Nothing changes
+    /// then.
     pub fn serve_memory(&mut self, block: BlockNo) -> Result<Reply, Refusal>
         ensures refused { IfErr result (λ r. IsRefused (first_of (serve_memory_cases self.old block)) self.old.room r) }
         ensures unchanged { OnErr result (self.new ≡ self.old) }
@@ -35,10 +38,11 @@ impl Bank {
         Ok(reply)
     }
 
-    /// Home takes what the memory answered: the bytes of a Get, which then lie in the way that the block's register holds, or
-    /// the acknowledgement of a PutFullData, which ends the victim. It is refused with OutOfRange where the block is not there,
-    /// WrongBank where it is another bank's, NothingThere where no answer waits, and Memory where the log has no room and can't
-    /// grow.
+    /// Home takes what the memory answered: the bytes of a Get, which then lie in the way that the block's register
+    /// holds, or the acknowledgement of a PutFullData, which ends the victim.
+    ///
+    /// The first of these that holds: `OutOfRange` where the block is not there; `WrongBank` where it is another
+    /// bank's; `NothingThere` where no answer waits; `Memory` where the log can't grow. Nothing changes then.
     pub fn take_memory(&mut self, block: BlockNo) -> Result<(), Refusal>
         ensures refused { IfErr result (λ r. IsRefused (first_of (take_memory_cases self.old block)) self.old.room r) }
         ensures unchanged { OnErr result (self.new ≡ self.old) }

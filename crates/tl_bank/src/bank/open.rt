@@ -41,9 +41,15 @@ struct Asked {
 }
 
 impl Bank {
-    /// Takes the first Acquire of a client, and opens a register for it. The register holds the way of home's copy; where home
-    /// lacks the block, of the ways that no register holds the lowest free one, else the one whose block was granted longest
-    /// ago, and that block leaves first.
+    /// Takes the first Acquire of a client, and opens a register for it. The register holds the way of home's copy;
+    /// where home lacks the block, of the ways that no register holds the lowest free one, else the one whose block was
+    /// granted longest ago, and that block leaves first.
+    ///
+    /// The first of these that holds: `OutOfRange` where the client is not there; `WrongBank` where the ticket is
+    /// another bank's; `NotHead` where it names another channel than A; `NothingThere` where no message waits;
+    /// `NotHead` where it names another message than the first; `BlockBusy` where the block is the own block or the
+    /// victim of an open register; `NoRegister` where all registers are in use, or home lacks the block and registers
+    /// hold every way of its set; `Memory` where the log can't grow. Nothing changes then.
     pub fn accept(&mut self, ticket: Ticket) -> Result<(), Refusal>
         ensures refused { IfErr result (λ r. IsRefused (first_of (accept_cases self.old ticket)) self.old.room r) }
         ensures unchanged { OnErr result (self.new ≡ self.old) }
@@ -68,6 +74,10 @@ impl Bank {
     }
 
     /// Opens a register that sends a block away, of which home has a copy. It writes no event and takes no memory.
+    ///
+    /// The first of these that holds: `OutOfRange` where the block is not there; `WrongBank` where it is another
+    /// bank's; `BlockBusy` where it is the own block or the victim of an open register; `NotYet` where home has no copy
+    /// of it; `NoRegister` where all registers are in use. Nothing changes then.
     pub fn evict(&mut self, block: BlockNo) -> Result<(), Refusal>
         ensures refused { IfErr result (λ r. first_of (evict_cases self.old block) ≡ Some r) }
         ensures unchanged { OnErr result (self.new ≡ self.old) }

@@ -17,7 +17,7 @@ use tl_bank_spec::Refusal;
 use tl_types::{BlockNo, ClientId, ProbeAnswer, Prune, Surrender, Ticket};
 
 impl Bank {
-    /// What `release` would give up, or why it would be refused, but for want of memory.
+    /// What `release` would give up. The errors are those of `release`, but for `Memory`.
     pub fn would_release(
         &self,
         client: ClientId,
@@ -38,7 +38,7 @@ impl Bank {
         Ok(given)
     }
 
-    /// What `answer_probe` would answer, and of which block, or why it would be refused, but for want of memory.
+    /// What `answer_probe` would answer, and of which block. The errors are those of `answer_probe`, but for `Memory`.
     pub fn would_answer(
         &self,
         ticket: Ticket,
