@@ -7,8 +7,8 @@ use tl_map::Geometry;
 use tl_protocol::Event;
 use tl_types::{BankNo, BlockNo, ClientId, Grow, Perm, Prune, Ticket};
 
-/// A bank with its shares and the clocks of its clients. Its model says nothing, so that a cycle of many calls has their answers
-/// alone to carry along.
+/// A bank with its shares and the clocks of its clients. Its model says nothing, so that a cycle of many calls has
+/// their answers alone to carry along.
 #[derive(Drop)]
 pub(crate) struct Driven {
     bank: Bank,

@@ -1,5 +1,6 @@
-//! Drives one bank in one thread and prints what an event costs: `bench_bank WORK CYCLES CLIENTS COPIES WAYS SETS REGISTERS
-//! BLOCK_BYTES MEMORY_BLOCKS HELD ROUNDS`. With no round it drives the bank once, and prints what happened without its time.
+//! Drives one bank in one thread and prints what an event costs: `bench_bank WORK CYCLES CLIENTS COPIES WAYS SETS
+//! REGISTERS BLOCK_BYTES MEMORY_BLOCKS HELD ROUNDS`. With no round it drives the bank once, and prints what happened
+//! without its time.
 #![tactic(auto)]
 
 mod driven;

@@ -1,5 +1,5 @@
-//! Jobs that users of this software wait for, each done once on an input that is made from a seed: `bench_jobs JOB SEED SIZE`. It prints
-//! a digest of all results, the same at each run.
+//! Jobs that users of this software wait for, each done once on an input that is made from a seed:
+//! `bench_jobs JOB SEED SIZE`. It prints a digest of all results, the same at each run.
 #![tactic(auto)]
 
 mod asked;
@@ -23,10 +23,11 @@ use std::thread::Threads;
 use std::time::Clock;
 use tlwire_answer::Form;
 
-/// Does a job: `runs SEED SCRIPTS`, `bank SEED STEPS`, `judge SEED STEPS`, `cover SEED CLIENTS STEPS`, `wire SEED STEPS`,
-/// `closed SEED STEPS RECORDS`, `trace SEED STEPS`; or, with the same words, one as it was before its results were digested in full:
-/// `runs_before`, `wire_before`, `closed_before`. With the word `inputs` at the end a job makes its inputs alone; `bank` and `trace`
-/// have none, since each of their calls is drawn from what was answered before. Nothing where there is no such job.
+/// Does a job: `runs SEED SCRIPTS`, `bank SEED STEPS`, `judge SEED STEPS`, `cover SEED CLIENTS STEPS`,
+/// `wire SEED STEPS`, `closed SEED STEPS RECORDS`, `trace SEED STEPS`; or, with the same words, one as it was before
+/// its results were digested in full: `runs_before`, `wire_before`, `closed_before`. With the word `inputs` at the end
+/// a job makes its inputs alone; `bank` and `trace` have none, since each of their calls is drawn from what was
+/// answered before. Nothing where there is no such job.
 fn done<R: Threads + Wait + Clock + Sync>(
     rt: &R,
     alloc: Global,

@@ -64,7 +64,8 @@ fn judge(alloc: Global, part: Part, text: &str, digest: Digest) -> Digest {
         .with_bytes(&faults)
 }
 
-/// Judges records of 1, 4 and 16 clients and few and many blocks; the last one ends with an event that is not permitted.
+/// Judges records of 1, 4 and 16 clients and few and many blocks; the last one ends with an event that is not
+/// permitted.
 pub(crate) fn judge_all(alloc: Global, asked: Asked) -> Result<Digest, AllocError> {
     let mut digest = Digest::new();
     for (clients, blocks) in [(1, 64), (4, 4_096), (16, 256), (16, 65_536), (8, 1_024)] {

@@ -3,8 +3,8 @@
 use crate::numbers::Numbers;
 use std::alloc::{AllocError, Global};
 
-/// What the clients of a script do. Where a script reads back, loads also come where the same client has stored, and where nobody
-/// stores lies an image.
+/// What the clients of a script do. Where a script reads back, loads also come where the same client has stored, and
+/// where nobody stores lies an image.
 #[derive(Clone, Copy, PartialEq, Eq)]
 pub(crate) enum Kind {
     /// Loads and stores in blocks of their own, which all fit.
@@ -15,8 +15,8 @@ pub(crate) enum Kind {
     Contention,
     /// Loads of blocks that all read, few often, more than the ways hold, and stores to blocks of their own.
     Mixed,
-    /// A walk over more blocks of their own than the ways hold, of which each second one is stored to. To read back, a second lap loads
-    /// these and stores to the others.
+    /// A walk over more blocks of their own than the ways hold, of which each second one is stored to. To read back, a
+    /// second lap loads these and stores to the others.
     Streams,
 }
 
@@ -66,7 +66,8 @@ pub(crate) fn plan_at(place: u32, reads_back: bool) -> Plan {
 }
 
 impl Plan {
-    /// Whether what the banks show at the end does not depend on who comes first: all fits, and no client takes a copy from another.
+    /// Whether what the banks show at the end does not depend on who comes first: all fits, and no client takes a copy
+    /// from another.
     pub(crate) fn has_fixed_banks(self) -> bool {
         match self.kind {
             Kind::Hits | Kind::Readers => true,

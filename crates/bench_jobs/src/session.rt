@@ -25,8 +25,8 @@ pub(crate) struct Sizes {
     pub(crate) copies: u32,
 }
 
-/// A bank with its shares, the clocks of its clients, and the messages and memory accesses under way. Its model says nothing, so that
-/// many calls have their answers alone to carry along.
+/// A bank with its shares, the clocks of its clients, and the messages and memory accesses under way. Its model says
+/// nothing, so that many calls have their answers alone to carry along.
 #[derive(Drop)]
 pub(crate) struct Session {
     sizes: Sizes,

@@ -40,8 +40,8 @@ const NUMBERS: GeometryNumbers = GeometryNumbers {
     memory_blocks: BLOCKS as i64,
 };
 
-/// The banks, the messages and the memory accesses under way, and the first steps. Its model says nothing, so that many calls have
-/// their answers alone to carry along.
+/// The banks, the messages and the memory accesses under way, and the first steps. Its model says nothing, so that many
+/// calls have their answers alone to carry along.
 #[derive(Drop)]
 struct Session {
     network: Network,
@@ -403,7 +403,8 @@ impl Session {
         }
     }
 
-    /// One of the messages under way is taken, if it can be; before a Probe is answered it is now and then asked what that would send.
+    /// One of the messages under way is taken, if it can be; before a Probe is answered it is now and then asked what
+    /// that would send.
     fn deliver(&mut self, numbers: &mut Numbers) -> Result<(), AllocError> {
         let Some(place) = any_place(self.sent.len(), numbers) else {
             return Ok(());

@@ -7,8 +7,8 @@ use crate::sight::{SOURCES, Sights};
 use std::alloc::{AllocError, Global};
 use tlwire_answer::{Form, answer};
 
-/// A record: how many clients and blocks it is of, how late its lines are, its premises, its length, and whether another one of it is
-/// answered, with a wrong digit.
+/// A record: how many clients and blocks it is of, how late its lines are, its premises, its length, and whether
+/// another one of it is answered, with a wrong digit.
 #[derive(Clone, Copy)]
 struct Plan {
     clients: u32,

@@ -1,5 +1,5 @@
-//! How a bank is used as a library: one bank of two clients is driven, call by call, through a race in which a Release crosses a
-//! Probe. Each line says what a call answered.
+//! How a bank is used as a library: one bank of two clients is driven, call by call, through a race in which a Release
+//! crosses a Probe. Each line says what a call answered.
 #![tactic(auto)]
 
 use anyhow::Result;

@@ -174,8 +174,8 @@ fn is_refused_so<R: Threads + Wait + Clock + Sync>(
     Ok(answer.as_slice() == wanted.as_bytes())
 }
 
-/// How many of the scripts of a text are refused with their faults, and the fault of the first that is not. Each script follows a line
-/// with `=== ` and its fault.
+/// How many of the scripts of a text are refused with their faults, and the fault of the first that is not. Each script
+/// follows a line with `=== ` and its fault.
 fn refused_so<'a, R: Threads + Wait + Clock + Sync>(
     rt: &R,
     alloc: Global,

@@ -1,5 +1,5 @@
-//! What no clause says: that a bank is made with ample memory and answers a small script as the rules say, and that each refusal
-//! comes that the calls of clients alone can reach. Expected answers are worked out from the rules.
+//! What no clause says: that a bank is made with ample memory and answers a small script as the rules say, and that
+//! each refusal comes that the calls of clients alone can reach. Expected answers are worked out from the rules.
 use crate::steps::{Call, Step, first_that_fails};
 use std::test::Fail;
 use tl_bank::Refusal;
@@ -91,8 +91,8 @@ fn accesses_without_a_copy_are_refused(rt: HostRuntime) -> Result<(), Fail> {
     Ok(())
 }
 
-/// Blocks and tickets of bank 1 and of another. With two banks the bank of a block is the exclusive or of its bits: blocks 1 and
-/// 2 are of bank 1.
+/// Blocks and tickets of bank 1 and of another. With two banks the bank of a block is the exclusive or of its bits:
+/// blocks 1 and 2 are of bank 1.
 const OF_TWO_BANKS: &[Step] = &[
     Step::Call(Call::Acquire(0, 0, Grow::NtoB), Err(Refusal::WrongBank)),
     Step::Call(

@@ -1,5 +1,5 @@
-//! What only calls reach: a clock at its end, room made ahead, and that a call whose growth of the log was refused changes nothing and
-//! answers the same when it is asked again. Answers are worked out from the rules.
+//! What only calls reach: a clock at its end, room made ahead, and that a call whose growth of the log was refused
+//! changes nothing and answers the same when it is asked again. Answers are worked out from the rules.
 use crate::session::{Answer, Session};
 use std::alloc::Global;
 use std::test::Fail;
@@ -86,8 +86,8 @@ impl Session {
         }
     }
 
-    /// Makes these calls, and makes one again where the log's growth was refused: then nothing has changed, and the answer is the same.
-    /// Whether all is so.
+    /// Makes these calls, and makes one again where the log's growth was refused: then nothing has changed, and the
+    /// answer is the same. Whether all is so.
     fn plays(&mut self, steps: &[(Call, Answer)]) -> bool {
         for (call, answer) in steps {
             if self.ask_again(call) != (*answer, true) {
@@ -182,7 +182,8 @@ fn a_clock_at_its_end_is_refused(rt: HostRuntime) -> Result<(), Fail> {
     Ok(())
 }
 
-/// Makes the calls up to the first whose growth is refused. Whether none of the first two was, and that one changed nothing.
+/// Makes the calls up to the first whose growth is refused. Whether none of the first two was, and that one changed
+/// nothing.
 fn call_in_room(session: &mut Session) -> bool {
     let mut made = 0u32;
     for (call, answer) in &fill_and_store() {

@@ -1,4 +1,5 @@
-//! Tests of a bank by its public calls: small scripts of calls, what is shown amid a race, the age of copies, and a random walk beside the plain map.
+//! Tests of a bank by its public calls: small scripts of calls, what is shown amid a race, the age of copies, and a
+//! random walk beside the plain map.
 #![tactic(auto)]
 
 #[cfg(test)]

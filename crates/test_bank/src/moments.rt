@@ -1,5 +1,5 @@
-//! What a bank shows amid a race: who may write, what each client holds and home records, and that something is under way.
-//! Expected answers are worked out from the rules.
+//! What a bank shows amid a race: who may write, what each client holds and home records, and that something is under
+//! way. Expected answers are worked out from the rules.
 use crate::steps::{Call, Did, Step, first_in_tables};
 use std::alloc::Global;
 use std::test::Fail;
@@ -66,7 +66,8 @@ const READ_BY_ANOTHER: &[Step] = &[
     Step::IsQuiet(false),
 ];
 
-/// Instead a Release crosses the Probe of an Acquire by client 1: nobody has a copy, and home records one until it takes the Release.
+/// Instead a Release crosses the Probe of an Acquire by client 1: nobody has a copy, and home records one until it
+/// takes the Release.
 const RELEASE_CROSSES: &[Step] = &[
     Step::Call(
         Call::Acquire(1, 0, Grow::NtoT),

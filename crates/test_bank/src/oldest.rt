@@ -6,7 +6,8 @@ use tl_bank::{Action, Refusal};
 use tl_map::GeometryNumbers;
 use tl_types::{BlockNo, ClientId, Grow, Prune, Ticket};
 
-/// Two clients with four copies each, one bank with one set of four ways, two registers, and four blocks of eight bytes.
+/// Two clients with four copies each, one bank with one set of four ways, two registers, and four blocks of eight
+/// bytes.
 const NUMBERS: GeometryNumbers = GeometryNumbers {
     version: 1,
     clients: 2,

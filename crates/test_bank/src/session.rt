@@ -15,7 +15,8 @@ pub type Answer = Result<Option<Ticket>, Refusal>;
 /// The permission of a copy, its first byte if it has any, and whether it is dirty.
 pub type Copied = (Perm, Option<u8>, bool);
 
-/// A bank and its clients' shares. Its model says nothing, so that a test of many calls has their answers alone to carry along.
+/// A bank and its clients' shares. Its model says nothing, so that a test of many calls has their answers alone to
+/// carry along.
 #[derive(Drop)]
 pub struct Session {
     bank: Bank,

@@ -1,4 +1,5 @@
-//! Tables of steps: calls of a bank with what they answer, and what it shows. A loop walks a table at a session, and owns nothing.
+//! Tables of steps: calls of a bank with what they answer, and what it shows. A loop walks a table at a session, and
+//! owns nothing.
 use crate::session::{Answer, Copied, Session};
 use std::alloc::Global;
 use std::test::Fail;
@@ -264,7 +265,8 @@ impl Session {
     }
 }
 
-/// The table and the place in it of the first step that does not go, if there is one, at a bank of a geometry over a memory of zeros.
+/// The table and the place in it of the first step that does not go, if there is one, at a bank of a geometry over a
+/// memory of zeros.
 pub fn first_in_tables(
     alloc: Global,
     numbers: GeometryNumbers,
@@ -274,7 +276,8 @@ pub fn first_in_tables(
     Ok(session.first_in_tables(tables))
 }
 
-/// The place of the first step that does not go, if there is one, at a bank of a geometry over a memory that holds an image.
+/// The place of the first step that does not go, if there is one, at a bank of a geometry over a memory that holds an
+/// image.
 pub fn first_that_fails(
     alloc: Global,
     numbers: GeometryNumbers,

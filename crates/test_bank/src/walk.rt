@@ -1,5 +1,5 @@
-//! A random walk of calls beside the plain map of the protocol: each event that a bank logs is permitted there and leaves the same,
-//! and what the protocol forbids the bank refuses. The walk is the same each time.
+//! A random walk of calls beside the plain map of the protocol: each event that a bank logs is permitted there and
+//! leaves the same, and what the protocol forbids the bank refuses. The walk is the same each time.
 use crate::session::{Answer, Session};
 use std::alloc::Global;
 use std::marker::Model;
@@ -10,7 +10,8 @@ use tl_protocol::{Event, Shape};
 use tl_rules::{Plain, may_follow};
 use tl_types::{BlockNo, Channel, ClientId, Grow, Prune, Ticket};
 
-/// Three clients with two copies each, one bank with two sets of one way, two registers, and four blocks of eight bytes.
+/// Three clients with two copies each, one bank with two sets of one way, two registers, and four blocks of eight
+/// bytes.
 const NUMBERS: GeometryNumbers = GeometryNumbers {
     version: 1,
     clients: 3,
@@ -74,8 +75,8 @@ impl Dice {
     }
 }
 
-/// A bank on its walk, with its clients' shares, the tickets that were sent and not yet served, and the plain map. Its model says
-/// nothing, so that a walk has its answers alone to carry along.
+/// A bank on its walk, with its clients' shares, the tickets that were sent and not yet served, and the plain map. Its
+/// model says nothing, so that a walk has its answers alone to carry along.
 #[derive(Drop)]
 struct Walk {
     session: Session,
@@ -282,15 +283,16 @@ impl Walk {
         Ok(None)
     }
 
-    /// Makes 3,000 calls: the first after which the bank and the plain map disagree, and whether more than 300 events were logged.
+    /// Makes 3,000 calls: the first after which the bank and the plain map disagree, and whether more than 300 events
+    /// were logged.
     fn go(&mut self) -> Result<(Option<u32>, bool), Fail> {
         let disagrees = self.first_that_disagrees(3000)?;
         Ok((disagrees, self.session.events() > 300))
     }
 }
 
-/// Walks 3,000 calls from a seed: the first after which the bank and the plain map disagree, if there is one, and whether more than 300
-/// events were logged.
+/// Walks 3,000 calls from a seed: the first after which the bank and the plain map disagree, if there is one, and
+/// whether more than 300 events were logged.
 fn walked(alloc: Global, seed: u64) -> Result<(Option<u32>, bool), Fail> {
     let mut walk = Walk::new(alloc, seed)?;
     walk.go()

@@ -1,5 +1,6 @@
-//! Tests of the lower layers by their public calls: the codes of TileLink and copies of messages, where blocks lie, the memory as a
-//! whole, which no bank makes, a bank's ways, channels and tables by themselves, and inboxes and bells between threads.
+//! Tests of the lower layers by their public calls: the codes of TileLink and copies of messages, where blocks lie, the
+//! memory as a whole, which no bank makes, a bank's ways, channels and tables by themselves, and inboxes and bells
+//! between threads.
 #![tactic(auto)]
 
 #[cfg(test)]

@@ -5,8 +5,8 @@ use std::test::Fail;
 use tl_links::{Links, Ticket, TicketError};
 use tl_types::{BankNo, BlockNo, Body, Channel, ClientId, Grow, Message};
 
-/// The links of bank 0 to one client. Its model says nothing, so that a test of many calls has their answers alone to carry
-/// along.
+/// The links of bank 0 to one client. Its model says nothing, so that a test of many calls has their answers alone to
+/// carry along.
 #[derive(Drop)]
 struct Wires {
     links: Links,
@@ -92,8 +92,8 @@ fn when_full(wires: &mut Wires) -> (Result<u64, u32>, Taken, Taken, Result<u64, 
     )
 }
 
-/// What old and other tickets answer then: the one that was taken, a look and a take of the second, and a channel with no
-/// message.
+/// What old and other tickets answer then: the one that was taken, a look and a take of the second, and a channel with
+/// no message.
 fn when_one_was_taken(wires: &mut Wires) -> [Taken; 4] {
     [
         wires.take(Channel::A, 0),

@@ -1,5 +1,5 @@
-//! What no clause says: that a memory is made with ample room, the whole or a bank's part, and a Put and a Get of blocks of each
-//! size.
+//! What no clause says: that a memory is made with ample room, the whole or a bank's part, and a Put and a Get of
+//! blocks of each size.
 use std::alloc::Global;
 use std::marker::Model;
 use std::test::Fail;
@@ -110,8 +110,8 @@ impl Blocks {
         }
     }
 
-    /// The first and the last byte of the block at an address, and how many bytes it has. `None` where it has no such block, or
-    /// answers otherwise.
+    /// The first and the last byte of the block at an address, and how many bytes it has. `None` where it has no such
+    /// block, or answers otherwise.
     fn get(&mut self, size: u32, address: u32) -> Option<Ends> {
         let request = Request::Get { size, address };
         if !self.memory.has(&request) {

@@ -1,5 +1,5 @@
-//! An inbox with two senders, and a bell with two seats, each with what belongs to it. Their models say nothing, so that
-//! a test of many calls has their answers alone to carry along.
+//! An inbox with two senders, and a bell with two seats, each with what belongs to it. Their models say nothing, so
+//! that a test of many calls has their answers alone to carry along.
 use crate::tickets::{open_bell, open_two};
 use std::alloc::Global;
 use std::marker::Model;
@@ -71,8 +71,8 @@ impl TwoSenders {
     }
 }
 
-/// Makes these calls of a new inbox, and settles it: the place of the first call that answers otherwise, if there is one, and how many
-/// tickets are left. `None` is want of memory.
+/// Makes these calls of a new inbox, and settles it: the place of the first call that answers otherwise, if there is
+/// one, and how many tickets are left. `None` is want of memory.
 pub(crate) fn settled_after<R: Wait>(
     rt: &R,
     alloc: Global,
@@ -156,8 +156,8 @@ impl TwoSeats {
     }
 }
 
-/// Makes these calls of a new bell: the place of the first that answers otherwise, if there is one, and the total. `None` is want of
-/// memory.
+/// Makes these calls of a new bell: the place of the first that answers otherwise, if there is one, and the total.
+/// `None` is want of memory.
 pub(crate) fn total_after(
     alloc: Global,
     calls: &[(BellCall, u64)],

@@ -1,5 +1,5 @@
-//! What no clause says: which way of a small set is taken next as blocks come, are granted and leave, and what an entry's
-//! readers show.
+//! What no clause says: which way of a small set is taken next as blocks come, are granted and leave, and what an
+//! entry's readers show.
 use std::alloc::Global;
 use std::marker::Model;
 use std::test::Fail;

@@ -25,7 +25,8 @@ pub fn job_of(alloc: Global, traces: bool) -> Result<Job, JobError> {
     Ok(Job { traces, file })
 }
 
-/// The status alone: that function's contract, which is long, ends here, so that a test of several calls does not carry it along.
+/// The status alone: that function's contract, which is long, ends here, so that a test of several calls does not carry
+/// it along.
 pub fn status_of<T: Threads + Wait + Clock + Sync, R: Read + Drop, W: Write, E: Write>(
     rt: &T,
     alloc: Global,

@@ -1,8 +1,9 @@
-//! Gates that hold one thread until another came to some place: a thread that did the work of both would never come there.
+//! Gates that hold one thread until another came to some place: a thread that did the work of both would never come
+//! there.
 //!
-//! Two banks with a block each. A client's thread holds a bank's lock while another client is served by the other bank, so each bank
-//! has a lock of its own; a client waits before its command until the other's was answered, so each has a thread of its own; and the two
-//! homes are inside their banks at once.
+//! Two banks with a block each. A client's thread holds a bank's lock while another client is served by the other bank,
+//! so each bank has a lock of its own; a client waits before its command until the other's was answered, so each has a
+//! thread of its own; and the two homes are inside their banks at once.
 use std::alloc::Global;
 use std::sync::Wait;
 use std::sync::atomic::{AtomicU64, Ordering};
@@ -64,7 +65,8 @@ impl Flag {
     }
 }
 
-/// Holds client 1 before its command until client 0 has the lock of bank 0, and client 0 there until client 1 has left bank 1.
+/// Holds client 1 before its command until client 0 has the lock of bank 0, and client 0 there until client 1 has left
+/// bank 1.
 #[derive(Drop)]
 struct OneLockIsHeld {
     has_locked: Flag,

@@ -1,5 +1,5 @@
-//! What is said of the situations that records reached, and of runs that reach one. The wanted words, and the digests of
-//! long texts, are those of an enumeration that was written from docs/PROTOCOL.md and docs/COVERAGE.md alone.
+//! What is said of the situations that records reached, and of runs that reach one. The wanted words, and the digests
+//! of long texts, are those of an enumeration that was written from docs/PROTOCOL.md and docs/COVERAGE.md alone.
 use crate::situations::{EMPTY, digest_on};
 use std::alloc::Global;
 use std::test::Fail;

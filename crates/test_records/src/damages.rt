@@ -12,7 +12,8 @@ const SHAPE: Shape = Shape {
     blocks: 2,
 };
 
-/// Each of the eighteen kinds: a block that is written, shared, given up and written back; then one, of a third client, that is dropped.
+/// Each of the eighteen kinds: a block that is written, shared, given up and written back; then one, of a third client,
+/// that is dropped.
 const LINES: &[&str] = &[
     "acquire 0 0 NtoT",
     "accept 0 0",

@@ -1,4 +1,5 @@
-//! Small records of messages, some of them damaged, with what is said of them: explained or not, and impossible or not decided.
+//! Small records of messages, some of them damaged, with what is said of them: explained or not, and impossible or not
+//! decided.
 use std::alloc::{AllocError, Global};
 use std::test::Fail;
 use tl_rules::Shape;
@@ -201,8 +202,8 @@ const GRANTED_BEFORE: &[usize] = &[0, 1, 2, 3, 4, 5, 6, 9, 10, 7, 8, 11];
 /// The first client's Grant stands two lines behind its GrantAck.
 const GRANT_BEHIND: &[usize] = &[0, 1, 2, 4, 5, 3, 6, 7, 8, 9, 10, 11];
 
-/// Records, what is wrong with them, how they were seen (the way, by how many lines one may stand behind a later one, whether nobody
-/// watched the memory's link, or the cores), and the first line that no run reaches.
+/// Records, what is wrong with them, how they were seen (the way, by how many lines one may stand behind a later one,
+/// whether nobody watched the memory's link, or the cores), and the first line that no run reaches.
 const SEEN_SO: &[(Damage, &[usize], Way, usize, bool, bool, Option<usize>)] = &[
     (
         Damage::Nothing,

@@ -81,7 +81,8 @@ const TWO: &str = "commands = [[\"load 0x0 1\", \"load 0x0 1\"]]\n";
 
 const DROP: &str = "commands = [[\"drop 0x0\"]]\n";
 
-/// Another kind, address, length or bytes; an access elsewhere, beyond the script, too few, too many, and out of order; one for a drop.
+/// Another kind, address, length or bytes; an access elsewhere, beyond the script, too few, too many, and out of order;
+/// one for a drop.
 const OTHER_ACCESSES: &[(&str, &[(u32, Made)])] = &[
     (LOAD, &[(0, Made::Store(0, 1))]),
     (LOAD, &[(0, Made::Load(1, 1))]),
@@ -96,7 +97,8 @@ const OTHER_ACCESSES: &[(&str, &[(u32, Made)])] = &[
     (DROP, &[(0, Made::Load(0, 1))]),
 ];
 
-/// Whether nothing is concluded of one bank with these accesses, since they do not carry out the script of these commands.
+/// Whether nothing is concluded of one bank with these accesses, since they do not carry out the script of these
+/// commands.
 fn are_other(alloc: Global, commands: &str, made: &[(u32, Made)]) -> Option<bool> {
     let setting = one_bank(alloc, commands, made)?;
     Some(setting.is_other(alloc))
@@ -123,7 +125,8 @@ fn a_bank_that_has_forgotten(rt: HostRuntime) {
     assert_eq!(rt; has_forgotten(rt.alloc()), Some(true));
 }
 
-/// Whether banks in another order are others, whether there was one to be left out, and whether the banks without it are others.
+/// Whether banks in another order are others, whether there was one to be left out, and whether the banks without it
+/// are others.
 fn are_others(alloc: Global, setting: &mut Setting) -> [bool; 3] {
     setting.reverse_banks();
     setting.reverse_lists();
@@ -163,8 +166,8 @@ fn banks_of_another_geometry(rt: HostRuntime) {
     assert_eq!(rt; is_other(rt.alloc(), of_banks), Some(true));
 }
 
-/// Whether fresh banks are others, and whether shares are missing: in another order, with a list too many, and with one too few, where
-/// there were two to be left out.
+/// Whether fresh banks are others, and whether shares are missing: in another order, with a list too many, and with one
+/// too few, where there were two to be left out.
 fn lack_shares(alloc: Global, setting: &mut Setting) -> Option<[bool; 5]> {
     let fresh = setting.is_other(alloc);
     setting.reverse_lists();
@@ -222,7 +225,8 @@ fn give_twice(setting: &mut Setting, other: &mut Setting) -> Option<()> {
     setting.push_share(other.pop_share()?)
 }
 
-/// How many copies shares count at a bank beside another one, once client 1 has taken a block, where it is to have a copy.
+/// How many copies shares count at a bank beside another one, once client 1 has taken a block, where it is to have a
+/// copy.
 fn count(
     setting: &mut Setting,
     other: &mut Setting,

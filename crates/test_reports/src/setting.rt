@@ -11,8 +11,8 @@ use tl_text::Report;
 use tl_tickets::{Missing, gather};
 use tl_types::{BankNo, BlockNo, Channel, ClientId, Grow, Ticket};
 
-/// A script, its banks, and the list of shares of each. Its model says nothing, so that a test of many calls has their answers alone
-/// to carry along.
+/// A script, its banks, and the list of shares of each. Its model says nothing, so that a test of many calls has their
+/// answers alone to carry along.
 #[derive(Drop)]
 pub(crate) struct Setting {
     script: Script,
@@ -140,7 +140,8 @@ impl Setting {
         Some(setting)
     }
 
-    /// Adds the script's banks at reset, and a list of the shares of each. `None` where a request for memory was refused.
+    /// Adds the script's banks at reset, and a list of the shares of each. `None` where a request for memory was
+    /// refused.
     fn add_banks(&mut self, alloc: Global) -> Option<()> {
         for number in 0..self.geometry().banks() {
             self.add_bank(alloc, number)?;
@@ -148,8 +149,8 @@ impl Setting {
         Some(())
     }
 
-    /// Adds a bank of the script at reset, and a list of its shares. `None` where the script has no bank of this number, or a request
-    /// for memory was refused.
+    /// Adds a bank of the script at reset, and a list of its shares. `None` where the script has no bank of this
+    /// number, or a request for memory was refused.
     fn add_bank(&mut self, alloc: Global, number: u32) -> Option<()> {
         let (bank, list) = fresh(alloc, &self.script, number)?;
         let listed = self.lists.push(list).ok();
@@ -221,13 +222,14 @@ impl Setting {
         self.conclude(alloc, &self.script).ok()
     }
 
-    /// Whether the report that is concluded has this text. `None` where there is none, or a request for memory was refused.
+    /// Whether the report that is concluded has this text. `None` where there is none, or a request for memory was
+    /// refused.
     pub(crate) fn shows(&self, alloc: Global, wanted: &str) -> Option<bool> {
         has_text(alloc, &self.report(alloc)?, wanted)
     }
 
-    /// How many clients and banks the report has that is concluded: nothing where a request for memory was refused. `None` where
-    /// there is no report for another cause.
+    /// How many clients and banks the report has that is concluded: nothing where a request for memory was refused.
+    /// `None` where there is no report for another cause.
     pub(crate) fn sizes(&self, alloc: Global) -> Option<Option<(usize, usize)>> {
         match self.conclude(alloc, &self.script) {
             Ok(report) => Some(Some((report.clients.len(), report.banks.len()))),

@@ -27,8 +27,8 @@ pub const NUMBERS: GeometryNumbers = GeometryNumbers {
     memory_blocks: 1,
 };
 
-/// An agent with no commands, with its port and its mail, and the ends of the one who sends to it. Its model says nothing, so that
-/// its turns have their answers alone to carry along.
+/// An agent with no commands, with its port and its mail, and the ends of the one who sends to it. Its model says
+/// nothing, so that its turns have their answers alone to carry along.
 #[derive(Drop)]
 struct Scene<'a> {
     agent: Agent<'a>,
@@ -66,7 +66,8 @@ impl Scene<'_> {
         self.bell.ring()
     }
 
-    /// Whether a turn worked, and asked just the tickets with these serials, in order. There are two clients, of which one is never done.
+    /// Whether a turn worked, and asked just the tickets with these serials, in order. There are two clients, of which
+    /// one is never done.
     fn asks<R: Wait + Clock>(&mut self, rt: &R, serials: &[u64]) -> bool {
         let turn = agent_turn(
             rt,

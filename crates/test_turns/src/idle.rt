@@ -50,7 +50,8 @@ fn waiting<R: Wait>(rt: &R, mut receiver: Receiver<'_>) -> u32 {
     waiting
 }
 
-/// What is seen of two turns: which they were, how many calls the port had after each, and how many tickets wait at the end.
+/// What is seen of two turns: which they were, how many calls the port had after each, and how many tickets wait at the
+/// end.
 type Seen = ([Turn; 2], [u32; 2], u32);
 
 /// Two turns, and before the second a ticket that nobody rings for.
@@ -123,7 +124,8 @@ fn observed_at_a_gate<R: Wait + Clock>(rt: &R, alloc: Global) -> Option<(Seen, u
 
 #[test]
 fn an_idle_agent_asks_nothing_and_takes_nothing(rt: HostRuntime) {
-    // The first turn tries the load, and asks for the copy that it needs. The second finds its bell silent: the ticket stays.
+    // The first turn tries the load, and asks for the copy that it needs. The second finds its bell silent: the ticket
+    // stays.
     assert_eq!(rt;
         observed_at_a_gate(&rt, rt.alloc()),
         Some((([Turn::Worked, Turn::Idle], [2, 2], 1), 1, 0))

@@ -46,7 +46,8 @@ fn put_request<R: Wait>(rt: &R, put: &mut Sender<'_>) -> bool
     put.put(rt, request).is_ok()
 }
 
-/// Two turns of a home, and before the second a ticket that nobody rings for. Whether the first worked and the second was idle.
+/// Two turns of a home, and before the second a ticket that nobody rings for. Whether the first worked and the second
+/// was idle.
 fn works_then_idles<R: Wait + Clock>(
     rt: &R,
     home: &mut Home,

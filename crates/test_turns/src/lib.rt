@@ -1,4 +1,5 @@
-//! Tests of the turns of agents and homes by public calls, where no script leads: what they ask, in which order, and what a gate sees.
+//! Tests of the turns of agents and homes by public calls, where no script leads: what they ask, in which order, and
+//! what a gate sees.
 #![tactic(auto)]
 
 #[cfg(test)]

@@ -90,7 +90,8 @@ pub struct Rooms {
     pub done: Bell,
 }
 
-/// The keys to two workers' rooms: of each room's own worker and of the one who sends to it, and both seats at the done bell.
+/// The keys to two workers' rooms: of each room's own worker and of the one who sends to it, and both seats at the done
+/// bell.
 #[derive(Drop)]
 pub struct Keys {
     pub one: Key,
@@ -189,8 +190,8 @@ pub fn mail_of<'a>(
     Some(Mail::new(own.0, own.1, ways, done, parker))
 }
 
-/// The mail of a worker that sends to one other. One thread plays all workers, so that a ring need wake nobody: each way
-/// wakes the sender.
+/// The mail of a worker that sends to one other. One thread plays all workers, so that a ring need wake nobody: each
+/// way wakes the sender.
 pub fn mail<'a>(
     alloc: Global,
     own: (Receiver<'a>, Ringer<'a>),

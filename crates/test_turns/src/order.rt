@@ -19,8 +19,8 @@ use tl_tickets::{Ringer, Sender};
 use tl_types::{BankNo, BlockNo, Channel, ClientId, Ticket};
 
 /// A port to no bank: it counts its calls, keeps what was asked, and on channel A refuses, or has no memory, as long as
-/// it is told to. So many blocks, from 0 on, have an open register; those asked for a step are kept. Such a step is what it is told;
-/// what was asked of the memory is kept too.
+/// it is told to. So many blocks, from 0 on, have an open register; those asked for a step are kept. Such a step is
+/// what it is told; what was asked of the memory is kept too.
 #[derive(Drop)]
 pub struct Recorder {
     calls: Cell<u32>,
@@ -285,8 +285,8 @@ fn are_numbers(blocks: &[BlockNo], numbers: &[u32]) -> bool {
     true
 }
 
-/// The home of one client with its port and its mail, and the ends of those who send to it. Its model says nothing, so that
-/// many turns have their answers alone to carry along.
+/// The home of one client with its port and its mail, and the ends of those who send to it. Its model says nothing, so
+/// that many turns have their answers alone to carry along.
 #[derive(Drop)]
 struct Scene<'a> {
     home: Home,

@@ -24,8 +24,8 @@ const NUMBERS: GeometryNumbers = GeometryNumbers {
     memory_blocks: 4,
 };
 
-/// What is seen of a script that ended: how many commands were answered, the first byte that the last one has, how many copies the client
-/// holds, and what it may do with block 2.
+/// What is seen of a script that ended: how many commands were answered, the first byte that the last one has, how many
+/// copies the client holds, and what it may do with block 2.
 type Outcome = (usize, Option<u8>, u64, Perm);
 
 /// The bank behind its lock, and the client's share.
@@ -84,7 +84,8 @@ fn outcome_of<R: Wait + Clock>(rt: &R, alloc: Global, commands: &[Command]) -> O
     play(rt, alloc, &Counts::new(), commands)
 }
 
-/// How often a gate was asked before a command and was told an answer, and whether each lock that it saw taken was left.
+/// How often a gate was asked before a command and was told an answer, and whether each lock that it saw taken was
+/// left.
 fn gate_of<R: Wait + Clock>(
     rt: &R,
     alloc: Global,

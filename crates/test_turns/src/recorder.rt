@@ -10,8 +10,8 @@ use tl_bank::{Loaded, Refusal, Share, When};
 use tl_client_ports::{Asked, Port, Success};
 use tl_types::{BankNo, BlockNo, Channel, ClientId, Grow, Perm, Prune, Ticket};
 
-/// A port to no bank: it counts its calls, and refuses all of them, an acquire and a release as it is told. The tickets that it is
-/// asked it keeps, and what was to grow and to be pruned. It serves Grants and Probes once it is told to.
+/// A port to no bank: it counts its calls, and refuses all of them, an acquire and a release as it is told. The tickets
+/// that it is asked it keeps, and what was to grow and to be pruned. It serves Grants and Probes once it is told to.
 #[derive(Drop)]
 pub struct Recorder {
     pub calls: Cell<u32>,

@@ -154,7 +154,8 @@ fn both_ways_and_rest<'a>(
     both_ways(alloc, first, second, parker.unparker()).zip(Some(parker))
 }
 
-/// The mail of a home to its two clients. One thread plays both, so that a ring need wake nobody: each way wakes the home.
+/// The mail of a home to its two clients. One thread plays both, so that a ring need wake nobody: each way wakes the
+/// home.
 fn home_mail<'a>(
     alloc: Global,
     own: (Receiver<'a>, Ringer<'a>),
@@ -165,8 +166,8 @@ fn home_mail<'a>(
     mail_of(own, both_ways_and_rest(alloc, to_silent, to_waiting), done)
 }
 
-/// The mails of the client that waits, whose room is the first of the two, and of the home. `None` where a request for memory was
-/// refused.
+/// The mails of the client that waits, whose room is the first of the two, and of the home. `None` where a request for
+/// memory was refused.
 fn mails<'a>(
     alloc: Global,
     silent: &'a Room,
@@ -225,7 +226,8 @@ fn wait_for_the_silent<R: Wait + Clock>(
     wait_for(rt, alloc, locked, agent, &silent, to_silent)
 }
 
-/// What is seen of the bank: what each client may do with block 0, whether it is quiet, and whether its log replays to what it shows.
+/// What is seen of the bank: what each client may do with block 0, whether it is quiet, and whether its log replays to
+/// what it shows.
 type Shown = (Perm, Perm, bool, bool);
 
 /// What each client may do with block 0.

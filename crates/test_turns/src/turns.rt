@@ -36,8 +36,8 @@ pub fn home_turn<P: HomePort, G: Gate, R: Wait + Clock>(
 /// How many turns of both a script takes at most.
 const TURNS: u32 = 1000;
 
-/// A client's agent and the home of bank 0, with their mails. Its model says nothing, so that many turns have their answers
-/// alone to carry along.
+/// A client's agent and the home of bank 0, with their mails. Its model says nothing, so that many turns have their
+/// answers alone to carry along.
 #[derive(Drop)]
 pub struct Workers<'a> {
     agent: Agent<'a>,
@@ -54,8 +54,8 @@ impl<'a> Model for Workers<'a> {
 }
 
 impl<'a> Workers<'a> {
-    /// An agent of a client, and a home that has no tickets, with these mails. `None` where one of them is missing, or a request
-    /// for memory was refused.
+    /// An agent of a client, and a home that has no tickets, with these mails. `None` where one of them is missing, or
+    /// a request for memory was refused.
     pub fn new(
         alloc: Global,
         client: ClientId,
@@ -145,7 +145,8 @@ fn first_byte(bytes: &AccessBytes) -> Option<u8> {
     bytes.as_slice().first().copied()
 }
 
-/// What the last turn of an agent and of a home was, how many commands were answered, and the first byte that the last one has.
+/// What the last turn of an agent and of a home was, how many commands were answered, and the first byte that the last
+/// one has.
 #[derive(Clone, Copy)]
 pub struct Played {
     pub ours: Turn,

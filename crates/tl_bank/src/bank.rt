@@ -147,9 +147,9 @@ impl Bank {
         self.log.room()
     }
 
-    /// Forgets what happened so far: its memory is room for more events, and `log` begins with what happens next. All that the bank
-    /// holds and promises stays as it was, since that is stated by the whole log, which contracts still see. After 2 ^ 63 events
-    /// nothing more is forgotten.
+    /// Forgets what happened so far: its memory is room for more events, and `log` begins with what happens next. All
+    /// that the bank holds and promises stays as it was, since that is stated by the whole log, which contracts still
+    /// see. After 2 ^ 63 events nothing more is forgotten.
     pub fn forget(&mut self)
         ensures { Forgets self.old self.new }
     {
@@ -208,8 +208,8 @@ impl Bank {
         self.image.as_slice()
     }
 
-    /// What a client may do with a block. It is None also where there is no such client, and where the block is not of the
-    /// memory or of another bank.
+    /// What a client may do with a block. It is None also where there is no such client, and where the block is not of
+    /// the memory or of another bank.
     pub fn perm(&self, client: ClientId, block: BlockNo) -> Perm
         ensures { result ≡ copy_perm_at self.now client block }
     {

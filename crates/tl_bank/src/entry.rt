@@ -157,7 +157,8 @@ fn has_entry_for(copy: &CachedCopy, wait: Awaited) -> bool
     }
 }
 
-/// Puts a client's copy of a block, with the answer that it waits for, into its table, where there is room for its entry.
+/// Puts a client's copy of a block, with the answer that it waits for, into its table, where there is room for its
+/// entry.
 pub(crate) fn put(
     copies: &mut Copies,
     client: ClientId,

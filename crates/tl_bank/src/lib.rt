@@ -1,4 +1,5 @@
-//! One bank of the cache: its type keeps that its log is a run of the protocol, and that the run's end is what the bank holds.
+//! One bank of the cache: its type keeps that its log is a run of the protocol, and that the run's end is what the bank
+//! holds.
 #![tactic(auto)]
 
 mod bank;

@@ -1,5 +1,5 @@
-//! The directory with home's copies: where each block lies, its bytes, whether they are dirty, and what home records for
-//! each client.
+//! The directory with home's copies: where each block lies, its bytes, whether they are dirty, and what home records
+//! for each client.
 ghost use Rattle.std.specs.Prelude.{◌≡◌, ◌≢◌, ℕ, ◌<◌, ◌==◌, ◌&&◌, IfNone, IfOk, IfSome, IsSome, IsTrue, MatchOption, None, Some, false, true, is_none, option_copied, if◌then◌else◌};
 ghost use Rattle.std.specs.Option.{option_map};
 ghost use Rattle.tl_types.specs.declared.permission.Perm.TheVariants.{None as NoAccess, Branch, Tip};
@@ -127,7 +127,8 @@ impl Directory {
         }
     }
 
-    /// The way of a set that is taken next, of those that are not busy: the lowest free one, else the first in the order.
+    /// The way of a set that is taken next, of those that are not busy: the lowest free one, else the first in the
+    /// order.
     pub fn choose(&self, set: Set, busy: &[Way]) -> Option<Way>
         requires { set < self.now.geometry.sets }
         ensures is { result ≡ chosen (λ way. free_in self.now set way) self.now.geometry.ways (order_of self.now set) busy.now }
@@ -153,8 +154,8 @@ impl Directory {
         })
     }
 
-    /// Records a permission for a client of a block that home holds, and answers the way in which it lies. Beside Tip no other client
-    /// may have any.
+    /// Records a permission for a client of a block that home holds, and answers the way in which it lies. Beside Tip
+    /// no other client may have any.
     pub fn record(&mut self, client: ClientId, block: BlockNo, perm: Perm) -> Way
         requires block { block < self.old.geometry.memory_blocks }
         requires held { IsSome (line_of self.old block) }
@@ -194,8 +195,8 @@ impl Directory {
         self.store.write(held.set, held.way, bytes);
     }
 
-    /// Records a permission for a client of a block that lies in a way, and moves this way last in the order of its set. Beside Tip no
-    /// other client may have any.
+    /// Records a permission for a client of a block that lies in a way, and moves this way last in the order of its
+    /// set. Beside Tip no other client may have any.
     pub fn grant(&mut self, client: ClientId, block: BlockNo, way: Way, perm: Perm)
         requires block { block < self.old.geometry.memory_blocks }
         requires lies { way_of self.old block ≡ Some way }

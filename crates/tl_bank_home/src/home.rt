@@ -129,7 +129,8 @@ impl Home {
         self.directory.entry(block)
     }
 
-    /// The entry of a block in home's directory, the bytes of home's copy, and the way in which it lies, if home holds it.
+    /// The entry of a block in home's directory, the bytes of home's copy, and the way in which it lies, if home holds
+    /// it.
     pub fn line(&self, block: BlockNo) -> Option<(Entry, &BlockBytes, Way)>
         requires { block < (geometry_in self.now).memory_blocks }
         ensures is { MatchOption result (line_in self.now block ≡ None)
@@ -201,7 +202,8 @@ impl Home {
         self.crossings.len()
     }
 
-    /// The way of a set that is taken next, of those that are not busy: the lowest free one, else the first in the order.
+    /// The way of a set that is taken next, of those that are not busy: the lowest free one, else the first in the
+    /// order.
     pub fn choose(&self, set: Set, busy: &[Way]) -> Option<Way>
         requires { set < (geometry_in self.now).sets }
         ensures is { result ≡ chosen (λ way. free_at self.now set way) (geometry_in self.now).ways (order_at self.now set) busy.now }
@@ -222,8 +224,8 @@ impl Home {
         self.directory.occupant(set, way)
     }
 
-    /// Home takes what a client gives up of a block that home holds: what is recorded then, and the bytes where they were
-    /// dirty. Beside Tip no other client may have any permission.
+    /// Home takes what a client gives up of a block that home holds: what is recorded then, and the bytes where they
+    /// were dirty. Beside Tip no other client may have any permission.
     pub fn receive(&mut self, client: ClientId, block: BlockNo, to: Perm, bytes: Option<BlockBytes>)
         requires block { block < (geometry_in self.old).memory_blocks }
         requires held { IsSome (line_in self.old block) }
@@ -243,8 +245,8 @@ impl Home {
         }
     }
 
-    /// Home grants a permission of a block that lies in a way: it records it, and the way goes last in the order of its set. Beside
-    /// Tip no other client may have any permission.
+    /// Home grants a permission of a block that lies in a way: it records it, and the way goes last in the order of its
+    /// set. Beside Tip no other client may have any permission.
     pub fn grant(&mut self, client: ClientId, block: BlockNo, way: Way, perm: Perm)
         requires block { block < (geometry_in self.old).memory_blocks }
         requires lies { way_in self.old block ≡ Some way }
@@ -321,8 +323,8 @@ impl Home {
         self.crossings.put(block, Outward::Put(bytes));
     }
 
-    /// The memory answers the request of a block: a Get with the block's bytes, a Put, which brings a whole block, once it is
-    /// written. Its reply is on the way to home then.
+    /// The memory answers the request of a block: a Get with the block's bytes, a Put, which brings a whole block, once
+    /// it is written. Its reply is on the way to home then.
     pub fn serve(&mut self, block: BlockNo) -> Reply
         requires block { block < (geometry_in self.old).memory_blocks }
         requires own { bank_of (geometry_in self.old) block ≡ bank_in self.old }

@@ -1,4 +1,5 @@
-//! What a bank promises, without its code: what contracts see of it, the case of each refusal, and each call's cases in order.
+//! What a bank promises, without its code: what contracts see of it, the case of each refusal, and each call's cases in
+//! order.
 #![tactic(auto)]
 
 mod action;

@@ -12,8 +12,8 @@ use std::sync::{MutexGuard, Wait};
 use tl_bank::{Action, Bank, Refusal, Reply};
 use tl_types::{BlockNo, Ticket};
 
-/// A home's port: each call locks its bank. Contracts see the number of the bank, and the tickets that were asked in this
-/// turn.
+/// A home's port: each call locks its bank. Contracts see the number of the bank, and the tickets that were asked in
+/// this turn.
 #[derive(Drop)]
 pub struct BankPort<'a, R: Wait, G: Gate> {
     rt: &'a R,

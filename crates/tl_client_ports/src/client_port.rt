@@ -13,9 +13,9 @@ use std::sync::{MutexGuard, Wait};
 use tl_bank::{Bank, Loaded, Refusal, Share, When};
 use tl_types::{AccessBytes, BankNo, BlockNo, ClientId, Grow, Perm, Prune, Ticket};
 
-/// A client's port: each call locks the bank that it asks, and no other. It keeps the loads and stores that succeeded, oldest
-/// first; where there is no room for one more, a load or a store is refused `Memory`, and no bank is asked. Contracts also see the
-/// tickets that were asked in this turn.
+/// A client's port: each call locks the bank that it asks, and no other. It keeps the loads and stores that succeeded,
+/// oldest first; where there is no room for one more, a load or a store is refused `Memory`, and no bank is asked.
+/// Contracts also see the tickets that were asked in this turn.
 #[derive(Drop)]
 pub struct ClientPort<'a, R: Wait, G: Gate> {
     rt: &'a R,

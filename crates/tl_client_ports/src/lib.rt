@@ -1,4 +1,5 @@
-//! The banks behind their locks, the ports through which agents and homes reach them, and the gate that a caller of a run may hold.
+//! The banks behind their locks, the ports through which agents and homes reach them, and the gate that a caller of a
+//! run may hold.
 #![tactic(auto)]
 
 mod bank_port;

@@ -14,8 +14,9 @@ use tl_bank::Bank;
 use tl_map::Geometry;
 use tl_types::{BankNo, BlockNo, ClientId};
 
-// How often a thread asks for a bank's lock before it sleeps at it. A call holds the lock for less than a microsecond, and to sleep and
-// to be woken takes many; a lock at which somebody sleeps would send each other thread to sleep at once.
+// How often a thread asks for a bank's lock before it sleeps at it. A call holds the lock for less than a microsecond,
+// and to sleep and to be woken takes many; a lock at which somebody sleeps would send each other thread to sleep at
+// once.
 const LOOKS: u32 = 300;
 
 /// A bank behind its lock, with its number.

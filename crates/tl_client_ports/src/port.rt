@@ -174,7 +174,8 @@ pub trait HomePort {
     /// The own blocks of open registers, by rising number.
     fn open_blocks(&self) -> ArrayVec<BlockNo, 8>;
 
-    /// Those blocks, and one step of the first one's register: `open_blocks` and then `advance`, for a port that can ask both at once.
+    /// Those blocks, and one step of the first one's register: `open_blocks` and then `advance`, for a port that can
+    /// ask both at once.
     fn advance_first(&mut self) -> FirstStep
         ensures { asked self.new ≡ asked self.old }
     {

@@ -81,8 +81,8 @@ impl Copies {
         self.table(client).of(block)
     }
 
-    /// Where a client's table has its entry of a block, in the order of age: for a call that takes a place, and then needs no
-    /// search of its own.
+    /// Where a client's table has its entry of a block, in the order of age: for a call that takes a place, and then
+    /// needs no search of its own.
     pub fn place(&self, client: ClientId, block: BlockNo) -> Option<usize>
         requires { client < clients_of self.now }
         ensures { MatchOption result (held_at self.now client block ≡ None)
@@ -183,9 +183,9 @@ impl Copies {
         self.tables[client.index()].keep(limit, block, held)
     }
 
-    /// A client waits for an answer about a block from then on, or for none, and keeps the copy that it has; where its table has no
-    /// entry of the block it has a new one, for which there has to be room. A new entry goes last in the order of age, and so
-    /// does one that waited for a Grant and no longer does.
+    /// A client waits for an answer about a block from then on, or for none, and keeps the copy that it has; where its
+    /// table has no entry of the block it has a new one, for which there has to be room. A new entry goes last in the
+    /// order of age, and so does one that waited for a Grant and no longer does.
     #[tactic(auto, unfolding(crate::specs::Copies::clients_of, crate::specs::Copies::held_at, crate::specs::Copies::order_in))]
     pub fn wait_for(&mut self, client: ClientId, block: BlockNo, wait: Awaited)
         requires client { client < clients_of self.old }
@@ -204,8 +204,8 @@ impl Copies {
         self.tables[client.index()].wait_for(block, wait);
     }
 
-    /// Writes the bytes of a store over what a client holds of a block from `offset` on, which makes it dirty. Nothing changes
-    /// where the table has no entry of the block. The entry is looked for at `place` first.
+    /// Writes the bytes of a store over what a client holds of a block from `offset` on, which makes it dirty. Nothing
+    /// changes where the table has no entry of the block. The entry is looked for at `place` first.
     #[tactic(auto, unfolding(crate::specs::Copies::clients_of, crate::specs::Copies::held_at, crate::specs::Copies::order_in))]
     pub fn store(
         &mut self,

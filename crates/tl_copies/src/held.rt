@@ -4,7 +4,8 @@ ghost use Rattle.tl_copies.specs.Held.{is_copy, is_renewed, stored, waiting, wai
 
 use tl_types::{AccessBytes, Awaited, BLOCK_BYTES, BlockBytes, Perm};
 
-/// What a client holds of a block: its permission, whether it stored into it, the bytes, and the answer that it waits for.
+/// What a client holds of a block: its permission, whether it stored into it, the bytes, and the answer that it waits
+/// for.
 #[derive(Debug, Drop)]
 pub struct Held {
     pub perm: Perm,

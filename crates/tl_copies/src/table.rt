@@ -43,8 +43,8 @@ pub struct Full {
     pub held: Held,
 }
 
-/// A client's entries, the one granted longest ago first: a key for each, and the slots that no key has. The hints are where
-/// entries probably are, by the low bits of their blocks' numbers: an entry that is not there is searched for.
+/// A client's entries, the one granted longest ago first: a key for each, and the slots that no key has. The hints are
+/// where entries probably are, by the low bits of their blocks' numbers: an entry that is not there is searched for.
 #[derive(Drop)]
 pub(crate) struct Table {
     keys: ArrayVec<Key, 64>,
@@ -244,8 +244,8 @@ impl Table {
         Ok(())
     }
 
-    /// The client waits for an answer about a block from then on, or for none, and keeps the copy that it has; where it has no
-    /// entry of the block it has a new one.
+    /// The client waits for an answer about a block from then on, or for none, and keeps the copy that it has; where it
+    /// has no entry of the block it has a new one.
     pub(crate) fn wait_for(&mut self, block: BlockNo, wait: Awaited)
         requires once { HasEachOnce self.old }
         requires room { found block self.old ≡ None → length self.old < COPIES }
@@ -275,7 +275,8 @@ impl Table {
         }
     }
 
-    /// Writes the bytes of a store over those of the block's entry from `offset` on, if there is one. `place` may be its place.
+    /// Writes the bytes of a store over those of the block's entry from `offset` on, if there is one. `place` may be
+    /// its place.
     pub(crate) fn store(
         &mut self,
         block: BlockNo,

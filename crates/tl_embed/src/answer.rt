@@ -8,11 +8,13 @@ use tl_types::AccessBytes;
 #[repr(C)]
 #[derive(Clone, Copy, Drop)]
 pub struct Answer {
-    /// 0; a bank's refusal, 1 to 15; 16 there is no such call; 17 an argument is out of its range; 18 the cache is closed; 19 the event
-    /// is forgotten; 29 the client would send another message; 30 this profile has no such message.
+    /// 0; a bank's refusal, 1 to 15; 16 there is no such call; 17 an argument is out of its range; 18 the cache is
+    /// closed; 19 the event is forgotten; 29 the client would send another message; 30 this profile has no such
+    /// message.
     pub status: u32,
-    /// What there is to tell: 0 nothing more, 1 a message of a client's link, 2 a message between home and the memory, 3 home
-    /// dropped its copy, 4 the bytes of a load, 5 a number, 6 an event, 7 what passes between home and the memory, 8 bytes.
+    /// What there is to tell: 0 nothing more, 1 a message of a client's link, 2 a message between home and the memory,
+    /// 3 home dropped its copy, 4 the bytes of a load, 5 a number, 6 an event, 7 what passes between home and the
+    /// memory, 8 bytes.
     pub what: u32,
     /// The bank of a ticket, with `serial`, of a drop, or of a message between home and the memory.
     pub bank: u32,
@@ -26,7 +28,8 @@ pub struct Answer {
     pub param: u32,
     /// The block of a message, of a drop, or of an event.
     pub place: u32,
-    /// The first address of the block of a drop or of a message between home and the memory, or the address of an access.
+    /// The first address of the block of a drop or of a message between home and the memory, or the address of an
+    /// access.
     pub address: u32,
     /// The size of a message between home and the memory: the base-2 logarithm of its bytes.
     pub size: u32,

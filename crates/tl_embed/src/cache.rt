@@ -40,15 +40,16 @@ pub struct Numbers {
     pub memory_blocks: i64,
 }
 
-/// What lies in the room of a caller in C may go to another thread: each call then is of one thread, and the calls are in an order.
+/// What lies in the room of a caller in C may go to another thread: each call then is of one thread, and the calls are
+/// in an order.
 pub fn may_move(cache: &Cache) {
     crosses(cache);
 }
 
 fn crosses<T: Send>(_value: &T) {}
 
-/// A cache at reset over an image; one that is closed where the numbers make no geometry (20 to 28), the image is longer than the
-/// memory (10) or there is no memory (14).
+/// A cache at reset over an image; one that is closed where the numbers make no geometry (20 to 28), the image is
+/// longer than the memory (10) or there is no memory (14).
 pub fn opened(alloc: Global, numbers: &Numbers, image: &[u8]) -> Cache
     ensures { Opens numbers.now image.now result }
 {
@@ -177,7 +178,8 @@ pub fn reserve(network: &mut Network, bank: BankNo, count: u64) -> Answer
     }
 }
 
-/// The same, with the answer in a place that the caller has for it. It stands apart from `ask`, where a step would clear its stack too.
+/// The same, with the answer in a place that the caller has for it. It stands apart from `ask`, where a step would
+/// clear its stack too.
 fn reserve_into(network: &mut Network, bank: BankNo, count: u64, told: &mut Answer)
     ensures { Reserves bank count network.old network.new told.new }
 {

@@ -7,8 +7,9 @@ use crate::cache::Cache;
 use tl_trace::Network;
 use tl_types::BankNo;
 
-/// Whatever was asked of a cache since it was opened, each of its banks holds what its log leaves, which is a run of the protocol
-/// over the image; and no call takes anything back of a log: what a bank's log was between two calls, it begins with.
+/// Whatever was asked of a cache since it was opened, each of its banks holds what its log leaves, which is a run of
+/// the protocol over the image; and no call takes anything back of a log: what a bank's log was between two calls, it
+/// begins with.
 pub fn every_history(cache: &Cache, number: BankNo)
     ensures { EveryHistory cache.now number }
 {

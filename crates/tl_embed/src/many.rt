@@ -13,8 +13,8 @@ use tl_map::Geometry;
 use tl_protocol::Event;
 use tl_types::BankNo;
 
-/// Carries out calls one after another, each answer in its place, until one is not answered with 0, or the requests or the places
-/// end. How many were carried out, of which the last may be refused.
+/// Carries out calls one after another, each answer in its place, until one is not answered with 0, or the requests or
+/// the places end. How many were carried out, of which the last may be refused.
 pub fn calls(cache: &mut Cache, requests: &[Request], answers: &mut [Answer]) -> usize
     ensures { CallsMany cache.old requests.now answers.old cache.new answers.new result }
 {
@@ -29,7 +29,8 @@ pub fn calls(cache: &mut Cache, requests: &[Request], answers: &mut [Answer]) ->
     most
 }
 
-/// The events of a bank's log from the place that a request names on, as many as there are and have places; how many they are.
+/// The events of a bank's log from the place that a request names on, as many as there are and have places; how many
+/// they are.
 pub fn read(cache: &mut Cache, request: &Request, events: &mut [Answer]) -> Number
     ensures { Reads cache.old request.now events.old cache.new events.new result }
 {

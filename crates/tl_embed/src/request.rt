@@ -12,8 +12,9 @@ use tl_types::{AccessBytes, BankNo, BlockNo, Channel, ClientId, Grow, Prune, Tic
 #[repr(C)]
 #[derive(Clone, Copy, Drop)]
 pub struct Request {
-    /// Which call: 0 close, 1 load, 2 store, 3 acquire, 4 release, 5 answer_probe, 6 take_grant, 7 take_release_ack, 8 accept,
-    /// 9 advance, 10 take_c, 11 take_grant_ack, 12 evict, 13 serve_memory, 14 take_memory, 15 reserve, 16 forget; from 20 on the views.
+    /// Which call: 0 close, 1 load, 2 store, 3 acquire, 4 release, 5 answer_probe, 6 take_grant, 7 take_release_ack, 8
+    /// accept, 9 advance, 10 take_c, 11 take_grant_ack, 12 evict, 13 serve_memory, 14 take_memory, 15 reserve, 16
+    /// forget; from 20 on the views.
     pub call: u32,
     /// The index of the access, which its event in the log has.
     pub index: u32,
@@ -150,7 +151,8 @@ impl Request {
         Step::Block(call, BlockNo::new(self.place))
     }
 
-    /// The request again, each of its fields in one of an answer, so that a caller can compare its layout of both with this one.
+    /// The request again, each of its fields in one of an answer, so that a caller can compare its layout of both with
+    /// this one.
     pub fn echo(&self) -> Answer
         ensures { result ≡ echoed self.now }
     {

@@ -274,7 +274,8 @@ impl Geometry {
             && len <= (self.block_bytes - self.offset(address)) as usize
     }
 
-    /// The exclusive or of the 16 lowest groups of a number's bits that are as wide as the number of a bank: 0 in one bank.
+    /// The exclusive or of the 16 lowest groups of a number's bits that are as wide as the number of a bank: 0 in one
+    /// bank.
     fn xor_of_groups(self, number: u32) -> u32
         ensures is { result ≡ xor_of_groups self.banks 16 number }
         ensures group { result < self.banks }

@@ -8,8 +8,8 @@ use tl_types::{AccessBytes, BLOCK_BYTES, BlockBytes};
 /// The bytes of a beat.
 const BEAT: usize = 8;
 
-/// The bytes of a block in at most eight beats: beat i carries bytes 8i to 8i + 7. The beats lie side by side, as the block's
-/// bytes do, so that a burst is moved whole. Contracts see the bytes of all beats joined.
+/// The bytes of a block in at most eight beats: beat i carries bytes 8i to 8i + 7. The beats lie side by side, as the
+/// block's bytes do, so that a burst is moved whole. Contracts see the bytes of all beats joined.
 #[derive(Debug, Drop)]
 pub struct Burst {
     bytes: BlockBytes,

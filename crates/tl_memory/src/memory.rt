@@ -12,8 +12,8 @@ use std::mem;
 use tl_map::Geometry;
 use tl_types::{BankNo, BlockBytes, BlockNo};
 
-/// A memory of the blocks of a geometry, or of those of one bank alone. The room for all its bytes is taken when it is made;
-/// they are laid down as far as the last block written, and 0 behind.
+/// A memory of the blocks of a geometry, or of those of one bank alone. The room for all its bytes is taken when it is
+/// made; they are laid down as far as the last block written, and 0 behind.
 #[derive(Drop)]
 pub struct Memory {
     geometry: Geometry,
@@ -252,7 +252,8 @@ fn lay_down(bytes: &mut Vec<u8>, len: usize)
     *bytes = laid_down(owned, len);
 }
 
-// The bytes are owned, so that no other can be seen through them while they grow, and a row of them is laid down at once.
+// The bytes are owned, so that no other can be seen through them while they grow, and a row of them is laid down at
+// once.
 fn laid_down(mut bytes: Vec<u8>, len: usize) -> Vec<u8>
     requires { len ≤ vec_capacity bytes }
     ensures items { result.items ≡ filled_up len bytes.items }

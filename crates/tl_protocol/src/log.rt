@@ -30,8 +30,8 @@ impl<T> Model for Past<T> {
     ghost size_decreases = { λ p h. Prim.grind (arith, length-append) };
 }
 
-/// The events of a bank, oldest first, with room for more: memory is asked for by `reserve` alone. The first of them may be
-/// forgotten: contracts still see these, and they take no memory.
+/// The events of a bank, oldest first, with room for more: memory is asked for by `reserve` alone. The first of them
+/// may be forgotten: contracts still see these, and they take no memory.
 #[derive(Drop)]
 pub struct Log {
     /// The forgotten events, which contracts alone see.

@@ -21,7 +21,8 @@ pub fn every_run()
     ensures memory { EveryMergeIsOneMemory }
 {}
 
-/// Every run keeps the bytes of each block whole, the messages of each client in order, and one Acquire served at a time.
+/// Every run keeps the bytes of each block whole, the messages of each client in order, and one Acquire served at a
+/// time.
 pub fn every_block()
     ensures sizes { EveryRunKeepsSizes }
     ensures messages { EveryRunKeepsMessages }

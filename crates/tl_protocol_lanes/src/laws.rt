@@ -3,16 +3,16 @@ ghost use Rattle.tl_protocol_lanes.specs.Delivery.{EveryMessageIsDeliveredInOrde
 ghost use Rattle.tl_protocol_lanes.specs.Lawful.{EmptyIsLawful, EveryLawfulLogInterleaves, FirstHeadsItsList, FirstIsWhole, LanesGrowByOne, LawfulGrowsByOne, MessagesFitTheirChannels};
 ghost use Rattle.tl_protocol_lanes.specs.Lists.{EveryEventIsOfOneClient, EveryEventMovesItsLists, EveryFirstIsFirst, EverySuchEventLeavesHome};
 
-/// Each permitted event takes the front of one list of its client and sends to the end of one, and leaves the other clients;
-/// where it is not home's or the memory's, it leaves these too.
+/// Each permitted event takes the front of one list of its client and sends to the end of one, and leaves the other
+/// clients; where it is not home's or the memory's, it leaves these too.
 pub fn every_event()
     ensures lists { EveryEventMovesItsLists }
     ensures others { EveryEventIsOfOneClient }
     ensures home { EverySuchEventLeavesHome }
 {}
 
-/// In a log that takes the first message of a channel each time, the list of each block is the channel's with the other blocks'
-/// messages taken out.
+/// In a log that takes the first message of a channel each time, the list of each block is the channel's with the other
+/// blocks' messages taken out.
 pub fn every_lawful_log()
     ensures empty { EmptyIsLawful }
     ensures grows { LawfulGrowsByOne }

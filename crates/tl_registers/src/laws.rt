@@ -8,15 +8,15 @@ pub fn pending_is_the_protocols()
     ensures { PendingIsTheProtocols }
 {}
 
-/// What a register does next is permitted by the protocol, wherever each block is as every run keeps it and the register fits
-/// the state, and it is of the block that the register works on.
+/// What a register does next is permitted by the protocol, wherever each block is as every run keeps it and the
+/// register fits the state, and it is of the block that the register works on.
 pub fn every_action_is_permitted()
     ensures permitted { EveryActionIsPermitted }
     ensures own { EveryActionIsOfItsRegister }
 {}
 
-/// The open registers and the protocol's state agree: at reset, and after each event, with the change of the registers that
-/// goes along with it.
+/// The open registers and the protocol's state agree: at reset, and after each event, with the change of the registers
+/// that goes along with it.
 pub fn registers_agree()
     ensures at_reset { AgreeAtReset }
     ensures steady { EveryRunIsSteady }

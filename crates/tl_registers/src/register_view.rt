@@ -18,7 +18,8 @@ pub trait RegisterView {
     fn clients(&self) -> u32
         ensures { result ≡ (shape self.now).clients };
 
-    /// What home's directory says of the block, where home holds it: whether its copy is dirty, and what it records for each client.
+    /// What home's directory says of the block, where home holds it: whether its copy is dirty, and what it records for
+    /// each client.
     fn entry(&self, block: BlockNo) -> Option<Entry>
         requires { block < (shape self.now).blocks }
         ensures { Records result (state self.now block) };

@@ -65,7 +65,8 @@ pub(crate) struct Next {
     stamp: u64,
 }
 
-/// The log whose next event has the least stamp; an event that is no access counts as one of stamp 0. None where no event is left.
+/// The log whose next event has the least stamp; an event that is no access counts as one of stamp 0. None where no
+/// event is left.
 fn next_log(logs: &[&[Event]], cursors: &[usize; BANKS]) -> Option<usize>
     requires few { length logs.now ≤ BANKS }
     requires rising { All (λ log. Pairwise IsEarlier (accesses_of log)) (events_of logs.now) }
@@ -133,8 +134,8 @@ fn are_lawful(logs: &[&[Event]]) -> bool
     true
 }
 
-/// Whether the accesses of some logs have one order by stamp and then by client, in which the indexes of each client rise. It
-/// takes the logs' events in the order of their stamps, and keeps the last access of each client.
+/// Whether the accesses of some logs have one order by stamp and then by client, in which the indexes of each client
+/// rise. It takes the logs' events in the order of their stamps, and keeps the last access of each client.
 pub fn certify_events(logs: &[&[Event]]) -> bool
     ensures { IsTrue result ↔ IsCertified (events_of logs.now) }
 {
@@ -165,8 +166,9 @@ pub fn certify_events(logs: &[&[Event]]) -> bool
     true
 }
 
-/// Whether the accesses that some logs keep have one order by stamp and then by client, in which the indexes of each client rise: at
-/// most 8 logs, clients below 16, stamps that rise strictly in each log, and no two accesses of one stamp and client.
+/// Whether the accesses that some logs keep have one order by stamp and then by client, in which the indexes of each
+/// client rise: at most 8 logs, clients below 16, stamps that rise strictly in each log, and no two accesses of one
+/// stamp and client.
 pub fn certify(logs: &[&Log]) -> bool
     ensures { IsTrue result ↔ IsCertified (logs_of logs.now) }
 {

@@ -28,8 +28,9 @@ pub enum ApplyError {
 pub struct Plain {
     alloc: Global,
     shape: Shape,
-    /// First a fresh block: one that nobody but the memory holds, with bytes of 0. Then of each block its own state, where it
-    /// had an event or has bytes that are not 0, and none where it is as the fresh one. Empty where there are no blocks.
+    /// First a fresh block: one that nobody but the memory holds, with bytes of 0. Then of each block its own state,
+    /// where it had an event or has bytes that are not 0, and none where it is as the fresh one. Empty where there are
+    /// no blocks.
     states: Vec<Option<BlockState>>,
 }
 
@@ -88,8 +89,8 @@ fn states_over(
     Ok(states)
 }
 
-/// Carries out an event that may come next for a block. One that was as the fresh one gets a state of its own. For want of
-/// memory nothing changes.
+/// Carries out an event that may come next for a block. One that was as the fresh one gets a state of its own. For want
+/// of memory nothing changes.
 fn apply_at(
     alloc: Global,
     states: &mut [Option<BlockState>],

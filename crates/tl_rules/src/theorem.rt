@@ -3,8 +3,8 @@ ghost use Rattle.tl_rules.specs.Ordered.{EveryCertifiedHasOneOrder, EveryCertifi
 
 use tl_protocol::every_run;
 
-/// The accesses of certified logs have one order by stamp and then by client, in which each client's indexes rise; where the logs
-/// are runs of banks, that order is one memory's.
+/// The accesses of certified logs have one order by stamp and then by client, in which each client's indexes rise;
+/// where the logs are runs of banks, that order is one memory's.
 pub fn every_order()
     ensures order { EveryCertifiedHasOneOrder }
     ensures memory { EveryCertifiedOrderIsOneMemory }

@@ -21,7 +21,8 @@ pub enum ScriptError {
     Missing(Key),
     /// The numbers make no geometry.
     Geometry(GeometryError),
-    /// The command of this client at this index is outside the grammar, or its bytes do not lie in the memory and in one block.
+    /// The command of this client at this index is outside the grammar, or its bytes do not lie in the memory and in
+    /// one block.
     Command(usize, usize),
     /// More lists of commands than clients, or more than 4,096 commands of a client or steps.
     TooMany,

@@ -64,7 +64,8 @@ impl From<clap::Error> for WordsError {
     }
 }
 
-/// The words after the first, the program's name, of those that the system has. The error is why it has none, or want of memory.
+/// The words after the first, the program's name, of those that the system has. The error is why it has none, or want
+/// of memory.
 fn words_of(alloc: Global, given: io::Result<Args>) -> Result<Vec<String>, WordsError>
     ensures { IfErr result (IsWhyNoWords given) }
 {

@@ -33,8 +33,9 @@ impl<T: Watcher> Watcher for Option<T> {
     }
 }
 
-/// Tells a writer twice a second how far work is: the lines so far, the share of the whole where that is known, and the lines a second. On
-/// a terminal each telling takes the place of the one before it; elsewhere each is a line. A writer that takes nothing stops nothing.
+/// Tells a writer twice a second how far work is: the lines so far, the share of the whole where that is known, and the
+/// lines a second. On a terminal each telling takes the place of the one before it; elsewhere each is a line. A writer
+/// that takes nothing stops nothing.
 #[derive(Drop)]
 pub struct Progress<W, C> {
     to: W,

@@ -27,8 +27,8 @@ impl Default for Standing {
     }
 }
 
-/// A block that home holds: whether home's copy is dirty, and the permission of each client from client 0 on, at most 16 of them.
-/// It prints as its closing line, without the line feed.
+/// A block that home holds: whether home's copy is dirty, and the permission of each client from client 0 on, at most
+/// 16 of them. It prints as its closing line, without the line feed.
 #[derive(Debug, Drop)]
 pub struct BlockLine {
     pub block: BlockNo,
@@ -36,8 +36,8 @@ pub struct BlockLine {
     pub clients: ArrayVec<Standing, 16>,
 }
 
-/// What a bank shows at the end: the blocks that home holds, by rising number; the number of copies that the clients hold in it;
-/// the number of copies that home has recorded; and the number of events in its log.
+/// What a bank shows at the end: the blocks that home holds, by rising number; the number of copies that the clients
+/// hold in it; the number of copies that home has recorded; and the number of events in its log.
 #[derive(Debug, Drop)]
 pub struct BankClosing {
     pub blocks: Vec<BlockLine>,

@@ -1,4 +1,5 @@
-//! The texts that the program prints: the report of a run; and of a trace, what each step answered and what each bank holds at the end.
+//! The texts that the program prints: the report of a run; and of a trace, what each step answered and what each bank
+//! holds at the end.
 #![tactic(auto)]
 
 mod answer;

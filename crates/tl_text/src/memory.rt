@@ -53,8 +53,8 @@ impl fmt::Display for BlockSize {
     }
 }
 
-/// A message between home and the memory about one block, with the address of the block's first byte where it names one and the
-/// block's bytes where it carries them.
+/// A message between home and the memory about one block, with the address of the block's first byte where it names one
+/// and the block's bytes where it carries them.
 #[derive(Debug, Drop)]
 pub enum MemoryMessage {
     /// Home asks for the block's bytes.

@@ -5,8 +5,8 @@ use std::alloc::{AllocError, Global};
 use tl_script_words::Command;
 use tl_types::AccessBytes;
 
-// About how many bytes a line takes: four digits of a command's number, the verb, the address, eight bytes, and what lies between.
-// Room for the whole text is asked for at once, so that it is not moved as it grows.
+// About how many bytes a line takes: four digits of a command's number, the verb, the address, eight bytes, and what
+// lies between. Room for the whole text is asked for at once, so that it is not moved as it grows.
 const LINE: usize = 40;
 
 /// A command that was answered, with the bytes that a load got or a store wrote; none for a drop.
@@ -16,8 +16,8 @@ pub struct Answered {
     pub bytes: AccessBytes,
 }
 
-/// What a bank shows at the end: the number of copies that the clients hold in it, and the number of copies that home has
-/// recorded.
+/// What a bank shows at the end: the number of copies that the clients hold in it, and the number of copies that home
+/// has recorded.
 #[derive(Clone, Copy, Debug, PartialEq, Eq)]
 pub struct BankLine {
     pub held: u64,

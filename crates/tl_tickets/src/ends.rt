@@ -1,5 +1,5 @@
-//! What threads carry: a reference to an inbox or a bell, with a pass or a seat of its own. That the one belongs to the other is
-//! kept by the type, so the ends need no `requires` where they are used, in whatever thread.
+//! What threads carry: a reference to an inbox or a bell, with a pass or a seat of its own. That the one belongs to the
+//! other is kept by the type, so the ends need no `requires` where they are used, in whatever thread.
 ghost use Rattle.std.specs.Prelude.{◌≡◌, ◌+◌, ◌<◌, ◌≤◌, ℕ, MatchBool, MatchOption, MatchResult};
 ghost use Rattle.tl_tickets.specs.Inbox.{IsSenderOf, IsReceiverOf, after_put, after_take, WasFull};
 ghost use Rattle.tl_tickets.specs.Bell.{IsSeatOf, most_rings, after_ring, after_hearing};

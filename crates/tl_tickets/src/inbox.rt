@@ -124,8 +124,8 @@ fn gather(queue: &Queue, mut passes: Vec<Pass>) -> (QueuePass, u64)
     (all, total)
 }
 
-// Counts all senders before the first has its pass, so that each pass knows how many there are. It is for the proof alone: the passes that
-// come of it know nothing.
+// Counts all senders before the first has its pass, so that each pass knows how many there are. It is for the proof
+// alone: the passes that come of it know nothing.
 fn count_senders(queue: &Queue, receiver: &mut QueuePass, senders: usize)
     requires queue { IsQueuePassOf queue.now receiver.old }
     requires none { learned receiver.old ≡ receiver_of 0 0 0 [] }
@@ -138,8 +138,8 @@ fn count_senders(queue: &Queue, receiver: &mut QueuePass, senders: usize)
 }
 
 impl Inbox {
-    /// An inbox with room for this many tickets, 1 to 4,096, and the passes: first the receiver's, then each sender's. The error is
-    /// want of memory.
+    /// An inbox with room for this many tickets, 1 to 4,096, and the passes: first the receiver's, then each sender's.
+    /// The error is want of memory.
     pub fn new(
         alloc: Global,
         capacity: usize,
@@ -180,8 +180,8 @@ impl Inbox {
         }
     }
 
-    /// Takes the ticket that waited longest. `None` only where nothing waited at one moment of the call. It takes no memory, and
-    /// waits only for a step of another thread that is under way.
+    /// Takes the ticket that waited longest. `None` only where nothing waited at one moment of the call. It takes no
+    /// memory, and waits only for a step of another thread that is under way.
     pub fn take<R: Wait>(&self, rt: &R, pass: &mut Pass) -> Option<Ticket>
         requires { IsReceiverOf self.now pass.old }
         ensures pass { IsSamePass pass.old pass.new }

@@ -1,4 +1,5 @@
-//! Inboxes, by which many threads hand tickets to one receiver, and bells, which threads ring and hear without waiting; and the shares of a bank, gathered.
+//! Inboxes, by which many threads hand tickets to one receiver, and bells, which threads ring and hear without waiting;
+//! and the shares of a bank, gathered.
 #![tactic(auto)]
 
 mod bell;

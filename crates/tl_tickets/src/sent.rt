@@ -16,8 +16,9 @@ pub struct Put {
     pub tickets: LinkedList<Ticket>,
 }
 
-// What a pass knows: what some senders put, and, of the pass that takes, what it took, how many senders there are, how many of them
-// have their passes, and how many tickets at least wait behind the one that it took last. No value of it is made.
+// What a pass knows: what some senders put, and, of the pass that takes, what it took, how many senders there are, how
+// many of them have their passes, and how many tickets at least wait behind the one that it took last. No value of it
+// is made.
 pub struct Known {
     pub takes: bool,
     pub made: usize,

@@ -16,8 +16,8 @@ use tl_script_words::{BlockCall, Step, TicketCall};
 use tl_text::Answer;
 use tl_types::{BlockNo, Ticket};
 
-/// A step, asked of a bank, with the share and the clock of the client that it names. A refusal is an answer; an error is a
-/// request for memory that was refused.
+/// A step, asked of a bank, with the share and the clock of the client that it names. A refusal is an answer; an error
+/// is a request for memory that was refused.
 pub(crate) fn act(
     bank: &mut Bank,
     share: &mut Share,

@@ -1,4 +1,5 @@
-//! Plays the steps of a script over the banks of a cache: one answer for each step, and what each bank holds at the end.
+//! Plays the steps of a script over the banks of a cache: one answer for each step, and what each bank holds at the
+//! end.
 #![tactic(auto)]
 
 mod act;

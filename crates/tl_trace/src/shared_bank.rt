@@ -147,7 +147,8 @@ impl SharedBank {
         }
     }
 
-    /// Makes room in the bank's log for `count` more events. It is refused only for want of memory, and then nothing changed.
+    /// Makes room in the bank's log for `count` more events. It is refused only for want of memory, and then nothing
+    /// changed.
     pub(crate) fn reserve_steps(&mut self, count: usize) -> Result<(), Refusal>
         ensures unchanged { OnErr result (self.new ≡ self.old) }
         ensures short { OnErr result (self.old.bank.room < count) }

@@ -1,5 +1,5 @@
-//! The kinds of message, and their codes. All opcodes and parameters are this project's profile of TileLink 1.8, section 6
-//! ("Operations and messages").
+//! The kinds of message, and their codes. All opcodes and parameters are this project's profile of TileLink 1.8,
+//! section 6 ("Operations and messages").
 ghost use Rattle.std.specs.Prelude.{◌≡◌, Some};
 ghost use Rattle.tl_types.specs.Codes.{channel_of, code_of, grow_param, probe_param, grant_param, prune_param, dirty_param, report_param, HasCode};
 ghost use Rattle.tl_types.specs.Decoding.{kind_at, kind_on_a, kind_on_b, kind_on_c, kind_on_d, kind_on_e, plain_at, grow_at, probe_at, grant_at, prune_at, dirty_at, report_at};
@@ -198,8 +198,8 @@ fn kind_on_e(opcode: u8, param: u8) -> Option<Kind>
     }
 }
 
-/// The kind that a channel, an opcode and a parameter stand for: the one that `Kind::channel` and `code` give them for, and none
-/// where they give them for no kind.
+/// The kind that a channel, an opcode and a parameter stand for: the one that `Kind::channel` and `code` give them for,
+/// and none where they give them for no kind.
 pub fn decode(channel: Channel, opcode: u8, param: u8) -> Option<Kind>
     ensures own { (kind : Kind) → HasCode kind channel opcode param → result ≡ Some kind }
     ensures each { (kind : Kind) → result ≡ Some kind → HasCode kind channel opcode param }

@@ -1,4 +1,5 @@
-//! The vocabulary of TileLink TL-C: permissions, the parameters of messages, the messages themselves, their codes, and names.
+//! The vocabulary of TileLink TL-C: permissions, the parameters of messages, the messages themselves, their codes, and
+//! names.
 #![tactic(auto)]
 
 mod bytes;

@@ -6,8 +6,8 @@ use crate::channel::Channel;
 use crate::names::{BankNo, ClientId};
 use std::fmt;
 
-/// Where a message is: its bank, the client and the channel of the link, and its serial, the number of messages that were
-/// sent before it there. It prints as `0.1.C.3`.
+/// Where a message is: its bank, the client and the channel of the link, and its serial, the number of messages that
+/// were sent before it there. It prints as `0.1.C.3`.
 #[derive(Clone, Copy, Debug, PartialEq, Eq)]
 pub struct Ticket {
     pub bank: BankNo,

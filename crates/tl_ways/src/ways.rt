@@ -10,8 +10,8 @@ use std::alloc::{AllocError, Global};
 use std::marker::Model;
 use tl_map::{Geometry, Set, Tag};
 
-/// The ways of all sets of a bank: a map from blocks, by set and tag, to entries, with the way in which each lies and an
-/// order of the ways of each set.
+/// The ways of all sets of a bank: a map from blocks, by set and tag, to entries, with the way in which each lies and
+/// an order of the ways of each set.
 #[derive(Drop)]
 pub struct Ways {
     ways: u32,
@@ -78,7 +78,8 @@ impl Ways {
         row.find(tag)
     }
 
-    /// The way of a set that is taken next, of those that are not busy: the lowest free one, else the first in the order.
+    /// The way of a set that is taken next, of those that are not busy: the lowest free one, else the first in the
+    /// order.
     pub fn choose(&self, set: Set, busy: &[Way]) -> Option<Way>
         requires { set < set_count self.now }
         ensures is { result ≡ chosen_at self.now set busy.now }

@@ -11,8 +11,8 @@ use tlchart_draw::DrawError;
 /// What stops the program. It prints as the one fault line.
 #[derive(Debug, Drop)]
 pub(crate) enum Fault {
-    /// The words were refused, the file could not be read or the picture not written, or a request for memory was refused outside the
-    /// drawing.
+    /// The words were refused, the file could not be read or the picture not written, or a request for memory was
+    /// refused outside the drawing.
     Program(ProgramFault),
     /// The script is not drawn.
     Draw(DrawError),

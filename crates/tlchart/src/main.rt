@@ -1,4 +1,5 @@
-//! `tlchart FILE`: the sequence chart of a script's trace, or a page that walks through it. `-` stands for standard input.
+//! `tlchart FILE`: the sequence chart of a script's trace, or a page that walks through it. `-` stands for standard
+//! input.
 #![tactic(auto)]
 
 mod asked;

@@ -3,8 +3,8 @@
 use std::alloc::{AllocError, Global};
 use std::fmt;
 
-/// A text that grows. A request for memory that is refused is remembered, and told at the end: so what writes to it has one exit, and not
-/// one at each word.
+/// A text that grows. A request for memory that is refused is remembered, and told at the end: so what writes to it has
+/// one exit, and not one at each word.
 #[derive(Debug, Drop)]
 pub struct Ink {
     text: String,

@@ -7,7 +7,8 @@ use crate::message::ShownMessage;
 use crate::turn::Turn;
 use std::alloc::{AllocError, Global};
 
-/// A message, from the row of the step that sent it to the row of the step that took it, where one did. Rows count from 0, one a step.
+/// A message, from the row of the step that sent it to the row of the step that took it, where one did. Rows count from
+/// 0, one a step.
 #[derive(Debug, Drop)]
 pub struct Arrow {
     pub message: ShownMessage,

@@ -11,8 +11,8 @@ use tl_script_words::Step;
 use tl_text::Trace;
 use tl_types::BlockNo;
 
-/// What is drawn of a trace: what each step did, a row a step; an arrow for each message; and where clients gain and lose
-/// permissions to one block.
+/// What is drawn of a trace: what each step did, a row a step; an arrow for each message; and where clients gain and
+/// lose permissions to one block.
 #[derive(Debug, Drop)]
 pub struct Chart {
     pub clients: u32,

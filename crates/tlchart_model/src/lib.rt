@@ -1,5 +1,5 @@
-//! What a sequence chart of a trace draws: what each step did, each message from the step that sent it to the step that took it,
-//! and where clients gained and lost permissions to a block.
+//! What a sequence chart of a trace draws: what each step did, each message from the step that sent it to the step that
+//! took it, and where clients gained and lost permissions to a block.
 #![tactic(auto)]
 
 mod arrow;

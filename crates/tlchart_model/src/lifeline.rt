@@ -16,8 +16,8 @@ pub enum Lifeline {
     Memory,
 }
 
-/// Where a message waits until it is taken: on a client's link with a bank, or between home and the memory, where a block has one
-/// message at a time.
+/// Where a message waits until it is taken: on a client's link with a bank, or between home and the memory, where a
+/// block has one message at a time.
 #[derive(Clone, Copy, Debug, PartialEq, Eq)]
 pub enum Place {
     /// At the place of this ticket.

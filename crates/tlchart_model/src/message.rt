@@ -9,8 +9,8 @@ use tl_script_words::Step;
 use tl_text::{Answer, MemoryMessage};
 use tl_types::{BlockBytes, BlockNo, Body, Kind, Ticket};
 
-/// A message as it is drawn: where it waited, who sent it to whom, the block that it is about, what it is, and the bytes that it
-/// carried.
+/// A message as it is drawn: where it waited, who sent it to whom, the block that it is about, what it is, and the
+/// bytes that it carried.
 #[derive(Debug, Drop)]
 pub struct ShownMessage {
     pub place: Place,

@@ -1,6 +1,6 @@
-//! `tlcheck [--progress] FILE`: whether a record of events is a lawful run; `-` stands for standard input, and no other word that
-//! begins with a dash for a file. `tlcheck --coverage [--html] FILE ..`: which situations of the protocol records have reached.
-//! `tlcheck --how N`: a run that reaches situation N.
+//! `tlcheck [--progress] FILE`: whether a record of events is a lawful run; `-` stands for standard input, and no other
+//! word that begins with a dash for a file. `tlcheck --coverage [--html] FILE ..`: which situations of the protocol
+//! records have reached. `tlcheck --how N`: a run that reaches situation N.
 #![tactic(auto)]
 
 mod asked;

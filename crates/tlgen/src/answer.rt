@@ -21,8 +21,8 @@ fn asked_text(alloc: Global, words: Result<Vec<String>, WordsError>) -> Result<S
     text(alloc, &request)
 }
 
-/// Writes the script that the words ask for to `output`, or one line to `faults` that says why there is none, and answers the status:
-/// 0, or that of the fault.
+/// Writes the script that the words ask for to `output`, or one line to `faults` that says why there is none, and
+/// answers the status: 0, or that of the fault.
 pub(crate) fn answer<W: Write, E: Write>(
     alloc: Global,
     words: Result<Vec<String>, WordsError>,

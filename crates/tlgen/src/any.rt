@@ -54,7 +54,8 @@ fn push_change(
     write!(text, "{word} {client} {block} {change}")
 }
 
-/// The step that takes one of the messages that were sent, now and then the one behind it; no words where none was sent.
+/// The step that takes one of the messages that were sent, now and then the one behind it; no words where none was
+/// sent.
 fn push_taking(text: &mut String, dice: &mut Dice, sent: &[Ticket]) -> Result<(), AllocError> {
     let count = u32::try_from(sent.len()).unwrap_or(0);
     if let Some(ticket) = sent.get(dice.below(count) as usize) {

@@ -17,7 +17,8 @@ const TRIES: u32 = 1000;
 /// One step in so many may be one that its bank refuses.
 const REFUSED: u32 = 8;
 
-/// Every bank, and the tickets that were sent and not yet taken. Its model says nothing: what is chosen is played back before it is told.
+/// Every bank, and the tickets that were sent and not yet taken. Its model says nothing: what is chosen is played back
+/// before it is told.
 #[derive(Drop)]
 pub(crate) struct Cache {
     network: Network,
@@ -46,8 +47,8 @@ impl Cache {
         })
     }
 
-    /// Asks any steps until one is accepted; now and then the first is chosen though it is refused. None where all were refused. An
-    /// error is a request for memory that was refused.
+    /// Asks any steps until one is accepted; now and then the first is chosen though it is refused. None where all were
+    /// refused. An error is a request for memory that was refused.
     pub(crate) fn choose(
         &mut self,
         alloc: Global,

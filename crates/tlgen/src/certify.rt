@@ -68,7 +68,8 @@ fn read_back(alloc: Global, draft: Draft) -> Result<String, Fault>
     Ok(draft.text)
 }
 
-/// The text of a draft for `trace`, with its first line: the format reads it as a script, and the line is true of its steps.
+/// The text of a draft for `trace`, with its first line: the format reads it as a script, and the line is true of its
+/// steps.
 fn played_back(alloc: Global, draft: &Draft) -> Result<String, Fault>
     ensures { IfOk result (λ text. IsTold (string_bytes text)) }
 {

@@ -10,7 +10,8 @@ use tl_streams::{ProgramFault, WordsError};
 /// What stops the program. It prints as the one fault line.
 #[derive(Clone, Copy, Debug, PartialEq, Eq)]
 pub(crate) enum Fault {
-    /// The words are no request, the script could not be written, or a request for memory was refused outside its reading.
+    /// The words are no request, the script could not be written, or a request for memory was refused outside its
+    /// reading.
     Program(ProgramFault),
     /// What is asked for makes no script.
     Script(ScriptError),

@@ -22,8 +22,8 @@ const NOTHING: GeometryNumbers = GeometryNumbers {
     memory_blocks: 0,
 };
 
-/// The numbers that are asked for, and lawful ones beside them: a number that the map refuses is drawn again. The last refusal,
-/// of another number than the version if there was one, where no others go with those.
+/// The numbers that are asked for, and lawful ones beside them: a number that the map refuses is drawn again. The last
+/// refusal, of another number than the version if there was one, where no others go with those.
 pub(crate) fn geometry(dice: &mut Dice, request: &Request<'_>) -> Result<Geometry, Fault> {
     let mut numbers = NOTHING;
     let mut refused = GeometryError::Version;

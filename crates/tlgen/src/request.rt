@@ -7,8 +7,8 @@ use tl_streams::ProgramFault;
 /// The fault of words that are no request.
 const USAGE: Fault = Fault::Program(ProgramFault::Usage);
 
-/// What may be asked for by its number: each number of the geometry, how many commands a client has or how many steps there are, and
-/// among how many blocks they choose.
+/// What may be asked for by its number: each number of the geometry, how many commands a client has or how many steps
+/// there are, and among how many blocks they choose.
 const KEYS: [&str; 12] = [
     "version",
     "clients",

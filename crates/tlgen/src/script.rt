@@ -10,7 +10,8 @@ use std::alloc::{AllocError, Global};
 use tl_map::Geometry;
 use tl_script_words::push_address;
 
-/// No client has so many commands, and no trace so many steps: of what is asked for beyond, so many are made, and then refused.
+/// No client has so many commands, and no trace so many steps: of what is asked for beyond, so many are made, and then
+/// refused.
 const TOO_MANY: u32 = 4097;
 
 /// A script's text, how many steps it has, and how many of them its banks refused.
@@ -83,8 +84,8 @@ fn push_command(text: &mut String, dice: &mut Dice, spots: &Spots) -> Result<(),
     text.push_str("\", ")
 }
 
-/// The script with its steps, each asked of the banks as it is chosen: as many as are asked for, or fewer where none was found that
-/// the banks accept.
+/// The script with its steps, each asked of the banks as it is chosen: as many as are asked for, or fewer where none
+/// was found that the banks accept.
 fn with_steps(
     alloc: Global,
     mut text: String,

@@ -4,8 +4,8 @@ use crate::request::Request;
 use tl_map::Geometry;
 use tl_types::{BlockNo, ClientId};
 
-/// The blocks that a script speaks of: so few that clients share them, and where their stride is that of a set, that they drive each
-/// other out.
+/// The blocks that a script speaks of: so few that clients share them, and where their stride is that of a set, that
+/// they drive each other out.
 #[derive(Drop)]
 pub(crate) struct Spots {
     geometry: Geometry,

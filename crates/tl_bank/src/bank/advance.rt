@@ -192,8 +192,8 @@ impl Bank {
         line
     }
 
-    /// What an Acquire of a block is granted now, by home's entry: Tip too where Branch was asked for and no other client has a
-    /// copy.
+    /// What an Acquire of a block is granted now, by home's entry: Tip too where Branch was asked for and no other
+    /// client has a copy.
     fn granted(&self, acquire: Accepted, entry: Entry, block: BlockNo) -> GrantCap
         requires { (x : ℕ) → (client_at self.now x block).recorded ≡ entry_perm entry x }
         ensures { result ≡ granted (shape_of self.now.geometry) (end_at self.now block) acquire }

@@ -1,5 +1,5 @@
-//! What a bank shows of the clients' copies of a block, of home's copy and of the memory's bytes, and of the messages that wait. No
-//! view takes memory.
+//! What a bank shows of the clients' copies of a block, of home's copy and of the memory's bytes, and of the messages
+//! that wait. No view takes memory.
 ghost use Rattle.std.specs.Prelude.{◌≡◌};
 ghost use Rattle.tl_bank.specs.Contents.{copy_at, wait_at, line_at, memory_at, message_waiting};
 
@@ -9,8 +9,8 @@ use tl_protocol::{CachedCopy, Line};
 use tl_types::{Awaited, BlockBytes, BlockNo, Channel, ClientId, Message, Ticket};
 
 impl Bank {
-    /// A client's copy of a block: its permission, its bytes, and whether they are dirty. None just where there is no such client, or
-    /// the block is not of the memory or of another bank.
+    /// A client's copy of a block: its permission, its bytes, and whether they are dirty. None just where there is no
+    /// such client, or the block is not of the memory or of another bank.
     pub fn copy(&self, client: ClientId, block: BlockNo) -> Option<CachedCopy>
         ensures { result ≡ copy_at self.now client block }
     {
@@ -20,8 +20,8 @@ impl Bank {
         Some(self.copy_of(client, block))
     }
 
-    /// The answer that a client waits for about a block. None just where there is no such client, or the block is not of the memory or
-    /// of another bank.
+    /// The answer that a client waits for about a block. None just where there is no such client, or the block is not
+    /// of the memory or of another bank.
     pub fn waits_for(&self, client: ClientId, block: BlockNo) -> Option<Awaited>
         ensures { result ≡ wait_at self.now client block }
     {
@@ -53,8 +53,8 @@ impl Bank {
         Some(self.home.in_memory(block))
     }
 
-    /// The message at a place among those that wait on a channel, oldest first, with its ticket. None past the last, and of a
-    /// client that is not there.
+    /// The message at a place among those that wait on a channel, oldest first, with its ticket. None past the last,
+    /// and of a client that is not there.
     pub fn waiting(
         &self,
         client: ClientId,

@@ -16,8 +16,8 @@ impl Bank {
         self.registers.as_slice()
     }
 
-    /// What the miss register of a block does next: None where it waits, and where the block is no register's own. None also where
-    /// the block is not of the memory or of another bank.
+    /// What the miss register of a block does next: None where it waits, and where the block is no register's own. None
+    /// also where the block is not of the memory or of another bank.
     pub fn next_of(&self, block: BlockNo) -> Option<Due>
         ensures { result ≡ next_at self.now block }
     {

@@ -89,7 +89,8 @@ impl Bank {
         Ok(())
     }
 
-    /// What the Acquire of a ticket asks for and where its register opens, or why it is not accepted, but for want of memory.
+    /// What the Acquire of a ticket asks for and where its register opens, or why it is not accepted, but for want of
+    /// memory.
     fn asked(&self, ticket: &Ticket) -> Result<Asked, Refusal>
         ensures refused { IfErr result (λ r. first_of (accept_cases self.now ticket.now) ≡ Some r) }
         ensures permitted { OnOk result (first_of (accept_cases self.now ticket.now) ≡ None) }
@@ -160,8 +161,8 @@ impl Bank {
         self.registers.is_full()
     }
 
-    /// Where a register of a block opens: in the way of home's copy, which no block has to leave, else in the one that is taken
-    /// next of those that no register holds.
+    /// Where a register of a block opens: in the way of home's copy, which no block has to leave, else in the one that
+    /// is taken next of those that no register holds.
     fn opening(&self, block: BlockNo) -> Option<Opening>
         requires { IsOwn self.now.geometry self.now.number block }
         ensures set { IfSome result (λ o. o.way.set ≡ set_of self.now.geometry block) }

@@ -1,5 +1,5 @@
-//! What the calls of clients settle before they change anything: the first reason to refuse them, but for want of memory, or all
-//! that they need to know.
+//! What the calls of clients settle before they change anything: the first reason to refuse them, but for want of
+//! memory, or all that they need to know.
 ghost use Rattle.std.specs.Prelude.{◌≡◌, ◌+◌, None, Some, IfErr, IfOk, OnOk, slice_range};
 ghost use Rattle.tl_types.specs.Message.{surrender};
 ghost use Rattle.tl_types.specs.Permission.{prune_to};

@@ -22,8 +22,8 @@ use tl_types::{BlockNo, CLIENTS, Channel, ClientId, Message, Perm, Ticket};
 use tl_ways::Way;
 
 impl Bank {
-    /// The permission that home records for a client of a block: None also where there is no such client, and where the block is
-    /// not of the memory or of another bank.
+    /// The permission that home records for a client of a block: None also where there is no such client, and where the
+    /// block is not of the memory or of another bank.
     pub fn directory(&self, client: ClientId, block: BlockNo) -> Perm
         ensures value { result ≡ recorded_at self.now client block }
         ensures covers { client < self.now.geometry.clients → IsOwn self.now.geometry self.now.number block
@@ -35,8 +35,8 @@ impl Bank {
         self.home.recorded(client, block)
     }
 
-    /// The byte at an address of a client's copy, where that may be read. None also where there is no such client, and where the
-    /// address is not of the memory or of another bank.
+    /// The byte at an address of a client's copy, where that may be read. None also where there is no such client, and
+    /// where the address is not of the memory or of another bank.
     pub fn peek(&self, client: ClientId, address: u32) -> Option<u8>
         ensures value { result ≡ peeked self.now client address }
         ensures readable { IsSome result ↔ MayRead self.now client address }
@@ -48,8 +48,8 @@ impl Bank {
         self.byte(client, address)
     }
 
-    /// The client whose copy of a block may be written, if there is one. None also where the block is not of the memory or of
-    /// another bank.
+    /// The client whose copy of a block may be written, if there is one. None also where the block is not of the memory
+    /// or of another bank.
     pub fn writer(&self, block: BlockNo) -> Option<ClientId>
         ensures writes { (client : ℕ) → (result ≡ Some client) ↔ MayWrite self.now client block }
         ensures alone { IfSome result (λ client. (other : ℕ) → other ≢ client → perm_at self.now other block ≡ Perm.None) }
@@ -66,8 +66,8 @@ impl Bank {
         None
     }
 
-    /// The block of this bank of a client's copy that was granted longest ago: a copy that is new, or that was granted anew, is
-    /// the latest. None just where the client has no copy in this bank, or is not there.
+    /// The block of this bank of a client's copy that was granted longest ago: a copy that is new, or that was granted
+    /// anew, is the latest. None just where the client has no copy in this bank, or is not there.
     pub fn oldest_copy(&self, client: ClientId) -> Option<BlockNo>
         ensures copy { IfSome result (λ block. HasCopy self.now client block) }
         ensures none { (result ≡ None) ↔ ((block : ℕ) → HasCopy self.now client block → ⊥) }
@@ -78,8 +78,8 @@ impl Bank {
         self.copies.oldest(client)
     }
 
-    /// The message that a ticket names, where it still waits, wherever in its channel's line. None also where the ticket is of a
-    /// client that is not there or of another bank.
+    /// The message that a ticket names, where it still waits, wherever in its channel's line. None also where the
+    /// ticket is of a client that is not there or of another bank.
     pub fn in_flight(&self, ticket: Ticket) -> Option<Message>
         ensures { result ≡ in_flight_at self.now ticket }
     {
@@ -89,8 +89,8 @@ impl Bank {
         Some(self.links.message(ticket)?.copied())
     }
 
-    /// Whether home's copy of a block is dirty, where home has one. None also where the block is not of the memory or of another
-    /// bank.
+    /// Whether home's copy of a block is dirty, where home has one. None also where the block is not of the memory or
+    /// of another bank.
     pub fn home(&self, block: BlockNo) -> Option<bool>
         ensures { result ≡ dirty_at self.now block }
     {
@@ -100,8 +100,8 @@ impl Bank {
         self.home.is_dirty(block)
     }
 
-    /// What passes of a block between home and the memory, if anything does. None also where the block is not of the memory or of
-    /// another bank.
+    /// What passes of a block between home and the memory, if anything does. None also where the block is not of the
+    /// memory or of another bank.
     pub fn outward(&self, block: BlockNo) -> Option<Outward>
         ensures { result ≡ outward_at self.now block }
     {
@@ -111,8 +111,8 @@ impl Bank {
         Some(self.home.outward(block)?.copied())
     }
 
-    /// The own blocks of the open registers, by rising number. Home serves of each block the Acquire that its register is open
-    /// for.
+    /// The own blocks of the open registers, by rising number. Home serves of each block the Acquire that its register
+    /// is open for.
     pub fn open_blocks(&self) -> ArrayVec<BlockNo, 8>
         ensures blocks { IsPermutation (own_blocks self.now) result.items }
         ensures rising { IsNonDecreasing result.items }
@@ -127,8 +127,8 @@ impl Bank {
         blocks
     }
 
-    /// Whether nothing is under way: no register is open, no message waits, no client waits for an answer, and nothing passes
-    /// between home and the memory. (What passes is a register's, so with no register nothing does.)
+    /// Whether nothing is under way: no register is open, no message waits, no client waits for an answer, and nothing
+    /// passes between home and the memory. (What passes is a register's, so with no register nothing does.)
     pub fn is_quiet(&self) -> bool
         ensures { IsTrue result ↔ IsQuiet self.now }
     {
@@ -144,8 +144,8 @@ impl Bank {
         true
     }
 
-    /// How many pairs there are of a client and a block of this bank of which the client has a copy: the sum of what `copies_of`
-    /// says of each client.
+    /// How many pairs there are of a client and a block of this bank of which the client has a copy: the sum of what
+    /// `copies_of` says of each client.
     pub fn held(&self) -> u64
         ensures value { result ≡ pairs_at has_copy self.now }
         ensures shares { result ≡ copies_below self.now self.now.geometry.clients }
@@ -157,8 +157,8 @@ impl Bank {
         count
     }
 
-    /// How many pairs there are of a client and a block of this bank that home has recorded above None: as many as are held and
-    /// under way together, and as are held where nothing is under way.
+    /// How many pairs there are of a client and a block of this bank that home has recorded above None: as many as are
+    /// held and under way together, and as are held where nothing is under way.
     pub fn outstanding(&self) -> u64
         ensures value { result ≡ pairs_at is_recorded self.now }
         ensures ledger { result ≡ pairs_at has_copy self.now + pairs_at is_under_way self.now }
@@ -173,7 +173,8 @@ impl Bank {
         count
     }
 
-    /// The blocks of this bank of which home has a copy, by rising number. Just they lie in ways of their sets, each alone.
+    /// The blocks of this bank of which home has a copy, by rising number. Just they lie in ways of their sets, each
+    /// alone.
     pub fn blocks_at_home(&self) -> ArrayVec<BlockNo, 512>
         ensures is { result.items ≡ blocks_at_home self.now }
         ensures own { All (λ block. IsOwn self.now.geometry self.now.number block) result.items }
