@@ -23,7 +23,8 @@ impl Model for TwoSenders {
 
     ghost view = { λ _. tt };
 
-    ghost invariant = { λ t. IsReceiverOf t.inbox t.receiver × IsSenderOf t.inbox t.first × IsSenderOf t.inbox t.second };
+    ghost invariant = { λ t. IsReceiverOf t.inbox t.receiver × IsSenderOf t.inbox t.first
+        × IsSenderOf t.inbox t.second };
 }
 
 /// A call of an inbox.

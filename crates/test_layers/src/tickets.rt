@@ -257,7 +257,8 @@ impl Model for Opened {
 
     ghost view = { λ _. tt };
 
-    ghost invariant = { λ o. IsReceiverOf o.inbox o.receiver × All (IsSenderOf o.inbox) o.senders.items × IsSeatOf o.bell o.heard × IsSeatOf o.bell o.rung };
+    ghost invariant = { λ o. IsReceiverOf o.inbox o.receiver × All (IsSenderOf o.inbox) o.senders.items
+        × IsSeatOf o.bell o.heard × IsSeatOf o.bell o.rung };
 }
 
 // Opens them for this many senders, with room for so many tickets to wait and to be taken.

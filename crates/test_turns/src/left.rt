@@ -76,7 +76,8 @@ fn two_turns<R: Wait + Clock>(
     mut mail: Mail<'_>,
     mut put: Sender<'_>,
 ) -> Option<(Pass, Pass)>
-    ensures { IfSome result (λ passes. IsReceiverOf mail.entry.inbox.inbox passes.0 × IsSenderOf put.entry.inbox passes.1) }
+    ensures { IfSome result
+        (λ passes. IsReceiverOf mail.entry.inbox.inbox passes.0 × IsSenderOf put.entry.inbox passes.1) }
 {
     let mut port = refusing_port(alloc);
     let went = works_then_idles(rt, &mut home, &mut port, &mut mail, &mut put);
@@ -108,7 +109,8 @@ fn passes_after<R: Wait + Clock>(
 ) -> Option<(Pass, Pass)>
     requires one { IsReceiverOf rooms.now.one.inbox keys.one.pass × IsSeatOf rooms.now.one.bell keys.one.seat }
     requires to_one { IsSenderOf rooms.now.one.inbox keys.to_one.pass × IsSeatOf rooms.now.one.bell keys.to_one.seat }
-    requires to_other { IsSenderOf rooms.now.other.inbox keys.to_other.pass × IsSeatOf rooms.now.other.bell keys.to_other.seat }
+    requires to_other { IsSenderOf rooms.now.other.inbox keys.to_other.pass
+        × IsSeatOf rooms.now.other.bell keys.to_other.seat }
     requires done { IsSeatOf rooms.now.done keys.rings × IsSeatOf rooms.now.done keys.hears }
     ensures { IfSome result (λ passes. IsPassOf rooms.now.one.inbox passes.0 × IsPassOf rooms.now.one.inbox passes.1) }
 {

@@ -105,9 +105,12 @@ pub struct Keys {
 /// Two rooms with inboxes of eight tickets, a done bell, and all keys. `None` where a request for memory was refused.
 pub fn open_two(alloc: Global) -> Option<(Rooms, Keys)>
     ensures one { IfSome result (λ v. IsReceiverOf v.0.one.inbox v.1.one.pass × IsSeatOf v.0.one.bell v.1.one.seat) }
-    ensures to_one { IfSome result (λ v. IsSenderOf v.0.one.inbox v.1.to_one.pass × IsSeatOf v.0.one.bell v.1.to_one.seat) }
-    ensures other { IfSome result (λ v. IsReceiverOf v.0.other.inbox v.1.other.pass × IsSeatOf v.0.other.bell v.1.other.seat) }
-    ensures to_other { IfSome result (λ v. IsSenderOf v.0.other.inbox v.1.to_other.pass × IsSeatOf v.0.other.bell v.1.to_other.seat) }
+    ensures to_one { IfSome result
+        (λ v. IsSenderOf v.0.one.inbox v.1.to_one.pass × IsSeatOf v.0.one.bell v.1.to_one.seat) }
+    ensures other { IfSome result
+        (λ v. IsReceiverOf v.0.other.inbox v.1.other.pass × IsSeatOf v.0.other.bell v.1.other.seat) }
+    ensures to_other { IfSome result
+        (λ v. IsSenderOf v.0.other.inbox v.1.to_other.pass × IsSeatOf v.0.other.bell v.1.to_other.seat) }
     ensures done { IfSome result (λ v. IsSeatOf v.0.done v.1.rings × IsSeatOf v.0.done v.1.hears) }
 {
     let (one, one_key, to_one) = open(alloc)?;
@@ -211,8 +214,10 @@ pub fn two_mails<'a>(
 ) -> (Option<Mail<'a>>, Option<Mail<'a>>)
     requires one { IsReceiverOf rooms.now.one.inbox keys.one.pass × IsSeatOf rooms.now.one.bell keys.one.seat }
     requires to_one { IsSenderOf rooms.now.one.inbox keys.to_one.pass × IsSeatOf rooms.now.one.bell keys.to_one.seat }
-    requires other { IsReceiverOf rooms.now.other.inbox keys.other.pass × IsSeatOf rooms.now.other.bell keys.other.seat }
-    requires to_other { IsSenderOf rooms.now.other.inbox keys.to_other.pass × IsSeatOf rooms.now.other.bell keys.to_other.seat }
+    requires other { IsReceiverOf rooms.now.other.inbox keys.other.pass
+        × IsSeatOf rooms.now.other.bell keys.other.seat }
+    requires to_other { IsSenderOf rooms.now.other.inbox keys.to_other.pass
+        × IsSeatOf rooms.now.other.bell keys.to_other.seat }
     requires done { IsSeatOf rooms.now.done keys.rings × IsSeatOf rooms.now.done keys.hears }
 {
     let first = mail(
@@ -238,7 +243,8 @@ pub fn first_mail<'a>(
 ) -> (Option<Mail<'a>>, (Sender<'a>, Ringer<'a>), Ringer<'a>)
     requires one { IsReceiverOf rooms.now.one.inbox keys.one.pass × IsSeatOf rooms.now.one.bell keys.one.seat }
     requires to_one { IsSenderOf rooms.now.one.inbox keys.to_one.pass × IsSeatOf rooms.now.one.bell keys.to_one.seat }
-    requires to_other { IsSenderOf rooms.now.other.inbox keys.to_other.pass × IsSeatOf rooms.now.other.bell keys.to_other.seat }
+    requires to_other { IsSenderOf rooms.now.other.inbox keys.to_other.pass
+        × IsSeatOf rooms.now.other.bell keys.to_other.seat }
     requires done { IsSeatOf rooms.now.done keys.rings × IsSeatOf rooms.now.done keys.hears }
     ensures own { IfSome result.0 (λ mail. mail.inbox.inbox ≡ rooms.now.one.inbox) }
     ensures put { result.1.0.inbox ≡ rooms.now.one.inbox }

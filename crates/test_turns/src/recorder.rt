@@ -41,7 +41,9 @@ impl Recorder {
 
     /// Keeps a ticket that was asked, and whether it was served; want of memory is a refusal.
     fn note(&mut self, ticket: Ticket, served: bool) -> Result<(), Refusal>
-        ensures { MatchResult result (λ _. self.new.asked.items ≡ self.old.asked.items ++ asked ticket served ∷ []) (λ refusal. refusal ≡ NoMemory) }
+        ensures { MatchResult result
+            (λ _. self.new.asked.items ≡ self.old.asked.items ++ asked ticket served ∷ [])
+            (λ refusal. refusal ≡ NoMemory) }
     {
         count(&self.calls);
         if self.asked.push(Asked { ticket, served }).is_err() {

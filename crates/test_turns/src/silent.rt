@@ -177,9 +177,11 @@ fn mails<'a>(
 ) -> (Option<Mail<'a>>, Option<Mail<'a>>)
     requires to_silent { IsSenderOf silent.now.inbox to_silent.pass × IsSeatOf silent.now.bell to_silent.seat }
     requires waiting { IsReceiverOf rooms.now.one.inbox keys.one.pass × IsSeatOf rooms.now.one.bell keys.one.seat }
-    requires to_waiting { IsSenderOf rooms.now.one.inbox keys.to_one.pass × IsSeatOf rooms.now.one.bell keys.to_one.seat }
+    requires to_waiting { IsSenderOf rooms.now.one.inbox keys.to_one.pass
+        × IsSeatOf rooms.now.one.bell keys.to_one.seat }
     requires home { IsReceiverOf rooms.now.other.inbox keys.other.pass × IsSeatOf rooms.now.other.bell keys.other.seat }
-    requires to_home { IsSenderOf rooms.now.other.inbox keys.to_other.pass × IsSeatOf rooms.now.other.bell keys.to_other.seat }
+    requires to_home { IsSenderOf rooms.now.other.inbox keys.to_other.pass
+        × IsSeatOf rooms.now.other.bell keys.to_other.seat }
     requires done { IsSeatOf rooms.now.done keys.rings × IsSeatOf rooms.now.done keys.hears }
 {
     let first = mail(

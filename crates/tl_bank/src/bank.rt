@@ -180,7 +180,8 @@ impl Bank {
         ensures coherent { IsCoherent self.now }
         ensures run { IsRun (shape_of self.now.geometry) self.now.image self.now.log }
         ensures lawful { Lawful (shape_of self.now.geometry) self.now.image self.now.log }
-        ensures own { All (λ e. IsOwn self.now.geometry self.now.number (block_of (shape_of self.now.geometry) e)) self.now.log }
+        ensures own { All (λ e. IsOwn self.now.geometry self.now.number (block_of (shape_of self.now.geometry) e))
+            self.now.log }
         ensures stamps { StampsRise self.now.log }
         ensures delivered { (client : ℕ) (channel : Channel) → IsDelivered self.now client channel }
     {

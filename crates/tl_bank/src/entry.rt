@@ -124,7 +124,8 @@ pub(crate) fn granted_in(
     bytes: Option<&BlockBytes>,
 ) -> CachedCopy
     ensures { result
-        ≡ clean_copy (grant_perm cap) (bytes_or (option_copied bytes.entry) (bytes_of (copy_in (option_copied held.entry)))) }
+        ≡ clean_copy (grant_perm cap)
+        (bytes_or (option_copied bytes.entry) (bytes_of (copy_in (option_copied held.entry)))) }
 {
     match bytes {
         Some(bytes) => CachedCopy::clean(cap.perm(), bytes.copied()),
@@ -196,7 +197,8 @@ pub(crate) fn end_wait(copies: &mut Copies, client: ClientId, block: BlockNo)
     requires block { block < copies.old.blocks }
     ensures same { SameSize copies.old copies.new }
     ensures after { (x y : ℕ)
-        → held_at copies.new x y ≡ (if is_cell client block x y then ended (held_at copies.old client block) else held_at copies.old x y) }
+        → held_at copies.new x y
+        ≡ (if is_cell client block x y then ended (held_at copies.old client block) else held_at copies.old x y) }
 {
     if has_copy(copies.held(client, block)) {
         copies.wait_for(client, block, Awaited::Nothing);

@@ -30,11 +30,14 @@ pub(crate) fn send(
 /// Takes the message that a ticket names, which is the first that waits on its channel.
 pub(crate) fn take(links: &mut Links, ticket: Ticket) -> Message
     requires { IsHead links.old ticket }
-    ensures message { (rest : List Message) × ((lane_in links.old ticket.client ticket.channel).messages ≡ result ∷ rest) }
+    ensures message { (rest : List Message)
+        × ((lane_in links.old ticket.client ticket.channel).messages ≡ result ∷ rest) }
     ensures same { SameSize links.old links.new }
     ensures after { (x : ℕ) (k : Channel)
         → lane_in links.new x k
-        ≡ (if is_here ticket.client ticket.channel x k then without_first (lane_in links.old x k) else lane_in links.old x k) }
+        ≡ (if is_here ticket.client ticket.channel x k
+        then without_first (lane_in links.old x k)
+        else lane_in links.old x k) }
 {
     let Ok(message) = links.take(ticket) else {
         unreachable!()
@@ -48,7 +51,9 @@ pub(crate) fn discard(links: &mut Links, ticket: Ticket)
     ensures same { SameSize links.old links.new }
     ensures after { (x : ℕ) (k : Channel)
         → lane_in links.new x k
-        ≡ (if is_here ticket.client ticket.channel x k then without_first (lane_in links.old x k) else lane_in links.old x k) }
+        ≡ (if is_here ticket.client ticket.channel x k
+        then without_first (lane_in links.old x k)
+        else lane_in links.old x k) }
 {
     let Ok(_message) = links.take(ticket) else {
         unreachable!()

@@ -72,7 +72,8 @@ impl Crossings {
 
     /// What passes of a block, if anything does.
     pub fn of(&self, block: BlockNo) -> Option<&Outward>
-        ensures { MatchOption result (outward_of block self.now ≡ Quiet) (λ outward. outward_of block self.now ≡ outward.now) }
+        ensures { MatchOption result (outward_of block self.now ≡ Quiet)
+            (λ outward. outward_of block self.now ≡ outward.now) }
     {
         for crossing in self.list.as_slice() {
             if crossing.block == block {

@@ -31,7 +31,8 @@ impl Model for Directory {
 
     ghost view = { λ d. record { geometry = d.geometry; bank = d.bank; table = d.ways; store = d.store } };
 
-    ghost invariant = { λ d. IsDirectory (record { geometry = d.geometry; bank = d.bank; table = d.ways; store = d.store }) };
+    ghost invariant = { λ d. IsDirectory
+        (record { geometry = d.geometry; bank = d.bank; table = d.ways; store = d.store }) };
 }
 
 impl Directory {
@@ -108,7 +109,8 @@ impl Directory {
         requires { block < self.now.geometry.memory_blocks }
         ensures is { MatchOption result (line_of self.now block ≡ None)
             (λ line. line_of self.now block ≡ Some (record { bytes = line.1.now; dirty = line.0.dirty })) }
-        ensures recorded { IfSome result (λ line. (client : ℕ) → recorded_of self.now client block ≡ entry_perm line.0 client) }
+        ensures recorded { IfSome result
+            (λ line. (client : ℕ) → recorded_of self.now client block ≡ entry_perm line.0 client) }
         ensures way { IfSome result (λ line. way_of self.now block ≡ Some line.2) }
     {
         let held = self.find(block)?;
@@ -131,7 +133,8 @@ impl Directory {
     /// order.
     pub fn choose(&self, set: Set, busy: &[Way]) -> Option<Way>
         requires { set < self.now.geometry.sets }
-        ensures is { result ≡ chosen (λ way. free_in self.now set way) self.now.geometry.ways (order_of self.now set) busy.now }
+        ensures is { result
+            ≡ chosen (λ way. free_in self.now set way) self.now.geometry.ways (order_of self.now set) busy.now }
         ensures inside { IfSome result (λ way. way < self.now.geometry.ways) }
         ensures none { IfNone result ((way : ℕ) → way < self.now.geometry.ways → IsTrue (is_busy busy.now way)) }
     {
@@ -165,7 +168,8 @@ impl Directory {
         ensures same { SameBank self.old self.new }
         ensures ways { (b : ℕ) → way_of self.new b ≡ way_of self.old b }
         ensures lines { (b : ℕ) → line_of self.new b ≡ line_of self.old b }
-        ensures recorded { (c b : ℕ) → recorded_of self.new c b ≡ (if c == client && b == block then perm else recorded_of self.old c b) }
+        ensures recorded { (c b : ℕ)
+            → recorded_of self.new c b ≡ (if c == client && b == block then perm else recorded_of self.old c b) }
         ensures free { (set way : ℕ) → free_in self.new set way ≡ free_in self.old set way }
         ensures orders { (set : ℕ) → order_of self.new set ≡ order_of self.old set }
         ensures way { way_of self.old block ≡ Some result }
@@ -184,7 +188,9 @@ impl Directory {
         requires lies { way_of self.old block ≡ Some way }
         ensures same { SameBank self.old self.new }
         ensures ways { (b : ℕ) → way_of self.new b ≡ way_of self.old b }
-        ensures lines { (b : ℕ) → line_of self.new b ≡ (if b == block then Some (record { bytes = bytes; dirty = true }) else line_of self.old b) }
+        ensures lines { (b : ℕ)
+            → line_of self.new b
+            ≡ (if b == block then Some (record { bytes = bytes; dirty = true }) else line_of self.old b) }
         ensures recorded { (c b : ℕ) → recorded_of self.new c b ≡ recorded_of self.old c b }
         ensures free { (set way : ℕ) → free_in self.new set way ≡ free_in self.old set way }
         ensures orders { (set : ℕ) → order_of self.new set ≡ order_of self.old set }
@@ -206,11 +212,14 @@ impl Directory {
         ensures same { SameBank self.old self.new }
         ensures ways { (b : ℕ) → way_of self.new b ≡ way_of self.old b }
         ensures lines { (b : ℕ) → line_of self.new b ≡ line_of self.old b }
-        ensures recorded { (c b : ℕ) → recorded_of self.new c b ≡ (if c == client && b == block then perm else recorded_of self.old c b) }
+        ensures recorded { (c b : ℕ)
+            → recorded_of self.new c b ≡ (if c == client && b == block then perm else recorded_of self.old c b) }
         ensures free { (set way : ℕ) → free_in self.new set way ≡ free_in self.old set way }
         ensures orders { (set : ℕ)
             → order_of self.new set
-            ≡ (if set == set_of self.old.geometry block then order_after (way_of self.old block) (order_of self.old set) else order_of self.old set) }
+            ≡ (if set == set_of self.old.geometry block
+            then order_after (way_of self.old block) (order_of self.old set)
+            else order_of self.old set) }
     {
         // For the prover: a lawful geometry has at most as many clients as an entry can record.
         let _ = self.geometry.clients();
@@ -227,10 +236,13 @@ impl Directory {
         ensures same { SameBank self.old self.new }
         ensures ways { (b : ℕ) → way_of self.new b ≡ (if b == block then None else way_of self.old b) }
         ensures lines { (b : ℕ) → line_of self.new b ≡ (if b == block then None else line_of self.old b) }
-        ensures recorded { (c b : ℕ) → recorded_of self.new c b ≡ (if b == block then NoAccess else recorded_of self.old c b) }
+        ensures recorded { (c b : ℕ)
+            → recorded_of self.new c b ≡ (if b == block then NoAccess else recorded_of self.old c b) }
         ensures free { (set way : ℕ)
             → free_in self.new set way
-            ≡ (if set == set_of self.old.geometry block && is_way (way_of self.old block) way then true else free_in self.old set way) }
+            ≡ (if set == set_of self.old.geometry block && is_way (way_of self.old block) way
+            then true
+            else free_in self.old set way) }
         ensures orders { (set : ℕ) → order_of self.new set ≡ order_of self.old set }
     {
         let held = self.find(block).unwrap();
@@ -246,10 +258,13 @@ impl Directory {
         requires free { free_in self.old (set_of self.old.geometry block) way ≡ true }
         ensures same { SameBank self.old self.new }
         ensures ways { (b : ℕ) → way_of self.new b ≡ (if b == block then Some way else way_of self.old b) }
-        ensures lines { (b : ℕ) → line_of self.new b ≡ (if b == block then Some (record { bytes = bytes; dirty = false }) else line_of self.old b) }
+        ensures lines { (b : ℕ)
+            → line_of self.new b
+            ≡ (if b == block then Some (record { bytes = bytes; dirty = false }) else line_of self.old b) }
         ensures recorded { (c b : ℕ) → recorded_of self.new c b ≡ recorded_of self.old c b }
         ensures free { (x y : ℕ)
-            → free_in self.new x y ≡ (if x == set_of self.old.geometry block && y == way then false else free_in self.old x y) }
+            → free_in self.new x y
+            ≡ (if x == set_of self.old.geometry block && y == way then false else free_in self.old x y) }
         ensures orders { (set : ℕ) → order_of self.new set ≡ order_of self.old set }
     {
         let place = self.geometry.place(block);
@@ -272,7 +287,8 @@ impl Directory {
     /// Where a block lies, and its entry, if home holds it.
     fn find(&self, block: BlockNo) -> Option<Held>
         requires { block < self.now.geometry.memory_blocks }
-        ensures is { MatchOption result (way_of self.now block ≡ None) (λ held. IsHeld self.now block held.set held.way held.entry) }
+        ensures is { MatchOption result (way_of self.now block ≡ None)
+            (λ held. IsHeld self.now block held.set held.way held.entry) }
         ensures none { IfNone result (line_of self.now block ≡ None) }
     {
         let Place { bank, set, tag } = self.geometry.place(block);

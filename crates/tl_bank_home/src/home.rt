@@ -135,7 +135,8 @@ impl Home {
         requires { block < (geometry_in self.now).memory_blocks }
         ensures is { MatchOption result (line_in self.now block ≡ None)
             (λ line. line_in self.now block ≡ Some (record { bytes = line.1.now; dirty = line.0.dirty })) }
-        ensures recorded { IfSome result (λ line. (client : ℕ) → recorded_in self.now client block ≡ entry_perm line.0 client) }
+        ensures recorded { IfSome result
+            (λ line. (client : ℕ) → recorded_in self.now client block ≡ entry_perm line.0 client) }
         ensures way { IfSome result (λ line. way_in self.now block ≡ Some line.2) }
     {
         self.directory.line(block)
@@ -160,7 +161,8 @@ impl Home {
 
     /// What passes of a block between home and the memory, if anything does.
     pub fn outward(&self, block: BlockNo) -> Option<&Outward>
-        ensures { MatchOption result (outward_in self.now block ≡ Quiet) (λ outward. outward_in self.now block ≡ outward.now) }
+        ensures { MatchOption result (outward_in self.now block ≡ Quiet)
+            (λ outward. outward_in self.now block ≡ outward.now) }
     {
         self.crossings.of(block)
     }
@@ -206,7 +208,8 @@ impl Home {
     /// order.
     pub fn choose(&self, set: Set, busy: &[Way]) -> Option<Way>
         requires { set < (geometry_in self.now).sets }
-        ensures is { result ≡ chosen (λ way. free_at self.now set way) (geometry_in self.now).ways (order_at self.now set) busy.now }
+        ensures is { result
+            ≡ chosen (λ way. free_at self.now set way) (geometry_in self.now).ways (order_at self.now set) busy.now }
         ensures inside { IfSome result (λ way. way < (geometry_in self.now).ways) }
         ensures none { IfNone result ((way : ℕ) → way < (geometry_in self.now).ways → IsTrue (is_busy busy.now way)) }
     {
@@ -233,8 +236,11 @@ impl Home {
         requires tip { to ≡ Tip → (other : ℕ) → other ≢ client → recorded_in self.old other block ≡ NoAccess }
         requires branch { to ≡ Branch → (other : ℕ) → other ≢ client → recorded_in self.old other block ≢ Tip }
         ensures bank { SameBank self.old self.new }
-        ensures lines { (b : ℕ) → line_in self.new b ≡ (if b == block then home_after (line_in self.old block) bytes else line_in self.old b) }
-        ensures recorded { (c b : ℕ) → recorded_in self.new c b ≡ (if c == client && b == block then to else recorded_in self.old c b) }
+        ensures lines { (b : ℕ)
+            → line_in self.new b
+            ≡ (if b == block then home_after (line_in self.old block) bytes else line_in self.old b) }
+        ensures recorded { (c b : ℕ)
+            → recorded_in self.new c b ≡ (if c == client && b == block then to else recorded_in self.old c b) }
         ensures ways { SameWays self.old self.new }
         ensures outward { SameOutward self.old self.new }
         ensures memory { SameMemory self.old self.new }
@@ -255,12 +261,14 @@ impl Home {
         requires branch { perm ≡ Branch → (other : ℕ) → other ≢ client → recorded_in self.old other block ≢ Tip }
         ensures bank { SameBank self.old self.new }
         ensures lines { (b : ℕ) → line_in self.new b ≡ line_in self.old b }
-        ensures recorded { (c b : ℕ) → recorded_in self.new c b ≡ (if c == client && b == block then perm else recorded_in self.old c b) }
+        ensures recorded { (c b : ℕ)
+            → recorded_in self.new c b ≡ (if c == client && b == block then perm else recorded_in self.old c b) }
         ensures ways { (b : ℕ) → way_in self.new b ≡ way_in self.old b }
         ensures free { (set way : ℕ) → free_at self.new set way ≡ free_at self.old set way }
         ensures orders { (set : ℕ)
             → order_at self.new set
-            ≡ (if set == set_of (geometry_in self.old) block then order_after (way_in self.old block) (order_at self.old set)
+            ≡ (if set == set_of (geometry_in self.old) block
+            then order_after (way_in self.old block) (order_at self.old set)
             else order_at self.old set) }
         ensures outward { SameOutward self.old self.new }
         ensures memory { SameMemory self.old self.new }
@@ -287,11 +295,14 @@ impl Home {
         requires held { IsSome (line_in self.old block) }
         ensures bank { SameBank self.old self.new }
         ensures lines { (b : ℕ) → line_in self.new b ≡ (if b == block then None else line_in self.old b) }
-        ensures recorded { (c b : ℕ) → recorded_in self.new c b ≡ (if b == block then NoAccess else recorded_in self.old c b) }
+        ensures recorded { (c b : ℕ)
+            → recorded_in self.new c b ≡ (if b == block then NoAccess else recorded_in self.old c b) }
         ensures ways { (b : ℕ) → way_in self.new b ≡ (if b == block then None else way_in self.old b) }
         ensures free { (set way : ℕ)
             → free_at self.new set way
-            ≡ (if set == set_of (geometry_in self.old) block && is_way (way_in self.old block) way then true else free_at self.old set way) }
+            ≡ (if set == set_of (geometry_in self.old) block && is_way (way_in self.old block) way
+            then true
+            else free_at self.old set way) }
         ensures orders { (set : ℕ) → order_at self.new set ≡ order_at self.old set }
         ensures outward { SameOutward self.old self.new }
         ensures memory { SameMemory self.old self.new }
@@ -307,14 +318,18 @@ impl Home {
         requires room { crossing_count self.old < MOST_CROSSINGS }
         ensures bank { SameBank self.old self.new }
         ensures lines { (b : ℕ) → line_in self.new b ≡ (if b == block then None else line_in self.old b) }
-        ensures recorded { (c b : ℕ) → recorded_in self.new c b ≡ (if b == block then NoAccess else recorded_in self.old c b) }
+        ensures recorded { (c b : ℕ)
+            → recorded_in self.new c b ≡ (if b == block then NoAccess else recorded_in self.old c b) }
         ensures ways { (b : ℕ) → way_in self.new b ≡ (if b == block then None else way_in self.old b) }
         ensures free { (set way : ℕ)
             → free_at self.new set way
-            ≡ (if set == set_of (geometry_in self.old) block && is_way (way_in self.old block) way then true else free_at self.old set way) }
+            ≡ (if set == set_of (geometry_in self.old) block && is_way (way_in self.old block) way
+            then true
+            else free_at self.old set way) }
         ensures orders { (set : ℕ) → order_at self.new set ≡ order_at self.old set }
         ensures outward { (b : ℕ)
-            → outward_in self.new b ≡ (if b == block then Put (home_bytes (line_in self.old block)) else outward_in self.old b) }
+            → outward_in self.new b
+            ≡ (if b == block then Put (home_bytes (line_in self.old block)) else outward_in self.old b) }
         ensures count { crossing_count self.new ≡ crossing_count self.old + 1 }
         ensures memory { SameMemory self.old self.new }
     {
@@ -337,11 +352,15 @@ impl Home {
         ensures home { SameHome self.old self.new }
         ensures outward { (b : ℕ)
             → outward_in self.new b
-            ≡ (if b == block then served_outward (memory_in self.old block) (outward_in self.old block) else outward_in self.old b) }
+            ≡ (if b == block
+            then served_outward (memory_in self.old block) (outward_in self.old block)
+            else outward_in self.old b) }
         ensures count { crossing_count self.new ≡ crossing_count self.old }
         ensures memory { (b : ℕ)
             → memory_in self.new b
-            ≡ (if b == block then served_memory (memory_in self.old block) (outward_in self.old block) else memory_in self.old b) }
+            ≡ (if b == block
+            then served_memory (memory_in self.old block) (outward_in self.old block)
+            else memory_in self.old b) }
     {
         let request = self.request(block);
         let reply = self.memory.serve(request);
@@ -382,11 +401,13 @@ impl Home {
         requires way { way < (geometry_in self.old).ways }
         requires free { free_at self.old (set_of (geometry_in self.old) block) way ≡ true }
         ensures bank { SameBank self.old self.new }
-        ensures lines { (b : ℕ) → line_in self.new b ≡ (if b == block then fetched (outward_in self.old block) else line_in self.old b) }
+        ensures lines { (b : ℕ)
+            → line_in self.new b ≡ (if b == block then fetched (outward_in self.old block) else line_in self.old b) }
         ensures recorded { (c b : ℕ) → recorded_in self.new c b ≡ recorded_in self.old c b }
         ensures ways { (b : ℕ) → way_in self.new b ≡ (if b == block then Some way else way_in self.old b) }
         ensures free { (x y : ℕ)
-            → free_at self.new x y ≡ (if x == set_of (geometry_in self.old) block && y == way then false else free_at self.old x y) }
+            → free_at self.new x y
+            ≡ (if x == set_of (geometry_in self.old) block && y == way then false else free_at self.old x y) }
         ensures orders { (set : ℕ) → order_at self.new set ≡ order_at self.old set }
         ensures outward { (b : ℕ) → outward_in self.new b ≡ (if b == block then Quiet else outward_in self.old b) }
         ensures count { crossing_count self.new + 1 ≡ crossing_count self.old }

@@ -32,7 +32,8 @@ impl<'a, R: Wait, G: Gate> Model for ClientPort<'a, R, G> {
 
     ghost Value = { OfClient };
 
-    ghost view = { λ p. record { client = p.client; successes = p.successes.items; room = vec_capacity p.successes; asked = p.asked } };
+    ghost view = { λ p.
+        record { client = p.client; successes = p.successes.items; room = vec_capacity p.successes; asked = p.asked } };
 }
 
 impl<'a, R: Wait, G: Gate> ClientPort<'a, R, G> {

@@ -85,7 +85,8 @@ impl Locked {
 
     /// The bank of an address; bank 0 where the memory does not have it, which refuses it.
     pub(crate) fn bank_at(&self, address: u32) -> BankNo
-        ensures { has_block self.now.geometry (block_of_address self.now.geometry address) ≡ true → result ≡ (place_of self.now.geometry (block_of_address self.now.geometry address)).bank }
+        ensures { has_block self.now.geometry (block_of_address self.now.geometry address) ≡ true
+            → result ≡ (place_of self.now.geometry (block_of_address self.now.geometry address)).bank }
     {
         self.bank_of(self.geometry.block_at(address))
     }
@@ -103,7 +104,8 @@ impl Locked {
 
     /// The bank with a number, where its lock is the one with that place.
     pub(crate) fn bank(&self, number: BankNo) -> Option<&LockedBank>
-        ensures { MatchOption result (slice_get self.now.numbers number ≢ Some number) (λ bank. bank.now.number ≡ number) }
+        ensures { MatchOption result (slice_get self.now.numbers number ≢ Some number)
+            (λ bank. bank.now.number ≡ number) }
     {
         let bank = self.banks.get(number.index())?;
         if bank.number == number {
@@ -133,7 +135,8 @@ impl Locked {
         gate: &'a G,
         number: BankNo,
     ) -> Option<BankPort<'a, R, G>>
-        ensures { MatchOption result (slice_get self.now.numbers number ≢ Some number) (λ p. (p.bank ≡ number) × (p.asked ≡ [])) }
+        ensures { MatchOption result (slice_get self.now.numbers number ≢ Some number)
+            (λ p. (p.bank ≡ number) × (p.asked ≡ [])) }
     {
         let bank = self.bank(number)?;
         Some(BankPort::new(rt, bank, gate))

@@ -74,7 +74,8 @@ pub trait Port {
         when: When,
     ) -> Result<Loaded, Refusal>
         ensures successes { MatchResult result
-            (λ loaded. successes self.new ≡ successes self.old ++ WasLoaded client address len loaded.bytes.items when loaded.stamp ∷ [])
+            (λ loaded. successes self.new
+            ≡ successes self.old ++ WasLoaded client address len loaded.bytes.items when loaded.stamp ∷ [])
             (λ _. successes self.new ≡ successes self.old) }
         ensures asked { asked self.new ≡ asked self.old };
 

@@ -144,7 +144,8 @@ impl Copies {
     pub fn oldest(&self, client: ClientId) -> Option<BlockNo>
         requires { client < clients_of self.now }
         ensures value { result ≡ find (λ block. has_copy (held_at self.now client block)) (order_in self.now client) }
-        ensures copy { IfSome result (λ block. (block < self.now.blocks) × (has_copy (held_at self.now client block) ≡ true)) }
+        ensures copy { IfSome result
+            (λ block. (block < self.now.blocks) × (has_copy (held_at self.now client block) ≡ true)) }
         ensures none { result ≡ None → (block : ℕ) → has_copy (held_at self.now client block) ≡ false }
     {
         self.table(client).oldest()
@@ -153,7 +154,8 @@ impl Copies {
     /// Whether a client waits for no answer about a block of the memory.
     pub fn awaits_nothing(&self, client: ClientId) -> bool
         requires { client < clients_of self.now }
-        ensures { IsTrue result ↔ ((block : ℕ) → block < self.now.blocks → is_awaited (held_at self.now client block) ≡ false) }
+        ensures { IsTrue result
+            ↔ ((block : ℕ) → block < self.now.blocks → is_awaited (held_at self.now client block) ≡ false) }
     {
         self.table(client).awaits_nothing()
     }
@@ -168,14 +170,17 @@ impl Copies {
 
         ensures same { SameSize self.old self.new }
         ensures after { OnOk result
-            ((x y : ℕ) → held_at self.new x y ≡ (if is_cell client block x y then Some held else held_at self.old x y)) }
+            ((x y : ℕ)
+            → held_at self.new x y ≡ (if is_cell client block x y then Some held else held_at self.old x y)) }
         ensures order { OnOk result
             ((x : ℕ)
             → order_in self.new x
-            ≡ (if x == client then order_after (is_renewed_entry (held_at self.old client block) held) block (order_in self.old x)
+            ≡ (if x == client
+            then order_after (is_renewed_entry (held_at self.old client block) held) block (order_in self.old x)
             else order_in self.old x)) }
 
-        ensures full { IsErr result ↔ ((held_at self.old client block ≡ None) × (self.old.limit ≤ entries self.old client)) }
+        ensures full { IsErr result
+            ↔ ((held_at self.old client block ≡ None) × (self.old.limit ≤ entries self.old client)) }
         ensures held { IfErr result (λ full. full.held ≡ held) }
         ensures unchanged { OnErr result (self.new ≡ self.old) }
     {
@@ -194,11 +199,15 @@ impl Copies {
         ensures same { SameSize self.old self.new }
         ensures after { (x y : ℕ)
             → held_at self.new x y
-            ≡ (if is_cell client block x y then Some (waiting wait (held_at self.old client block)) else held_at self.old x y) }
+            ≡ (if is_cell client block x y
+            then Some (waiting wait (held_at self.old client block))
+            else held_at self.old x y) }
         ensures order { (x : ℕ)
             → order_in self.new x
             ≡ (if x == client
-            then order_after (is_renewed_entry (held_at self.old client block) (waiting wait (held_at self.old client block))) block (order_in self.old x)
+            then order_after
+            (is_renewed_entry (held_at self.old client block) (waiting wait (held_at self.old client block))) block
+            (order_in self.old x)
             else order_in self.old x) }
     {
         self.tables[client.index()].wait_for(block, wait);
@@ -232,8 +241,11 @@ impl Copies {
     pub fn clear(&mut self, client: ClientId, block: BlockNo)
         requires { client < clients_of self.old }
         ensures same { SameSize self.old self.new }
-        ensures after { (x y : ℕ) → held_at self.new x y ≡ (if is_cell client block x y then None else held_at self.old x y) }
-        ensures order { (x : ℕ) → order_in self.new x ≡ (if x == client then order_without block (order_in self.old x) else order_in self.old x) }
+        ensures after { (x y : ℕ)
+            → held_at self.new x y ≡ (if is_cell client block x y then None else held_at self.old x y) }
+        ensures order { (x : ℕ)
+            → order_in self.new x
+            ≡ (if x == client then order_without block (order_in self.old x) else order_in self.old x) }
     {
         self.tables[client.index()].clear(block);
     }

@@ -66,7 +66,8 @@ impl Model for Table {
 
     ghost view = { λ t. entries_of t.slots.items t.keys.items };
 
-    ghost invariant = { λ t. IsSound t.keys.items t.slots.items t.free.items t.copies × IsShared t.keys.items t.sharing };
+    ghost invariant = { λ t. IsSound t.keys.items t.slots.items t.free.items t.copies
+        × IsShared t.keys.items t.sharing };
 }
 
 impl Table {
@@ -315,7 +316,8 @@ impl Table {
     fn write(&mut self, place: usize, held: Held)
         requires { place < length self.old }
         ensures { (e : Entry)
-            → self.new ≡ slice_set self.old place (record { block = (slice_index_or self.old place e).block; held = held }) }
+            → self.new
+            ≡ slice_set self.old place (record { block = (slice_index_or self.old place e).block; held = held }) }
     {
         let slot = self.keys[place].slot as usize;
         self.copies = self.copies + held.copies() - self.slots[slot].copies();

@@ -49,8 +49,10 @@ fn load(network: &mut Network, request: &Request) -> Accessed
 /// A load of at most eight bytes.
 fn short_load(network: &mut Network, request: &Request) -> Accessed
     requires { request.now.len ≤ 8 }
-    ensures { IsPlayed request.now.index (Step.Load request.now.client request.now.place request.now.len) network.old network.new (wide result)
-        ⊎ IsStarved (Step.Load request.now.client request.now.place request.now.len) network.old network.new (wide result) }
+    ensures { IsPlayed request.now.index (Step.Load request.now.client request.now.place request.now.len)
+        network.old network.new (wide result)
+        ⊎ IsStarved (Step.Load request.now.client request.now.place request.now.len) network.old network.new
+        (wide result) }
 {
     let client = ClientId::new(request.client);
     match network.load(request.index, client, request.place, request.len as u8) {
@@ -72,7 +74,8 @@ fn store(network: &mut Network, request: &Request) -> Accessed
 
 /// A store of at most eight bytes.
 fn short_store(network: &mut Network, request: &Request, bytes: &[u8]) -> Accessed
-    ensures { IsPlayed request.now.index (Step.Store request.now.client request.now.place bytes.now) network.old network.new (wide result)
+    ensures { IsPlayed request.now.index (Step.Store request.now.client request.now.place bytes.now)
+        network.old network.new (wide result)
         ⊎ IsStarved (Step.Store request.now.client request.now.place bytes.now) network.old network.new (wide result) }
 {
     let client = ClientId::new(request.client);

@@ -144,7 +144,8 @@ fn ask(network: &mut Network, request: &Request, told: &mut Answer)
 
 /// Carries out a step, as for the stores that a message implies: few, so that their answers may be moved.
 pub fn played(network: &mut Network, index: u32, step: &Step) -> Answer
-    ensures { IsPlayed index step.now network.old network.new result ⊎ IsStarved step.now network.old network.new result }
+    ensures { IsPlayed index step.now network.old network.new result
+        ⊎ IsStarved step.now network.old network.new result }
 {
     let shown = network.step(index, step);
     match &shown {

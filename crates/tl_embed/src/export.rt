@@ -69,7 +69,8 @@ pub extern "C" fn jv_echo_seen(seen: &Seen) -> Answer
 #[unsafe(no_mangle)]
 pub unsafe extern "C" fn jv_open(alloc: Global, numbers: &Numbers, image: &[u8], room: *mut u8)
     requires* { sem 𝓛 (room_at the_row room) }
-    ensures* { ∃ₛ (λ (made : Cache). sem 𝓛 (lies_at the_row full_share room made) ∗ ⌜ Opens numbers.now image.now made ⌝) }
+    ensures* { ∃ₛ (λ (made : Cache). sem 𝓛 (lies_at the_row full_share room made)
+        ∗ ⌜ Opens numbers.now image.now made ⌝) }
 {
     let made = opened(alloc, numbers, image);
     unsafe { std::ptr::write(room as *mut Cache, made) }
@@ -80,7 +81,8 @@ pub unsafe extern "C" fn jv_open(alloc: Global, numbers: &Numbers, image: &[u8],
 pub unsafe extern "C" fn jv_call(cache: *mut u8, request: &Request) -> Answer
     ghost before: { Cache }
     requires* { sem 𝓛 (lies_at the_row full_share cache before) }
-    ensures* { ∃ₛ (λ (after : Cache). sem 𝓛 (lies_at the_row full_share cache after) ∗ ⌜ Calls before request.now after result ⌝) }
+    ensures* { ∃ₛ (λ (after : Cache). sem 𝓛 (lies_at the_row full_share cache after)
+        ∗ ⌜ Calls before request.now after result ⌝) }
 {
     call(unsafe { &mut *(cache as *mut Cache) }, request)
 }
@@ -116,7 +118,8 @@ pub unsafe extern "C" fn jv_read(cache: *mut u8, request: &Request, events: &mut
 pub unsafe extern "C" fn jv_access(cache: *mut u8, request: &Request) -> Accessed
     ghost before: { Cache }
     requires* { sem 𝓛 (lies_at the_row full_share cache before) }
-    ensures* { ∃ₛ (λ (after : Cache). sem 𝓛 (lies_at the_row full_share cache after) ∗ ⌜ Accesses before request.now after result ⌝) }
+    ensures* { ∃ₛ (λ (after : Cache). sem 𝓛 (lies_at the_row full_share cache after)
+        ∗ ⌜ Accesses before request.now after result ⌝) }
 {
     access(unsafe { &mut *(cache as *mut Cache) }, request)
 }
@@ -126,7 +129,8 @@ pub unsafe extern "C" fn jv_access(cache: *mut u8, request: &Request) -> Accesse
 pub unsafe extern "C" fn jv_saw(cache: *mut u8, seen: &Seen) -> Answer
     ghost before: { Cache }
     requires* { sem 𝓛 (lies_at the_row full_share cache before) }
-    ensures* { ∃ₛ (λ (after : Cache). sem 𝓛 (lies_at the_row full_share cache after) ∗ ⌜ Saws before seen.now after result ⌝) }
+    ensures* { ∃ₛ (λ (after : Cache). sem 𝓛 (lies_at the_row full_share cache after)
+        ∗ ⌜ Saws before seen.now after result ⌝) }
 {
     saw(unsafe { &mut *(cache as *mut Cache) }, seen)
 }
@@ -136,7 +140,8 @@ pub unsafe extern "C" fn jv_saw(cache: *mut u8, seen: &Seen) -> Answer
 pub unsafe extern "C" fn jv_look(cache: *mut u8, request: &Request) -> Number
     ghost before: { Cache }
     requires* { sem 𝓛 (lies_at the_row full_share cache before) }
-    ensures* { ∃ₛ (λ (after : Cache). sem 𝓛 (lies_at the_row full_share cache after) ∗ ⌜ Looks before request.now after result ⌝) }
+    ensures* { ∃ₛ (λ (after : Cache). sem 𝓛 (lies_at the_row full_share cache after)
+        ∗ ⌜ Looks before request.now after result ⌝) }
 {
     look(unsafe { &mut *(cache as *mut Cache) }, request)
 }

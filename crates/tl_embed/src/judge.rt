@@ -45,7 +45,8 @@ fn judge_see(room: &mut JudgeRoom, entry: &BenchEntry) -> Verdict
 #[unsafe(no_mangle)]
 pub unsafe extern "C" fn jj_open(alloc: Global, numbers: &JudgeNumbers, image: &[u8], room: *mut u8)
     requires* { sem 𝓛 (room_at the_row room) }
-    ensures* { ∃ₛ (λ (made : JudgeRoom). sem 𝓛 (lies_at the_row full_share room made) ∗ ⌜ OpensJudge numbers.now image.now made ⌝) }
+    ensures* { ∃ₛ (λ (made : JudgeRoom). sem 𝓛 (lies_at the_row full_share room made)
+        ∗ ⌜ OpensJudge numbers.now image.now made ⌝) }
 {
     let made = judge_opened(alloc, numbers, image);
     unsafe { std::ptr::write(room as *mut JudgeRoom, made) }
@@ -56,7 +57,8 @@ pub unsafe extern "C" fn jj_open(alloc: Global, numbers: &JudgeNumbers, image: &
 pub unsafe extern "C" fn jj_see(judge: *mut u8, entry: &BenchEntry) -> Verdict
     ghost before: { JudgeRoom }
     requires* { sem 𝓛 (lies_at the_row full_share judge before) }
-    ensures* { ∃ₛ (λ (after : JudgeRoom). sem 𝓛 (lies_at the_row full_share judge after) ∗ ⌜ SeesRoom before entry.now after result ⌝) }
+    ensures* { ∃ₛ (λ (after : JudgeRoom). sem 𝓛 (lies_at the_row full_share judge after)
+        ∗ ⌜ SeesRoom before entry.now after result ⌝) }
 {
     judge_see(unsafe { &mut *(judge as *mut JudgeRoom) }, entry)
 }

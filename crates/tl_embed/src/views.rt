@@ -98,7 +98,8 @@ fn tell_of_block(network: &Network, request: &Request, told: &mut Answer)
 
 /// Of a block and a client: what is a number.
 fn number_of_block(network: &Network, request: &Request) -> Number
-    requires { ((20 ≤ request.now.call) × (request.now.call ≤ 22)) ⊎ ((38 ≤ request.now.call) × (request.now.call ≤ 39)) }
+    requires { ((20 ≤ request.now.call) × (request.now.call ≤ 22))
+        ⊎ ((38 ≤ request.now.call) × (request.now.call ≤ 39)) }
     ensures { number_wide result ≡ block_told network.now request.now }
 {
     let client = ClientId::new(request.client);

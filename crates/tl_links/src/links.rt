@@ -179,7 +179,9 @@ impl Links {
         ensures after { OnOk result
             ((x : ℕ) (k : Channel)
             → lane_in self.new x k
-            ≡ (if is_here client channel x k then with_message (lane_in self.old x k) message else lane_in self.old x k)) }
+            ≡ (if is_here client channel x k
+            then with_message (lane_in self.old x k) message
+            else lane_in self.old x k)) }
 
         ensures full { IsErr result ↔ (length (lane_in self.old client channel).messages ≡ MESSAGES) }
         ensures message { IfErr result (λ full. full.message ≡ message) }
@@ -202,7 +204,9 @@ impl Links {
         ensures same { SameSize self.old self.new }
         ensures after { (x : ℕ) (k : Channel)
             → lane_in self.new x k
-            ≡ (if is_here client channel x k then with_message (lane_in self.old x k) message else lane_in self.old x k) }
+            ≡ (if is_here client channel x k
+            then with_message (lane_in self.old x k) message
+            else lane_in self.old x k) }
     {
         let serial = self.queue(client, channel).sent();
         let kind = place_by_ending(channel, message.block);
@@ -246,7 +250,9 @@ impl Links {
         ensures after { OnOk result
             ((x : ℕ) (k : Channel)
             → lane_in self.new x k
-            ≡ (if is_here ticket.client ticket.channel x k then without_first (lane_in self.old x k) else lane_in self.old x k)) }
+            ≡ (if is_here ticket.client ticket.channel x k
+            then without_first (lane_in self.old x k)
+            else lane_in self.old x k)) }
 
         ensures refused { IfErr result (IsNotHead (lane_in self.old ticket.client ticket.channel) ticket.serial) }
         ensures unchanged { OnErr result (self.new ≡ self.old) }

@@ -70,7 +70,8 @@ impl Queue {
 
     /// The first message that waits.
     pub(crate) fn first(&self) -> Option<&Message>
-        ensures { MatchOption result (self.now.messages ≡ []) (λ x. (rest : List Message) × (self.now.messages ≡ x.now ∷ rest)) }
+        ensures { MatchOption result (self.now.messages ≡ [])
+            (λ x. (rest : List Message) × (self.now.messages ≡ x.now ∷ rest)) }
     {
         let key = self.order.front()?;
         self.messages.get(*key)
@@ -112,7 +113,8 @@ impl Queue {
 
     /// Takes the first message, where one waits.
     pub(crate) fn pop(&mut self) -> Option<Message>
-        ensures value { MatchOption result (self.old.messages ≡ []) (λ x. (rest : List Message) × (self.old.messages ≡ x ∷ rest)) }
+        ensures value { MatchOption result (self.old.messages ≡ [])
+            (λ x. (rest : List Message) × (self.old.messages ≡ x ∷ rest)) }
         ensures after { self.new ≡ without_first self.old }
     {
         let key = self.order.pop_front()?;

@@ -201,7 +201,8 @@ impl Geometry {
     #[tactic(auto, using(crate::proofs::PlaceLaws::slots), unfolding(crate::specs::Places::slot_of))]
     pub fn slot(self, block: BlockNo) -> u32
         ensures is { result ≡ slot_of self block }
-        ensures alone { (other : ℕ) → bank_of self other ≡ bank_of self block → slot_of self other ≡ result → other ≡ block }
+        ensures alone { (other : ℕ) → bank_of self other ≡ bank_of self block → slot_of self other ≡ result
+            → other ≡ block }
         ensures inside { block < self.memory_blocks → result < slot_count self }
     {
         block.number() >> self.bank_bits()

@@ -35,7 +35,8 @@ impl Model for Memory {
     } };
 
     ghost invariant = { λ m.
-        (length m.bytes.items ≤ vec_capacity m.bytes) × (vec_capacity m.bytes ≡ place_count m.geometry m.bank * m.geometry.block_bytes) };
+        (length m.bytes.items ≤ vec_capacity m.bytes)
+        × (vec_capacity m.bytes ≡ place_count m.geometry m.bank * m.geometry.block_bytes) };
 }
 
 impl Memory {
@@ -48,7 +49,8 @@ impl Memory {
         ensures bank { IfOk result (λ m. m.bank ≡ None) }
         ensures blocks { IfOk result
             (λ m. (b : ℕ)
-            → b < geometry.memory_blocks → block_in m b ≡ image_bytes image.now (b * geometry.block_bytes) geometry.block_bytes) }
+            → b < geometry.memory_blocks
+            → block_in m b ≡ image_bytes image.now (b * geometry.block_bytes) geometry.block_bytes) }
     {
         let len = geometry.memory_bytes() as usize;
         let mut bytes = Vec::with_capacity(alloc, len)?;

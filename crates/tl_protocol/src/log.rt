@@ -101,7 +101,8 @@ impl Log {
     /// Forgets all events so far, whose memory is then room for others. A log of 2 ^ 63 events or more forgets none.
     pub fn forget(&mut self)
         ensures events { self.new.events ≡ self.old.events }
-        ensures forgotten { self.new.forgotten ≡ (if nat_lt (length self.old.events) (2 ^ 63) then length self.old.events else self.old.forgotten) }
+        ensures forgotten { self.new.forgotten
+            ≡ (if nat_lt (length self.old.events) (2 ^ 63) then length self.old.events else self.old.forgotten) }
         ensures room { self.new.room + self.old.forgotten ≡ self.old.room + self.new.forgotten }
     {
         let count = self.events.len();

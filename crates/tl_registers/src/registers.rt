@@ -130,8 +130,11 @@ impl Registers {
     /// What the register of the view's block does next: None where it waits, and where the block has none.
     pub fn next_action<V: RegisterView>(&self, view: &BlockView<'_, V>) -> Option<Due>
         requires few { (V.shape view.now.view.now).clients ≤ CLIENTS }
-        requires known { IfSome (register_of view.now.block self.now.open_registers) (IsKnown (V.shape view.now.view.now).blocks) }
-        ensures { result ≡ due_of (V.shape view.now.view.now) (V.state view.now.view.now) (register_of view.now.block self.now.open_registers) }
+        requires known { IfSome (register_of view.now.block self.now.open_registers)
+            (IsKnown (V.shape view.now.view.now).blocks) }
+        ensures { result
+            ≡ due_of (V.shape view.now.view.now) (V.state view.now.view.now)
+            (register_of view.now.block self.now.open_registers) }
     {
         self.of_block(view.block)?.next_action(view.view)
     }

@@ -271,7 +271,9 @@ impl BlockState {
     /// The bytes of the client's copy at a place, where it has them.
     pub fn read(&self, c: ClientId, offset: u32, len: u32) -> Option<AccessBytes>
         ensures some { IsSome result ↔ CanRead (plain_client self.now c).held offset len }
-        ensures bytes { IfSome result (λ word. (word ≡ slice_range (bytes_of (plain_client self.now c).held) offset (offset + len)) × (length word ≡ len)) }
+        ensures bytes { IfSome result
+            (λ word. (word ≡ slice_range (bytes_of (plain_client self.now c).held) offset (offset + len))
+            × (length word ≡ len)) }
     {
         match &self.clients.get(c.index())?.held {
             CachedCopy::Absent => None,
@@ -342,7 +344,9 @@ impl BlockState {
 
     fn take_grant_ack(&mut self, c: ClientId)
         requires client { c < length self.old.clients }
-        ensures after { block_state self.new ≡ with_client (record (block_state self.old) { accepted = None }) c (took_grant_ack (plain_client self.old c)) }
+        ensures after { block_state self.new
+            ≡ with_client (record (block_state self.old) { accepted = None }) c
+            (took_grant_ack (plain_client self.old c)) }
         ensures clients { length self.new.clients ≡ length self.old.clients }
     {
         self.clients[c.index()].take_grant_ack();
@@ -379,7 +383,8 @@ impl BlockState {
 
     fn send_put(&mut self)
         requires { IsSome self.old.home }
-        ensures after { block_state self.new ≡ record (block_state self.old) { home = None; outward = Put (home_bytes self.old.home) } }
+        ensures after { block_state self.new
+            ≡ record (block_state self.old) { home = None; outward = Put (home_bytes self.old.home) } }
         ensures clients { length self.new.clients ≡ length self.old.clients }
     {
         if let Some(line) = self.home.take() {
@@ -400,7 +405,8 @@ impl BlockState {
 
     /// The permission that a Grant for `acquire` gives now.
     pub fn granted(&self, acquire: Accepted) -> GrantCap
-        ensures { result ≡ granted_cap acquire.grow (is_alone (length self.now.clients) acquire.client (plain_client self.now)) }
+        ensures { result
+            ≡ granted_cap acquire.grow (is_alone (length self.now.clients) acquire.client (plain_client self.now)) }
     {
         match acquire.grow {
             Grow::NtoB if !self.is_alone(acquire.client) => GrantCap::ToB,

@@ -12,7 +12,8 @@ use tl_types::{BANKS, CLIENTS};
 
 /// Whether the clients of a log are known, and its stamps rise.
 fn is_lawful(log: &[Event]) -> bool
-    ensures { IsTrue result ↔ ((All (λ a. a.client < CLIENTS) (accesses_of log.now)) × Pairwise IsEarlier (accesses_of log.now)) }
+    ensures { IsTrue result
+        ↔ ((All (λ a. a.client < CLIENTS) (accesses_of log.now)) × Pairwise IsEarlier (accesses_of log.now)) }
 {
     let mut last = None;
     for event in log {

@@ -189,9 +189,12 @@ impl Plain {
     #[tactic(auto, using(crate::proofs::Owned::none_past, crate::proofs::Owned::some_here))]
     pub fn read(&self, client: ClientId, address: u32, len: u32) -> Option<AccessBytes>
         ensures some { IsSome result
-            ↔ CanRead ((state_of_plain self.now (address / self.now.shape.block_bytes)).client client).held (address % self.now.shape.block_bytes) len }
+            ↔ CanRead ((state_of_plain self.now (address / self.now.shape.block_bytes)).client client).held
+            (address % self.now.shape.block_bytes) len }
         ensures bytes { IfSome result
-            (λ word. ReadsAs (bytes_of ((state_of_plain self.now (address / self.now.shape.block_bytes)).client client).held) (address % self.now.shape.block_bytes) word) }
+            (λ word. ReadsAs
+            (bytes_of ((state_of_plain self.now (address / self.now.shape.block_bytes)).client client).held)
+            (address % self.now.shape.block_bytes) word) }
         ensures len { IfSome result (λ word. length word ≡ len) }
     {
         let block = self.state((address / self.shape.block_bytes) as usize)?;

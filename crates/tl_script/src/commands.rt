@@ -143,7 +143,8 @@ fn padded(
     mut given: Vec<Vec<Command>>,
     clients: usize,
 ) -> Result<Vec<Vec<Command>>, ScriptError>
-    ensures { Gives (λ v. commands v.items) result (Ok (commands given.items ++ replicate (clients - length given.items) [])) }
+    ensures { Gives (λ v. commands v.items) result
+        (Ok (commands given.items ++ replicate (clients - length given.items) [])) }
 {
     while given.len() < clients {
         given.push(Vec::new(alloc))?;

@@ -85,7 +85,8 @@ pub fn push_address(text: &mut String, address: u32) -> Result<(), AllocError>
 /// error is want of memory; the text is then of no use.
 pub fn push_bytes_at(text: &mut String, address: u32, bytes: &[u8]) -> Result<(), AllocError>
     requires { length bytes.now ≤ 8 }
-    ensures { OnOk result (string_bytes text.new ≡ string_bytes text.old ++ address_text address ++ codes " " ++ hex_text bytes.now) }
+    ensures { OnOk result
+        (string_bytes text.new ≡ string_bytes text.old ++ address_text address ++ codes " " ++ hex_text bytes.now) }
 {
     let mut digits = *b"0x                         ";
     write_hex(&mut digits, 2, &address.to_be_bytes());

@@ -24,5 +24,6 @@ pub fn bytes_are_read_back()
 
 /// A ticket is read back as it was printed, so a step may take any ticket that a trace shows.
 pub fn tickets_are_read_back()
-    ensures { (t : Ticket) → t.bank < 2 ^ 32 → t.client < 2 ^ 32 → t.serial < 2 ^ 32 → ticket_of (ticket_text t) ≡ Some t }
+    ensures { (t : Ticket) → t.bank < 2 ^ 32 → t.client < 2 ^ 32 → t.serial < 2 ^ 32
+        → ticket_of (ticket_text t) ≡ Some t }
 {}

@@ -37,8 +37,11 @@ pub fn write_whole<W: Write>(writer: &mut W, text: &[u8]) -> io::Result<()>
 /// Writes the line of a fault, of at most 128 bytes. The error is what the writer answered, after a beginning of the
 /// line. The line is made on the stack, since want of memory is one of the faults.
 pub fn tell<W: Write, D: fmt::Display>(faults: &mut W, line: &D) -> io::Result<()>
-    ensures ok { OnOk result (IfSome (D.output line.now) (λ text. Appends (W.contents faults.old) (W.contents faults.new) (text ++ codes "\n"))) }
-    ensures line { IfSome (D.output line.now) (λ text. AppendsBeginning (W.contents faults.old) (W.contents faults.new) (text ++ codes "\n")) }
+    ensures ok { OnOk result
+        (IfSome (D.output line.now)
+        (λ text. Appends (W.contents faults.old) (W.contents faults.new) (text ++ codes "\n"))) }
+    ensures line { IfSome (D.output line.now)
+        (λ text. AppendsBeginning (W.contents faults.old) (W.contents faults.new) (text ++ codes "\n")) }
 {
     let mut bytes: ArrayVec<u8, LINE> = ArrayVec::new();
     writeln!(bytes, "{line}")?;

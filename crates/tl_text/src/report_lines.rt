@@ -20,7 +20,9 @@ fn push_number(text: &mut String, number: u64) -> Result<(), AllocError>
 /// The verb, the address and the bytes of a load or a store.
 fn push_access(text: &mut String, verb: &str, address: u32, bytes: &[u8]) -> Result<(), AllocError>
     requires { length bytes.now ≤ 8 }
-    ensures { OnOk result (string_bytes text.new ≡ string_bytes text.old ++ verb.now ++ address_text address ++ codes " " ++ hex_text bytes.now) }
+    ensures { OnOk result
+        (string_bytes text.new
+        ≡ string_bytes text.old ++ verb.now ++ address_text address ++ codes " " ++ hex_text bytes.now) }
 {
     text.push_str(verb)?;
     push_bytes_at(text, address, bytes)

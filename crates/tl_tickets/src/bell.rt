@@ -33,7 +33,8 @@ impl Model for Bell {
 
     ghost view = { λ b. record { table = b.word.shared.table_id; seats = b.seats } };
 
-    ghost invariant = { λ b. (b.word.shared.table_id.words ≡ 1) × (b.word.shared.key ≡ b.seats) × (0 < b.seats) × (b.seats ≤ 64) };
+    ghost invariant = { λ b. (b.word.shared.table_id.words ≡ 1) × (b.word.shared.key ≡ b.seats) × (0 < b.seats)
+        × (b.seats ≤ 64) };
 }
 
 /// One thread's right to ring a bell and to hear it.
@@ -50,9 +51,11 @@ impl Model for Seat {
 
     ghost Value = { SeatView };
 
-    ghost view = { λ s. record { table = s.place.table_id; number = s.number; rung = s.rung; seen = s.place.me.0.seen } };
+    ghost view = { λ s.
+        record { table = s.place.table_id; number = s.number; rung = s.rung; seen = s.place.me.0.seen } };
 
-    ghost invariant = { λ s. (s.place.me.1 ≡ []) × (s.place.me.0.parts ≡ 1) × (s.place.me.0.rung ≡ s.rung) × (s.rung ≤ most_rings) };
+    ghost invariant = { λ s. (s.place.me.1 ≡ []) × (s.place.me.0.parts ≡ 1) × (s.place.me.0.rung ≡ s.rung)
+        × (s.rung ≤ most_rings) };
 }
 
 impl Seat {
@@ -132,7 +135,8 @@ impl Bell {
     pub fn ring(&self, seat: &mut Seat) -> bool
         requires { IsSeatOf self.now seat.old }
         ensures seat { IsSameSeat seat.old seat.new }
-        ensures rung { MatchBool result ((seat.old.rung < most_rings) × (seat.new ≡ after_ring seat.old)) ((seat.old.rung ≡ most_rings) × (seat.new ≡ seat.old)) }
+        ensures rung { MatchBool result ((seat.old.rung < most_rings) × (seat.new ≡ after_ring seat.old))
+            ((seat.old.rung ≡ most_rings) × (seat.new ≡ seat.old)) }
     {
         if seat.rung == MOST_RINGS {
             return false;
@@ -157,7 +161,10 @@ impl Bell {
     /// the seats are used up either way.
     pub fn total(self, seats: Vec<Seat>) -> Result<u64, Missing>
         requires { All (IsSeatOf self) seats.items }
-        ensures { MatchResult result (λ total. IsEachSeatOnce self.seats seats.items × (total ≡ rings_of seats.items) × All (λ s. s.seen ≤ total) seats.items) (λ _. ¬ IsEachSeatOnce self.seats seats.items) }
+        ensures { MatchResult result
+            (λ total. IsEachSeatOnce self.seats seats.items × (total ≡ rings_of seats.items)
+            × All (λ s. s.seen ≤ total) seats.items)
+            (λ _. ¬ IsEachSeatOnce self.seats seats.items) }
     {
         if !is_each_once(&seats, self.seats) {
             return Err(Missing);

@@ -40,7 +40,9 @@ impl<'a> Sender<'a> {
 
     /// Puts a ticket. `Full`, with the ticket, where the inbox was full at that step; nothing changes then.
     pub fn put<R: Wait>(&mut self, rt: &R, ticket: Ticket) -> Result<(), Full>
-        ensures { MatchResult result (λ _. self.new ≡ record self.old { pass = after_put self.old.pass ticket }) (λ full. (full.0 ≡ ticket) × (self.new ≡ self.old) × WasFull self.old.inbox self.old.pass) }
+        ensures { MatchResult result
+            (λ _. self.new ≡ record self.old { pass = after_put self.old.pass ticket })
+            (λ full. (full.0 ≡ ticket) × (self.new ≡ self.old) × WasFull self.old.inbox self.old.pass) }
     {
         self.inbox.put(rt, &mut self.pass, ticket)
     }
@@ -83,7 +85,10 @@ impl<'a> Receiver<'a> {
 
     /// Takes the ticket that waited longest. `None` only where nothing waited at one moment of the call.
     pub fn take<R: Wait>(&mut self, rt: &R) -> Option<Ticket>
-        ensures { MatchOption result ((self.new ≡ self.old) × (self.old.pass.behind ≡ 0)) (λ ticket. (sender rest : ℕ) × (0 < sender) × (sender ≤ self.old.inbox.senders) × (self.old.pass.behind ≤ rest + 1) × (self.new ≡ record self.old { pass = after_take self.old.pass sender ticket rest })) }
+        ensures { MatchOption result ((self.new ≡ self.old) × (self.old.pass.behind ≡ 0))
+            (λ ticket. (sender rest : ℕ) × (0 < sender) × (sender ≤ self.old.inbox.senders)
+            × (self.old.pass.behind ≤ rest + 1)
+            × (self.new ≡ record self.old { pass = after_take self.old.pass sender ticket rest })) }
     {
         self.inbox.take(rt, &mut self.pass)
     }
@@ -126,7 +131,9 @@ impl<'a> Ringer<'a> {
 
     /// Rings once. `false` where this seat has rung 2^40 times.
     pub fn ring(&mut self) -> bool
-        ensures { MatchBool result ((self.old.seat.rung < most_rings) × (self.new ≡ record self.old { seat = after_ring self.old.seat })) ((self.old.seat.rung ≡ most_rings) × (self.new ≡ self.old)) }
+        ensures { MatchBool result
+            ((self.old.seat.rung < most_rings) × (self.new ≡ record self.old { seat = after_ring self.old.seat }))
+            ((self.old.seat.rung ≡ most_rings) × (self.new ≡ self.old)) }
     {
         self.bell.ring(&mut self.seat)
     }

@@ -32,7 +32,8 @@ impl Model for Inbox {
 
     ghost Value = { InboxView };
 
-    ghost view = { λ i. record { table = i.queue.table.shared.table_id; capacity = ruled_capacity i.queue; senders = i.senders } };
+    ghost view = { λ i.
+        record { table = i.queue.table.shared.table_id; capacity = ruled_capacity i.queue; senders = i.senders } };
 
     ghost invariant = { λ i. (ruled_capacity i.queue ≤ 4096) × (i.senders ≤ 64) };
 }
@@ -57,14 +58,19 @@ impl Model for Pass {
 
     ghost view = { λ p. pass_with p.seat.table_id p.senders p.number (learned p.seat) };
 
-    ghost invariant = { λ p. let pass = pass_with p.seat.table_id p.senders p.number (learned p.seat) in (p.seat.me.1 ≡ []) × (known pass ≡ learned p.seat) × IsBalance p.balance pass };
+    ghost invariant = { λ p. let pass = pass_with p.seat.table_id p.senders p.number (learned p.seat) in
+        (p.seat.me.1 ≡ [])
+        × (known pass ≡ learned p.seat) × IsBalance p.balance pass };
 }
 
 impl Pass {
     fn new(seat: QueuePass, senders: usize, number: usize) -> Pass
-        requires seat { (seat.me.1 ≡ []) × (learned seat ≡ known (pass_with seat.table_id senders number (learned seat))) }
-        requires fresh { (first_tickets (learned seat).puts ≡ []) × ((learned seat).taken ≡ []) × ((learned seat).behind ≡ 0) }
-        ensures { result ≡ record { table = seat.table_id; senders = senders; number = number; put = []; taken = []; behind = 0 } }
+        requires seat { (seat.me.1 ≡ [])
+            × (learned seat ≡ known (pass_with seat.table_id senders number (learned seat))) }
+        requires fresh { (first_tickets (learned seat).puts ≡ []) × ((learned seat).taken ≡ [])
+            × ((learned seat).behind ≡ 0) }
+        ensures { result
+            ≡ record { table = seat.table_id; senders = senders; number = number; put = []; taken = []; behind = 0 } }
     {
         Pass {
             seat,
@@ -147,7 +153,8 @@ impl Inbox {
     ) -> Result<(Inbox, Vec<Pass>), AllocError>
         requires capacity { (0 < capacity) × (capacity ≤ 4096) }
         requires senders { (0 < senders) × (senders ≤ 64) }
-        ensures { IfOk result (λ made. (made.0.capacity ≡ capacity) × (made.0.senders ≡ senders) × (made.1.items ≡ fresh_passes made.0)) }
+        ensures { IfOk result
+            (λ made. (made.0.capacity ≡ capacity) × (made.0.senders ≡ senders) × (made.1.items ≡ fresh_passes made.0)) }
     {
         let (queue, mut receiver) = Queue::ruled(alloc, capacity)?;
         count_senders(&queue, &mut receiver, senders);
@@ -165,7 +172,9 @@ impl Inbox {
     pub fn put<R: Wait>(&self, rt: &R, pass: &mut Pass, ticket: Ticket) -> Result<(), Full>
         requires { IsSenderOf self.now pass.old }
         ensures pass { IsSamePass pass.old pass.new }
-        ensures put { MatchResult result (λ _. pass.new ≡ after_put pass.old ticket) (λ full. (full.0 ≡ ticket) × (pass.new ≡ pass.old) × WasFull self.now pass.old) }
+        ensures put { MatchResult result
+            (λ _. pass.new ≡ after_put pass.old ticket)
+            (λ full. (full.0 ≡ ticket) × (pass.new ≡ pass.old) × WasFull self.now pass.old) }
     {
         let sent = Sent {
             sender: pass.number,
@@ -185,7 +194,9 @@ impl Inbox {
     pub fn take<R: Wait>(&self, rt: &R, pass: &mut Pass) -> Option<Ticket>
         requires { IsReceiverOf self.now pass.old }
         ensures pass { IsSamePass pass.old pass.new }
-        ensures taken { MatchOption result ((pass.new ≡ pass.old) × (pass.old.behind ≡ 0)) (λ ticket. (sender rest : ℕ) × (0 < sender) × (sender ≤ self.now.senders) × (pass.old.behind ≤ rest + 1) × (pass.new ≡ after_take pass.old sender ticket rest)) }
+        ensures taken { MatchOption result ((pass.new ≡ pass.old) × (pass.old.behind ≡ 0))
+            (λ ticket. (sender rest : ℕ) × (0 < sender) × (sender ≤ self.now.senders) × (pass.old.behind ≤ rest + 1)
+            × (pass.new ≡ after_take pass.old sender ticket rest)) }
     {
         let sent = self.queue.pop_as::<TakeOne, R>(rt, &mut pass.seat)?;
         pass.balance = pass.balance.wrapping_sub(1);
@@ -196,7 +207,9 @@ impl Inbox {
     /// and the passes are used up either way.
     pub fn settle(self, passes: Vec<Pass>) -> Result<u64, Missing>
         requires { All (IsPassOf self) passes.items }
-        ensures { MatchResult result (λ waiting. IsEachOnce self.senders passes.items × Settles self.senders passes.items waiting) (λ _. ¬ IsEachOnce self.senders passes.items) }
+        ensures { MatchResult result
+            (λ waiting. IsEachOnce self.senders passes.items × Settles self.senders passes.items waiting)
+            (λ _. ¬ IsEachOnce self.senders passes.items) }
     {
         if !is_each_once(&passes, self.senders) {
             return Err(Missing);

@@ -27,7 +27,8 @@ pub(crate) fn act(
     answer: &mut Answer,
 ) -> Result<(), AllocError>
     ensures memory { OnErr result
-        (IsStarved (first_of (cases_of (record { bank = bank.old; share = share.old; clock = clock.old }) step.now)) bank.old.room
+        (IsStarved (first_of (cases_of (record { bank = bank.old; share = share.old; clock = clock.old }) step.now))
+        bank.old.room
         ((bank.new ≡ bank.old) × (share.new ≡ share.old) × (clock.new ≡ clock.old))) }
     ensures answer { OnOk result
         (IsStep index step.now (record { bank = bank.old; share = share.old; clock = clock.old })

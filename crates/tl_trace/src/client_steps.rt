@@ -51,7 +51,8 @@ pub(crate) fn load_bytes(
     address: u32,
     len: u8,
 ) -> Result<AccessBytes, Refusal>
-    ensures refused { IfErr result (IsRefused (first_of (load_cases bank.old client address len clock.old)) bank.old.room) }
+    ensures refused { IfErr result
+        (IsRefused (first_of (load_cases bank.old client address len clock.old)) bank.old.room) }
     ensures unchanged { OnErr result ((bank.new ≡ bank.old) × (clock.new ≡ clock.old)) }
     ensures permitted { OnOk result (first_of (load_cases bank.old client address len clock.old) ≡ None) }
     ensures does { IfOk result
@@ -105,7 +106,8 @@ pub(crate) fn store_bytes(
     ensures refused { IfErr result
         (IsRefused (first_of (store_cases bank.old client address (length bytes.now) clock.old)) bank.old.room) }
     ensures unchanged { OnErr result ((bank.new ≡ bank.old) × (clock.new ≡ clock.old)) }
-    ensures permitted { OnOk result (first_of (store_cases bank.old client address (length bytes.now) clock.old) ≡ None) }
+    ensures permitted { OnOk result
+        (first_of (store_cases bank.old client address (length bytes.now) clock.old) ≡ None) }
     ensures does { IfOk result
         (λ _. Stores index bank.old bank.new clock.old clock.new client address bytes.now Answer.Done) }
 {
@@ -130,7 +132,9 @@ pub(crate) fn acquire(
         (bank.new ≡ bank.old)) }
     ensures answer { OnOk result
         (Answers (first_of (acquire_cases bank.old client block grow)) (bank.new ≡ bank.old)
-        (Posts bank.old bank.new (Event.SendAcquire client block grow) (next_ticket bank.old client Channel.A) answer.new) answer.new) }
+        (Posts bank.old bank.new (Event.SendAcquire client block grow) (next_ticket bank.old client Channel.A)
+        answer.new)
+        answer.new) }
 {
     match bank.acquire(client, block, grow) {
         Ok(ticket) => {
@@ -156,7 +160,8 @@ pub(crate) fn release(
     ensures answer { OnOk result
         (Answers (first_of (release_cases bank.old client block prune share.old))
         ((bank.new ≡ bank.old) × (share.new ≡ share.old))
-        (Posts bank.old bank.new (Event.SendRelease client block prune) (next_ticket bank.old client Channel.C) answer.new
+        (Posts bank.old bank.new (Event.SendRelease client block prune) (next_ticket bank.old client Channel.C)
+        answer.new
         × Recounts bank.old bank.new client block share.old share.new) answer.new) }
 {
     match bank.release(client, block, prune, share) {
@@ -183,7 +188,8 @@ pub(crate) fn answer_probe(
         ((bank.new ≡ bank.old) × (share.new ≡ share.old))
         (Posts bank.old bank.new (Event.AnswerProbe ticket.client (block_named bank.old ticket Channel.B))
         (next_ticket bank.old ticket.client Channel.C) answer.new
-        × Recounts bank.old bank.new ticket.client (block_named bank.old ticket Channel.B) share.old share.new) answer.new) }
+        × Recounts bank.old bank.new ticket.client (block_named bank.old ticket Channel.B) share.old share.new)
+        answer.new) }
 {
     match bank.answer_probe(ticket, share) {
         Ok(ack) => {
@@ -209,7 +215,8 @@ pub(crate) fn take_grant(
         ((bank.new ≡ bank.old) × (share.new ≡ share.old))
         (Posts bank.old bank.new (Event.TakeGrant ticket.client (block_named bank.old ticket Channel.D))
         (next_ticket bank.old ticket.client Channel.E) answer.new
-        × Recounts bank.old bank.new ticket.client (block_named bank.old ticket Channel.D) share.old share.new) answer.new) }
+        × Recounts bank.old bank.new ticket.client (block_named bank.old ticket Channel.D) share.old share.new)
+        answer.new) }
 {
     match bank.take_grant(ticket, share) {
         Ok(ack) => {
@@ -231,7 +238,8 @@ pub(crate) fn take_release_ack(
         (bank.new ≡ bank.old)) }
     ensures answer { OnOk result
         (Answers (first_of (take_release_ack_cases bank.old ticket)) (bank.new ≡ bank.old)
-        (Logs bank.old bank.new (Event.TakeReleaseAck ticket.client (block_named bank.old ticket Channel.D)) answer.new) answer.new) }
+        (Logs bank.old bank.new (Event.TakeReleaseAck ticket.client (block_named bank.old ticket Channel.D)) answer.new)
+        answer.new) }
 {
     match bank.take_release_ack(ticket) {
         Ok(()) => {

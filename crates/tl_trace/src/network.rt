@@ -32,7 +32,8 @@ impl Model for Network {
 
     ghost Value = { NetworkState };
 
-    ghost view = { λ p. record { geometry = p.geometry; shared_banks = p.shared_banks.items; clocks = p.clocks.items } };
+    ghost view = { λ p.
+        record { geometry = p.geometry; shared_banks = p.shared_banks.items; clocks = p.clocks.items } };
 
     ghost invariant = { λ p. length p.shared_banks.items ≡ p.geometry.banks };
 }
@@ -109,7 +110,8 @@ impl Network {
         address: u32,
         bytes: &[u8],
     ) -> Result<(), Refusal>
-        ensures refused { IfErr result (IsRefusedNetwork index (Step.Store client address bytes.now) self.old self.new) }
+        ensures refused { IfErr result
+            (IsRefusedNetwork index (Step.Store client address bytes.now) self.old self.new) }
         ensures done { IfOk result
             (λ _. IsNetworkStep index (Step.Store client address bytes.now) self.old self.new Answer.Done) }
     {

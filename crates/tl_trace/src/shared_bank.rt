@@ -90,7 +90,8 @@ impl SharedBank {
         ensures refused { IfErr result
             (IsRefusedAt index (Step.Load client address len) self.old self.new clock.old clock.new) }
         ensures done { IfOk result
-            (λ bytes. IsStepAt index (Step.Load client address len) self.old self.new clock.old clock.new (Answer.Loaded bytes)) }
+            (λ bytes. IsStepAt index (Step.Load client address len) self.old self.new clock.old clock.new
+            (Answer.Loaded bytes)) }
     {
         // For the prover: the client has a share here, which an access leaves as it is.
         let _place = self.share_place(client);
@@ -109,7 +110,8 @@ impl SharedBank {
         ensures refused { IfErr result
             (IsRefusedAt index (Step.Store client address bytes.now) self.old self.new clock.old clock.new) }
         ensures done { IfOk result
-            (λ _. IsStepAt index (Step.Store client address bytes.now) self.old self.new clock.old clock.new Answer.Done) }
+            (λ _. IsStepAt index (Step.Store client address bytes.now)
+            self.old self.new clock.old clock.new Answer.Done) }
     {
         // For the prover: the client has a share here, which an access leaves as it is.
         let _place = self.share_place(client);
@@ -138,7 +140,8 @@ impl SharedBank {
     pub(crate) fn would_answer(&self, ticket: Ticket) -> Result<Message, Refusal>
         ensures { MatchResult result
             (λ message. (clock : ℕ) → WouldSendAt self.now clock (Step.Ticket TicketCall.AnswerProbe ticket) message)
-            (λ refusal. (clock : ℕ) → WouldRefuseAt self.now clock (Step.Ticket TicketCall.AnswerProbe ticket) refusal) }
+            (λ refusal. (clock : ℕ)
+            → WouldRefuseAt self.now clock (Step.Ticket TicketCall.AnswerProbe ticket) refusal) }
     {
         let share = &self.shares[self.share_place(ticket.client)];
         match self.bank.would_answer(ticket, share) {

@@ -156,7 +156,8 @@ impl BlockBytes {
     /// The `len` bytes from `offset` on, where they are there and at most eight.
     pub fn access_at(&self, offset: u32, len: u32) -> Option<AccessBytes>
         ensures some { IsSome result ↔ ((offset + len ≤ length self.now) × (len ≤ 8)) }
-        ensures bytes { IfSome result (λ access. (access ≡ slice_range self.now offset (offset + len)) × (length access ≡ len)) }
+        ensures bytes { IfSome result
+            (λ access. (access ≡ slice_range self.now offset (offset + len)) × (length access ≡ len)) }
     {
         let from = offset as usize;
         if from + len as usize > self.len as usize || len as usize > ACCESS {

@@ -25,7 +25,8 @@ impl Model for Entry {
 
     ghost view = { λ e. record { tag = e.tag; dirty = e.dirty; owner = e.owner; branches = e.branches } };
 
-    ghost invariant = { λ e. IsEntry (record { tag = e.tag; dirty = e.dirty; owner = e.owner; branches = e.branches }) };
+    ghost invariant = { λ e. IsEntry
+        (record { tag = e.tag; dirty = e.dirty; owner = e.owner; branches = e.branches }) };
 
     ghost inverse = { λ e. record { tag = e.tag; dirty = e.dirty; owner = e.owner; branches = e.branches } };
 }
@@ -116,7 +117,8 @@ impl Entry {
     /// The lowest client for which it records more than a permission.
     pub fn first_above(self, perm: Perm) -> Option<ClientId>
         ensures { MatchOption result ((client : ℕ) → rank (entry_perm self client) ≤ rank perm)
-            (λ first. (rank perm < rank (entry_perm self first)) × ((client : ℕ) → client < first → rank (entry_perm self client) ≤ rank perm)) }
+            (λ first. (rank perm < rank (entry_perm self first))
+            × ((client : ℕ) → client < first → rank (entry_perm self client) ≤ rank perm)) }
     {
         match (self.owner, perm) {
             (Some(_), Perm::Tip) => None,
@@ -129,7 +131,8 @@ impl Entry {
     /// The lowest client whose bit is set.
     fn first_branch(self) -> Option<ClientId>
         ensures { MatchOption result (self.branches ≡ 0)
-            (λ first. (bit_at self.branches first ≡ 1) × ((client : ℕ) → client < first → bit_at self.branches client ≡ 0)) }
+            (λ first. (bit_at self.branches first ≡ 1)
+            × ((client : ℕ) → client < first → bit_at self.branches client ≡ 0)) }
     {
         if self.branches == 0 {
             return None;
@@ -144,7 +147,8 @@ impl Entry {
         requires branch { perm ≡ Branch → (other : ℕ) → other ≢ client → entry_perm self.old other ≢ Tip }
         ensures tag { self.new.tag ≡ self.old.tag }
         ensures dirty { self.new.dirty ≡ self.old.dirty }
-        ensures perms { (other : ℕ) → entry_perm self.new other ≡ (if other == client then perm else entry_perm self.old other) }
+        ensures perms { (other : ℕ)
+            → entry_perm self.new other ≡ (if other == client then perm else entry_perm self.old other) }
     {
         let bit = 1u16 << client.number();
         match perm {

@@ -129,7 +129,8 @@ impl Row {
 
     /// The lowest free way that is not busy.
     fn lowest_free(&self, busy: &[Way]) -> Option<Way>
-        ensures is { result ≡ lowest (λ way. is_none (entry_in self.now way) && not (is_busy busy.now way)) (length self.now.entries) }
+        ensures is { result
+            ≡ lowest (λ way. is_none (entry_in self.now way) && not (is_busy busy.now way)) (length self.now.entries) }
         ensures inside { IfSome result (λ way. way < length self.now.entries) }
     {
         for number in 0..self.ways() {

@@ -95,7 +95,8 @@ impl Ways {
         requires set { set < set_count self.old }
         requires way { way < self.old.ways }
         requires alone { (other : ℕ) → other ≢ way → tag_at self.old set other ≢ Some entry.tag }
-        ensures entries { (x y : ℕ) → entry_at self.new x y ≡ (if x == set && y == way then Some entry else entry_at self.old x y) }
+        ensures entries { (x y : ℕ)
+            → entry_at self.new x y ≡ (if x == set && y == way then Some entry else entry_at self.old x y) }
         ensures orders { (x : ℕ) → order_at self.new x ≡ order_at self.old x }
         ensures size { IsSameSize self.old self.new }
     {
@@ -107,7 +108,8 @@ impl Ways {
     pub fn clear(&mut self, set: Set, way: Way)
         requires set { set < set_count self.old }
         requires way { way < self.old.ways }
-        ensures entries { (x y : ℕ) → entry_at self.new x y ≡ (if x == set && y == way then None else entry_at self.old x y) }
+        ensures entries { (x y : ℕ)
+            → entry_at self.new x y ≡ (if x == set && y == way then None else entry_at self.old x y) }
         ensures orders { (x : ℕ) → order_at self.new x ≡ order_at self.old x }
         ensures size { IsSameSize self.old self.new }
     {
@@ -120,7 +122,8 @@ impl Ways {
         requires set { set < set_count self.old }
         requires way { way < self.old.ways }
         ensures entries { (x y : ℕ) → entry_at self.new x y ≡ entry_at self.old x y }
-        ensures orders { (x : ℕ) → order_at self.new x ≡ (if x == set then touched way (order_at self.old set) else order_at self.old x) }
+        ensures orders { (x : ℕ)
+            → order_at self.new x ≡ (if x == set then touched way (order_at self.old set) else order_at self.old x) }
         ensures size { IsSameSize self.old self.new }
     {
         let row = &mut self.rows[set.index()];

@@ -30,7 +30,8 @@ pub(crate) fn answer<W: Write, E: Write>(
     faults: &mut E,
 ) -> u8
     ensures whole { result ≡ 0
-        → (traces : Bool) × (text : List ℕ) × Offers traces text × Appends (W.contents output.old) (W.contents output.new) text }
+        → (traces : Bool) × (text : List ℕ) × Offers traces text
+        × Appends (W.contents output.old) (W.contents output.new) text }
     ensures words { IfErr words (λ e. result ≡ status_of (fault_of_words e)) }
     ensures nothing { result ≢ 0 → result ≢ 5 → W.contents output.new ≡ W.contents output.old }
 {

@@ -33,7 +33,8 @@ fn refusals(answers: &[Answer]) -> usize
 
 /// A draft of a script for `trace`, with its first line.
 fn headed(alloc: Global, draft: &Draft) -> Result<String, AllocError>
-    ensures { IfOk result (λ text. string_bytes text ≡ head_line draft.now.steps draft.now.refused ++ string_bytes draft.now.text) }
+    ensures { IfOk result
+        (λ text. string_bytes text ≡ head_line draft.now.steps draft.now.refused ++ string_bytes draft.now.text) }
 {
     let mut text = String::new(alloc);
     write!(

@@ -40,7 +40,8 @@ impl Bank {
         len: usize,
         when: When,
     ) -> Result<Loaded, Refusal>
-        ensures refused { IfErr result (λ r. IsRefused (first_of (load_cases self.old client address len when.clock)) self.old.room r) }
+        ensures refused { IfErr result
+            (λ r. IsRefused (first_of (load_cases self.old client address len when.clock)) self.old.room r) }
         ensures unchanged { OnErr result (self.new ≡ self.old) }
         ensures permitted { OnOk result (first_of (load_cases self.old client address len when.clock) ≡ None) }
         ensures appends { IfOk result
@@ -89,9 +90,12 @@ impl Bank {
         bytes: &[u8],
         when: When,
     ) -> Result<u64, Refusal>
-        ensures refused { IfErr result (λ r. IsRefused (first_of (store_cases self.old client address (length bytes.now) when.clock)) self.old.room r) }
+        ensures refused { IfErr result
+            (λ r. IsRefused (first_of (store_cases self.old client address (length bytes.now) when.clock))
+            self.old.room r) }
         ensures unchanged { OnErr result (self.new ≡ self.old) }
-        ensures permitted { OnOk result (first_of (store_cases self.old client address (length bytes.now) when.clock) ≡ None) }
+        ensures permitted { OnOk result
+            (first_of (store_cases self.old client address (length bytes.now) when.clock) ≡ None) }
         ensures appends { IfOk result
             (λ stamp. Appends self.old self.new (Event.Store (record {
               client = client;
@@ -133,7 +137,8 @@ impl Bank {
         block: BlockNo,
         grow: Grow,
     ) -> Result<Ticket, Refusal>
-        ensures refused { IfErr result (λ r. IsRefused (first_of (acquire_cases self.old client block grow)) self.old.room r) }
+        ensures refused { IfErr result
+            (λ r. IsRefused (first_of (acquire_cases self.old client block grow)) self.old.room r) }
         ensures unchanged { OnErr result (self.new ≡ self.old) }
         ensures permitted { OnOk result (first_of (acquire_cases self.old client block grow) ≡ None) }
         ensures appends { OnOk result (Appends self.old self.new (Event.SendAcquire client block grow)) }
@@ -164,7 +169,8 @@ impl Bank {
         prune: Prune,
         share: &mut Share,
     ) -> Result<Ticket, Refusal>
-        ensures refused { IfErr result (λ r. IsRefused (first_of (release_cases self.old client block prune share.old)) self.old.room r) }
+        ensures refused { IfErr result
+            (λ r. IsRefused (first_of (release_cases self.old client block prune share.old)) self.old.room r) }
         ensures unchanged { OnErr result (self.new ≡ self.old) }
         ensures share_unchanged { OnErr result (share.new ≡ share.old) }
         ensures permitted { OnOk result (first_of (release_cases self.old client block prune share.old) ≡ None) }
@@ -200,7 +206,8 @@ impl Bank {
     /// it names another message than the first, or that is no ReleaseAck; `Memory` where the log can't grow. Nothing
     /// changes then.
     pub fn take_release_ack(&mut self, ticket: Ticket) -> Result<(), Refusal>
-        ensures refused { IfErr result (λ r. IsRefused (first_of (take_release_ack_cases self.old ticket)) self.old.room r) }
+        ensures refused { IfErr result
+            (λ r. IsRefused (first_of (take_release_ack_cases self.old ticket)) self.old.room r) }
         ensures unchanged { OnErr result (self.new ≡ self.old) }
         ensures permitted { OnOk result (first_of (take_release_ack_cases self.old ticket) ≡ None) }
         ensures appends { OnOk result
@@ -224,7 +231,8 @@ impl Bank {
     /// unanswered; `LinkFull` where 64 messages are on channel C; `Memory` where the log can't grow. Nothing changes
     /// then, nor does the share.
     pub fn answer_probe(&mut self, ticket: Ticket, share: &mut Share) -> Result<Ticket, Refusal>
-        ensures refused { IfErr result (λ r. IsRefused (first_of (answer_probe_cases self.old ticket share.old)) self.old.room r) }
+        ensures refused { IfErr result
+            (λ r. IsRefused (first_of (answer_probe_cases self.old ticket share.old)) self.old.room r) }
         ensures unchanged { OnErr result (self.new ≡ self.old) }
         ensures share_unchanged { OnErr result (share.new ≡ share.old) }
         ensures permitted { OnOk result (first_of (answer_probe_cases self.old ticket share.old) ≡ None) }
@@ -232,7 +240,8 @@ impl Bank {
             (Appends self.old self.new (Event.AnswerProbe ticket.client (block_named self.old ticket Channel.B))) }
         ensures ticket { IfOk result (λ sent. sent ≡ next_ticket self.old ticket.client Channel.C) }
         ensures sends { IfOk result
-            (λ sent. Sends self.old self.new (Event.AnswerProbe ticket.client (block_named self.old ticket Channel.B)) sent) }
+            (λ sent. Sends self.old self.new (Event.AnswerProbe ticket.client (block_named self.old ticket Channel.B))
+            sent) }
         ensures share { OnOk result
             (share.new
             ≡ recounted (perm_at self.old ticket.client (block_named self.old ticket Channel.B))
@@ -273,7 +282,8 @@ impl Bank {
     /// names another message than the first, or that is no Grant; `LinkFull` where 64 messages are on channel E;
     /// `Memory` where the log can't grow. Nothing changes then, nor does the share.
     pub fn take_grant(&mut self, ticket: Ticket, share: &mut Share) -> Result<Ticket, Refusal>
-        ensures refused { IfErr result (λ r. IsRefused (first_of (take_grant_cases self.old ticket share.old)) self.old.room r) }
+        ensures refused { IfErr result
+            (λ r. IsRefused (first_of (take_grant_cases self.old ticket share.old)) self.old.room r) }
         ensures unchanged { OnErr result (self.new ≡ self.old) }
         ensures share_unchanged { OnErr result (share.new ≡ share.old) }
         ensures permitted { OnOk result (first_of (take_grant_cases self.old ticket share.old) ≡ None) }
@@ -281,7 +291,8 @@ impl Bank {
             (Appends self.old self.new (Event.TakeGrant ticket.client (block_named self.old ticket Channel.D))) }
         ensures ticket { IfOk result (λ sent. sent ≡ next_ticket self.old ticket.client Channel.E) }
         ensures sends { IfOk result
-            (λ sent. Sends self.old self.new (Event.TakeGrant ticket.client (block_named self.old ticket Channel.D)) sent) }
+            (λ sent. Sends self.old self.new (Event.TakeGrant ticket.client (block_named self.old ticket Channel.D))
+            sent) }
         ensures share { OnOk result
             (share.new
             ≡ recounted (perm_at self.old ticket.client (block_named self.old ticket Channel.D))

@@ -38,10 +38,12 @@ impl Bank {
         ensures unchanged { OnErr result (self.new ≡ self.old) }
         ensures permitted { OnOk result (first_of (take_c_cases self.old ticket) ≡ None) }
         ensures serves { OnOk result
-            (AppendsWith self.old self.new (Event.TakeC ticket.client (block_named self.old ticket Channel.C)) self.old.registers (way_at self.old)) }
+            (AppendsWith self.old self.new (Event.TakeC ticket.client (block_named self.old ticket Channel.C))
+            self.old.registers (way_at self.old)) }
         ensures answer { IfOk result (λ sent. sent ≡ answer_to self.old ticket) }
         ensures sends { IfOk result
-            (λ sent. IfSome sent (λ ack. Sends self.old self.new (Event.TakeC ticket.client (block_named self.old ticket Channel.C)) ack)) }
+            (λ sent. IfSome sent
+            (λ ack. Sends self.old self.new (Event.TakeC ticket.client (block_named self.old ticket Channel.C)) ack)) }
     {
         self.check_c(&ticket)?;
         self.make_room()?;
@@ -62,7 +64,8 @@ impl Bank {
     ///
     /// `OutOfRange`, `WrongBank`, `NotHead`, `NothingThere` and `Memory` as at `take_c`. Nothing changes then.
     pub fn take_grant_ack(&mut self, ticket: Ticket) -> Result<(), Refusal>
-        ensures refused { IfErr result (λ r. IsRefused (first_of (take_grant_ack_cases self.old ticket)) self.old.room r) }
+        ensures refused { IfErr result
+            (λ r. IsRefused (first_of (take_grant_ack_cases self.old ticket)) self.old.room r) }
         ensures unchanged { OnErr result (self.new ≡ self.old) }
         ensures permitted { OnOk result (first_of (take_grant_ack_cases self.old ticket) ≡ None) }
         ensures serves { OnOk result
@@ -124,7 +127,9 @@ fn brought_by(body: Body) -> Option<BlockBytes>
 fn answer(links: &mut Links, client: ClientId, block: BlockNo, is_release: bool) -> Option<Ticket>
     requires { is_release ≡ true → HasRoom links.old client Channel.D }
     ensures ticket { result
-        ≡ (if is_release then Some (record { bank = links.old.bank; client = client; channel = Channel.D; serial = sent (lane_in links.old client Channel.D) })
+        ≡ (if is_release
+        then Some
+        (record { bank = links.old.bank; client = client; channel = Channel.D; serial = sent (lane_in links.old client Channel.D) })
         else None) }
     ensures same { SameSize links.old links.new }
     ensures after { (x : ℕ) (k : Channel)

@@ -28,7 +28,8 @@ impl Bank {
         ensures refused { IfErr result (λ r. IsRefused (first_of (serve_memory_cases self.old block)) self.old.room r) }
         ensures unchanged { OnErr result (self.new ≡ self.old) }
         ensures permitted { OnOk result (first_of (serve_memory_cases self.old block) ≡ None) }
-        ensures serves { OnOk result (AppendsWith self.old self.new (Event.Serve block) self.old.registers (way_at self.old)) }
+        ensures serves { OnOk result
+            (AppendsWith self.old self.new (Event.Serve block) self.old.registers (way_at self.old)) }
         ensures reply { IfOk result (λ reply. MemoryReplies self.old block reply) }
     {
         self.check_serve(block)?;

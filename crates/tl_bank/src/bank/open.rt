@@ -96,12 +96,15 @@ impl Bank {
         ensures permitted { OnOk result (first_of (accept_cases self.now ticket.now) ≡ None) }
         ensures block { IfOk result (λ a. a.block ≡ block_named self.now ticket.now Channel.A) }
         ensures grow { IfOk result (λ a. (block : ℕ) → (grow : Grow) → (rest : List Message)
-            → (lane_at self.now ticket.now.client Channel.A).messages ≡ (record { block = block; body = AcquireBlock grow }) ∷ rest
+            → (lane_at self.now ticket.now.client Channel.A).messages
+            ≡ (record { block = block; body = AcquireBlock grow }) ∷ rest
             → a.grow ≡ grow) }
         ensures set { IfOk result (λ a. a.opening.way.set ≡ set_of self.now.geometry a.block) }
-        ensures way { IfOk result (λ a. IsWayFor self.now (set_of self.now.geometry a.block) (way_at self.now a.block) a.opening.way.way) }
+        ensures way { IfOk result
+            (λ a. IsWayFor self.now (set_of self.now.geometry a.block) (way_at self.now a.block) a.opening.way.way) }
         ensures victim { IfOk result
-            (λ a. a.opening.victim ≡ victim_of_way self.now (set_of self.now.geometry a.block) (way_at self.now a.block) a.opening.way.way) }
+            (λ a. a.opening.victim
+            ≡ victim_of_way self.now (set_of self.now.geometry a.block) (way_at self.now a.block) a.opening.way.way) }
     {
         let message = self.ticket_message(ticket, Channel::A)?;
         if self.registers.is_busy(message.block) {
@@ -166,9 +169,11 @@ impl Bank {
     fn opening(&self, block: BlockNo) -> Option<Opening>
         requires { IsOwn self.now.geometry self.now.number block }
         ensures set { IfSome result (λ o. o.way.set ≡ set_of self.now.geometry block) }
-        ensures way { IfSome result (λ o. IsWayFor self.now (set_of self.now.geometry block) (way_at self.now block) o.way.way) }
+        ensures way { IfSome result
+            (λ o. IsWayFor self.now (set_of self.now.geometry block) (way_at self.now block) o.way.way) }
         ensures victim { IfSome result
-            (λ o. o.victim ≡ victim_of_way self.now (set_of self.now.geometry block) (way_at self.now block) o.way.way) }
+            (λ o. o.victim
+            ≡ victim_of_way self.now (set_of self.now.geometry block) (way_at self.now block) o.way.way) }
         ensures none { is_none result ≡ (lacks self.now block && ways_held self.now (set_of self.now.geometry block)) }
     {
         let set = self.geometry.place(block).set;
@@ -192,7 +197,8 @@ impl Bank {
         requires set { set ≡ set_of self.now.geometry block }
         requires small { set < self.now.geometry.sets }
         requires away { way_at self.now block ≡ None }
-        ensures is { IfSome result (λ way. IsWayFor self.now (set_of self.now.geometry block) (way_at self.now block) way) }
+        ensures is { IfSome result
+            (λ way. IsWayFor self.now (set_of self.now.geometry block) (way_at self.now block) way) }
         ensures inside { IfSome result (λ way. way < self.now.geometry.ways) }
         ensures none { is_none result ≡ (lacks self.now block && ways_held self.now (set_of self.now.geometry block)) }
     {

@@ -158,7 +158,8 @@ impl Bank {
         ensures permitted { OnOk result (first_of (release_cases self.now client block prune share.now) ≡ None) }
         ensures before { IfOk result (λ g. g.before ≡ perm_at self.now client block) }
         ensures copy { IfOk result (λ g. g.copy ≡ reduced (client_at self.now client block).held (prune_to prune)) }
-        ensures given { IfOk result (λ g. g.given ≡ surrender prune (dirty_bytes (client_at self.now client block).held)) }
+        ensures given { IfOk result
+            (λ g. g.given ≡ surrender prune (dirty_bytes (client_at self.now client block).held)) }
     {
         if self.is_absent(client, block) || self.is_bad_share(client, share) {
             return Err(Refusal::OutOfRange);
@@ -205,7 +206,8 @@ impl Bank {
     ) -> Result<PlannedAnswer, Refusal>
         ensures refused { IfErr result (λ r. first_of (answer_probe_cases self.now ticket.now share.now) ≡ Some r) }
         ensures permitted { OnOk result (first_of (answer_probe_cases self.now ticket.now share.now) ≡ None) }
-        ensures finds { IfOk result (λ p. FindsProbe self.now ticket.now.client p.block p.copy p.wait p.before p.answer) }
+        ensures finds { IfOk result
+            (λ p. FindsProbe self.now ticket.now.client p.block p.copy p.wait p.before p.answer) }
     {
         let message = self.shared_message(ticket, share, Channel::B)?;
         let held = self.entry(ticket.client, message.block);

@@ -64,8 +64,10 @@ impl Bank {
         share: &Share,
         channel: Channel,
     ) -> Result<&Message, Refusal>
-        ensures refused { IfErr result (λ r. first_of (shared_ticket_cases self.now ticket.now share.now channel any_body) ≡ Some r) }
-        ensures permitted { OnOk result (first_of (shared_ticket_cases self.now ticket.now share.now channel any_body) ≡ None) }
+        ensures refused { IfErr result
+            (λ r. first_of (shared_ticket_cases self.now ticket.now share.now channel any_body) ≡ Some r) }
+        ensures permitted { OnOk result
+            (first_of (shared_ticket_cases self.now ticket.now share.now channel any_body) ≡ None) }
         ensures client { OnOk result (ticket.now.client < self.now.geometry.clients) }
         ensures first { IfOk result (λ message. IsFirstOn self.now ticket.now.client channel message.now) }
         ensures inside { IfOk result (λ message. message.now.block < self.now.geometry.memory_blocks) }

@@ -52,7 +52,8 @@ impl Bank {
     /// or of another bank.
     pub fn writer(&self, block: BlockNo) -> Option<ClientId>
         ensures writes { (client : ℕ) → (result ≡ Some client) ↔ MayWrite self.now client block }
-        ensures alone { IfSome result (λ client. (other : ℕ) → other ≢ client → perm_at self.now other block ≡ Perm.None) }
+        ensures alone { IfSome result
+            (λ client. (other : ℕ) → other ≢ client → perm_at self.now other block ≡ Perm.None) }
     {
         if self.is_not_own(block) {
             return None;

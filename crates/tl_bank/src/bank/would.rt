@@ -48,7 +48,8 @@ impl Bank {
         ensures permitted { OnOk result (first_of (answer_probe_cases self.now ticket share.now) ≡ None) }
         ensures block { IfOk result (λ answer. answer.0 ≡ block_named self.now ticket Channel.B) }
         ensures sends { IfOk result
-            (λ answer. WouldSend self.now (Event.AnswerProbe ticket.client answer.0) (Body.Upward (Upward.ProbeAck answer.1))) }
+            (λ answer. WouldSend self.now (Event.AnswerProbe ticket.client answer.0)
+            (Body.Upward (Upward.ProbeAck answer.1))) }
     {
         // For the prover: the log is a run, in which the messages of a channel wait in the order of sending.
         let _log = self.log();
