@@ -18,13 +18,13 @@ use tl_types::{BlockNo, ClientId, Grow, Prune};
 enum Work {
     /// A miss with a write-back, while the log grows.
     Growing,
-    /// The same, with room in the log.
+    /// A miss with a write-back, with room in the log.
     Misses,
-    /// The same, with room for a million events, and the log is forgotten where that is used up.
+    /// A miss with a write-back, with room for a million events, and the log is forgotten where that is used up.
     Forgetting,
     /// Loads of copies that are held.
     Loads,
-    /// The same in a bank with room for one event, which is forgotten before the next.
+    /// Loads of copies that are held, in a bank with room for one event, which is forgotten before the next.
     LoadsForgotten,
     /// Stores to copies that are held.
     Stores,

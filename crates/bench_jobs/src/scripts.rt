@@ -156,7 +156,8 @@ fn push_mixed(text: &mut String, client: u32, numbers: &mut Numbers) -> Result<(
     push_load(text, address)
 }
 
-/// The same, and loads of the client's own blocks, at the words to which it stores.
+/// A load of one of the blocks that all read, a store to one of the client's own, or a load of one of these at the word
+/// to which it stores.
 fn push_mixed_back(
     text: &mut String,
     client: u32,
@@ -193,7 +194,8 @@ fn push_streamed(
     }
 }
 
-/// The same in laps, of which each second one stores to the odd blocks and loads the even ones.
+/// A store to one of the client's blocks, or a load of one, in laps: each second lap stores to the odd blocks and loads
+/// the even ones, the others the reverse.
 fn push_lap(
     text: &mut String,
     plan: Plan,

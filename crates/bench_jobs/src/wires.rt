@@ -180,7 +180,7 @@ fn last_load(text: &[u8]) -> Option<usize> {
     place
 }
 
-/// The same record with another last digit in its last load.
+/// A record with another last digit in its last load.
 fn damaged(alloc: Global, text: &str) -> Result<Vec<u8>, AllocError> {
     let mut bytes = Vec::new(alloc);
     bytes.extend_from_slice(text.as_bytes())?;

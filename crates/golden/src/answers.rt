@@ -86,7 +86,7 @@ fn runs_as_told<R: Threads + Wait + Clock + Sync>(
     Ok(true)
 }
 
-/// The same, with inboxes that hold one ticket.
+/// Whether each run of a script, with inboxes that hold one ticket, gives one of its reports.
 fn runs_with_one_place<R: Threads + Wait + Clock + Sync>(
     rt: &R,
     alloc: Global,

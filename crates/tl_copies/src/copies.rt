@@ -73,7 +73,7 @@ impl Copies {
         Some(held.copied())
     }
 
-    /// The same where it lies, for a call that only looks at it.
+    /// What a client holds of a block, where it lies in the table: for a call that only looks at it.
     pub fn held(&self, client: ClientId, block: BlockNo) -> Option<&Held>
         requires { client < clients_of self.now }
         ensures { option_copied result ≡ held_at self.now client block }

@@ -15,7 +15,7 @@ pub struct Held {
 }
 
 impl Held {
-    /// The same copy again.
+    /// A copy, with bytes of its own.
     pub fn copied(&self) -> Held
         ensures { result ≡ self.now }
     {

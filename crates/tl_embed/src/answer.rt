@@ -72,7 +72,7 @@ impl Answer {
         }
     }
 
-    /// The same with these bytes.
+    /// This answer with these bytes.
     pub fn with_bytes(self, bytes: &[u8]) -> Answer
         requires { length bytes.now ≤ 64 }
         ensures { result ≡ with_bytes bytes.now self }

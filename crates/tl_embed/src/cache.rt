@@ -103,7 +103,7 @@ pub fn call(cache: &mut Cache, request: &Request) -> Answer
     told
 }
 
-/// The same, with the answer in a place that the caller has for it.
+/// Carries out what is asked, with the answer in a place that the caller has for it. The call 0 closes the cache.
 pub fn call_into(cache: &mut Cache, request: &Request, told: &mut Answer)
     ensures { Calls cache.old request.now cache.new told.new }
 {
@@ -154,7 +154,7 @@ pub fn played(network: &mut Network, index: u32, step: &Step) -> Answer
     }
 }
 
-/// The same, with the answer in a place that the caller has for it.
+/// Carries out a step, with the answer in a place that the caller has for it.
 pub fn play(network: &mut Network, index: u32, step: &Step, told: &mut Answer)
     ensures { IsPlayed index step.now network.old network.new told.new
         ⊎ IsStarved step.now network.old network.new told.new }
@@ -179,8 +179,8 @@ pub fn reserve(network: &mut Network, bank: BankNo, count: u64) -> Answer
     }
 }
 
-/// The same, with the answer in a place that the caller has for it. It stands apart from `ask`, where a step would
-/// clear its stack too.
+/// Makes room in a bank's log, with the answer in a place that the caller has for it. It stands apart from `ask`, where
+/// a step would clear its stack too.
 fn reserve_into(network: &mut Network, bank: BankNo, count: u64, told: &mut Answer)
     ensures { Reserves bank count network.old network.new told.new }
 {

@@ -46,7 +46,7 @@ pub fn read(cache: &mut Cache, request: &Request, events: &mut [Answer]) -> Numb
     }
 }
 
-/// The same of a bank.
+/// The events of a bank's log from a place on, as many as there are and have places; how many they are.
 fn read_bank(bank: &Bank, from: u64, events: &mut [Answer]) -> Number
     ensures { BankReads bank.now from events.old events.new result }
 {

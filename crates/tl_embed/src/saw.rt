@@ -25,7 +25,7 @@ pub fn saw(cache: &mut Cache, seen: &Seen) -> Answer
     told
 }
 
-/// The same, with the answer in a place for it.
+/// Carries out what a message that was seen asks, with the answer in a place for it.
 fn saw_into(cache: &mut Cache, seen: &Seen, told: &mut Answer)
     ensures { Saws cache.old seen.now cache.new told.new }
 {
@@ -38,7 +38,7 @@ fn saw_into(cache: &mut Cache, seen: &Seen, told: &mut Answer)
     }
 }
 
-/// The same, of an open cache.
+/// Carries out what a message that was seen asks of an open cache.
 fn see(network: &mut Network, seen: &Seen, told: &mut Answer)
     ensures { SeenDoes (seen_asks network.old seen.now) network.old seen.now network.new told.new }
 {
@@ -91,7 +91,7 @@ fn step_on_c(seen: &Seen, call: &OnC) -> Step
     }
 }
 
-/// The same after the stores, once there is room for all of it.
+/// Makes the stores and then the step that a call on C is, once there is room for all of it.
 fn store_first(
     network: &mut Network,
     seen: &Seen,

@@ -72,7 +72,7 @@ impl Seen {
         }
     }
 
-    /// The same, of a kind of message.
+    /// What a message of a kind asks.
     fn message_asks(&self, kind: Kind, network: &Network) -> SeenAsks
         ensures { result ≡ message_asks (Some kind) network.now self.now }
     {
@@ -88,7 +88,7 @@ impl Seen {
         }
     }
 
-    /// The same, where it came with the bytes that its kind carries.
+    /// What a message of a kind asks that came with the bytes of its kind.
     fn kind_asks(&self, kind: Kind, network: &Network) -> SeenAsks
         ensures { result ≡ kind_asks kind network.now self.now }
     {
@@ -130,7 +130,7 @@ impl Seen {
         }
     }
 
-    /// The same, at the bank of the block.
+    /// The ticket of the first message on a channel of the client, if that is of the block, at the block's bank.
     fn first_or_not(&self, bank: &Bank, channel: Channel) -> Result<Ticket, u32>
         ensures { result ≡ first_in (Some bank.now) self.now channel }
     {

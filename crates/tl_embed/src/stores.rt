@@ -50,7 +50,7 @@ pub fn stores_before(
     }
 }
 
-/// The same of the copy that the client has.
+/// The stores to the copy that the client has, from the bytes that a message shows.
 fn of_copy(network: &Network, seen: &Seen) -> Option<Inferred>
     ensures is { result ≡ inferred_of (copy_in (bank_for network.now seen.now.client seen.now.block) seen.now)
         (seen.now.block * network.now.geometry.block_bytes) (bytes_seen seen.now) }
@@ -71,7 +71,7 @@ fn of_copy(network: &Network, seen: &Seen) -> Option<Inferred>
     }
 }
 
-/// The same of a copy.
+/// The stores to a copy from an address on, from the bytes that a message shows.
 fn led_from(copy: Option<CachedCopy>, first: u32, seen: &[u8]) -> Option<Inferred>
     requires { first < 2 ^ 31 }
     ensures is { result ≡ inferred_of copy first seen.now }

@@ -97,7 +97,7 @@ fn tell_place(network: &Network, step: &Step, told: &mut Answer)
     }
 }
 
-/// The same at the bank.
+/// The bank, the block of the last event of its log and that block's first address are told as well.
 fn tell_place_in(bank: &Bank, told: &mut Answer)
     ensures { told.new ≡ placed_in (Some bank.now) told.old }
 {
@@ -130,7 +130,7 @@ pub fn step_told(network: &Network, step: &Step, shown: &Shown) -> Answer
     told
 }
 
-/// The same, told in a place for it.
+/// What a step answered, where it left the banks so, told in a place for it.
 pub fn tell_step(network: &Network, step: &Step, shown: &Shown, told: &mut Answer)
     ensures { told.new ≡ step_told network.now step.now shown.now }
 {

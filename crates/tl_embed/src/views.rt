@@ -53,7 +53,7 @@ pub fn look(cache: &mut Cache, request: &Request) -> Number
     }
 }
 
-/// The same of an open cache.
+/// A view of a number, of an open cache.
 fn number_view(network: &Network, request: &Request) -> Number
     requires { tells_number request.now.call ≡ true }
     ensures { Views network.now request.now (number_wide result) }
@@ -138,7 +138,7 @@ pub fn home_of(network: &Network, block: BlockNo) -> Option<&Bank>
     network.bank(network.geometry().bank(block))
 }
 
-/// The same, if there is the client as well.
+/// The bank where a block lies, if the memory has it and there is the client.
 pub fn bank_for(network: &Network, client: ClientId, block: BlockNo) -> Option<&Bank>
     ensures { option_map (λ bank. bank.now) result ≡ bank_for network.now client block }
 {

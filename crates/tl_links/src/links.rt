@@ -23,7 +23,8 @@ pub struct Links {
     queues: Vec<Queue>,
     /// How many messages wait on each of the five channels, at all clients.
     waiting: [u32; 5],
-    /// The same by the last four bits of their blocks' numbers: mostly none is of a block like the one looked for.
+    /// How many messages wait on each of the five channels, at all clients, by the last four bits of their blocks'
+    /// numbers: mostly none is of a block like the one looked for.
     alike: [u16; 80],
 }
 

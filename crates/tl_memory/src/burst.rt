@@ -81,7 +81,7 @@ impl Burst {
         self.bytes.copied()
     }
 
-    /// The same, to look at.
+    /// The beats joined, to look at.
     pub fn as_block(&self) -> &BlockBytes
         ensures value { result.now ≡ self.now }
         ensures whole { length self.now % 8 ≡ 0 }

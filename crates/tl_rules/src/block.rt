@@ -33,7 +33,7 @@ impl Model for BlockState {
     ghost view = { λ b. record { memory = b.memory; home = b.home; accepted = b.accepted; outward = b.outward; clients = b.clients.items } };
 }
 
-/// The same clients again.
+/// Copies of clients, in their order. The error is want of memory.
 fn copied_clients(alloc: Global, clients: &[Client]) -> Result<Vec<Client>, AllocError>
     ensures { IfOk result (λ copy. copy.items ≡ clients.now) }
 {

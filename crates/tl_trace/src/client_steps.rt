@@ -42,7 +42,7 @@ pub(crate) fn load(
     }
 }
 
-/// The same, whose refusals are errors.
+/// A client reads, and a refusal is an error. Its clock becomes the stamp of the access.
 pub(crate) fn load_bytes(
     bank: &mut Bank,
     clock: &mut u64,
@@ -94,7 +94,7 @@ pub(crate) fn store(
     }
 }
 
-/// The same, whose refusals are errors.
+/// A client writes, and a refusal is an error. Its clock becomes the stamp of the access.
 pub(crate) fn store_bytes(
     bank: &mut Bank,
     clock: &mut u64,

@@ -28,7 +28,7 @@ impl Model for AccessBytes {
 }
 
 impl AccessBytes {
-    /// The same bytes again.
+    /// A copy of the bytes.
     pub fn copied(&self) -> AccessBytes
         ensures { result ≡ self.now }
     {
@@ -143,7 +143,7 @@ impl BlockBytes {
         }
     }
 
-    /// The same bytes again.
+    /// A copy of the bytes.
     pub fn copied(&self) -> BlockBytes
         ensures { result ≡ self.now }
     {

@@ -127,7 +127,7 @@ impl ProbeAnswer {
         }
     }
 
-    /// The same answer again.
+    /// A copy, with bytes of its own.
     pub fn copied(&self) -> ProbeAnswer
         ensures { result ≡ self.now }
     {
@@ -258,7 +258,7 @@ impl Upward {
         }
     }
 
-    /// The same message again.
+    /// A copy, with bytes of its own.
     pub fn copied(&self) -> Upward
         ensures { result ≡ self.now }
     {
@@ -298,7 +298,7 @@ impl Downward {
         }
     }
 
-    /// The same message again.
+    /// A copy, with bytes of its own.
     pub fn copied(&self) -> Downward
         ensures { result ≡ self.now }
     {
@@ -349,7 +349,7 @@ impl Body {
 }
 
 impl Message {
-    /// The same message again.
+    /// A copy, with bytes of its own.
     pub fn copied(&self) -> Message
         ensures { result ≡ self.now }
     {
@@ -360,7 +360,7 @@ impl Message {
     }
 }
 
-/// The same bytes again, where there are some.
+/// A copy of the bytes, where there are some.
 fn copied_bytes(bytes: &Option<BlockBytes>) -> Option<BlockBytes>
     ensures { result ≡ bytes.now }
 {

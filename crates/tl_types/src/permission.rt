@@ -97,7 +97,7 @@ impl Cap {
 }
 
 impl ProbeCap {
-    /// The same bound among all of them.
+    /// This bound as a `Cap`.
     pub fn cap(self) -> Cap
         ensures { result ≡ probe_cap self }
     {
@@ -119,7 +119,7 @@ impl ProbeCap {
 }
 
 impl GrantCap {
-    /// The same bound among all of them.
+    /// This bound as a `Cap`.
     pub fn cap(self) -> Cap
         ensures { result ≡ grant_cap self }
     {
@@ -185,7 +185,7 @@ impl Prune {
 }
 
 impl DirtyPrune {
-    /// The same among all prunes.
+    /// This prune as a `Prune`.
     pub fn prune(self) -> Prune
         ensures { result ≡ dirty_prune self }
     {
@@ -235,7 +235,7 @@ impl Report {
 }
 
 impl ProbeReport {
-    /// The same among all reports.
+    /// This report as a `Report`.
     pub fn report(self) -> Report
         ensures { result ≡ probe_report self }
     {

@@ -22,7 +22,7 @@ pub struct ShownMessage {
 }
 
 impl ShownMessage {
-    /// The same message again.
+    /// A copy, with bytes of its own.
     pub fn copied(&self) -> ShownMessage
         ensures { result ≡ self.now }
     {
@@ -37,7 +37,7 @@ impl ShownMessage {
     }
 }
 
-/// The same bytes again, where there are some.
+/// A copy of the bytes, where there are some.
 fn copied_bytes(bytes: Option<&BlockBytes>) -> Option<BlockBytes>
     ensures { result ≡ option_map (λ b. b.now) bytes.entry }
 {

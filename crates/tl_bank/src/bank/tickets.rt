@@ -57,7 +57,8 @@ impl Bank {
         self.first_message(ticket, channel)
     }
 
-    /// The same where the call takes a share as well, which is the client's of this bank and has its count.
+    /// The first message on a channel between a client and this bank, if the ticket is its, and the share is the
+    /// client's of this bank and has its count.
     pub(super) fn shared_message(
         &self,
         ticket: &Ticket,

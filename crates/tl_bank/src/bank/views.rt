@@ -190,7 +190,7 @@ impl Bank {
         blocks
     }
 
-    /// The same, each once, way by way of each set.
+    /// The blocks that home holds, each once, way by way of each set.
     fn blocks_by_way(&self) -> ArrayVec<BlockNo, 512>
         ensures { (block : ℕ) → times block result.items ≡ one_of (is_at_home self.now block) }
     {
