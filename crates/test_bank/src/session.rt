@@ -31,12 +31,13 @@ impl Model for Session {
 
 /// The calls.
 impl Session {
-    /// Bank 0 of a geometry at reset, over a memory of zeros.
+    /// Bank 0 of a geometry at reset, over a memory of zeros. The errors are those of `of`.
     pub fn new(alloc: Global, numbers: GeometryNumbers) -> Result<Session, Fail> {
         Session::of(alloc, numbers, 0, &[])
     }
 
-    /// A bank of a geometry at reset, over a memory that holds an image.
+    /// A bank of a geometry at reset, over a memory that holds an image. The error says that the numbers make no
+    /// geometry, that there is no such bank or no room for the image, or want of memory.
     pub fn of(
         alloc: Global,
         numbers: GeometryNumbers,

@@ -266,7 +266,7 @@ impl Session {
 }
 
 /// The table and the place in it of the first step that does not go, if there is one, at a bank of a geometry over a
-/// memory of zeros.
+/// memory of zeros. The errors are those of `Session::of`.
 pub fn first_in_tables(
     alloc: Global,
     numbers: GeometryNumbers,
@@ -277,7 +277,7 @@ pub fn first_in_tables(
 }
 
 /// The place of the first step that does not go, if there is one, at a bank of a geometry over a memory that holds an
-/// image.
+/// image. The errors are those of `Session::of`.
 pub fn first_that_fails(
     alloc: Global,
     numbers: GeometryNumbers,
