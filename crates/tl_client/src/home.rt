@@ -43,7 +43,7 @@ impl Model for Home {
 }
 
 impl Home {
-    /// The home of a bank, which has no tickets.
+    /// The home of a bank, which has no tickets. The error is want of memory.
     pub fn new(alloc: Global, bank: BankNo) -> Result<Home, AllocError>
         ensures { IfOk result (λ h. h ≡ record { bank = bank; waiting = record { kept = []; rest = []; room = BATCH } }) }
     {

@@ -103,7 +103,8 @@ impl<'a> Mail<'a> {
         }
     }
 
-    /// Makes room for one more ticket to each receiver, which any inbox may hand back.
+    /// Makes room for one more ticket to each receiver, which any inbox may hand back. The error is want of memory; no
+    /// ticket is lost then.
     pub fn make_room(&mut self) -> Result<(), AllocError>
         ensures room { OnOk result (All HasRoom self.new.ways) }
         ensures sent { sent_by self.new ≡ sent_by self.old }

@@ -32,7 +32,8 @@ impl<'a> Model for Sending<'a> {
 }
 
 impl<'a> Sending<'a> {
-    /// A way on which nothing was handed back. Room for more than so many tickets is made before they are sent.
+    /// A way on which nothing was handed back. Room for more than so many tickets is made before they are sent. The
+    /// error is want of memory.
     pub fn new(
         alloc: Global,
         inbox: Sender<'a>,
@@ -61,7 +62,7 @@ impl<'a> Sending<'a> {
         self.back.is_empty()
     }
 
-    /// Makes room for one more ticket that may be handed back.
+    /// Makes room for one more ticket that may be handed back. The error is want of memory; no ticket is lost then.
     pub fn make_room(&mut self) -> Result<(), AllocError>
         ensures room { OnOk result (HasRoom self.new) }
         ensures same { self.new ≡ record self.old { room = self.new.room } }

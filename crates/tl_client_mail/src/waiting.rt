@@ -37,7 +37,7 @@ fn is_same_lane(one: &Ticket, other: &Ticket) -> bool
 }
 
 impl Waiting {
-    /// No tickets, and room for so many.
+    /// No tickets, and room for so many. The error is want of memory.
     pub fn new(alloc: Global, room: usize) -> Result<Waiting, AllocError>
         ensures { IfOk result (λ w. w ≡ record { kept = []; rest = []; room = room }) }
     {
@@ -61,7 +61,7 @@ impl Waiting {
         self.kept.is_empty() && self.rest.is_empty()
     }
 
-    /// Makes room for so many more tickets.
+    /// Makes room for so many more tickets. The error is want of memory; no ticket is lost then.
     pub fn make_room(&mut self, count: usize) -> Result<(), AllocError>
         requires { count ≤ 4096 }
         ensures room { OnOk result (length self.new.kept + length self.new.rest + count ≤ self.new.room) }

@@ -51,7 +51,8 @@ fn chosen(alloc: Global, matches: &ArgMatches<'_>) -> Result<Job, JobError>
     }
 }
 
-/// The job that the words after the program's name ask for.
+/// The job that the words after the program's name ask for. `Usage` only where they ask for none, `Memory` where memory
+/// is refused.
 pub fn job(alloc: Global, words: &[String]) -> Result<Job, JobError>
     // The job is what `clap` reads of these words.
     ensures ok { IfOk result (λ j. asked_of (map string_bytes words.now) ≡ Some (j.traces, string_bytes j.file)) }

@@ -113,8 +113,12 @@ fn commands_of(script: &Script) -> &[Vec<Command>]
     script.commands.as_slice()
 }
 
-/// What a run answers, from its script, its banks and the shares that its clients give back: a list for each bank, in the banks'
-/// order. Where memory is refused all is compared even so: want of memory hides no other refusal.
+/// What a run answers, from its script, its banks and the shares that its clients give back: a list for each bank, in
+/// the banks' order.
+///
+/// `Shares` exactly where the shares are not those of the banks, each once; else `NotOrdered` exactly where the banks'
+/// accesses have no order in which they carry out the script; else `Memory` where memory is refused. All is compared
+/// even so: want of memory hides no other refusal.
 pub fn conclude(
     alloc: Global,
     script: &Script,

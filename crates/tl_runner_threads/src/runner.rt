@@ -31,8 +31,9 @@ pub const CAPACITY: usize = 512;
 // For how many events of each command the banks' logs have room ahead. A hit is one; a miss that sends another block away some fifteen.
 const EVENTS: usize = 16;
 
-/// Runs a script's commands, with a thread for each client and one for each bank's home, and answers the report of their banks: all
-/// shares were given back, the banks' accesses carry out the script, and they are one memory's.
+/// Runs a script's commands, with a thread for each client and one for each bank's home, and answers the report of
+/// their banks: all shares were given back, the banks' accesses carry out the script, and they are one memory's. The
+/// errors are those of `run_sized`.
 pub fn run<R: Threads + Wait + Clock + Sync, G: Gate + Sync>(
     rt: &R,
     alloc: Global,
@@ -45,9 +46,9 @@ pub fn run<R: Threads + Wait + Clock + Sync, G: Gate + Sync>(
     run_sized(rt, alloc, script, gate, CAPACITY)
 }
 
-/// The same with inboxes that hold so many tickets.
+/// Runs a script's commands as `run`, with inboxes that hold so many tickets.
 ///
-/// Memory where a request for memory was refused or a thread could not be started; else Stalled, with the script's turns, where a
+/// `Memory` where memory is refused or a thread cannot be started; else `Stalled`, with the script's turns, where a
 /// thread made them all and was not finished; else what `conclude` answers.
 pub fn run_sized<R: Threads + Wait + Clock + Sync, G: Gate + Sync>(
     rt: &R,

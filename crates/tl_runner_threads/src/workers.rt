@@ -112,7 +112,8 @@ fn client_turns<P: Port, R: Wait + Clock, G: Gate>(
     End::Stalled
 }
 
-/// A home's turns, likewise.
+/// A home's turns, until one is the last, the run is stopped, or the turns are used up. Where the stop bell was rung
+/// before, it makes none.
 fn home_turns<P: HomePort, R: Wait + Clock, G: Gate>(
     rt: &R,
     shared: &Shared<'_, G>,

@@ -68,7 +68,7 @@ fn change_at(
     Ok(Some(Change { place, text }))
 }
 
-/// A change, where there is one, at the end of some.
+/// A change, where there is one, at the end of some. The error is want of memory.
 pub fn push_change(changes: &mut Vec<Change>, change: Option<Change>) -> Result<(), AllocError>
     ensures { OnOk result (changes.new.items ≡ changes.old.items ++ option_to_list change) }
 {
@@ -147,8 +147,8 @@ fn film_steps(
     Ok(())
 }
 
-/// Plays steps, at most `STEPS`, over all banks of a geometry at reset over an image that is no longer than the memory, and films what
-/// the cells show. An error is a request for memory that was refused.
+/// Plays steps, at most `STEPS`, over all banks of a geometry at reset over an image that is no longer than the memory,
+/// and films what the cells show. The error is want of memory.
 pub fn film_of(
     alloc: Global,
     geometry: Geometry,

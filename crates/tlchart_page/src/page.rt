@@ -66,8 +66,8 @@ fn paged(alloc: Global, script: &Script, title: &str) -> Result<String, AllocErr
     ink.text()
 }
 
-/// The page that walks through the trace of the script that the bytes write, under a title. The errors are those of the script, or want
-/// of memory.
+/// The page that walks through the trace of the script that the bytes write, under a title. The errors are those of
+/// `read_script`, and `Memory` where memory is refused.
 pub fn page_script(alloc: Global, bytes: &[u8], title: &str) -> Result<String, DrawError>
     ensures paged { OnOk result (IsPaged bytes.now) }
     ensures why { IfErr result (IsWhy bytes.now) }

@@ -218,8 +218,10 @@ fn unread(error: &io::Error) -> Fault {
     }
 }
 
-/// Counts the events of a record, line by line, and answers how many there are. `file` is the record's place among those that are
-/// counted. The first entry that is not permitted, or that cannot be read, ends it; what was counted before stays.
+/// Counts the events of a record, line by line, and answers how many there are. `file` is the record's place among
+/// those that are counted. The first entry that is not permitted, or that cannot be read, ends it (`Refused`); what was
+/// counted before stays. `Memory` where memory is refused, `File` where the record cannot be read to its end,
+/// `NotClosed` where the search for all situations has missed one.
 pub fn cover<R: BufRead>(
     alloc: Global,
     reader: &mut R,

@@ -76,7 +76,7 @@ fn situation_in(plain: &Plain, event: &Event) -> Option<Situation>
 }
 
 impl Tally {
-    /// Nothing is counted.
+    /// Nothing is counted. The error is want of memory.
     pub fn new(alloc: Global, table: Table) -> Result<Tally, AllocError>
         ensures { IfOk result (λ t. t.situations ≡ table.situations) }
     {
@@ -167,8 +167,8 @@ impl Tally {
         }
     }
 
-    /// Judges the next entry of a record, and counts its event where it is permitted. An entry that breaks something leaves all as it was;
-    /// after Memory nothing is claimed.
+    /// Judges the next entry of a record, and counts its event where it is permitted. `Broken` where it is not, with
+    /// what it breaks, and all stays as it was; `Memory` where memory is refused, and nothing is claimed then.
     pub fn see(&mut self, judge: &mut Judge, entry: &Entry, mark: Mark) -> Result<(), Refusal>
         ensures ok { OnOk result
             ((shape : Shape) (image : List ℕ) (log : List Event)

@@ -18,7 +18,7 @@ pub struct Bench {
 impl Bench {
     ghost use Rattle.tlcheck_embed.specs.Sees.{IsFresh, Judges, Sees, SeesAt, kept};
 
-    /// A judge at reset over an image.
+    /// A judge at reset over an image. The error is want of memory.
     pub fn new(alloc: Global, shape: Shape, image: &[u8]) -> Result<Bench, AllocError>
         requires bytes { (0 < shape.block_bytes) × (shape.block_bytes ≤ BLOCK_BYTES) }
         requires blocks { shape.blocks ≤ BLOCKS }

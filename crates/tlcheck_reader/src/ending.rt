@@ -109,7 +109,7 @@ fn push_beside(text: &mut String, outcome: &Outcome) -> Result<(), AllocError>
     }
 }
 
-/// The lines of what the program ends with: its first line, and what stands beside it. Err is a refused request for memory.
+/// The lines of what the program ends with: its first line, and what stands beside it. The error is want of memory.
 pub fn lines(alloc: Global, ending: &Ending) -> Result<String, AllocError>
     ensures { IfOk result (λ text. string_bytes text ≡ ending_lines ending.now) }
 {

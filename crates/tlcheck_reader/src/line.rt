@@ -174,7 +174,8 @@ fn full_line(alloc: Global, stage: Stage, text: &str) -> Result<Stage, LineFault
     }
 }
 
-/// Takes a line without its line feed.
+/// Takes a line without its line feed. `Unreadable` with the cause where it cannot be read, `Broken` where its entry is
+/// not permitted, `Memory` where memory is refused.
 pub fn take_line(alloc: Global, stage: Stage, text: &[u8]) -> Result<Stage, LineFault>
     requires { IsFit stage }
     ensures takes { (reading : Reading) → Agrees reading stage → Takes (after_text reading text.now) result }

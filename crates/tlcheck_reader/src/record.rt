@@ -95,9 +95,10 @@ fn check_entries<R: BufRead>(
     Err(CheckFault::File)
 }
 
-/// Checks a record line by line, as it is read: it takes memory for one line, for blocks, clients and the messages that wait. It says
-/// whether each entry is permitted, or which is the first that is not and what it breaks, or which line cannot be read and why; and it
-/// gives the judge of the entries that are permitted.
+/// Checks a record line by line, as it is read: it takes memory for one line, for blocks, clients and the messages that
+/// wait. It says whether each entry is permitted, or which is the first that is not and what it breaks, or which line
+/// cannot be read and why; and it gives the judge of the entries that are permitted. `Memory` where memory is refused,
+/// `File` where the record cannot be read to its end.
 pub fn check<R: BufRead>(alloc: Global, reader: &mut R) -> Result<Outcome, CheckFault>
     ensures { IfOk result (λ outcome. IfSome (R.remaining reader.old) (λ text. IsOutcome text outcome)) }
 {

@@ -245,7 +245,7 @@ fn entry_of_any(alloc: Global, line: &str) -> Result<Entry, LineError>
     entry_in(alloc, &words)
 }
 
-/// The entry that a line writes, or why it cannot be read.
+/// The entry that a line writes. `Wrong` with the cause where it writes none, `Memory` where memory is refused.
 pub fn read_entry(alloc: Global, line: &str) -> Result<Entry, LineError>
     ensures { Gives (λ x. x) result (entry_of line.now) }
 {

@@ -25,7 +25,8 @@ fn is_in_range(shape: Shape) -> bool
         && shape.blocks as usize <= BLOCKS
 }
 
-/// The geometry that a line writes: `clients N block_bytes N memory_blocks N`.
+/// The geometry that a line writes: `clients N block_bytes N memory_blocks N`. `Wrong` with the cause where it writes
+/// none, `Memory` where memory is refused.
 pub fn read_shape(alloc: Global, line: &str) -> Result<Shape, LineError>
     ensures value { Gives (λ x. x) result (shape_of line.now) }
     ensures bytes { IfOk result (λ shape. (0 < shape.block_bytes) × (shape.block_bytes ≤ BLOCK_BYTES)) }
@@ -136,7 +137,8 @@ fn shape(words: &[&str]) -> Result<Shape, LineError>
     }
 }
 
-/// The image of a memory that a line writes: `image HEX`. None where the first word is another.
+/// The image of a memory that a line writes: `image HEX`. None where the first word is another. `Wrong` with the cause
+/// where the bytes are none of a memory of this shape, `Memory` where memory is refused.
 pub fn read_image_line(
     alloc: Global,
     shape: Shape,

@@ -139,7 +139,8 @@ fn push_block(
     push_clients(text, block, shape)
 }
 
-/// The state of a block in lines, at the end of a text; nothing where the memory has no such block.
+/// The state of a block in lines, at the end of a text; nothing where the memory has no such block. The error is want
+/// of memory; the text is then of no use.
 pub fn push_state(text: &mut String, plain: &Plain, block: u32) -> Result<(), AllocError>
     ensures { OnOk result (string_bytes text.new ≡ string_bytes text.old ++ state_lines plain.now block) }
 {
@@ -166,7 +167,8 @@ fn push_left(text: &mut String, plain: &Plain, block: u32) -> Result<(), AllocEr
     }
 }
 
-/// The state of each block that is not as at reset but for the memory's bytes, in lines, at the end of a text.
+/// The state of each block that is not as at reset but for the memory's bytes, in lines, at the end of a text. The
+/// error is want of memory; the text is then of no use.
 pub fn push_end(text: &mut String, plain: &Plain) -> Result<(), AllocError>
     ensures { OnOk result (string_bytes text.new ≡ string_bytes text.old ++ end_lines plain.now) }
 {

@@ -33,7 +33,8 @@ fn has_return(line: &[u8]) -> bool
     1 <= line.len() && line[line.len() - 1] == b'\r'
 }
 
-/// The text of a line, without its line feed.
+/// The text of a line, without its line feed. `Mark` where it begins with a byte order mark, then `LineEnd` where it
+/// ends with a carriage return, then `Text` where it is no UTF-8.
 pub fn read_text(line: &[u8]) -> Result<&str, Cause>
     ensures { MatchResult result (λ text. text_in line.now ≡ Ok text.now) (λ cause. text_in line.now ≡ Err cause) }
 {
@@ -49,28 +50,28 @@ pub fn read_text(line: &[u8]) -> Result<&str, Cause>
     }
 }
 
-/// A number in its place.
+/// A number in its place; `Number` where the text is none.
 pub fn read_number(text: &str) -> Result<u32, Cause>
     ensures { result ≡ number_in text.now }
 {
     parse_number(text).ok_or(Cause::Number)
 }
 
-/// An address in its place.
+/// An address in its place; `Number` where the text is none.
 pub fn read_address(text: &str) -> Result<u32, Cause>
     ensures { result ≡ address_in text.now }
 {
     parse_address(text).ok_or(Cause::Number)
 }
 
-/// The bytes of an access.
+/// The bytes of an access, one to eight; `Bytes` where the text is none.
 pub fn read_access(text: &str) -> Result<AccessBytes, Cause>
     ensures { result ≡ access_bytes_in text.now }
 {
     parse_access(text).ok_or(Cause::Bytes)
 }
 
-/// The bytes of a block.
+/// The bytes of a block. `Wrong` with the cause where the text is none, `Memory` where memory is refused.
 #[tactic(auto, unfolding(crate::specs::Words::block_bytes_in))]
 pub fn read_block_bytes(alloc: Global, text: &str) -> Result<BlockBytes, LineError>
     ensures { Gives (λ x. x) result (block_bytes_in text.now) }
@@ -117,7 +118,8 @@ fn fitted(shape: Shape, image: Vec<u8>) -> Result<Vec<u8>, LineError>
     Ok(image)
 }
 
-/// The image of a memory that some words write: `HEX`, behind the word `image`.
+/// The image of a memory that some words write: `HEX`, behind the word `image`. `Wrong` with the cause where they write
+/// none of a memory of this shape, `Memory` where memory is refused.
 #[tactic(auto, unfolding(crate::specs::Words::image_in))]
 pub fn read_image(alloc: Global, shape: Shape, words: &[&str]) -> Result<Vec<u8>, LineError>
     ensures { Gives (λ x. x.items) result (image_in shape (texts words.now)) }

@@ -72,7 +72,7 @@ impl Judge {
     ghost use Rattle.tl_protocol.specs.Protocol.{May, block_of};
     ghost use Rattle.tl_protocol_lanes.specs.Lanes.{post_of, take_of};
 
-    /// A judge of a record from reset over an image.
+    /// A judge of a record from reset over an image. The error is want of memory.
     pub fn new(alloc: Global, shape: Shape, image: &[u8]) -> Result<Judge, AllocError>
         requires bytes { (0 < shape.block_bytes) × (shape.block_bytes ≤ BLOCK_BYTES) }
         requires blocks { shape.blocks ≤ BLOCKS }
@@ -174,8 +174,8 @@ impl Judge {
         self.order.join(client, &sent, block)
     }
 
-    /// Takes an entry against which `breach` has nothing. Err is a refused request for memory: then the judge is where
-    /// nothing is claimed.
+    /// Takes an entry against which `breach` has nothing. The error is want of memory; nothing is claimed of the judge
+    /// then.
     pub fn take_allowed(&mut self, entry: &Entry) -> Result<(), AllocError>
         requires { Allows self.old entry.now }
         ensures { OnOk result
@@ -187,8 +187,9 @@ impl Judge {
         Ok(())
     }
 
-    /// Takes the next entry of a record, if it is permitted after those before it; else it says what the entry breaks. Memory where a
-    /// request for memory was refused: then the judge is where nothing is claimed.
+    /// Takes the next entry of a record, if it is permitted after those before it. `Broken` where it is not, with what
+    /// it breaks, and the judge stays as it was; `Memory` where memory is refused, and nothing is claimed of the judge
+    /// then.
     pub fn step(&mut self, entry: &Entry) -> Result<(), Refusal>
         ensures ok { OnOk result
             ((shape : Shape) (image : List ℕ) (log : List Event)

@@ -45,8 +45,8 @@ fn is_beginning(some: &[&Seen], all: &[&Seen]) -> bool
     true
 }
 
-/// Whether lines that are seen at the pins of clients have, of one client, the record's lines in their order, and maybe more behind them.
-/// Err is a refused request for memory.
+/// Whether lines that are seen at the pins of clients have, of one client, the record's lines in their order, and maybe
+/// more behind them. The error is want of memory.
 pub fn keeps_order(
     alloc: Global,
     client: ClientId,

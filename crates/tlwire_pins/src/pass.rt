@@ -46,8 +46,8 @@ fn at_place(place: usize, client: ClientId, broken: Broken) -> Wrong
     }
 }
 
-/// Looks for the first line of a record that may not be seen at a client's pins. Where there is one, no lawful run is seen so there. It
-/// takes time by lines, and memory by the blocks that they are of. Err is a refused request for memory.
+/// Looks for the first line of a record that may not be seen at a client's pins. Where there is one, no lawful run is
+/// seen so there. It takes time by lines, and memory by the blocks that they are of. The error is want of memory.
 pub fn first_wrong(
     alloc: Global,
     shape: Shape,

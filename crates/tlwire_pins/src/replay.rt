@@ -131,7 +131,8 @@ fn take(judge: &mut Judge, lines: &mut Vec<Seen>, entry: &Entry) -> Result<bool,
     }
 }
 
-/// What is seen of a run at the pins of its clients, in order of time; None where it is no lawful run. Err is a refused request for memory.
+/// What is seen of a run at the pins of its clients, in order of time; None where it is no lawful run. The error is
+/// want of memory.
 pub fn lines_at_pins(
     alloc: Global,
     shape: Shape,

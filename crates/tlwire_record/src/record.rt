@@ -21,7 +21,7 @@ pub enum ReadFault {
     Memory,
 }
 
-/// The lines of a text, without their line feeds.
+/// The lines of a text, without their line feeds. The error is want of memory.
 pub fn split_lines(alloc: Global, text: &[u8]) -> Result<Vec<&[u8]>, AllocError>
     ensures { IfOk result (λ lines. texts lines.items ≡ lines_of text.now) }
 {
@@ -55,7 +55,8 @@ fn take_lines(alloc: Global, lines: &[&[u8]]) -> Result<Stage, ReadFault>
     Ok(stage)
 }
 
-/// What the lines of a record have seen. It names the first line that is outside the format, by its number from 1 on, with what is wrong.
+/// What the lines of a record have seen. `Line`, with its number from 1 on and what is wrong, at the first that is
+/// outside the format; `Empty` where there is no shape, or neither image nor message; `Memory` where memory is refused.
 pub fn read(alloc: Global, lines: &[&[u8]]) -> Result<Messages, ReadFault>
     ensures { IsRead (texts lines.now) result }
 {

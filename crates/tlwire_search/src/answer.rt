@@ -19,9 +19,9 @@ pub enum Explanation {
     NotExplained(usize, Limit),
 }
 
-/// Looks for a run from reset over an image that has just what was seen: on each channel, and at each core, that and in that order, and
-/// what was sent there later only where the header's lines allow it. What is not explained may still be lawful. Err is a refused request
-/// for memory.
+/// Looks for a run from reset over an image that has just what was seen: on each channel, and at each core, that and in
+/// that order, and what was sent there later only where the header's lines allow it. What is not explained may still be
+/// lawful. The error is want of memory.
 pub fn explain(
     alloc: Global,
     shape: Shape,
