@@ -18,8 +18,8 @@ use tl_map::Geometry;
 use tl_script_words::Command;
 use tl_types::{AccessBytes, ClientId};
 
-/// A client's agent. Contracts see its links with the tickets that wait, its script, what it answered, and its clock: the last stamp that
-/// it got. Of what it answered it keeps the bytes: the commands are the script's.
+/// A client's agent. Contracts see its links with the tickets that wait, its script, what it answered, and its clock:
+/// the last stamp that it got. Of what it answered it keeps the bytes: the commands are the script's.
 #[derive(Drop)]
 pub struct Agent<'s> {
     requester: Requester,
@@ -43,8 +43,8 @@ impl<'s> Model for Agent<'s> {
 }
 
 impl<'s> Agent<'s> {
-    /// An agent that has answered nothing, with room for all its answers. It is handed its shares of the banks, by number. The
-    /// error is want of memory; for 2^32 commands and more there is none.
+    /// An agent that has answered nothing, with room for all its answers. It is handed its shares of the banks, by
+    /// number. The error is want of memory; for 2^32 commands and more there is none.
     pub fn new(
         alloc: Global,
         client: ClientId,
@@ -68,8 +68,8 @@ impl<'s> Agent<'s> {
         })
     }
 
-    /// The bytes of each command that was answered, and of no other, and the shares. The answers are a beginning of the script's, each
-    /// with its bytes.
+    /// The bytes of each command that was answered, and of no other, and the shares. The answers are a beginning of the
+    /// script's, each with its bytes.
     pub fn into_parts(self) -> (Vec<AccessBytes>, Vec<Share>)
         ensures answered { answered_of result.0.items self.entry.script ≡ self.entry.answered }
         ensures count { length result.0.items ≡ length self.entry.answered }
@@ -83,11 +83,12 @@ impl<'s> Agent<'s> {
         (bytes, requester.into_shares())
     }
 
-    /// One turn, over any port and gate. The answers are a beginning of the script's; those that were there stay, and the loads and
-    /// stores that the turn adds are, in order and with their bytes, what the port's successes gained. What it takes of its inbox, at
-    /// most 64 tickets, joins those that wait. It asks the banks each Grant and ReleaseAck, in order, and then each Probe, but none of
-    /// whose bank and channel an earlier one was refused; the refused and those behind them wait on. An idle turn, and one that finds
-    /// all clients done, asks the port nothing and takes no ticket.
+    /// One turn, over any port and gate. The answers are a beginning of the script's; those that were there stay, and
+    /// the loads and stores that the turn adds are, in order and with their bytes, what the port's successes gained.
+    /// What it takes of its inbox, at most 64 tickets, joins those that wait. It asks the banks each Grant and
+    /// ReleaseAck, in order, and then each Probe, but none of whose bank and channel an earlier one was refused; the
+    /// refused and those behind them wait on. An idle turn, and one that finds all clients done, asks the port nothing
+    /// and takes no ticket.
     pub fn turn<P: Port, G: Gate, R: Wait + Clock>(
         &mut self,
         rt: &R,

@@ -25,8 +25,8 @@ pub(crate) fn address_of(command: &Command) -> u32 {
     }
 }
 
-/// Carries a command out, where that can be done at once: a load or a store where the client's copy allows it, a drop where it has
-/// none. `NoPermission` where the copy is to be changed first.
+/// Carries a command out, where that can be done at once: a load or a store where the client's copy allows it, a drop
+/// where it has none. `NoPermission` where the copy is to be changed first.
 pub(crate) fn carry_out<P: Port>(
     port: &mut P,
     client: ClientId,

@@ -172,7 +172,8 @@ impl Home {
         Ok(())
     }
 
-    /// Serves the tickets in order. A refused one is kept, and no later one of its client and channel is asked before it.
+    /// Serves the tickets in order. A refused one is kept, and no later one of its client and channel is asked before
+    /// it.
     fn serve_tickets<P: HomePort, R: Wait>(
         &mut self,
         rt: &R,

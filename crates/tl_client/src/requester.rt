@@ -34,8 +34,8 @@ impl Answer {
     }
 }
 
-/// A client's side of its links: its tickets, its shares, and what it waits for. Contracts see the client, the number of banks, and the
-/// tickets that wait.
+/// A client's side of its links: its tickets, its shares, and what it waits for. Contracts see the client, the number
+/// of banks, and the tickets that wait.
 #[derive(Drop)]
 pub(crate) struct Requester {
     client: ClientId,
@@ -186,7 +186,8 @@ impl Requester {
         Ok(())
     }
 
-    /// Serves the tickets on channel D in order. A refused one is kept, and no later one of its bank is asked before it.
+    /// Serves the tickets on channel D in order. A refused one is kept, and no later one of its bank is asked before
+    /// it.
     pub(crate) fn serve_downward<P: Port, R: Wait>(
         &mut self,
         rt: &R,
@@ -206,7 +207,8 @@ impl Requester {
         Ok(())
     }
 
-    /// Serves the tickets on channel B in order. A refused one is kept, and no later one of its bank is asked before it.
+    /// Serves the tickets on channel B in order. A refused one is kept, and no later one of its bank is asked before
+    /// it.
     pub(crate) fn serve_probes<P: Port, R: Wait>(
         &mut self,
         rt: &R,
@@ -284,7 +286,8 @@ impl Requester {
         }
     }
 
-    /// A bank is asked for an answer of home: first as the kind that is awaited, and where it is not that, as the other.
+    /// A bank is asked for an answer of home: first as the kind that is awaited, and where it is not that, as the
+    /// other.
     fn ask_as_either<P: Port>(
         &mut self,
         port: &mut P,
@@ -302,7 +305,8 @@ impl Requester {
         }
     }
 
-    /// A bank is asked for an answer of home of this kind, which is then no longer awaited. The GrantAck's ticket, if there is one.
+    /// A bank is asked for an answer of home of this kind, which is then no longer awaited. The GrantAck's ticket, if
+    /// there is one.
     fn ask_as<P: Port>(
         &mut self,
         port: &mut P,
@@ -338,7 +342,8 @@ impl Requester {
         }
     }
 
-    /// A bank is asked to take a Probe's answer, with the client's share of it. One of which there is no share refuses the ticket.
+    /// A bank is asked to take a Probe's answer, with the client's share of it. One of which there is no share refuses
+    /// the ticket.
     fn ask_probe<P: Port>(&mut self, port: &mut P, ticket: Ticket) -> Result<Ticket, Refusal>
         ensures asked { Asks ticket result (P.asked port.old) (P.asked port.new) }
         ensures same { self.new ≡ self.old }
@@ -452,7 +457,8 @@ impl Requester {
     }
 }
 
-/// A bank is asked for a better copy: as from None, and where the client has a copy that is to become a Tip, from Branch.
+/// A bank is asked for a better copy: as from None, and where the client has a copy that is to become a Tip, from
+/// Branch.
 fn ask_acquire<P: Port>(
     port: &mut P,
     client: ClientId,

@@ -1,4 +1,5 @@
-//! The mail of a client's agent or a bank's home: its inbox, the ways to those that it sends to, the tickets that wait, and its rests.
+//! The mail of a client's agent or a bank's home: its inbox, the ways to those that it sends to, the tickets that wait,
+//! and its rests.
 #![tactic(auto)]
 
 mod links;

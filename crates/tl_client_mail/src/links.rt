@@ -12,7 +12,8 @@ pub enum Links {
 }
 
 impl Links {
-    /// Whether a message with this ticket comes to the worker on one of its links: on B or D to a client, on A, C or E to a bank.
+    /// Whether a message with this ticket comes to the worker on one of its links: on B or D to a client, on A, C or E
+    /// to a bank.
     pub fn bring(&self, ticket: &Ticket) -> bool
         ensures { result ≡ brings self.now ticket.now }
     {

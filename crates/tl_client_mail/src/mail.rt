@@ -16,7 +16,8 @@ use tl_types::Ticket;
 /// How many tickets a turn takes at most.
 pub const BATCH: usize = 64;
 
-/// What a worker uses: its own inbox and bell, the way to each of those that it sends to, by number, the done bell, and what it rests at.
+/// What a worker uses: its own inbox and bell, the way to each of those that it sends to, by number, the done bell, and
+/// what it rests at.
 #[derive(Drop)]
 pub struct Mail<'a> {
     inbox: Receiver<'a>,
@@ -46,7 +47,8 @@ impl<'a> Model for Mail<'a> {
 }
 
 impl<'a> Mail<'a> {
-    /// A worker's inboxes and bells. A client sends to homes, in the order of the banks; a home to clients, in their order.
+    /// A worker's inboxes and bells. A client sends to homes, in the order of the banks; a home to clients, in their
+    /// order.
     pub fn new(
         inbox: Receiver<'a>,
         bell: Ringer<'a>,
@@ -146,8 +148,8 @@ impl<'a> Mail<'a> {
         is_rung
     }
 
-    /// Takes tickets of the worker's own inbox, at most 64, and lays those of its links behind the others; the rest are dropped.
-    /// Whether it took 64.
+    /// Takes tickets of the worker's own inbox, at most 64, and lays those of its links behind the others; the rest are
+    /// dropped. Whether it took 64.
     pub fn take_tickets<R: Wait>(&mut self, rt: &R, links: &Links, taken: &mut Vec<Ticket>) -> bool
         requires { vec_len taken.old + BATCH ≤ vec_capacity taken.old }
         ensures taken { Took links.now self.old.inbox taken.old.items self.new.inbox taken.new.items }

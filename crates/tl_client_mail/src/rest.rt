@@ -15,8 +15,8 @@ const SLOW_YIELD: u64 = 500;
 // So many barren turns rest at once after a slow yield.
 const CROWDED: u32 = 8;
 
-// How long a rest lasts at most, in microseconds: a sender that rings ends it. So a run of the most turns that can't go on is told as
-// stalled after some 16 seconds, and a starved thread has as long.
+// How long a rest lasts at most, in microseconds: a sender that rings ends it. So a run of the most turns that can't go
+// on is told as stalled after some 16 seconds, and a starved thread has as long.
 const REST: u64 = 1_000;
 
 /// How many barren turns came one after another, and whether others want the processor.
@@ -39,7 +39,8 @@ impl Rest {
         }
     }
 
-    /// After a turn: one in which no call succeeded yields the processor, or rests where others want it or many such came in a row.
+    /// After a turn: one in which no call succeeded yields the processor, or rests where others want it or many such
+    /// came in a row.
     pub fn after_turn<R: Wait + Clock>(&mut self, rt: &R, parker: &Parker, has_worked: bool) {
         if has_worked {
             self.barren = 0;
@@ -64,7 +65,8 @@ impl Rest {
         self.barren > PATIENCE && self.barren % BETWEEN == 0
     }
 
-    /// Yields the processor, and from the second barren turn of a row on notes whether that took long: most rows are of one.
+    /// Yields the processor, and from the second barren turn of a row on notes whether that took long: most rows are of
+    /// one.
     fn give_way<R: Clock>(&mut self, rt: &R) {
         if self.barren < 2 {
             thread::yield_now();

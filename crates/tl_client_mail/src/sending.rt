@@ -10,10 +10,12 @@ use std::sync::Wait;
 use tl_tickets::{Ringer, Sender};
 use tl_types::Ticket;
 
-/// For how many tickets that are handed back a way has room from its making. An inbox hands back only what it has no room for.
+/// For how many tickets that are handed back a way has room from its making. An inbox hands back only what it has no
+/// room for.
 pub const BACK: usize = 8;
 
-/// The way to one receiver: its inbox, its bell, what ends its rest, and the tickets that the inbox handed back, oldest first.
+/// The way to one receiver: its inbox, its bell, what ends its rest, and the tickets that the inbox handed back, oldest
+/// first.
 #[derive(Drop)]
 pub struct Sending<'a> {
     inbox: Sender<'a>,
@@ -96,8 +98,8 @@ impl<'a> Sending<'a> {
         }
     }
 
-    /// Sends a ticket behind those that were handed back, and keeps it among them where the inbox is full. Each ticket that is put
-    /// is followed by a ring.
+    /// Sends a ticket behind those that were handed back, and keeps it among them where the inbox is full. Each ticket
+    /// that is put is followed by a ring.
     pub fn send<R: Wait>(&mut self, rt: &R, ticket: Ticket)
         requires { HasRoom self.old }
         ensures sent { sent_on self.new ≡ sent_on self.old ++ ticket ∷ [] }

@@ -9,8 +9,8 @@ use std::collections::VecDeque;
 use std::marker::Model;
 use tl_types::{Channel, Ticket};
 
-/// Tickets of one worker that wait to be served, in order. A round comes to each of them once; what was refused is kept, and no
-/// later ticket of its bank, client and channel comes next in that round.
+/// Tickets of one worker that wait to be served, in order. A round comes to each of them once; what was refused is
+/// kept, and no later ticket of its bank, client and channel comes next in that round.
 #[derive(Drop)]
 pub struct Waiting {
     kept: VecDeque<Ticket>,
@@ -99,8 +99,9 @@ impl Waiting {
         }
     }
 
-    /// The ticket that comes next in this round, of whose channel and link the round has kept none. It stays until it is `served`,
-    /// `refused` or `answered`; those before it are kept, each barred by one that was kept before. None is lost.
+    /// The ticket that comes next in this round, of whose channel and link the round has kept none. It stays until it
+    /// is `served`, `refused` or `answered`; those before it are kept, each barred by one that was kept before. None is
+    /// lost.
     pub fn next(&mut self) -> Option<Ticket>
         ensures order { all_of self.new ≡ all_of self.old }
         ensures next { MatchOption result (self.new.rest ≡ []) (λ t. (is_barred self.new.kept t ≡ false) × ((later : List Ticket) × (self.new.rest ≡ t ∷ later))) }

@@ -15,8 +15,8 @@ use tl_streams::{ProgramFault, ReadError};
 /// What stops a job. It prints as the one fault line.
 #[derive(Debug, Drop, Error)]
 pub enum Fault {
-    /// The words were refused, the file could not be read or the output not written, or a request for memory was refused outside the
-    /// script's reading and its run.
+    /// The words were refused, the file could not be read or the output not written, or a request for memory was
+    /// refused outside the script's reading and its run.
     Program(ProgramFault),
     /// The script was refused, or could not be read for want of memory.
     Script(ScriptError),

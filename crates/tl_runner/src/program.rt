@@ -23,9 +23,9 @@ use tl_runner_threads::run;
 use tl_script::read_script;
 use tl_streams::{ProgramFault, read_whole, tell, write_whole};
 
-// The C library's allocator gives a free block of 128 kilobytes and more back to the system, but for those no larger than the largest that
-// it gave back before. So one of this many bytes is asked for and given back: what the reading of a script leaves free then serves the
-// run, whose pages the system need not lay down anew.
+// The C library's allocator gives a free block of 128 kilobytes and more back to the system, but for those no larger
+// than the largest that it gave back before. So one of this many bytes is asked for and given back: what the reading of
+// a script leaves free then serves the run, whose pages the system need not lay down anew.
 const KEPT: usize = 480 * 1024;
 
 /// Has the allocator keep free blocks of up to `KEPT` bytes. Nothing depends on it but time.
@@ -69,9 +69,9 @@ fn show<E: Write>(faults: &mut E, fault: &Fault) -> u8
     fault.status()
 }
 
-/// Writes the whole answer to `output`, or one line to `faults` that says what stopped the job, and answers the status: 0 where
-/// all was written, else that of the fault. A failing `faults` does not change it. A run has a thread for each client and one for each
-/// bank's home.
+/// Writes the whole answer to `output`, or one line to `faults` that says what stopped the job, and answers the status:
+/// 0 where all was written, else that of the fault. A failing `faults` does not change it. A run has a thread for each
+/// client and one for each bank's home.
 pub fn answer<T: Threads + Wait + Clock + Sync, R: Read + Drop, W: Write, E: Write>(
     rt: &T,
     alloc: Global,

@@ -57,8 +57,9 @@ fn is_one_memory(script: &Script, banks: &[Bank], clients: &[Vec<Answered>])
     let _logs = logs_of(banks);
 }
 
-/// The lines of all clients, each load and store with the bytes of its access. None where an access does not carry out its command,
-/// or a client has not as many as loads and stores. Where memory for the lines is refused, the accesses are compared even so.
+/// The lines of all clients, each load and store with the bytes of its access. None where an access does not carry out
+/// its command, or a client has not as many as loads and stores. Where memory for the lines is refused, the accesses
+/// are compared even so.
 fn all_lines(
     alloc: Global,
     commands: &[Vec<Command>],

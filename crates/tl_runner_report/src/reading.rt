@@ -1,4 +1,5 @@
-//! One pass over the logs: each access is compared with its command and counted, and its bytes are written onto its line.
+//! One pass over the logs: each access is compared with its command and counted, and its bytes are written onto its
+//! line.
 ghost use Rattle.std.specs.Prelude.{◌≡◌, ◌↔◌, ◌≤◌, [], All, IsTrue, length, true};
 ghost use Rattle.std.specs.List.{cons_option};
 ghost use Rattle.tl_script.specs.Commands.{commands as commands_in};
@@ -15,8 +16,9 @@ use tl_script_words::Command;
 use tl_text::Answered;
 use tl_types::CLIENTS;
 
-/// Reads an event: an access is compared with its command, its client owes one less, and its bytes are written onto its line,
-/// where there is one. False, with nothing known of the rest, where it does not carry out its command or is not owed.
+/// Reads an event: an access is compared with its command, its client owes one less, and its bytes are written onto its
+/// line, where there is one. False, with nothing known of the rest, where it does not carry out its command or is not
+/// owed.
 fn read_event(
     commands: &[Vec<Command>],
     event: &Event,
@@ -44,7 +46,8 @@ fn read_event(
     true
 }
 
-/// Reads a log. False where an access of it does not carry out its command, or a client has more accesses in it than it owes.
+/// Reads a log. False where an access of it does not carry out its command, or a client has more accesses in it than it
+/// owes.
 fn read_log(
     commands: &[Vec<Command>],
     log: &[Event],
@@ -66,8 +69,9 @@ fn read_log(
     true
 }
 
-/// Reads all logs: whether each access carries out the command at its index, and each client has as many as loads and stores among
-/// its commands. Then each access's bytes stand on the line of its client at its index, where there is one.
+/// Reads all logs: whether each access carries out the command at its index, and each client has as many as loads and
+/// stores among its commands. Then each access's bytes stand on the line of its client at its index, where there is
+/// one.
 pub(crate) fn read_logs(
     commands: &[Vec<Command>],
     logs: &[&[Event]],

@@ -24,7 +24,8 @@ pub(crate) fn no_shares(alloc: Global, count: u32) -> Result<Vec<Vec<Share>>, Al
     Ok(lists)
 }
 
-/// The banks at reset over an image, each with room for so many events where there is memory for them, and the shares of each client.
+/// The banks at reset over an image, each with room for so many events where there is memory for them, and the shares
+/// of each client.
 pub(crate) fn open_banks(
     alloc: Global,
     geometry: Geometry,

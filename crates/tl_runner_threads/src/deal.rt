@@ -1,5 +1,5 @@
-//! Mailboxes and bells, dealt out with their passes and seats: each worker gets its own mailbox, a way to each of those that it sends to,
-//! and a seat at the done bell and at the stop bell.
+//! Mailboxes and bells, dealt out with their passes and seats: each worker gets its own mailbox, a way to each of those
+//! that it sends to, and a seat at the done bell and at the stop bell.
 ghost use Rattle.std.specs.Prelude.{◌≡◌, ◌+◌, ◌<◌, ◌≤◌, IfOk, length, vec_len};
 ghost use Rattle.std.specs.List.{All};
 ghost use Rattle.tl_tickets.specs.Inbox.{IsSenderOf};

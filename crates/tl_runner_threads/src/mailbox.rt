@@ -77,7 +77,8 @@ fn open_mailbox(
     Ok((mailbox, keys))
 }
 
-/// So many mailboxes, each for so many senders and with an inbox that holds so many tickets, and the passes and seats of each.
+/// So many mailboxes, each for so many senders and with an inbox that holds so many tickets, and the passes and seats
+/// of each.
 pub(crate) fn open_mailboxes(
     alloc: Global,
     count: u32,

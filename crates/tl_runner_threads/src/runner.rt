@@ -28,7 +28,8 @@ use tl_types::{BANKS, BankNo, CLIENTS, ClientId};
 /// How many tickets an inbox of `run` holds.
 pub const CAPACITY: usize = 512;
 
-// For how many events of each command the banks' logs have room ahead. A hit is one; a miss that sends another block away some fifteen.
+// For how many events of each command the banks' logs have room ahead. A hit is one; a miss that sends another block
+// away some fifteen.
 const EVENTS: usize = 16;
 
 /// Runs a script's commands, with a thread for each client and one for each bank's home, and answers the report of

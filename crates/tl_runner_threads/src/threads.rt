@@ -85,8 +85,9 @@ fn open_places<C: Drop + Send, H: Drop + Send>(
     })
 }
 
-/// Runs each worker in a thread of its own, joins all threads and gives the workers back, as many as there were. Where a thread could
-/// not be started, no other is, and those that run are stopped and joined: the error is that, or want of memory.
+/// Runs each worker in a thread of its own, joins all threads and gives the workers back, as many as there were. Where
+/// a thread could not be started, no other is, and those that run are stopped and joined: the error is that, or want of
+/// memory.
 pub(crate) fn run_threads<
     R: Threads + Wait + Clock + Sync,
     S: Sync,

@@ -88,8 +88,8 @@ fn end_after(turn: Turn) -> Option<End>
     }
 }
 
-/// An agent's turns, until one is the last, the run is stopped, or the turns are used up. Where the stop bell was rung before, it makes
-/// none.
+/// An agent's turns, until one is the last, the run is stopped, or the turns are used up. Where the stop bell was rung
+/// before, it makes none.
 fn client_turns<P: Port, R: Wait + Clock, G: Gate>(
     rt: &R,
     shared: &Shared<'_, G>,

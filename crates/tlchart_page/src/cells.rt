@@ -37,7 +37,8 @@ fn block_named(geometry: Geometry, step: &Step) -> Option<BlockNo> {
     }
 }
 
-/// The blocks of the memory that steps name, by rising number. A ticket names a message, about a block that another step named.
+/// The blocks of the memory that steps name, by rising number. A ticket names a message, about a block that another
+/// step named.
 pub(crate) fn blocks_named(
     alloc: Global,
     geometry: Geometry,

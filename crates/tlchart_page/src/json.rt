@@ -111,8 +111,8 @@ fn push_rows(ink: &mut Ink, sheet: &Sheet<'_>) {
     }
 }
 
-/// A message: the steps that sent and took it, -1 where none took it; from whom to whom, on which channel, about which block, what it
-/// is, and its bytes.
+/// A message: the steps that sent and took it, -1 where none took it; from whom to whom, on which channel, about which
+/// block, what it is, and its bytes.
 fn push_arrow(ink: &mut Ink, arrow: &Arrow) {
     let message = &arrow.message;
     let sent = arrow.sent;

@@ -1,5 +1,5 @@
-//! A page that walks through a trace: the sequence chart and, beside it, the state of all banks at the step that is chosen. The states
-//! are what the banks' views answer after each step, told as changes.
+//! A page that walks through a trace: the sequence chart and, beside it, the state of all banks at the step that is
+//! chosen. The states are what the banks' views answer after each step, told as changes.
 #![tactic(auto)]
 
 mod cells;

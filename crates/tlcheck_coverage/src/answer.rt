@@ -40,8 +40,8 @@ impl Number {
     }
 }
 
-/// The status of a fault: 1 for a record that is not lawful, 3 for one that cannot be read, 4 for want of memory or of a table, 5 for the
-/// file.
+/// The status of a fault: 1 for a record that is not lawful, 3 for one that cannot be read, 4 for want of memory or of
+/// a table, 5 for the file.
 fn status_of(fault: &Fault) -> u8 {
     match fault {
         Fault::Refused(Outcome::Lawful(_, _)) => 0,
@@ -127,7 +127,8 @@ pub fn tell_tables<W: Write, E: Write>(
     write_text(tables(alloc, tallies, names, form), 0, output, faults)
 }
 
-/// The record of a run that reaches a situation, with the situation as a comment; nothing where there is none of that number.
+/// The record of a run that reaches a situation, with the situation as a comment; nothing where there is none of that
+/// number.
 fn run_text(alloc: Global, number: Number) -> Result<Option<String>, TableError> {
     if number.clients < 1 || number.place < 1 {
         return Ok(None);

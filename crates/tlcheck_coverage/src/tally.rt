@@ -127,7 +127,8 @@ impl Tally {
         Ok(())
     }
 
-    /// Counts an event that is in none of the table's situations. Err is a count past 64 bits: then nothing has changed.
+    /// Counts an event that is in none of the table's situations. Err is a count past 64 bits: then nothing has
+    /// changed.
     fn note_beyond(&mut self) -> Result<(), AllocError>
         ensures ok { OnOk result (IsCountedBeyond self.old self.new) }
         ensures err { OnErr result (self.new ≡ self.old) }

@@ -70,7 +70,8 @@ fn push_rows(text: &mut String, tally: &Tally, names: &[String]) -> Result<(), A
     Ok(())
 }
 
-/// The table of a tally: how much was reached, by action, and each situation with its number, its count and where it was reached first.
+/// The table of a tally: how much was reached, by action, and each situation with its number, its count and where it
+/// was reached first.
 pub(crate) fn push_tally(
     text: &mut String,
     tally: &Tally,

@@ -28,8 +28,8 @@ impl Bench {
         Ok(Bench { judge, fault: None })
     }
 
-    /// Takes the next entry, if it is permitted after those before it; else it tells what the entry breaks, and each later call tells
-    /// that again.
+    /// Takes the next entry, if it is permitted after those before it; else it tells what the entry breaks, and each
+    /// later call tells that again.
     pub fn see(&mut self, seen: &BenchEntry) -> Verdict
         ensures { Sees self.old seen.now self.new result }
     {

@@ -13,8 +13,8 @@ use tlcheck_rules::{Entry, Shown};
 #[derive(Clone, Copy, Drop)]
 pub struct BenchEntry {
     /// Which event: 0 load, 1 store, 2 send_acquire, 3 send_release, 4 answer_probe, 5 take_grant, 6 take_release_ack,
-    /// 7 accept_acquire, 8 send_probe, 9 take_c, 10 send_grant, 11 take_grant_ack, 12 send_get, 13 serve, 14 take_data, 15 drop,
-    /// 16 send_put, 17 take_put_ack.
+    /// 7 accept_acquire, 8 send_probe, 9 take_c, 10 send_grant, 11 take_grant_ack, 12 send_get, 13 serve, 14 take_data,
+    /// 15 drop, 16 send_put, 17 take_put_ack.
     pub event: u32,
     /// The client.
     pub client: u32,

@@ -29,8 +29,8 @@ pub struct JudgeRoom {
     pub bench: Option<Bench>,
 }
 
-/// A judge at reset over an image; one that is closed where a number is not lawful (20 clients, 22 block bytes, 27 memory blocks), the
-/// image is longer than the memory (10) or there is no memory (14).
+/// A judge at reset over an image; one that is closed where a number is not lawful (20 clients, 22 block bytes, 27
+/// memory blocks), the image is longer than the memory (10) or there is no memory (14).
 pub fn opened(alloc: Global, numbers: &JudgeNumbers, image: &[u8]) -> JudgeRoom
     ensures { OpensJudge numbers.now image.now result }
 {

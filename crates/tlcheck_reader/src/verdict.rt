@@ -20,9 +20,9 @@ pub fn check_record<R: BufRead>(alloc: Global, reader: &mut R) -> Ending
     }
 }
 
-/// Writes what a check of a record ends with: a verdict, and the state beside it, to `output`, a fault to `faults`. It answers the status: 0
-/// where the record is lawful, 1 where it is not, 3 where it cannot be read as one, 4 for want of memory, 5 where the file could not be read or the verdict not
-/// written. A failing `faults` does not change it.
+/// Writes what a check of a record ends with: a verdict, and the state beside it, to `output`, a fault to `faults`. It
+/// answers the status: 0 where the record is lawful, 1 where it is not, 3 where it cannot be read as one, 4 for want of
+/// memory, 5 where the file could not be read or the verdict not written. A failing `faults` does not change it.
 pub fn tell_ending<W: Write, E: Write>(
     alloc: Global,
     ending: &Ending,

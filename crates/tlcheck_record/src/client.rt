@@ -269,7 +269,8 @@ impl fmt::Display for OnCDE<'_> {
     }
 }
 
-// A client's line: its copy, its record, what it waits for, the messages of each channel, and whether home has still to probe it.
+// A client's line: its copy, its record, what it waits for, the messages of each channel, and whether home has still to
+// probe it.
 #[derive(Clone, Copy)]
 pub(crate) struct ClientLine<'a> {
     pub(crate) c: ClientId,

@@ -1,5 +1,5 @@
-//! The text of a record: a line for the geometry, one for the image, and one for each event; and what is said of it: why
-//! an entry is not permitted, and the state of a block.
+//! The text of a record: a line for the geometry, one for the image, and one for each event; and what is said of it:
+//! why an entry is not permitted, and the state of a block.
 #![tactic(auto)]
 
 mod cause;

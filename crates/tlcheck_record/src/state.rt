@@ -22,7 +22,8 @@ fn is_in_the_way(cap: GrantCap, recorded: Perm) -> bool
     }
 }
 
-/// Whether the client's record is in the way of the Grant that home is to send to another, and the client is not probed.
+/// Whether the client's record is in the way of the Grant that home is to send to another, and the client is not
+/// probed.
 fn must_be_probed(block: &BlockState, shape: Shape, c: ClientId) -> bool
     requires size { length block.now.clients ≡ shape.clients }
     requires client { c < shape.clients }

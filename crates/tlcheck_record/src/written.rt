@@ -109,7 +109,8 @@ impl fmt::Display for Words<'_> {
     }
 }
 
-/// An event as the line of a record, without the line feed: its verb, and what it carries. It prints nothing that the event shows.
+/// An event as the line of a record, without the line feed: its verb, and what it carries. It prints nothing that the
+/// event shows.
 #[derive(Clone, Copy)]
 pub struct EventLine<'a>(pub &'a Event);
 
@@ -168,8 +169,9 @@ impl fmt::Display for EntryLine<'_> {
     }
 }
 
-/// A line that an entry prints as is read as that entry, where the format has a line for it: its numbers are of 32 bits, its access is
-/// of 1 to 8 bytes, and what it shows is a message between home and a client. The stamp and the index of an access are not written.
+/// A line that an entry prints as is read as that entry, where the format has a line for it: its numbers are of 32
+/// bits, its access is of 1 to 8 bytes, and what it shows is a message between home and a client. The stamp and the
+/// index of an access are not written.
 pub fn lines_are_read_back()
     ensures entry { (entry : Entry) → HasLine entry.event → MayShow entry.event entry.shown
         → entry_of (entry_text entry) ≡ Ok (plain_entry entry) }

@@ -46,7 +46,8 @@ impl From<AllocError> for Refusal {
     }
 }
 
-/// Where the entries so far lead. It takes memory for blocks, clients and the messages that wait, and none for the entries.
+/// Where the entries so far lead. It takes memory for blocks, clients and the messages that wait, and none for the
+/// entries.
 #[derive(Drop)]
 pub struct Judge {
     plain: Plain,
@@ -210,8 +211,8 @@ impl Judge {
     }
 }
 
-/// A record whose entries are each permitted after those before it is a run that takes each channel's messages in order; and an entry
-/// that breaks something is not permitted.
+/// A record whose entries are each permitted after those before it is a run that takes each channel's messages in
+/// order; and an entry that breaks something is not permitted.
 pub fn every_record()
     ensures lawful { EveryLawfulRecordIsALawfulLog }
     ensures broken { NoBrokenEntryIsPermitted }

@@ -1,4 +1,5 @@
-//! Judges a record of events: is each permitted after the ones before it, and if not, which rule does the first one break.
+//! Judges a record of events: is each permitted after the ones before it, and if not, which rule does the first one
+//! break.
 #![tactic(auto)]
 
 mod difference;

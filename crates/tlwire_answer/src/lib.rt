@@ -1,4 +1,5 @@
-//! The answer to a record of messages: a run that explains it, that no lawful run is seen so, or the first line that no attempt reached.
+//! The answer to a record of messages: a run that explains it, that no lawful run is seen so, or the first line that no
+//! attempt reached.
 #![tactic(auto)]
 
 mod ending;

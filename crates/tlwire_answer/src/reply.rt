@@ -35,8 +35,8 @@ fn ending(alloc: Global, lines: &[&[u8]]) -> Ending
     }
 }
 
-/// Writes an ending to `output` where it is an answer, else to `faults`, and answers its status: that of the file where it could not be
-/// written, or of want of memory.
+/// Writes an ending to `output` where it is an answer, else to `faults`, and answers its status: that of the file where
+/// it could not be written, or of want of memory.
 fn write_ending<W: Write, E: Write>(
     alloc: Global,
     form: Form,
@@ -82,9 +82,10 @@ fn reply<W: Write, E: Write>(
     write_ending(alloc, form, lines, &ending, output, faults)
 }
 
-/// Reads a record of messages, says what it found of it, and writes that: an answer to `output`, a fault to `faults`. It answers the
-/// status: 0 where a run explains it, 1 where no lawful run is seen so, 6 where neither was found, 3 where it cannot be read, 4 for want
-/// of memory, 5 where the answer could not be written. A failing `faults` does not change it.
+/// Reads a record of messages, says what it found of it, and writes that: an answer to `output`, a fault to `faults`.
+/// It answers the status: 0 where a run explains it, 1 where no lawful run is seen so, 6 where neither was found, 3
+/// where it cannot be read, 4 for want of memory, 5 where the answer could not be written. A failing `faults` does not
+/// change it.
 pub fn answer<W: Write, E: Write>(
     alloc: Global,
     form: Form,

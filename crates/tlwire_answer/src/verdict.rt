@@ -358,7 +358,8 @@ fn ruled_out_behind(
     ruled_out_by(alloc, messages, Way::AtClients)
 }
 
-/// A run that explains what was seen; else where each run of a block is stuck, in the ways of seeing that were not asked before.
+/// A run that explains what was seen; else where each run of a block is stuck, in the ways of seeing that were not
+/// asked before.
 fn sought(alloc: Global, messages: &Messages, asked: bool) -> Result<Verdict, AllocError>
     ensures { IfOk result (IsVerdict messages.now) }
 {
@@ -372,8 +373,9 @@ fn sought(alloc: Global, messages: &Messages, asked: bool) -> Result<Verdict, Al
     }
 }
 
-/// What is said of what may be seen at the pins of its clients. Closed sets take longer than the search for a run, so it comes first; but
-/// not between the links' ends or at home, where all was watched in order of time: there a set is small.
+/// What is said of what may be seen at the pins of its clients. Closed sets take longer than the search for a run, so
+/// it comes first; but not between the links' ends or at home, where all was watched in order of time: there a set is
+/// small.
 fn weighed(alloc: Global, messages: &Messages) -> Result<Verdict, AllocError>
     ensures { IfOk result (IsVerdict messages.now) }
 {

@@ -14,8 +14,8 @@ pub enum Way {
     AtSending,
     /// At home's pins: what home sends as it is sent, what home takes as it is taken.
     AtHome,
-    /// At the clients' pins: what a client sends on A and C as it is sent, a Grant and a ReleaseAck as they are taken; what is on B and E,
-    /// and on the memory's link, between.
+    /// At the clients' pins: what a client sends on A and C as it is sent, a Grant and a ReleaseAck as they are taken;
+    /// what is on B and E, and on the memory's link, between.
     AtClients,
 }
 

@@ -59,8 +59,8 @@ fn kind_at(channel: Channel, opcode: u8, param: u8) -> Option<Kind>
     decode(channel, opcode, param)
 }
 
-/// The kind that a channel, an opcode and a parameter stand for. Code where TileLink has no such message, Profile where it has one that
-/// this project leaves out.
+/// The kind that a channel, an opcode and a parameter stand for. Code where TileLink has no such message, Profile where
+/// it has one that this project leaves out.
 #[tactic(auto, unfolding(crate::specs::Code::kind_of))]
 pub(crate) fn kind_of(channel: Channel, opcode: u32, param: u32) -> Result<Kind, Cause>
     ensures { result ≡ kind_of channel opcode param }

@@ -1,4 +1,5 @@
-//! The text of a record of messages, as a monitor on the links writes it: its grammar, what its ids stand for, and what was seen.
+//! The text of a record of messages, as a monitor on the links writes it: its grammar, what its ids stand for, and what
+//! was seen.
 #![tactic(auto)]
 
 mod code;

@@ -172,7 +172,8 @@ fn line_of(
     Ok(Line { cycle, link, said })
 }
 
-/// The line that some words write: `CYCLE LINK CHANNEL OPCODE FIELD..`, `CYCLE LINK load ADDR HEX` or `CYCLE LINK store ADDR HEX`.
+/// The line that some words write: `CYCLE LINK CHANNEL OPCODE FIELD..`, `CYCLE LINK load ADDR HEX` or
+/// `CYCLE LINK store ADDR HEX`.
 #[tactic(auto, unfolding(crate::specs::Line::line_in))]
 pub(crate) fn parse_line(alloc: Global, words: &[&str]) -> Result<Line, LineError>
     ensures { Gives (λ x. x) result (line_in (texts words.now)) }

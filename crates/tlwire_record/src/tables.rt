@@ -207,7 +207,8 @@ impl Tables {
         close_one(&mut self.grants, link, sink, Cause::NoGrant)
     }
 
-    /// The block of a message, by its address, its source or its sink; what it opens is open then, and what it closes is not.
+    /// The block of a message, by its address, its source or its sink; what it opens is open then, and what it closes
+    /// is not.
     pub(crate) fn take(
         &mut self,
         setting: &Setting,

@@ -13,7 +13,8 @@ use tl_types::{BLOCK_BYTES, BLOCKS};
 /// What is said of what was seen.
 #[derive(Drop)]
 pub enum Explanation {
-    /// This run has just these messages, loads and stores. The stamps and indexes of its loads and stores are 0, since no monitor sees any.
+    /// This run has just these messages, loads and stores. The stamps and indexes of its loads and stores are 0, since
+    /// no monitor sees any.
     Explained(Vec<Event>),
     /// No run was found; at this place stands the first thing seen that no attempt reached, and this ended the attempt.
     NotExplained(usize, Limit),

@@ -8,7 +8,8 @@ use crate::seen::{Seen, Wire};
 use std::alloc::{AllocError, Global};
 use std::marker::Model;
 
-/// A mark for each thing seen, how many from the first on have one, and the wires of which it is known that each has one.
+/// A mark for each thing seen, how many from the first on have one, and the wires of which it is known that each has
+/// one.
 #[derive(Drop)]
 pub(crate) struct Marks {
     marks: Vec<bool>,

@@ -274,7 +274,8 @@ fn held_up(judge: &Judge, line: &Seen) -> Option<ClientId> {
     }
 }
 
-/// Looks for a run that has what was seen, line by line: again for the client that was held up, as long as that leads further on.
+/// Looks for a run that has what was seen, line by line: again for the client that was held up, as long as that leads
+/// further on.
 pub(crate) fn search(
     alloc: Global,
     shape: Shape,
