@@ -37,9 +37,13 @@ impl<'s> Model for Agent<'s> {
 
     ghost Value = { AgentView };
 
-    ghost view = { λ a. record { links = a.requester; script = a.script.now; answered = answered_of a.bytes.items a.script.now; clock = a.clock } };
+    ghost view = { λ a.
+        record { links = a.requester; script = a.script.now; answered = answered_of a.bytes.items a.script.now; clock = a.clock } };
 
-    ghost invariant = { λ a. IsBeginning (record { links = a.requester; script = a.script.now; answered = answered_of a.bytes.items a.script.now; clock = a.clock }) × (length a.bytes.items ≤ length a.script.now) × (length a.script.now ≤ vec_capacity a.bytes) × (length a.script.now < 2 ^ 32) };
+    ghost invariant = { λ a. IsBeginning
+        (record { links = a.requester; script = a.script.now; answered = answered_of a.bytes.items a.script.now; clock = a.clock })
+        × (length a.bytes.items ≤ length a.script.now) × (length a.script.now ≤ vec_capacity a.bytes)
+        × (length a.script.now < 2 ^ 32) };
 }
 
 impl<'s> Agent<'s> {
@@ -52,7 +56,9 @@ impl<'s> Agent<'s> {
         commands: &'s [Command],
         shares: Vec<Share>,
     ) -> Result<Agent<'s>, AllocError>
-        ensures { IfOk result (λ a. a ≡ record { links = quiet_links client (vec_len shares) ROOM; script = commands.entry.now; answered = []; clock = 0 }) }
+        ensures { IfOk result
+            (λ a. a
+            ≡ record { links = quiet_links client (vec_len shares) ROOM; script = commands.entry.now; answered = []; clock = 0 }) }
     {
         if commands.len() > u32::MAX as usize {
             return Err(AllocError);
@@ -99,11 +105,14 @@ impl<'s> Agent<'s> {
     ) -> Turn
         ensures gains { Gains self.old (P.successes port.old) self.new (P.successes port.new) }
         ensures beginning { IsBeginning self.new }
-        ensures works { result ≡ Turn.Worked → Works mail.old.inbox self.old.links mail.new.inbox self.new.links (P.asked port.new) }
+        ensures works { result ≡ Turn.Worked
+            → Works mail.old.inbox self.old.links mail.new.inbox self.new.links (P.asked port.new) }
         ensures idle { result ≡ Turn.Idle → (self.new ≡ self.old) × (P.successes port.new ≡ P.successes port.old)
             × (P.asked port.new ≡ P.asked port.old) × (mail.new.inbox ≡ mail.old.inbox) }
-        ensures finished { result ≡ Turn.Finished → (self.new ≡ self.old) × (P.successes port.new ≡ P.successes port.old)
-            × (P.asked port.new ≡ P.asked port.old) × (mail.new.inbox ≡ mail.old.inbox) × (clients ≤ mail.new.done.seat.seen) }
+        ensures finished { result ≡ Turn.Finished
+            → (self.new ≡ self.old) × (P.successes port.new ≡ P.successes port.old)
+            × (P.asked port.new ≡ P.asked port.old) × (mail.new.inbox ≡ mail.old.inbox)
+            × (clients ≤ mail.new.done.seat.seen) }
     {
         let is_due = self.requester.is_due() || mail.has_back();
         if mail.done() >= u64::from(clients) {
@@ -135,7 +144,8 @@ impl<'s> Agent<'s> {
     ) -> Result<(), AllocError>
         ensures gains { Gains self.old (P.successes port.old) self.new (P.successes port.new) }
         ensures beginning { IsBeginning self.new }
-        ensures works { OnOk result (Works mail.old.inbox self.old.links mail.new.inbox self.new.links (P.asked port.new)) }
+        ensures works { OnOk result
+            (Works mail.old.inbox self.old.links mail.new.inbox self.new.links (P.asked port.new)) }
     {
         port.begin();
         self.requester.take_tickets(rt, mail)?;

@@ -35,7 +35,8 @@ pub(crate) fn carry_out<P: Port>(
     when: When,
 ) -> Result<Done, Refusal>
     ensures gains { MatchResult result
-        (λ done. (P.successes port.new ≡ P.successes port.old ++ success_at client when command.now done.bytes done.clock)
+        (λ done. (P.successes port.new
+        ≡ P.successes port.old ++ success_at client when command.now done.bytes done.clock)
         × (done.clock ≡ clock_after when.clock (success_at client when command.now done.bytes done.clock))
         × HasItsBytes command.now done.bytes)
         (λ _. P.successes port.new ≡ P.successes port.old) }

@@ -45,7 +45,8 @@ impl Model for Home {
 impl Home {
     /// The home of a bank, which has no tickets. The error is want of memory.
     pub fn new(alloc: Global, bank: BankNo) -> Result<Home, AllocError>
-        ensures { IfOk result (λ h. h ≡ record { bank = bank; waiting = record { kept = []; rest = []; room = BATCH } }) }
+        ensures { IfOk result
+            (λ h. h ≡ record { bank = bank; waiting = record { kept = []; rest = []; room = BATCH } }) }
     {
         Ok(Home {
             bank,
@@ -71,8 +72,10 @@ impl Home {
         clients: u32,
         mail: &mut Mail<'_>,
     ) -> Turn
-        ensures works { result ≡ Turn.Worked → Works clients mail.old.inbox self.old mail.new.inbox self.new (P.asked port.new) }
-        ensures idle { result ≡ Turn.Idle → (self.new ≡ self.old) × (P.asked port.new ≡ P.asked port.old) × (mail.new.inbox ≡ mail.old.inbox) }
+        ensures works { result ≡ Turn.Worked
+            → Works clients mail.old.inbox self.old mail.new.inbox self.new (P.asked port.new) }
+        ensures idle { result ≡ Turn.Idle
+            → (self.new ≡ self.old) × (P.asked port.new ≡ P.asked port.old) × (mail.new.inbox ≡ mail.old.inbox) }
         ensures finished { result ≡ Turn.Finished → (self.new ≡ self.old) × (P.asked port.new ≡ P.asked port.old)
             × (mail.new.inbox ≡ mail.old.inbox) × (clients ≤ mail.new.done.seat.seen) }
     {

@@ -61,7 +61,8 @@ impl Model for Requester {
 
     ghost Value = { ClientLinks };
 
-    ghost view = { λ r. record { client = r.client; banks = vec_len r.shares; downward = r.downward; probes = r.probes } };
+    ghost view = { λ r.
+        record { client = r.client; banks = vec_len r.shares; downward = r.downward; probes = r.probes } };
 }
 
 /// For how many tickets of each channel a client has room from the start.

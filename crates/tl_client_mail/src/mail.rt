@@ -56,7 +56,8 @@ impl<'a> Mail<'a> {
         done: Ringer<'a>,
         parker: Parker,
     ) -> Mail<'a>
-        ensures { result ≡ record { inbox = inbox.entry; bell = bell.entry; ways = sending.entry.items; done = done.entry } }
+        ensures { result
+            ≡ record { inbox = inbox.entry; bell = bell.entry; ways = sending.entry.items; done = done.entry } }
     {
         Mail {
             inbox,
@@ -125,7 +126,8 @@ impl<'a> Mail<'a> {
     /// Sends a ticket to the receiver with this number, if there is one.
     pub fn send<R: Wait>(&mut self, rt: &R, to: usize, ticket: Ticket)
         requires { All HasRoom self.old.ways }
-        ensures sent { sent_by self.new ≡ slice_set (sent_by self.old) to (slice_index_or (sent_by self.old) to [] ++ ticket ∷ []) }
+        ensures sent { sent_by self.new
+            ≡ slice_set (sent_by self.old) to (slice_index_or (sent_by self.old) to [] ++ ticket ∷ []) }
         ensures inbox { self.new.inbox ≡ self.old.inbox }
     {
         if to >= self.sending.len() {

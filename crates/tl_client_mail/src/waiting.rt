@@ -24,9 +24,11 @@ impl Model for Waiting {
 
     ghost Value = { Round };
 
-    ghost view = { λ w. record { kept = w.kept.items; rest = w.rest.items; room = min (deque_capacity w.kept) (deque_capacity w.rest) } };
+    ghost view = { λ w.
+        record { kept = w.kept.items; rest = w.rest.items; room = min (deque_capacity w.kept) (deque_capacity w.rest) } };
 
-    ghost invariant = { λ w. (deque_len w.kept + deque_len w.rest ≤ deque_capacity w.kept) × (deque_len w.kept + deque_len w.rest ≤ deque_capacity w.rest) };
+    ghost invariant = { λ w. (deque_len w.kept + deque_len w.rest ≤ deque_capacity w.kept)
+        × (deque_len w.kept + deque_len w.rest ≤ deque_capacity w.rest) };
 }
 
 /// Whether two tickets are of one channel of one link.
@@ -81,7 +83,8 @@ impl Waiting {
         requires { length self.old.kept + length self.old.rest + length tickets.now ≤ self.old.room }
         ensures rest { self.new.rest ≡ self.old.rest ++ filter (λ t. is_on (channel_index channel) t) tickets.now }
         ensures kept { self.new.kept ≡ self.old.kept }
-        ensures room { (self.new.room ≡ self.old.room) × (length self.new.rest ≤ length self.old.rest + length tickets.now) }
+        ensures room { (self.new.room ≡ self.old.room)
+            × (length self.new.rest ≤ length self.old.rest + length tickets.now) }
     {
         for ticket in tickets {
             if ticket.channel == channel {
@@ -104,8 +107,10 @@ impl Waiting {
     /// lost.
     pub fn next(&mut self) -> Option<Ticket>
         ensures order { all_of self.new ≡ all_of self.old }
-        ensures next { MatchOption result (self.new.rest ≡ []) (λ t. (is_barred self.new.kept t ≡ false) × ((later : List Ticket) × (self.new.rest ≡ t ∷ later))) }
-        ensures barred { (passed : List Ticket) × (self.new.kept ≡ self.old.kept ++ passed) × AreBarred self.old.kept passed }
+        ensures next { MatchOption result (self.new.rest ≡ [])
+            (λ t. (is_barred self.new.kept t ≡ false) × ((later : List Ticket) × (self.new.rest ≡ t ∷ later))) }
+        ensures barred { (passed : List Ticket) × (self.new.kept ≡ self.old.kept ++ passed)
+            × AreBarred self.old.kept passed }
         ensures room { self.new.room ≡ self.old.room }
     {
         while let Some(ticket) = self.rest.front().copied() {
@@ -126,7 +131,8 @@ impl Waiting {
 
     /// The next ticket was refused, and is kept.
     pub fn refused(&mut self)
-        ensures { self.new ≡ record self.old { kept = self.old.kept ++ take 1 self.old.rest; rest = drop 1 self.old.rest } }
+        ensures { self.new
+            ≡ record self.old { kept = self.old.kept ++ take 1 self.old.rest; rest = drop 1 self.old.rest } }
     {
         if let Some(ticket) = self.rest.pop_front() {
             self.kept.push_back_reserved(ticket);

@@ -49,7 +49,8 @@ fn gathered(banks: &[Bank], shares: &[Vec<Share>]) -> Option<ArrayVec<u64, BANKS
 /// Banks that match the script are one memory, whose accesses the clients' lines show.
 fn is_one_memory(script: &Script, banks: &[Bank], clients: &[Vec<Answered>])
     requires matched { AreMatched script.now banks.now }
-    requires shown { ShowsAll (commands_in script.now.commands.items) (logs_in banks.now) clients.now (length script.now.commands.items) }
+    requires shown { ShowsAll (commands_in script.now.commands.items) (logs_in banks.now) clients.now
+        (length script.now.commands.items) }
     ensures { IsOneMemory script.now banks.now clients.now }
 {
     // For the proof alone: certified runs have one order, which is one memory's, and each bank's log is a run.
@@ -67,8 +68,10 @@ fn all_lines(
 ) -> Result<Option<Vec<Vec<Answered>>>, AllocError>
     requires few { length commands.now ≤ CLIENTS }
     requires distinct { Pairwise AreDistinct (all_accesses (events_of logs.now)) }
-    ensures none { IfOk result (λ found. IfNone found (AreCarriedOut (commands_in commands.now) (events_of logs.now) → ⊥)) }
-    ensures some { IfOk result (λ found. IfSome found (λ all. AreCarriedOut (commands_in commands.now) (events_of logs.now)
+    ensures none { IfOk result
+        (λ found. IfNone found (AreCarriedOut (commands_in commands.now) (events_of logs.now) → ⊥)) }
+    ensures some { IfOk result
+        (λ found. IfSome found (λ all. AreCarriedOut (commands_in commands.now) (events_of logs.now)
         × ShowsAll (commands_in commands.now) (events_of logs.now) all.items (length commands.now))) }
     ensures refused { IfErr result (λ _. AreCarriedOut (commands_in commands.now) (events_of logs.now)) }
 {
@@ -127,8 +130,11 @@ pub fn conclude(
     shares: &[Vec<Share>],
 ) -> Result<Report, RunError>
     ensures missing { result ≡ Err Shares ↔ (AreAllShares banks.now shares.now → ⊥) }
-    ensures not_ordered { result ≡ Err NotOrdered ↔ (AreAllShares banks.now shares.now × (AreMatched script.now banks.now → ⊥)) }
-    ensures memory { IfErr result (λ e. e ≢ Shares → e ≢ NotOrdered → (e ≡ Memory) × AreAllShares banks.now shares.now × AreMatched script.now banks.now) }
+    ensures not_ordered { result ≡ Err NotOrdered
+        ↔ (AreAllShares banks.now shares.now × (AreMatched script.now banks.now → ⊥)) }
+    ensures memory { IfErr result
+        (λ e. e ≢ Shares → e ≢ NotOrdered
+        → (e ≡ Memory) × AreAllShares banks.now shares.now × AreMatched script.now banks.now) }
     ensures ok { IfOk result (IsConclusion script.now banks.now shares.now) }
 {
     let Some(held) = gathered(banks, shares) else {

@@ -31,7 +31,8 @@ fn copied(command: &Command) -> Command
 /// The lines of a client's commands, with no bytes.
 fn empty_lines(alloc: Global, commands: &[Command]) -> Result<Vec<Answered>, AllocError>
     ensures commands { IfOk result (λ lines. map (λ (line : Answered). line.command) lines.items ≡ commands.now) }
-    ensures bytes { IfOk result (λ lines. map (λ (line : Answered). line.bytes) lines.items ≡ replicate (length commands.now) []) }
+    ensures bytes { IfOk result
+        (λ lines. map (λ (line : Answered). line.bytes) lines.items ≡ replicate (length commands.now) []) }
 {
     let mut lines = Vec::with_capacity(alloc, commands.len())?;
     for command in commands {
@@ -49,7 +50,9 @@ pub(crate) fn all_empty_lines(
     commands: &[Vec<Command>],
 ) -> Result<Vec<Vec<Answered>>, AllocError>
     ensures commands { IfOk result (λ all. commands_on all.items ≡ commands_in commands.now) }
-    ensures bytes { IfOk result (λ all. bytes_on all.items ≡ map (λ (list : List Command). replicate (length list) []) (commands_in commands.now)) }
+    ensures bytes { IfOk result
+        (λ all. bytes_on all.items
+        ≡ map (λ (list : List Command). replicate (length list) []) (commands_in commands.now)) }
 {
     let mut all = Vec::new(alloc);
     for list in commands {
@@ -61,8 +64,10 @@ pub(crate) fn all_empty_lines(
 
 /// Writes bytes onto the line at an index, where there is one.
 fn write(lines: &mut Vec<Answered>, index: usize, bytes: AccessBytes)
-    ensures commands { map (λ (line : Answered). line.command) lines.new.items ≡ map (λ (line : Answered). line.command) lines.old.items }
-    ensures bytes { map (λ (line : Answered). line.bytes) lines.new.items ≡ slice_set (map (λ (line : Answered). line.bytes) lines.old.items) index bytes }
+    ensures commands { map (λ (line : Answered). line.command) lines.new.items
+        ≡ map (λ (line : Answered). line.command) lines.old.items }
+    ensures bytes { map (λ (line : Answered). line.bytes) lines.new.items
+        ≡ slice_set (map (λ (line : Answered). line.bytes) lines.old.items) index bytes }
 {
     if let Some(line) = lines.get_mut(index) {
         line.bytes = bytes;

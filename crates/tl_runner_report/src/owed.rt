@@ -29,7 +29,8 @@ fn count_accesses(commands: &[Command]) -> usize
 /// How many accesses each client owes before any was read: its loads and stores. 0 for clients that are not there.
 pub(crate) fn all_owed(commands: &[Vec<Command>]) -> [usize; CLIENTS]
     requires { length commands.now ≤ CLIENTS }
-    ensures { (client : ℕ) → slice_index result client ≡ count_by makes_access (commands_of (commands_in commands.now) client) }
+    ensures { (client : ℕ)
+        → slice_index result client ≡ count_by makes_access (commands_of (commands_in commands.now) client) }
 {
     let mut owed = [0; CLIENTS];
     for (client, list) in commands.iter().enumerate() {

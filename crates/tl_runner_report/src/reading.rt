@@ -26,7 +26,9 @@ fn read_event(
     all: &mut Vec<Vec<Answered>>,
 ) -> bool
     requires { length commands.now ≤ CLIENTS }
-    ensures exact { IsTrue result ↔ (HasCommand (commands_in commands.now) event.now (access_of event.now) × IsOwed owed.old (access_of event.now)) }
+    ensures exact { IsTrue result
+        ↔ (HasCommand (commands_in commands.now) event.now (access_of event.now)
+        × IsOwed owed.old (access_of event.now)) }
     ensures counted { result ≡ true → AreCounted owed.old owed.new (cons_option (access_of event.now) []) }
     ensures commands { result ≡ true → commands_on all.new.items ≡ commands_on all.old.items }
     ensures bytes { result ≡ true → bytes_on all.new.items ≡ with_event (bytes_on all.old.items) (access_of event.now) }
@@ -56,10 +58,12 @@ fn read_log(
 ) -> bool
     requires { length commands.now ≤ CLIENTS }
     ensures exact { IsTrue result
-        ↔ (All (λ e. HasCommand (commands_in commands.now) e (access_of e)) log.now × AreOwed (length commands.now) owed.old (accesses_of log.now)) }
+        ↔ (All (λ e. HasCommand (commands_in commands.now) e (access_of e)) log.now
+        × AreOwed (length commands.now) owed.old (accesses_of log.now)) }
     ensures counted { result ≡ true → AreCounted owed.old owed.new (accesses_of log.now) }
     ensures commands { result ≡ true → commands_on all.new.items ≡ commands_on all.old.items }
-    ensures bytes { result ≡ true → bytes_on all.new.items ≡ with_accesses (bytes_on all.old.items) (accesses_of log.now) }
+    ensures bytes { result ≡ true
+        → bytes_on all.new.items ≡ with_accesses (bytes_on all.old.items) (accesses_of log.now) }
 {
     for event in log {
         if !read_event(commands, event, owed, all) {
@@ -80,7 +84,8 @@ pub(crate) fn read_logs(
     requires { length commands.now ≤ CLIENTS }
     ensures exact { IsTrue result ↔ AreCarriedOut (commands_in commands.now) (events_of logs.now) }
     ensures commands { result ≡ true → commands_on all.new.items ≡ commands_on all.old.items }
-    ensures bytes { result ≡ true → bytes_on all.new.items ≡ with_accesses (bytes_on all.old.items) (all_accesses (events_of logs.now)) }
+    ensures bytes { result ≡ true
+        → bytes_on all.new.items ≡ with_accesses (bytes_on all.old.items) (all_accesses (events_of logs.now)) }
 {
     let mut owed = all_owed(commands);
     for log in logs {

@@ -274,7 +274,9 @@ fn homes_finished(workers: &[HomeWorker<'_>]) -> bool
 
 /// Whether all threads finished. Want of memory goes before a stall; a thread that was stopped says nothing of why.
 fn end_of(joined: &Joined<ClientWorker<'_, '_>, HomeWorker<'_>>, turns: u32) -> Result<(), RunError>
-    ensures memory { (list_any (λ w. lacks_memory w.end) joined.now.clients.items || list_any (λ w. lacks_memory w.end) joined.now.homes.items) ≡ true
+    ensures memory { (list_any (λ w. lacks_memory w.end) joined.now.clients.items
+        || list_any (λ w. lacks_memory w.end) joined.now.homes.items)
+        ≡ true
         → result ≡ Err NoMemory }
     ensures finished { OnOk result ((list_all (λ w. is_finished w.end) joined.now.clients.items ≡ true)
         × (list_all (λ w. is_finished w.end) joined.now.homes.items ≡ true)) }

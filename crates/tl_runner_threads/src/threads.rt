@@ -74,8 +74,12 @@ fn open_places<C: Drop + Send, H: Drop + Send>(
     clients: usize,
     homes: usize,
 ) -> Result<Places<C, H>, AllocError>
-    ensures clients { IfOk result (λ p. (vec_len p.client_threads ≡ 0) × (clients ≤ vec_capacity p.client_threads) × (vec_len p.ended_clients ≡ 0) × (clients ≤ vec_capacity p.ended_clients)) }
-    ensures homes { IfOk result (λ p. (vec_len p.home_threads ≡ 0) × (homes ≤ vec_capacity p.home_threads) × (vec_len p.ended_homes ≡ 0) × (homes ≤ vec_capacity p.ended_homes)) }
+    ensures clients { IfOk result
+        (λ p. (vec_len p.client_threads ≡ 0) × (clients ≤ vec_capacity p.client_threads) × (vec_len p.ended_clients ≡ 0)
+        × (clients ≤ vec_capacity p.ended_clients)) }
+    ensures homes { IfOk result
+        (λ p. (vec_len p.home_threads ≡ 0) × (homes ≤ vec_capacity p.home_threads) × (vec_len p.ended_homes ≡ 0)
+        × (homes ≤ vec_capacity p.ended_homes)) }
 {
     Ok(Places {
         client_threads: Vec::with_capacity(alloc, clients)?,
@@ -101,14 +105,16 @@ pub(crate) fn run_threads<
     clients: Vec<C>,
     homes: Vec<H>,
 ) -> Result<Joined<C, H>, AllocError>
-    ensures { IfOk result (λ joined. (vec_len joined.clients ≡ vec_len clients) × (vec_len joined.homes ≡ vec_len homes)) }
+    ensures { IfOk result
+        (λ joined. (vec_len joined.clients ≡ vec_len clients) × (vec_len joined.homes ≡ vec_len homes)) }
 {
     thread::scope(
         thread::scope_env(),
         rt,
         move |scope| -> Result<Joined<C, H>, AllocError>
             requires { IsSync R.row × IsSync S.row × IsSend C.row × IsSend H.row }
-            ensures { IfOk result (λ joined. (vec_len joined.clients ≡ vec_len clients) × (vec_len joined.homes ≡ vec_len homes)) }
+            ensures { IfOk result
+                (λ joined. (vec_len joined.clients ≡ vec_len clients) × (vec_len joined.homes ≡ vec_len homes)) }
         {
             let Places {
                 mut client_threads,

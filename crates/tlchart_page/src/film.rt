@@ -85,7 +85,8 @@ fn changes_between(
     after: &[String],
 ) -> Result<Vec<Change>, AllocError>
     requires { length before.now ≡ length after.now }
-    ensures { IfOk result (λ changes. changed (map string_bytes before.now) changes.items ≡ map string_bytes after.now) }
+    ensures { IfOk result
+        (λ changes. changed (map string_bytes before.now) changes.items ≡ map string_bytes after.now) }
 {
     let mut changes = Vec::new(alloc);
     for (place, text) in after.iter().enumerate() {
@@ -105,7 +106,8 @@ fn frame_of(
     state: &mut Vec<String>,
 ) -> Result<Frame, AllocError>
     requires { map string_bytes state.old.items ≡ state_shown network.old cells.now }
-    ensures { IfOk result (λ frame. IsFrame cells.now index step.now network.old network.new (map string_bytes state.new.items) frame) }
+    ensures { IfOk result
+        (λ frame. IsFrame cells.now index step.now network.old network.new (map string_bytes state.new.items) frame) }
 {
     let answer = network.step(index, step)?;
     let after = state_of(alloc, network, cells)?;
@@ -137,7 +139,8 @@ fn film_steps(
     requires start { map string_bytes film.old.start.items ≡ state_shown network.old cells.now }
     ensures start { OnOk result (film.new.start ≡ film.old.start) }
     ensures frames { OnOk result
-        (AreFrames cells.now 0 steps.now network.old film.new.answers.items (map vec_items film.new.changes.items) network.new) }
+        (AreFrames cells.now 0 steps.now network.old film.new.answers.items (map vec_items film.new.changes.items)
+        network.new) }
 {
     let mut state = state_of(alloc, network, cells)?;
     for (index, step) in steps.iter().enumerate() {

@@ -111,7 +111,8 @@ fn push_channel(
     channel: Channel,
     places: usize,
 ) -> Result<(), AllocError>
-    ensures { OnOk result (string_bytes text.new ≡ string_bytes text.old ++ waiting_below bank.now client channel places) }
+    ensures { OnOk result
+        (string_bytes text.new ≡ string_bytes text.old ++ waiting_below bank.now client channel places) }
 {
     for place in 0..places {
         push_message(text, bank, client, channel, place)?;
@@ -121,7 +122,8 @@ fn push_channel(
 
 /// The ways of a set.
 fn push_ways(text: &mut String, bank: &Bank, set: Set) -> Result<(), AllocError>
-    ensures { OnOk result (string_bytes text.new ≡ string_bytes text.old ++ ways_below bank.now set bank.now.geometry.ways) }
+    ensures { OnOk result
+        (string_bytes text.new ≡ string_bytes text.old ++ ways_below bank.now set bank.now.geometry.ways) }
 {
     for way in 0..bank.geometry().ways() {
         let block = bank.occupant(set, Way::new(way));

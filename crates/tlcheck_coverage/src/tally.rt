@@ -173,9 +173,11 @@ impl Tally {
     pub fn see(&mut self, judge: &mut Judge, entry: &Entry, mark: Mark) -> Result<(), Refusal>
         ensures ok { OnOk result
             ((shape : Shape) (image : List ℕ) (log : List Event)
-            → Follows shape image log judge.old → 0 < shape.clients → IsSeen shape image log entry.now mark judge.new self.old self.new) }
+            → Follows shape image log judge.old → 0 < shape.clients
+            → IsSeen shape image log entry.now mark judge.new self.old self.new) }
         ensures broken { IfErr result
-            (λ refusal. (breach : Breach) → refusal ≡ Broken breach → (shape : Shape) (image : List ℕ) (log : List Event)
+            (λ refusal. (breach : Breach) → refusal ≡ Broken breach
+            → (shape : Shape) (image : List ℕ) (log : List Event)
             → Follows shape image log judge.old → Breaks shape image log entry.now breach) }
         ensures unchanged { IfErr result
             (λ refusal. (breach : Breach) → refusal ≡ Broken breach → (self.new ≡ self.old) × (judge.new ≡ judge.old)) }

@@ -132,7 +132,8 @@ fn first_line(alloc: Global, text: &str) -> Result<Stage, LineFault>
 
 /// Takes a line that has an entry.
 fn entry_line(alloc: Global, mut judge: Judge, count: u64, text: &str) -> Result<Stage, LineFault>
-    ensures takes { (reading : Reading) → Agrees reading (Stage.Judging judge count) → Takes (next reading text.now) result }
+    ensures takes { (reading : Reading) → Agrees reading (Stage.Judging judge count)
+        → Takes (next reading text.now) result }
     ensures fit { IfOk result IsFit }
 {
     match entry_text(alloc, &mut judge, count, text) {

@@ -32,7 +32,8 @@ pub fn tell_ending<W: Write, E: Write>(
     ensures { (told : Ending)
         × Tells ending.now told
         × (result ≡ status_of told)
-        × IsTold result told (W.contents output.old) (W.contents output.new) (E.contents faults.old) (E.contents faults.new) }
+        × IsTold result told (W.contents output.old) (W.contents output.new) (E.contents faults.old)
+        (E.contents faults.new) }
 {
     let status = ending.status();
     if status > 1 {
@@ -57,7 +58,8 @@ pub fn answer<R: BufRead, W: Write, E: Write>(
     ensures { (ending : Ending)
         × MayEnd (R.remaining reader.old) ending
         × (result ≡ status_of ending)
-        × IsTold result ending (W.contents output.old) (W.contents output.new) (E.contents faults.old) (E.contents faults.new) }
+        × IsTold result ending (W.contents output.old) (W.contents output.new) (E.contents faults.old)
+        (E.contents faults.new) }
 {
     let ending = check_record(alloc, reader);
     tell_ending(alloc, &ending, output, faults)

@@ -90,7 +90,8 @@ fn push_client(
 ) -> Result<(), AllocError>
     requires size { length block.now.clients ≡ shape.clients }
     requires client { number < shape.clients }
-    ensures { OnOk result (string_bytes text.new ≡ string_bytes text.old ++ client_text shape (block_state block.now) number) }
+    ensures { OnOk result
+        (string_bytes text.new ≡ string_bytes text.old ++ client_text shape (block_state block.now) number) }
 {
     let c = ClientId::new(number);
     let client = block.the_client(c);
@@ -104,7 +105,8 @@ fn push_client(
 
 fn push_clients(text: &mut String, block: &BlockState, shape: Shape) -> Result<(), AllocError>
     requires { length block.now.clients ≡ shape.clients }
-    ensures { OnOk result (string_bytes text.new ≡ string_bytes text.old ++ client_lines shape (block_state block.now) shape.clients) }
+    ensures { OnOk result
+        (string_bytes text.new ≡ string_bytes text.old ++ client_lines shape (block_state block.now) shape.clients) }
 {
     for c in 0..shape.clients {
         push_client(text, block, shape, c)?;
@@ -119,7 +121,8 @@ fn push_block(
     number: u32,
 ) -> Result<(), AllocError>
     requires { length block.now.clients ≡ shape.clients }
-    ensures { OnOk result (string_bytes text.new ≡ string_bytes text.old ++ block_lines shape number (block_state block.now)) }
+    ensures { OnOk result
+        (string_bytes text.new ≡ string_bytes text.old ++ block_lines shape number (block_state block.now)) }
 {
     let head = HeadLine {
         block: number,

@@ -175,5 +175,6 @@ impl fmt::Display for EntryLine<'_> {
 pub fn lines_are_read_back()
     ensures entry { (entry : Entry) → HasLine entry.event → MayShow entry.event entry.shown
         → entry_of (entry_text entry) ≡ Ok (plain_entry entry) }
-    ensures event { (event : Event) → HasLine event → entry_of (event_text event) ≡ Ok (record { event = plain_event event; shown = None }) }
+    ensures event { (event : Event) → HasLine event
+        → entry_of (event_text event) ≡ Ok (record { event = plain_event event; shown = None }) }
 {}

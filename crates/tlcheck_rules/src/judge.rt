@@ -94,14 +94,16 @@ impl Judge {
     /// The block of the message that is first on a channel.
     pub fn first_on(&self, client: ClientId, channel: Channel) -> Option<BlockNo>
         ensures { MatchOption result (waiting_in self.now.order client channel ≡ [])
-            (λ block. waiting_in self.now.order client channel ≡ block ∷ drop 1 (waiting_in self.now.order client channel)) }
+            (λ block. waiting_in self.now.order client channel
+            ≡ block ∷ drop 1 (waiting_in self.now.order client channel)) }
     {
         self.order.first(client, channel)
     }
 
     /// Whether the event takes no message, or its block's is the first on the channel.
     fn takes_first(&self, event: &Event) -> bool
-        ensures { IsTrue result ↔ IsNextIn self.now.order (block_of self.now.plain.shape event.now) (take_of event.now) }
+        ensures { IsTrue result
+            ↔ IsNextIn self.now.order (block_of self.now.plain.shape event.now) (take_of event.now) }
     {
         match taken_channel(event) {
             None => true,
@@ -197,9 +199,11 @@ impl Judge {
             → Follows shape image log self.old
             → IsPermitted shape image log entry.now × Follows shape image (log ++ entry.now.event ∷ []) self.new) }
         ensures broken { IfErr result
-            (λ refusal. (breach : Breach) → refusal ≡ Broken breach → (shape : Shape) (image : List ℕ) (log : List Event)
+            (λ refusal. (breach : Breach) → refusal ≡ Broken breach
+            → (shape : Shape) (image : List ℕ) (log : List Event)
             → Follows shape image log self.old → Breaks shape image log entry.now breach) }
-        ensures unchanged { IfErr result (λ refusal. (breach : Breach) → refusal ≡ Broken breach → self.new ≡ self.old) }
+        ensures unchanged { IfErr result
+            (λ refusal. (breach : Breach) → refusal ≡ Broken breach → self.new ≡ self.old) }
     {
         if let Some(breach) = self.breach(entry) {
             return Err(Refusal::Broken(breach));

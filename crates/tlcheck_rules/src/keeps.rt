@@ -66,7 +66,8 @@ fn serves(block: &BlockState, c: ClientId) -> bool
 fn leaves_room(block: &BlockState, shape: Shape, c: ClientId) -> bool
     requires { length block.now.clients ≡ shape.clients }
     ensures { IsTrue result ↔ ((grow : Grow) × (block.now.accepted ≡ Some (record { client = c; grow = grow }))
-        × RoomFor shape (block_state block.now) c (granted shape (block_state block.now) (record { client = c; grow = grow }))) }
+        × RoomFor shape (block_state block.now) c
+        (granted shape (block_state block.now) (record { client = c; grow = grow }))) }
 {
     match block.accepted() {
         Some(acquire) => {
@@ -159,7 +160,8 @@ fn asks_each_client(event: &Event) -> bool {
 /// The first rule that an event breaks, in the order of the protocol's tests; none exactly where the event is
 /// permitted.
 pub fn broken_rule(plain: &Plain, event: &Event) -> Option<Rule>
-    ensures first { IsFirstBroken plain.now.shape (state_of_plain plain.now (block_of plain.now.shape event.now)) event.now result }
+    ensures first { IsFirstBroken plain.now.shape (state_of_plain plain.now (block_of plain.now.shape event.now))
+        event.now result }
     ensures permitted { (result ≡ None)
         ↔ May plain.now.shape (state_of_plain plain.now (block_of plain.now.shape event.now)) event.now }
 {

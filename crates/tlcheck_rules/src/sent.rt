@@ -75,7 +75,8 @@ fn grant(block: &BlockState, shape: Shape, c: ClientId) -> Option<Body>
 pub fn sent_by(block: &BlockState, shape: Shape, event: &Event) -> Option<(Channel, Body)>
     requires size { length block.now.clients ≡ shape.clients }
     requires may { MayOn shape (block_state block.now) event.now }
-    ensures { option_map (λ sent. post_at (client_of event.now) sent.0 sent.1) result ≡ post_of shape (block_state block.now) event.now }
+    ensures { option_map (λ sent. post_at (client_of event.now) sent.0 sent.1) result
+        ≡ post_of shape (block_state block.now) event.now }
 {
     match event {
         Event::SendAcquire(_, _, grow) => Some((Channel::A, Body::AcquireBlock(*grow))),

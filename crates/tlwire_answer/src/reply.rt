@@ -49,7 +49,8 @@ fn write_ending<W: Write, E: Write>(
     ensures { (told : Ending)
         × MayEnd (texts lines.now) told
         × (result ≡ status_of told)
-        × IsTold result form (texts lines.now) told (W.contents output.old) (W.contents output.new) (E.contents faults.old) (E.contents faults.new) }
+        × IsTold result form (texts lines.now) told (W.contents output.old) (W.contents output.new)
+        (E.contents faults.old) (E.contents faults.new) }
 {
     match ending {
         Ending::Answered(messages, verdict) => {
@@ -76,7 +77,8 @@ fn reply<W: Write, E: Write>(
     ensures { (ending : Ending)
         × MayEnd (texts lines.now) ending
         × (result ≡ status_of ending)
-        × IsTold result form (texts lines.now) ending (W.contents output.old) (W.contents output.new) (E.contents faults.old) (E.contents faults.new) }
+        × IsTold result form (texts lines.now) ending (W.contents output.old) (W.contents output.new)
+        (E.contents faults.old) (E.contents faults.new) }
 {
     let ending = ending(alloc, lines);
     write_ending(alloc, form, lines, &ending, output, faults)
@@ -96,7 +98,8 @@ pub fn answer<W: Write, E: Write>(
     ensures { (ending : Ending)
         × MayEnd (lines_of text.now) ending
         × (result ≡ status_of ending)
-        × IsTold result form (lines_of text.now) ending (W.contents output.old) (W.contents output.new) (E.contents faults.old) (E.contents faults.new) }
+        × IsTold result form (lines_of text.now) ending (W.contents output.old) (W.contents output.new)
+        (E.contents faults.old) (E.contents faults.new) }
 {
     match split_lines(alloc, text) {
         Ok(lines) => reply(alloc, form, &lines, output, faults),

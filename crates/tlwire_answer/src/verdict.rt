@@ -235,7 +235,9 @@ fn premise_of(premises: &[Premise], way: Way) -> tlwire_closed::Premise
 
 /// Whether a run is seen so, where a header names the way of seeing.
 fn meets(alloc: Global, messages: &Messages, run: &[Event], way: Way) -> Result<bool, AllocError>
-    ensures { IfOk result (λ yes. IsTrue yes → IsRun messages.now.setting.shape messages.now.image run.now → Meets messages.now run.now way) }
+    ensures { IfOk result
+        (λ yes. IsTrue yes → IsRun messages.now.setting.shape messages.now.image run.now
+        → Meets messages.now run.now way) }
 {
     let setting = messages.setting();
     if !names(setting.premises(), way) {
@@ -279,7 +281,8 @@ fn other_order(
 
 /// That a run explains what was seen, where it has each order that the header asks for.
 fn ordered(alloc: Global, messages: &Messages, run: Vec<Event>) -> Result<Verdict, AllocError>
-    requires { Explains messages.now.setting.premises messages.now.setting.shape messages.now.image messages.now.seen run.items }
+    requires { Explains messages.now.setting.premises messages.now.setting.shape messages.now.image messages.now.seen
+        run.items }
     ensures { IfOk result (IsVerdict messages.now) }
 {
     match other_order(alloc, messages, &run)? {

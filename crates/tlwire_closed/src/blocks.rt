@@ -37,7 +37,9 @@ fn join_line(
 ) -> Result<(), AllocError>
     requires { block < vec_len groups.old }
     ensures joins { OnOk result ((b : ℕ) → slice_index_or groups.new.items b []
-        ≡ (if block == b then slice_index_or groups.old.items b [] ++ (record { place = place; wire = wire }) ∷ [] else slice_index_or groups.old.items b [])) }
+        ≡ (if block == b
+        then slice_index_or groups.old.items b [] ++ (record { place = place; wire = wire }) ∷ []
+        else slice_index_or groups.old.items b [])) }
     ensures size { vec_len groups.new ≡ vec_len groups.old }
 {
     groups[block].push(LineOn { place, wire })
@@ -50,7 +52,9 @@ pub(crate) fn lines_by_block(
     seen: &[Seen],
 ) -> Result<Option<Vec<Queue<LineOn>>>, AllocError>
     requires { 0 < shape.block_bytes }
-    ensures lines { IfOk result (λ found. IfSome found (λ groups. (block : ℕ) → slice_index_or groups.items block [] ≡ lines_at shape block 0 seen.now)) }
+    ensures lines { IfOk result
+        (λ found. IfSome found
+        (λ groups. (block : ℕ) → slice_index_or groups.items block [] ≡ lines_at shape block 0 seen.now)) }
     ensures size { IfOk result (λ found. IfSome found (λ groups. vec_len groups ≡ shape.blocks)) }
 {
     let mut groups = no_lines(alloc, shape.blocks)?;
@@ -119,7 +123,9 @@ fn no_events(alloc: Global, blocks: u32) -> Result<Vec<Queue<Event>>, AllocError
 fn join_event(groups: &mut Vec<Queue<Event>>, block: usize, event: Event) -> Result<(), AllocError>
     requires { block < vec_len groups.old }
     ensures joins { OnOk result ((b : ℕ) → slice_index_or groups.new.items b []
-        ≡ (if block == b then slice_index_or groups.old.items b [] ++ event ∷ [] else slice_index_or groups.old.items b [])) }
+        ≡ (if block == b
+        then slice_index_or groups.old.items b [] ++ event ∷ []
+        else slice_index_or groups.old.items b [])) }
     ensures size { vec_len groups.new ≡ vec_len groups.old }
 {
     groups[block].push(event)
@@ -132,7 +138,9 @@ pub(crate) fn events_by_block(
     run: &[Event],
 ) -> Result<Option<Vec<Queue<Event>>>, AllocError>
     requires { 0 < shape.block_bytes }
-    ensures events { IfOk result (λ found. IfSome found (λ groups. (block : ℕ) → slice_index_or groups.items block [] ≡ on_block shape block run.now)) }
+    ensures events { IfOk result
+        (λ found. IfSome found
+        (λ groups. (block : ℕ) → slice_index_or groups.items block [] ≡ on_block shape block run.now)) }
     ensures size { IfOk result (λ found. IfSome found (λ groups. vec_len groups ≡ shape.blocks)) }
 {
     let mut groups = no_events(alloc, shape.blocks)?;

@@ -30,7 +30,8 @@ pub struct Wrong {
 }
 
 fn at_place(place: usize, client: ClientId, broken: Broken) -> Wrong
-    ensures { result ≡ record { place = place; client = client; block = broken.block; view = broken.view; breach = broken.breach } }
+    ensures { result
+        ≡ record { place = place; client = client; block = broken.block; view = broken.view; breach = broken.breach } }
 {
     let Broken {
         block,
@@ -57,7 +58,8 @@ pub fn first_wrong(
     requires { (0 < shape.block_bytes) × (shape.block_bytes ≤ BLOCK_BYTES) }
     ensures wrong { IfOk result (λ found. IfSome found (IsWrong shape client seen.now)) }
     ensures impossible { IfOk result (λ found. IsSome found → IsImpossible shape client seen.now) }
-    ensures none { IfOk result (λ found. IsNone found → (block : ℕ) → AllMay shape fresh (own shape client block seen.now)) }
+    ensures none { IfOk result
+        (λ found. IsNone found → (block : ℕ) → AllMay shape fresh (own shape client block seen.now)) }
 {
     let mut views = HashMap::new(alloc);
     for place in 0..seen.len() {

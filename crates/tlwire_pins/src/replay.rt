@@ -141,7 +141,8 @@ pub fn lines_at_pins(
 ) -> Result<Option<Vec<Seen>>, AllocError>
     requires bytes { (0 < shape.block_bytes) × (shape.block_bytes ≤ BLOCK_BYTES) }
     requires blocks { shape.blocks ≤ BLOCKS }
-    ensures { IfOk result (λ found. IfSome found (λ lines. lines.items ≡ lines_from shape (at_reset shape image.now) run.now)) }
+    ensures { IfOk result
+        (λ found. IfSome found (λ lines. lines.items ≡ lines_from shape (at_reset shape image.now) run.now)) }
 {
     let mut replay = Replay::new(alloc, shape, image)?;
     for event in run {

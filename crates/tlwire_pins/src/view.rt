@@ -188,7 +188,8 @@ impl View {
 
     /// The client takes a Grant.
     fn take_grant(&mut self, cap: GrantCap, bytes: &Option<BlockBytes>)
-        ensures { self.new ≡ record { held = clean_copy (grant_perm cap) (bytes_or bytes.now (bytes_of self.old.held)); wait = Awaited.Nothing } }
+        ensures { self.new
+            ≡ record { held = clean_copy (grant_perm cap) (bytes_or bytes.now (bytes_of self.old.held)); wait = Awaited.Nothing } }
     {
         let held = mem::replace(&mut self.held, CachedCopy::Absent);
         self.held = CachedCopy::clean(cap.perm(), bytes_or(bytes, held));

@@ -71,7 +71,8 @@ pub(crate) fn step(
     line: &Seen,
 ) -> Result<Option<Broken>, AllocError>
     requires { (0 < shape.block_bytes) × (shape.block_bytes ≤ BLOCK_BYTES) }
-    ensures steps { IfOk result (λ found. IsNone found → Steps shape c line.now (held_in views.old) (held_in views.new)) }
+    ensures steps { IfOk result
+        (λ found. IsNone found → Steps shape c line.now (held_in views.old) (held_in views.new)) }
     ensures broken { IfOk result (λ found. IfSome found (BreaksNext shape c line.now (held_in views.old))) }
 {
     let Some(block) = block_at_pins(shape, c, line) else {

@@ -36,7 +36,8 @@ impl Model for Setting {
 
     ghost Value = { SettingState };
 
-    ghost view = { λ s. record { shape = s.shape; base = s.base; sources = s.sources.items; premises = s.premises.items } };
+    ghost view = { λ s.
+        record { shape = s.shape; base = s.base; sources = s.sources.items; premises = s.premises.items } };
 
     ghost invariant = { λ s. (0 < s.shape.block_bytes) × (s.shape.block_bytes ≤ 64) × (s.shape.blocks ≤ 65536) };
 }

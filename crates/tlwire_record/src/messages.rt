@@ -234,7 +234,8 @@ impl Messages {
     /// What is seen of what a line says, on a link of a client that is there or of the memory.
     #[tactic(auto, unfolding(crate::specs::Messages::said_taken))]
     fn said(&mut self, link: &Link, said: Said) -> Result<Seen, LineError>
-        ensures gives { Gives (λ seen. (seen, self.new.tables)) result (said_taken self.old.setting self.old.tables link.now said) }
+        ensures gives { Gives (λ seen. (seen, self.new.tables)) result
+            (said_taken self.old.setting self.old.tables link.now said) }
         ensures kept { self.new ≡ record self.old { tables = self.new.tables } }
     {
         match said {

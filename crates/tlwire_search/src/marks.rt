@@ -54,8 +54,12 @@ impl Marks {
         requires { IsMarking seen.now self.now }
         ensures place { IfSome result (λ place. place < length seen.now) }
         ensures free { IfSome result (λ place. slice_index_or self.now.marks place true ≡ false) }
-        ensures before { IfSome result (λ place. (k : ℕ) (s : Seen) → k < place → slice_index_or self.now.marks k true ≡ false → slice_get seen.now k ≡ Some s → wire_of s ≢ wire) }
-        ensures none { IfNone result ((k : ℕ) (s : Seen) → slice_index_or self.now.marks k true ≡ false → slice_get seen.now k ≡ Some s → wire_of s ≢ wire) }
+        ensures before { IfSome result
+            (λ place. (k : ℕ) (s : Seen) → k < place → slice_index_or self.now.marks k true ≡ false
+            → slice_get seen.now k ≡ Some s → wire_of s ≢ wire) }
+        ensures none { IfNone result
+            ((k : ℕ) (s : Seen) → slice_index_or self.now.marks k true ≡ false → slice_get seen.now k ≡ Some s
+            → wire_of s ≢ wire) }
     {
         for place in self.from..seen.len() {
             if !self.marks[place] && seen[place].wire() == wire {

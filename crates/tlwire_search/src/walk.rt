@@ -69,7 +69,9 @@ impl Walk {
     fn new(alloc: Global, shape: Shape, image: &[u8], seen: &[Seen]) -> Result<Walk, AllocError>
         requires bytes { (0 < shape.block_bytes) × (shape.block_bytes ≤ BLOCK_BYTES) }
         requires blocks { shape.blocks ≤ BLOCKS }
-        ensures { IfOk result (λ walk. (premises : List Premise) → GoesAlong premises shape image.now seen.now walk.run.items walk.judge walk.marks) }
+        ensures { IfOk result
+            (λ walk. (premises : List Premise)
+            → GoesAlong premises shape image.now seen.now walk.run.items walk.judge walk.marks) }
     {
         let judge = Judge::new(alloc, shape, image)?;
         let marks = Marks::new(alloc, seen.len())?;
