@@ -59,7 +59,8 @@ fn print_pictures(rt: &HostRuntime, name: &str) -> io::Result<()> {
     print_page(rt, name, &script)
 }
 
-/// Prints for each picture whether its script is drawn so. The error is a file's or standard output's.
+/// Prints for each script whether it is drawn as its pictures and has its page. The error is a file's or standard
+/// output's.
 pub fn print_rows(rt: &HostRuntime) -> io::Result<()> {
     for name in DRAWN {
         print_pictures(rt, name)?;

@@ -1,10 +1,10 @@
-//! Rows that are worked out from the rules: scripts with what the program answers, races with their pictures, and
-//! records of messages with their answers.
+//! Rows that are worked out from the rules: scripts with what the program answers, races with their pictures and pages,
+//! and records of messages with their answers.
 //!
 //! `data/NAME.toml` is a script; `NAME.1.out`, `NAME.2.out` and on are what `tlcache` may write for it: its output, its
 //! fault line, and its status where that is not 0. There is more than one where they depend on who comes first.
-//! `NAME.svg` and `NAME.mmd` are the pictures of a script. `refused.txt` has scripts that are refused, each after a
-//! line with its fault.
+//! `NAME.svg` and `NAME.mmd` are the pictures of a script, `NAME.html` is its page. `refused.txt` has scripts that are
+//! refused, each after a line with its fault; each other `NAME.txt` is a record of messages.
 #![tactic(auto)]
 
 mod answers;
