@@ -59,7 +59,7 @@ impl Step {
     ghost use Rattle.tl_script_words.specs.Step.{load_of, store_of, acquire_of, release_of, ticket_step_of, block_step_of, step_by, step_in, step_of};
     ghost use Rattle.tl_script_words.specs.Words.{texts};
 
-    /// The step that a text writes. `Malformed` exactly where the text is outside the grammar, `Memory` where memory is
+    /// The step that a text writes. `Malformed` where the text is outside the grammar, `Memory` where memory is
     /// refused.
     pub fn parse(alloc: Global, text: &str) -> Result<Step, ParseError>
         ensures { Reads (λ step. step) result (step_of text.now) }

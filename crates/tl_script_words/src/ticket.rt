@@ -51,7 +51,7 @@ pub fn parse_prune(text: &str) -> Result<Prune, ParseError>
     }
 }
 
-/// The ticket that a text writes. `Malformed` exactly where the text writes none, `Memory` where memory is refused.
+/// The ticket that a text writes. `Malformed` where the text writes none, `Memory` where memory is refused.
 pub fn parse_ticket(alloc: Global, text: &str) -> Result<Ticket, ParseError>
     ensures { Reads (λ ticket. ticket) result (ticket_of text.now) }
 {

@@ -144,7 +144,7 @@ fn parse_byte(high: u8, low: u8) -> Option<u8>
     }
 }
 
-/// The bytes that pairs of lower-case hexadecimal digits write. `Malformed` exactly where the text has another
+/// The bytes that pairs of lower-case hexadecimal digits write. `Malformed` where the text has another
 /// character or half a pair, `Memory` where memory is refused.
 pub fn parse_bytes(alloc: Global, text: &str) -> Result<Vec<u8>, ParseError>
     ensures { Reads (λ bytes. bytes.items) result (bytes_of text.now) }
