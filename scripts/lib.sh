@@ -4,24 +4,32 @@
 
 # The repository's folder.
 top=$(cd "$(dirname "${BASH_SOURCE[0]}")/.." && pwd) || exit 1
-# The programs, and the crate of the library for C.
+# The programs, each with a command of its name at the top, and the crate of the library for C.
 programs=(tlcache tlcheck tlwire tlgen tlchart)
 library=tl_embed
 
-# A crate and those that it stands on, one a line.
-crates_below() { # NAME
-    awk -v first="$1" '
+# What ./prove and ./install make where no name is given, one a line.
+products() { printf '%s\n' "${programs[@]}" "$library"; }
+
+# A crate of crates.txt and those of this repository that it stands on, in one line; without a name a line for each crate.
+crates_below() { # [NAME]
+    awk -v only="${1:-}" '
+        function walk(name,    i, n, names) {
+            if (name in seen) return
+            seen[name] = 1
+            line = line (line == "" ? "" : " ") name
+            n = split(uses[name], names, " ")
+            for (i = 1; i <= n; i++) if (names[i] in uses) walk(names[i])
+        }
         { sub(/#.*/, "") }
-        /:/ { split($0, half, ":"); split(half[1], head, " "); uses[head[1]] = half[2] }
+        /:/ { split($0, half, ":"); split(half[1], head, " "); uses[all[++count] = head[1]] = half[2] }
         END {
-            found[n = 1] = first
-            seen[first] = 1
-            for (i = 1; i <= n; i++) {
-                print found[i]
-                m = split(uses[found[i]], names, " ")
-                for (j = 1; j <= m; j++) {
-                    if (names[j] in uses && !(names[j] in seen)) { seen[names[j]] = 1; found[++n] = names[j] }
-                }
+            for (k = 1; k <= count; k++) {
+                if (only != "" && all[k] != only) continue
+                split("", seen)
+                line = ""
+                walk(all[k])
+                print line
             }
         }' "$top/crates.txt"
 }
@@ -38,12 +46,12 @@ made_of() { # NAME
 # Whether that file stands, and no source that it is made from is newer than it, or than the last ./prove that found
 # nothing to do. Only what is proved is built.
 is_proved() { # NAME
-    local made mark=$top/.prove/$1.proved name folders=()
+    local made mark=$top/.prove/$1.proved names
     made=$(made_of "$1")
     [ -f "$made" ] || return 1
     [ "$mark" -nt "$made" ] || mark=$made
-    while read -r name; do folders+=("$top/crates/$name"); done < <(crates_below "$1")
-    [ -z "$(find "${folders[@]}" -name out -prune -o \( -name '*.rt' -o -name '*.antt' \) -newer "$mark" -print -quit)" ]
+    read -ra names < <(crates_below "$1")
+    [ -z "$(find "${names[@]/#/"$top"/crates/}" -name out -prune -o \( -name '*.rt' -o -name '*.antt' \) -newer "$mark" -print -quit)" ]
 }
 
 # The folder of the Rattle kit: that of its first page. A linker is given one file of it, the C part of its library
