@@ -6,7 +6,7 @@
 const { execFileSync, spawnSync } = require("child_process");
 const fs = require("fs");
 const path = require("path");
-const { Browser, Tally } = require("./browser.js");
+const { finds, plant, runs } = require("./shared.js");
 
 // One client takes a block, stores to it, and gives it up while a Probe of it is under way; two take it one after the other.
 const RECORDS = {
@@ -161,7 +161,7 @@ async function leads(browser, tally, url, tlcheck) {
   }
 }
 
-// Faults of the page's script: a name, the trial that finds it, what stands in the page once, and what is planted there.
+// Faults of the page's script, in the form of plants.js.
 const PLANTS = [
   ["the filter of what was never reached is off", "filters", "!never.checked ||", "true ||"],
   ["the filter by action is off", "filters", "!action.value ||", "true ||"],
@@ -177,14 +177,8 @@ async function plants(browser, tally, text, tables) {
   const file = path.join(browser.folder, "planted.html");
   const trials = { opens, races, filters };
   for (const [name, trial, old, planted] of PLANTS) {
-    if (text.split(old).length !== 2) tally.check(`the plant '${name}' has one place`, false, old);
-    fs.writeFileSync(file, text.replace(old, () => planted));
-    let isFound = false;
-    try {
-      await trials[trial](browser, new Tally(true), `file://${file}`, tables);
-    } catch (fault) {
-      isFound = true;
-    }
+    fs.writeFileSync(file, plant(tally, name, text, old, planted));
+    const isFound = await finds((once) => trials[trial](browser, once, `file://${file}`, tables));
     tally.check(`the plant '${name}' is found by ${trial}`, isFound);
   }
 }
@@ -200,33 +194,22 @@ async function shots(browser, url, folder) {
   }
 }
 
-async function main() {
-  const [program, tlcheck, ...options] = process.argv.slice(2);
-  const tally = new Tally(false);
-  const browser = new Browser(program);
-  try {
-    await browser.open();
-    const files = Object.entries(RECORDS).map(([name, record]) => {
-      const file = path.join(browser.folder, name);
-      fs.writeFileSync(file, record.replaceAll("|", "\n") + "\n");
-      return file;
-    });
-    const said = (...words) => execFileSync(tlcheck, [...words, ...files], { maxBuffer: 1 << 26 }).toString();
-    const text = said("--coverage", "--html");
-    const tables = tablesOf(said("--coverage"));
-    const page = path.join(browser.folder, "coverage.html");
-    fs.writeFileSync(page, text);
-    const url = `file://${page}`;
-    for (const trial of [opens, races, filters]) await trial(browser, tally, url, tables);
-    await leads(browser, tally, url, tlcheck);
-    words(tally, tlcheck, files);
-    await plants(browser, tally, text, tables);
-    if (options[0] === "--shots") await shots(browser, url, options[1]);
-  } catch (fault) {
-    tally.check("the browser", false, fault.stack);
-  }
-  await browser.close();
-  console.log(`${tally.passed} passed, ${tally.failed} failed`);
-  process.exitCode = tally.failed ? 1 : 0;
-}
-main();
+const [program, tlcheck, ...options] = process.argv.slice(2);
+runs(program, async (browser, tally) => {
+  const files = Object.entries(RECORDS).map(([name, record]) => {
+    const file = path.join(browser.folder, name);
+    fs.writeFileSync(file, record.replaceAll("|", "\n") + "\n");
+    return file;
+  });
+  const said = (...words) => execFileSync(tlcheck, [...words, ...files], { maxBuffer: 1 << 26 }).toString();
+  const text = said("--coverage", "--html");
+  const tables = tablesOf(said("--coverage"));
+  const page = path.join(browser.folder, "coverage.html");
+  fs.writeFileSync(page, text);
+  const url = `file://${page}`;
+  for (const trial of [opens, races, filters]) await trial(browser, tally, url, tables);
+  await leads(browser, tally, url, tlcheck);
+  words(tally, tlcheck, files);
+  await plants(browser, tally, text, tables);
+  if (options[0] === "--shots") await shots(browser, url, options[1]);
+});

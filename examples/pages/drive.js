@@ -5,7 +5,7 @@
 // fault. Each trial that fails prints a line; the last line is 'N passed, M failed'.
 const fs = require("fs");
 const path = require("path");
-const { Browser, Tally } = require("./browser.js");
+const { finds, plant, runs } = require("./shared.js");
 const { large } = require("./large.js");
 const { permits } = require("./permits.js");
 const { PLANTS } = require("./plants.js");
@@ -21,39 +21,22 @@ async function plants(browser, tally, pages) {
   for (const [name, trial, old, planted] of PLANTS) {
     for (const page of PAGES) {
       const text = fs.readFileSync(path.join(pages, page + ".html"), "utf8");
-      if (text.split(old).length !== 2) tally.check(`the plant '${name}' has one place`, false, old);
-      fs.writeFileSync(path.join(folder, page + ".html"), text.replace(old, () => planted));
+      fs.writeFileSync(path.join(folder, page + ".html"), plant(tally, name, text, old, planted));
     }
-    let isFound = false;
-    try {
-      await TRIALS[trial](browser, new Tally(true), urlIn(folder));
-    } catch (fault) {
-      isFound = true;
-    }
-    tally.check(`the plant '${name}' is caught by ${trial}`, isFound);
+    const isFound = await finds((once) => TRIALS[trial](browser, once, urlIn(folder)));
+    tally.check(`the plant '${name}' is found by ${trial}`, isFound);
   }
 }
 
-async function main() {
-  const [program, ...options] = process.argv.slice(2);
-  const option = (name) => (options.includes(name) ? options[options.indexOf(name) + 1] : undefined);
-  const pages = option("--pages") || golden;
-  const url = urlIn(pages);
-  const tally = new Tally(false);
-  const browser = new Browser(program);
-  try {
-    await browser.open();
-    for (const trial of Object.values(TRIALS)) await trial(browser, tally, url);
-    await links(browser, tally);
-    await schemes(browser, tally, url, option("--shots"));
-    if (options.includes("--plants")) await plants(browser, tally, pages);
-    if (option("--tlchart")) await large(browser, tally, option("--tlchart"), option("--tlgen"));
-    for (const name of PAGES) await permits(browser, tally, url, name, option("--tlcache"));
-  } catch (fault) {
-    tally.check("the browser", false, fault.stack);
-  }
-  await browser.close();
-  console.log(`${tally.passed} passed, ${tally.failed} failed`);
-  process.exitCode = tally.failed ? 1 : 0;
-}
-main();
+const [program, ...options] = process.argv.slice(2);
+const option = (name) => (options.includes(name) ? options[options.indexOf(name) + 1] : undefined);
+const pages = option("--pages") || golden;
+const url = urlIn(pages);
+runs(program, async (browser, tally) => {
+  for (const trial of Object.values(TRIALS)) await trial(browser, tally, url);
+  await links(browser, tally);
+  await schemes(browser, tally, url, option("--shots"));
+  if (options.includes("--plants")) await plants(browser, tally, pages);
+  if (option("--tlchart")) await large(browser, tally, option("--tlchart"), option("--tlgen"));
+  for (const name of PAGES) await permits(browser, tally, url, name, option("--tlcache"));
+});
