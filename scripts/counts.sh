@@ -1,5 +1,7 @@
 # shellcheck shell=bash
-# What the checks share: how many trials passed and how many failed, and what was left out.
+# What the checks share: how many trials passed and how many failed, and what was left out; with what all scripts share.
+# shellcheck source=scripts/lib.sh
+. "$(dirname "${BASH_SOURCE[0]}")/lib.sh" || exit 1
 passed=0 failed=0
 
 leave_out() { echo "left out: $1"; } # WHAT, AND WHY
@@ -41,4 +43,12 @@ add() { # COMMAND..
         echo "it ended with status $status, and told no counts: $*"
         failed=$((failed + 1))
     fi
+}
+
+# Proves and builds the library for C where it is not proved; a check ends without it.
+prove_library() {
+    is_proved "$library" || "$top/prove" "$library" && return
+    echo "the library for C is not proved"
+    failed=$((failed + 1))
+    finish
 }
