@@ -198,14 +198,11 @@ impl Table {
         self.search(block)
     }
 
-    /// The entry of a block, of which mostly there is none.
+    /// The entry of a block.
     pub(crate) fn of(&self, block: BlockNo) -> Option<&Held>
         requires { HasEachOnce self.now }
         ensures { option_copied result ≡ found block self.now }
     {
-        if self.has_none_near(block) {
-            return None;
-        }
         let place = self.place_of(block)?;
         Some(self.held(place))
     }
