@@ -11,6 +11,9 @@
 // the model would send the same, kind and bytes, and is a fault else. Home's own messages are those of the banks.
 // Channels may overtake one another on the way: a message waits until those that justify it have come, at most
 // `patience` cycles.
+//
+// Beside it, for a design with a home of its own: jinavoke::Judge is handed that home's and its clients' events, and
+// tells of each at once whether it is permitted.
 #ifndef JINAVOKE_HPP
 #define JINAVOKE_HPP
 #include "jinavoke.h"
@@ -76,22 +79,10 @@ inline std::string hex(const uint8_t *bytes, size_t len) {
 }
 } // namespace words
 
-// ---- a judge of events beside a bench
-
-class Judge { // jj_judge of jinavoke.h, which says what each entry and verdict is
-public:
-    explicit Judge(const jj_numbers &numbers, const std::vector<uint8_t> &image = {}) {
-        uint32_t why = 0;
-        judge_ = jj_new(&numbers, image.data(), image.size(), &why);
-        if (!judge_) throw std::runtime_error("jinavoke: no judge: " + words::number(why) + " " + jv_status_name(why));
-    }
-    Judge(const Judge &) = delete;
-    Judge &operator=(const Judge &) = delete;
-    ~Judge() { jj_free(judge_); }
-    jj_verdict see(const jj_entry &entry) { return jj_see(judge_, &entry); }
-private:
-    jj_judge *judge_;
-};
+// Where the first eight bytes begin in which two blocks differ; the last eight, where they do not.
+inline size_t first_other(const uint8_t *a, const uint8_t *b, size_t len) {
+    return size_t(std::mismatch(a, a + len - 1, b).first - a) / 8 * 8;
+}
 
 // ---- beats and messages
 
@@ -260,6 +251,117 @@ struct Options {
     uint32_t evict_every = 0;    // in one of so many cycles home evicts a block; 0: only where it must
     uint32_t seed = 1;           // of home's choices
     size_t last = 12;            // so many messages are told with a fault
+};
+
+// ---- a judge of events beside a bench
+
+// jj_judge of jinavoke.h, which says what each entry and verdict is. It needs no Home: the events may be those of a
+// design's own home and clients, as a monitor tells them.
+class Judge {
+  public:
+    explicit Judge(const jj_numbers &numbers, const std::vector<uint8_t> &image = {})
+        : block_bytes_(numbers.block_bytes) {
+        uint32_t why = 0;
+        judge_ = jj_new(&numbers, image.data(), image.size(), &why);
+        if (!judge_) throw std::runtime_error("jinavoke: no judge: " + words::number(why) + " " + jv_status_name(why));
+    }
+    Judge(const Judge &) = delete;
+    Judge &operator=(const Judge &) = delete;
+    ~Judge() { jj_free(judge_); }
+
+    jj_verdict see(const jj_entry &entry) {
+        jj_verdict v = jj_see(judge_, &entry);
+        if (v.status == JV_OK) taken_++;
+        if (v.status != JV_OK && said_.empty()) said_ = text(entry, v);
+        return v;
+    }
+    // An event that is no access, with the message that was seen to be sent by it, where one was.
+    jj_verdict see(uint32_t event, uint32_t client, uint32_t block, uint32_t param = 0, const Message *seen = nullptr) {
+        jj_entry e = jj_event(event, client, block, param);
+        if (seen) {
+            e.shown = 1; e.channel = seen->channel; e.opcode = seen->opcode; e.shown_param = seen->param;
+            e.len = seen->len;
+            std::copy(seen->bytes.begin(), seen->bytes.end(), e.bytes);
+        }
+        return see(e);
+    }
+    // A load or a store of 1 to 8 bytes; the address begins at 0.
+    jj_verdict access(bool is_store, uint32_t client, uint32_t address, const uint8_t *bytes, uint32_t len) {
+        jj_entry e = jj_event(is_store ? JV_EVENT_STORE : JV_EVENT_LOAD, client, address, 0);
+        e.len = len;
+        std::copy_n(bytes, std::min<size_t>(len, JV_MOST_ACCESS_BYTES), e.bytes);
+        return see(e);
+    }
+    uint64_t taken() const { return taken_; } // how many entries were permitted
+    // Of the first that was not: who, which block, which rule, and what was there before it. Else empty.
+    const std::string &said() const { return said_; }
+
+  private:
+    std::string text(const jj_entry &e, const jj_verdict &v) const {
+        bool has_client = e.event < JV_EVENT_SEND_GET;
+        uint32_t block = e.event <= JV_EVENT_STORE ? e.place / block_bytes_ : e.place;
+        std::string s = has_client ? "client " + words::number(e.client) + ", " : "";
+        s += "block " + words::number(block) + ": " + words::event(e.event) + ": ";
+        if (v.status != JV_NOT_PERMITTED) return s + jv_status_name(v.status);
+        s += jj_rule_name(v.rule);
+        if (v.rule == JJ_OTHER_BYTES) s += ", " + other_bytes(e, v);
+        else if (v.rule >= JJ_OTHER_MESSAGE) s += ", " + sent(e, v).kind();
+        if (has_client) s += std::string("; the client has ") + words::perm(v.perm);
+        return s + (v.is_at_home ? "; home has a copy" : "; home has no copy");
+    }
+    static Message sent(const jj_entry &e, const jj_verdict &v) { // what the event sends
+        Message m;
+        m.channel = channel_of(e.event); m.opcode = v.opcode; m.param = v.param;
+        return m;
+    }
+    static uint32_t channel_of(uint32_t event) { // of the message that an event sends
+        switch (event) {
+        case JV_EVENT_SEND_ACQUIRE: return JV_A;
+        case JV_EVENT_SEND_PROBE: return JV_B;
+        case JV_EVENT_SEND_RELEASE: case JV_EVENT_ANSWER_PROBE: return JV_C;
+        case JV_EVENT_TAKE_C: case JV_EVENT_SEND_GRANT: return JV_D;
+        default: return JV_E;
+        }
+    }
+    static std::string other_bytes(const jj_entry &e, const jj_verdict &v) {
+        size_t at = first_other(e.bytes, v.bytes, v.len);
+        return "bytes " + words::number(at) + " to " + words::number(at + 7) + " " + words::hex(&v.bytes[at], 8)
+            + ", and " + words::hex(&e.bytes[at], 8) + " are shown";
+    }
+
+    uint32_t block_bytes_;
+    jj_judge *judge_ = nullptr;
+    uint64_t taken_ = 0;
+    std::string said_;
+};
+
+// Hands each step of a Home's model to a judge as it is made, with the message that was seen. Each bank has its own.
+class EventJudge : public Watch {
+  public:
+    explicit EventJudge(const Options &o, const std::vector<uint8_t> &image = {}) : base_(o.base) {
+        const jv_numbers &n = o.numbers;
+        jj_numbers numbers = {uint32_t(n.clients), uint32_t(n.block_bytes), uint32_t(n.memory_blocks)};
+        for (int64_t bank = 0; bank < n.banks; bank++) judges_.emplace_back(numbers, image);
+    }
+    std::function<void(const std::string &)> on_fault = [](const std::string &) {}; // what Judge::said has
+    void event(const Event &e) override {
+        Judge &judge = judges_.at(e.bank);
+        if (!judge.said().empty()) return; // it would answer that fault again
+        if (const Access *x = e.access)
+            judge.access(x->is_store, x->client, uint32_t(x->address - base_), x->bytes.data(), x->len);
+        else
+            judge.see(e.kind, e.client, e.block, e.param, e.seen);
+        if (!judge.said().empty()) on_fault(judge.said());
+    }
+    uint64_t taken() const { // how many steps were permitted
+        uint64_t all = 0;
+        for (const Judge &judge : judges_) all += judge.taken();
+        return all;
+    }
+
+  private:
+    uint64_t base_;
+    std::deque<Judge> judges_; // by bank
 };
 
 // ---- the home
@@ -784,7 +886,7 @@ class Home {
         return a.status == JV_DIFFERS ? own_call(m, probe) : a;
     }
     static std::string other_bytes(const Bytes &seen, const Bytes &own) {
-        auto at = size_t(std::mismatch(seen.begin(), seen.end(), own.begin()).first - seen.begin()) / 8 * 8;
+        size_t at = first_other(seen.data(), own.data(), seen.size());
         return " with bytes " + words::number(at) + " to " + words::number(at + 7) + " " + words::hex(&seen[at], 8)
             + ", where the model has " + words::hex(&own[at], 8);
     }

@@ -1,6 +1,6 @@
-// What jinavoke_pkg.sv imports, and the Python module loads: the calls of jinavoke.h, and a home of jinavoke.hpp, with
-// words and pointers alone, since DPI takes no struct by value. A bit vector of SystemVerilog is its words of 32 bits,
-// the lowest first.
+// What jinavoke_pkg.sv imports, and the Python module loads: the calls of jinavoke.h, and of jinavoke.hpp a judge and a
+// home, with words and pointers alone, since DPI takes no struct by value. A bit vector of SystemVerilog is its words
+// of 32 bits, the lowest first.
 #include "jinavoke.hpp"
 #include <iterator>
 #include <memory>
@@ -82,6 +82,31 @@ void jvd_saw(void *cache, int client, int channel, int opcode, int param, int bl
     tell(jv_saw(static_cast<jv_cache *>(cache), &s), status, what, told, told_serial, data);
 }
 const char *jvd_status_name(int status) { return jv_status_name(uint32_t(status)); }
+
+// ---- a judge of events
+
+void *jjd_new(int clients, int block_bytes, int blocks, const char *image) {
+    jj_numbers n = {uint32_t(clients), uint32_t(block_bytes), uint32_t(blocks)};
+    try {
+        return new jinavoke::Judge(n, bytes_of(image));
+    } catch (const std::exception &why) {
+        std::fprintf(stderr, "%s\n", why.what());
+        return nullptr;
+    }
+}
+void jjd_free(void *judge) { delete static_cast<jinavoke::Judge *>(judge); }
+int jjd_see(void *judge, int event, int client, int place, int param, int is_shown, int channel, int opcode,
+            int shown_param, int len, const uint32_t *bytes, int *rule) {
+    jj_entry e = jj_event(uint32_t(event), uint32_t(client), uint32_t(place), uint32_t(param));
+    e.shown = is_shown != 0;
+    e.channel = uint32_t(channel); e.opcode = uint32_t(opcode); e.shown_param = uint32_t(shown_param);
+    e.len = uint32_t(len);
+    std::memcpy(e.bytes, bytes, sizeof e.bytes);
+    jj_verdict v = static_cast<jinavoke::Judge *>(judge)->see(e);
+    *rule = int(v.rule);
+    return int(v.status);
+}
+const char *jjd_said(void *judge) { return static_cast<jinavoke::Judge *>(judge)->said().c_str(); }
 
 // ---- a home of links
 

@@ -1,5 +1,6 @@
-// numbers: a home of a bus, a link or a tap that cannot be is refused, from C++ and by the calls for DPI; a message of
-// TileLink that the model has not is told, and not as a fault of the client. Status 1 where it is otherwise.
+// numbers: a home of a bus, a link or a tap that cannot be is refused, from C++ and by the calls for DPI, and so is a
+// judge; a message of TileLink that the model has not is told, and not as a fault of the client. Status 1 where it is
+// otherwise.
 #include "jinavoke_dpi.cpp"
 #include <iostream>
 
@@ -50,8 +51,35 @@ static void messages() {
     }
 }
 
+static int seen(void *judge, int event, int place) { // the status of an event of client 0 with nothing shown
+    const uint32_t none[JV_MOST_BLOCK_BYTES / 4] = {};
+    int rule = 0;
+    return jjd_see(judge, event, 0, place, 0, 0, 0, 0, 0, 8, none, &rule);
+}
+static void judges() {
+    struct Row { int clients, block_bytes, blocks; const char *image; bool is_made; };
+    const Row rows[] = {
+        {64, 64, 4, "", true}, {0, 64, 4, "", false}, {65, 64, 4, "", false}, {2, 24, 4, "", false},
+        {2, 64, 0, "", false}, {2, 64, 65537, "", false}, {2, 8, 1, "0011223344556677", true},
+        {2, 8, 1, "001122334455667788", false}, {-1, 64, 4, "", false},
+    };
+    for (const Row &row : rows) {
+        void *judge = jjd_new(row.clients, row.block_bytes, row.blocks, row.image);
+        const char *what = row.is_made ? "a judge of clients" : "no judge of clients";
+        want((judge != nullptr) == row.is_made, what, row.clients);
+        jjd_free(judge);
+    }
+    void *judge = jjd_new(2, 64, 4, "");
+    want(seen(judge, JV_EVENT_TAKE_PUT_ACK + 1, 0) == JV_BAD_ARGUMENT, "no event of number", JV_EVENT_TAKE_PUT_ACK + 1);
+    want(seen(judge, JV_EVENT_STORE, 64) == JV_NOT_PERMITTED, "a store without a copy, at", 64);
+    want(seen(judge, JV_EVENT_LOAD, 0) == JV_NOT_PERMITTED, "and that again, whatever is handed in:", JV_EVENT_LOAD);
+    want(std::string(jjd_said(judge)) == "block 0: ?: bad argument", jjd_said(judge), 0);
+    jjd_free(judge);
+}
+
 int main() {
     messages();
+    judges();
     for (uint32_t bus : {8u, 16u, 32u, 64u}) want(is_made(bus), "a bus of", bus);
     for (uint32_t bus : {0u, 1u, 4u, 7u, 12u, 24u, 63u, 65u, 128u, 1u << 31, ~0u})
         want(!is_made(bus), "no bus of", bus);
