@@ -13,6 +13,7 @@
 //   spots=24 stall=4        how many blocks; a beat is stalled in one of so many cycles (0: never)
 //   most=1                  the run ends after so many faults (0: never)
 //   plain=0                 1: a home without a model in Jinavoke's place
+//   judge=0                 1: each step of the home is handed to a judge, whose faults are told in place of the home's
 //   wire=FILE events=FILE   records for tlwire and tlcheck
 //   chart=FILE              the first fault's block as a script for tlchart
 //   quiet=0                 1: of each fault its first line alone
@@ -281,6 +282,20 @@ template <class Home> static Outcome run(const Settings &s, Home &home, Board &b
     return out;
 }
 
+// A run in which a judge of events tells the faults: of each step in the cycle in which the home makes it.
+static Outcome judge_steps(const Settings &s, jinavoke::Home &home, const std::vector<uint8_t> &image, Board &board) {
+    jinavoke::EventJudge judge(home.options(), image);
+    home.watch(&judge);
+    Outcome out = run(s, home, board, [&](std::function<void()> hear) {
+        judge.on_fault = [&home, hear](const std::string &said) {
+            hear();
+            std::cout << "cycle " << home.cycle() << ": judge: " << said << "\n";
+        };
+    });
+    std::cout << judge.taken() << " events were permitted\n";
+    return out;
+}
+
 // A run with Jinavoke: records where they are asked for, each fault's text, the first one's chart.
 static Outcome judge(const Settings &s, const jinavoke::Options &o, const std::vector<uint8_t> &image, Board &board) {
     jinavoke::Home home(o, image);
@@ -288,6 +303,7 @@ static Outcome judge(const Settings &s, const jinavoke::Options &o, const std::v
     std::unique_ptr<jinavoke::Watch> wire_record, event_record;
     if (wire.is_open()) home.watch((wire_record = std::make_unique<jinavoke::WireRecord>(wire, o, image)).get());
     if (events.is_open()) home.watch((event_record = std::make_unique<jinavoke::EventRecord>(events, o, image)).get());
+    if (s.number("judge", 0)) return judge_steps(s, home, image, board);
     return run(s, home, board, [&](std::function<void()> hear) {
         home.on_fault = [&s, &home, hear](const jinavoke::Fault &f) {
             hear();
