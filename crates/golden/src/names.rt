@@ -85,5 +85,9 @@ pub const RECORDS: &[&str] = &[
     "two-readers-and-a-writer.txt",
     "two-writers-at-their-pins.txt",
     "two-writers.txt",
+    "unwatched-answers-before-its-release-ack.txt",
+    "unwatched-asks-before-its-release-ack.txt",
+    "unwatched-gives-up-what-it-has-not.txt",
+    "unwatched-grants-old-bytes.txt",
     "was-cut.txt",
 ];

@@ -35,7 +35,8 @@ fn shown(kind: Kind, byte: Option<u8>) -> Shown {
     Shown { kind, bytes }
 }
 
-fn on_link(client: u32, kind: Kind, byte: Option<u8>) -> Seen {
+/// A message of block 0 on a client's link, with eight times a byte, if it has some.
+pub(crate) fn on_link(client: u32, kind: Kind, byte: Option<u8>) -> Seen {
     Seen::OnLink(ClientId::new(client), BlockNo::new(0), shown(kind, byte))
 }
 
@@ -196,6 +197,9 @@ fn what_is_impossible_and_what_is_not(rt: HostRuntime) -> Result<(), Fail> {
 /// Lines of which none is on the memory's link.
 const WITHOUT_MEMORY: &[usize] = &[0, 3, 4, 5, 6, 7, 8, 9, 10, 11];
 
+/// Lines of which none is a load or a store.
+const WITHOUT_CORES: &[usize] = &[0, 1, 2, 3, 4, 6, 7, 8, 9, 10];
+
 /// The second client has its Grant before the first is probed.
 const GRANTED_BEFORE: &[usize] = &[0, 1, 2, 3, 4, 5, 6, 9, 10, 7, 8, 11];
 
@@ -251,13 +255,49 @@ const SEEN_SO: &[(Damage, &[usize], Way, usize, bool, bool, Option<usize>)] = &[
         Some(7),
     ),
     (
-        Damage::GrantsOldBytes,
-        IN_ORDER,
+        Damage::Nothing,
+        WITHOUT_CORES,
+        Way::Between,
+        0,
+        false,
+        false,
+        Some(7),
+    ),
+    (
+        Damage::Nothing,
+        WITHOUT_CORES,
         Way::Between,
         0,
         false,
         true,
         None,
+    ),
+    (
+        Damage::GrantsOldBytes,
+        WITHOUT_CORES,
+        Way::Between,
+        0,
+        false,
+        true,
+        Some(8),
+    ),
+    (
+        Damage::GrantsTip,
+        WITHOUT_CORES,
+        Way::AtHome,
+        0,
+        false,
+        true,
+        Some(8),
+    ),
+    (
+        Damage::GrantsOldBytes,
+        WITHOUT_CORES,
+        Way::AtClients,
+        0,
+        false,
+        true,
+        Some(8),
     ),
     (
         Damage::Nothing,

@@ -6,21 +6,24 @@ use Rattle.tl_protocol.specs.declared.shape.Shape.{Shape}
 use Rattle.tlwire_search.specs.Explained.{Explains}
 use Rattle.tlwire_search.specs.declared.seen.Seen.{Seen}
 use Rattle.tlwire_pins.specs.Pins.{KeepsOrder, lines_from}
+use Rattle.tlwire_pins.specs.declared.view.Cores.{Cores}
 use Rattle.tlwire_closed.specs.Along.{IsSeenSo}
 use Rattle.tlwire_closed.specs.declared.premise.Premise.{Premise as SetPremise}
 use Rattle.tlwire_closed.specs.declared.premise.Way.{Way}
 use Rattle.tlwire_closed.specs.declared.premise.Way.TheVariants.{Between, AtSending, AtHome, AtClients}
 use Rattle.tlwire_record.specs.Messages.{MessagesState}
-use Rattle.tlwire_answer.specs.Answer.{ClientKeepsOrder, EachKeepsOrder, IsExplained, IsInOrder, Meets}
+use Rattle.tlwire_answer.specs.Answer.{ClientKeepsOrder, EachKeepsOrder, IsExplained, IsInOrder, Meets, cores_of}
 use Rattle.tlwire_answer.specs.Named.{premise_of}
 
 -- of a client
-pub keeps_then : {E : Type 0} (r : Result Bool E) (m : MessagesState) (lines seen : List Seen) (client : ℕ) → seen ≡ m.seen
-    → IfOk r (λ (yes : Bool). IsTrue yes → (shape : Shape) → KeepsOrder shape client lines seen)
+pub keeps_then : {E : Type 0} (r : Result Bool E) (m : MessagesState) (cores : Cores) (lines seen : List Seen) (client : ℕ)
+    → cores ≡ cores_of m.setting.premises client → seen ≡ m.seen
+    → IfOk r (λ (yes : Bool). IsTrue yes → (shape : Shape) → KeepsOrder cores shape client lines seen)
     → IfOk r (λ (yes : Bool). IsTrue yes → ClientKeepsOrder m lines client)
-keeps_then (Ok kept) m lines seen client e h =
-    λ t told. subst (λ (xs : List Seen). KeepsOrder m.setting.shape client lines xs) e (h t m.setting.shape)
-keeps_then (Err x) m lines seen client e h = tt
+keeps_then (Ok kept) m cores lines seen client k e h =
+    λ t told. subst (λ (xs : List Seen). KeepsOrder (cores_of m.setting.premises client) m.setting.shape client lines xs) e
+    (subst (λ (x : Cores). KeepsOrder x m.setting.shape client lines seen) k (h t m.setting.shape))
+keeps_then (Err x) m cores lines seen client k e h = tt
 
 -- of each
 pub in_order : (m : MessagesState) (run : List Event) (shape : Shape) (image : List ℕ) (lines given : List Seen) → shape ≡ m.setting.shape → image ≡ m.image

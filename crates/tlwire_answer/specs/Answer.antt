@@ -1,5 +1,5 @@
 -- What the answer to a record of messages ends with.
-use Rattle.std.specs.Prelude.{◌≡◌, ◌<◌, ◌&&◌, not, ℕ, Bool, true, false, List, length, Option, Some, Ok, Err}
+use Rattle.std.specs.Prelude.{◌≡◌, ◌<◌, ℕ, Bool, true, false, List, length, Option, Some, Ok, Err, if◌then◌else◌}
 use Rattle.std.specs.List.{list_any}
 use Rattle.tlwire_search.specs.Explained.{Explains}
 use Rattle.tlwire_search.specs.Premises.{is_seen_at_pins, is_unseen_on}
@@ -12,6 +12,8 @@ use Rattle.tlwire_pins.specs.Impossible.{IsImpossible}
 use Rattle.tlwire_pins.specs.Pins.{KeepsOrder, lines_from}
 use Rattle.tlwire_pins.specs.Walk.{IsWrong}
 use Rattle.tlwire_pins.specs.declared.pass.Wrong.{Wrong}
+use Rattle.tlwire_pins.specs.declared.view.Cores.{Cores}
+use Rattle.tlwire_pins.specs.declared.view.Cores.TheVariants.{Watched, Unseen}
 use Rattle.tlwire_closed.specs.Along.{IsImpossible as IsSeenByNone, IsSeenSo}
 use Rattle.tlwire_closed.specs.declared.premise.Way.{Way}
 use Rattle.tlwire_answer.specs.Named.{names, premise_of}
@@ -23,17 +25,17 @@ use Rattle.tlwire_answer.specs.declared.ending.Ending.TheVariants.{Usage, Answer
 use Rattle.tlwire_answer.specs.declared.verdict.Verdict.{Verdict}
 use Rattle.tlwire_answer.specs.declared.verdict.Verdict.TheVariants.{Explained, Impossible, RuledOut, NotDecided, OtherOrder}
 
--- the header says that a client's link was seen at the client's pins, and not that nobody watched the cores
-abbrev pub is_told_at_pins : List Premise → ℕ → Bool
-is_told_at_pins premises client = is_seen_at_pins premises client && not (list_any (is_unseen_on (Core client)) premises)
+-- whether the header says that nobody watched a client's core
+abbrev pub cores_of : List Premise → ℕ → Cores
+cores_of premises client = if list_any (is_unseen_on (Core client)) premises then Unseen else Watched
 
--- The header says that a client's link and core were seen at the client's pins; there this is the first line of the client's that may not be seen,
--- and no lawful run over any image is seen so.
+-- The header says that a client's link was seen at the client's pins, its core too or not; there this is the first line
+-- of the client's that may not be seen, and no lawful run over any image is seen so.
 pub record IsNo (m : MessagesState) (w : Wrong) : Type 0 where
   pub client : ℕ
-  pub premise : is_told_at_pins m.setting.premises client ≡ true
-  pub wrong : IsWrong m.setting.shape client m.seen w
-  pub impossible : IsImpossible m.setting.shape client m.seen
+  pub premise : is_seen_at_pins m.setting.premises client ≡ true
+  pub wrong : IsWrong (cores_of m.setting.premises client) m.setting.shape client m.seen w
+  pub impossible : IsImpossible (cores_of m.setting.premises client) m.setting.shape client m.seen
 
 -- The header names a way of seeing, and no lawful run over the image is seen so.
 pub record IsRuledOut (m : MessagesState) : Type 0 where
@@ -43,7 +45,9 @@ pub record IsRuledOut (m : MessagesState) : Type 0 where
 
 -- lines at the pins of clients have the record's in their order, of a client, where it was seen there
 abbrev pub ClientKeepsOrder : MessagesState → List Seen → ℕ → Type 0
-ClientKeepsOrder m lines client = is_told_at_pins m.setting.premises client ≡ true → KeepsOrder m.setting.shape client lines m.seen
+ClientKeepsOrder m lines client =
+    is_seen_at_pins m.setting.premises client ≡ true
+    → KeepsOrder (cores_of m.setting.premises client) m.setting.shape client lines m.seen
 
 -- and of each
 abbrev pub EachKeepsOrder : MessagesState → List Seen → Type 0
@@ -55,7 +59,7 @@ IsInOrder m run = EachKeepsOrder m (lines_from m.setting.shape (at_reset m.setti
 
 -- no client was seen there
 abbrev pub NobodyIsTold : MessagesState → Type 0
-NobodyIsTold m = (client : ℕ) → client < m.setting.shape.clients → is_told_at_pins m.setting.premises client ≡ false
+NobodyIsTold m = (client : ℕ) → client < m.setting.shape.clients → is_seen_at_pins m.setting.premises client ≡ false
 
 -- A run is seen so, where the header names the way of seeing.
 abbrev pub Meets : MessagesState → List Event → Way → Type 0

@@ -3,7 +3,7 @@ ghost use Rattle.std.specs.List.{list_any};
 ghost use Rattle.std.specs.Prelude.{◌≡◌, ◌⊎◌, None, IfOk, IfSome, IsNone, IsTrue};
 ghost use Rattle.std.specs.Bool.{OnFalse};
 ghost use Rattle.tlwire_answer.specs.Named.{is_at_clients, is_between, is_skew, least_of, least_with, names, or_zero, premise_of};
-ghost use Rattle.tlwire_answer.specs.Answer.{ClientKeepsOrder, EachKeepsOrder, IsInOrder, IsNo, IsRuledOut, IsVerdict, Meets, NobodyIsTold, is_told_at_pins};
+ghost use Rattle.tlwire_answer.specs.Answer.{ClientKeepsOrder, EachKeepsOrder, IsInOrder, IsNo, IsRuledOut, IsVerdict, Meets, NobodyIsTold, cores_of};
 ghost use Rattle.tl_protocol.specs.Runs.{IsRun};
 ghost use Rattle.tlwire_closed.specs.declared.premise.Way.{Way};
 ghost use Rattle.tlwire_search.specs.Explained.{Explains};
@@ -12,7 +12,7 @@ use std::alloc::{AllocError, Global};
 use tl_rules::Event;
 use tl_types::{Channel, ClientId};
 use tlwire_closed::{Answer, Stuck, Way, is_seen_so, rule_out};
-use tlwire_pins::{Wrong, first_wrong, keeps_order, lines_at_pins};
+use tlwire_pins::{Cores, Wrong, first_wrong, keeps_order, lines_at_pins};
 use tlwire_record::Messages;
 use tlwire_search::{
     Explanation, Limit, Premise, Seen, Wire, explain, is_seen_at_home, is_seen_at_pins, is_unseen,
@@ -64,11 +64,15 @@ fn sooner(one: Option<Wrong>, other: Option<Wrong>) -> Option<Wrong>
     }
 }
 
-/// Whether a client's link, and its core, were seen at the client's pins.
-fn is_told_at_pins(premises: &[Premise], client: ClientId) -> bool
-    ensures { result ≡ is_told_at_pins premises.now client }
+/// Whether the header says that nobody watched a client's core.
+fn cores_of(premises: &[Premise], client: ClientId) -> Cores
+    ensures { result ≡ cores_of premises.now client }
 {
-    is_seen_at_pins(premises, client) && !is_unseen(premises, Wire::Core(client))
+    if is_unseen(premises, Wire::Core(client)) {
+        Cores::Unseen
+    } else {
+        Cores::Watched
+    }
 }
 
 /// The first line that may not be seen at the pins of a client whose link was seen there.
@@ -79,19 +83,22 @@ fn wrong_at_pins(alloc: Global, messages: &Messages) -> Result<Option<Wrong>, Al
     let mut first = None;
     for number in 0..shape.clients {
         let client = ClientId::new(number);
-        if is_told_at_pins(messages.setting().premises(), client) {
-            first = sooner(first, first_wrong(alloc, shape, client, messages.seen())?);
+        let premises = messages.setting().premises();
+        if is_seen_at_pins(premises, client) {
+            let cores = cores_of(premises, client);
+            let found = first_wrong(alloc, shape, client, cores, messages.seen())?;
+            first = sooner(first, found);
         }
     }
     Ok(first)
 }
 
-/// Whether the link and the core of some client were seen at the client's pins.
+/// Whether the link of some client was seen at the client's pins.
 fn is_any_told(messages: &Messages) -> bool
     ensures { OnFalse result (NobodyIsTold messages.now) }
 {
     for number in 0..messages.setting().shape().clients {
-        if is_told_at_pins(messages.setting().premises(), ClientId::new(number)) {
+        if is_seen_at_pins(messages.setting().premises(), ClientId::new(number)) {
             return true;
         }
     }
@@ -107,10 +114,12 @@ fn keeps(
 ) -> Result<bool, AllocError>
     ensures { IfOk result (λ yes. IsTrue yes → ClientKeepsOrder messages.now lines.now client) }
 {
-    if !is_told_at_pins(messages.setting().premises(), client) {
+    let premises = messages.setting().premises();
+    if !is_seen_at_pins(premises, client) {
         return Ok(true);
     }
-    keeps_order(alloc, client, lines, messages.seen())
+    let cores = cores_of(premises, client);
+    keeps_order(alloc, cores, client, lines, messages.seen())
 }
 
 /// Whether lines at the pins of clients keep the order of the record's, of each client that was seen there.

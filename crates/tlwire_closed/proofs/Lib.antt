@@ -1,8 +1,10 @@
+pub mod Alike
 pub mod Buckets
 pub mod Closed
 pub mod Counts
 pub mod Groups
 pub mod Levels
+pub mod Lifts
 pub mod Lists
 pub mod Looks
 pub mod Runs

@@ -2,4 +2,5 @@ pub mod Impossible
 pub mod Leads
 pub mod Ordered
 pub mod Replayed
+pub mod Unseen
 pub mod Walk

@@ -8,7 +8,9 @@ use Rattle.tlwire_search.specs.declared.seen.Seen.{Seen}
 use Rattle.tlwire_search.specs.declared.seen.Seen.TheVariants.{OnLink, OnMemory, Load, Store}
 use Rattle.tlwire_pins.proofs.Leads.{joined}
 use Rattle.tlwire_pins.proofs.Walk.{take_one}
-use Rattle.tlwire_pins.specs.Pins.{KeepsOrder, is_of_client, is_own, is_told, own}
+use Rattle.tlwire_pins.specs.Pins.{KeepsOrder, is_message, is_of_client, is_own, is_told, own, told}
+use Rattle.tlwire_pins.specs.declared.view.Cores.{Cores}
+use Rattle.tlwire_pins.specs.declared.view.Cores.TheVariants.{Watched, Unseen}
 use Rattle.tlwire_pins.specs.Walk.{IsBeginning}
 
 -- a line of a block is one of the client's
@@ -21,7 +23,7 @@ and_left : (t u : Bool) → (t && u) ≡ true → t ≡ true
 and_left true u e = refl
 and_left false u e = e
 
-of_client : (shape : Shape) (c block : ℕ) (x : Seen) → is_own shape c block x ≡ true → is_of_client c x ≡ true
+of_client : (shape : Shape) (c block : ℕ) (x : Seen) → is_own shape c block x ≡ true → is_of_client Watched c x ≡ true
 of_client shape c block (OnLink x b message) e = and_first (x == c) (b == block) (is_told (channel_of message.kind)) e
 of_client shape c block (OnMemory b message) e = e
 of_client shape c block (Load x address bytes) e = and_left (x == c) _ e
@@ -35,18 +37,35 @@ left_out true false x xs ys own_ h k e = let wrong : false ≡ true = h refl in 
 left_out false true x xs ys own_ h k e = k refl ∙ e
 left_out false false x xs ys own_ h k e = e
 
-pub own-filter : (shape : Shape) (c block : ℕ) (xs : List Seen) → own shape c block (filter (is_of_client c) xs) ≡ own shape c block xs
+pub own-filter : (shape : Shape) (c block : ℕ) (xs : List Seen) → own shape c block (filter (is_of_client Watched c) xs) ≡ own shape c block xs
 own-filter shape c block [] = refl
 own-filter shape c block (x ∷ xs) =
-    left_out (is_own shape c block x) (is_of_client c x) x (own shape c block xs) (filter (is_of_client c) xs) (own shape c block)
+    left_out (is_own shape c block x) (is_of_client Watched c x) x (own shape c block xs) (filter (is_of_client Watched c) xs) (own shape c block)
     (of_client shape c block x) (λ u. refl) (own-filter shape c block xs)
 
+-- and without its loads and stores
+messages : (shape : Shape) (c block : ℕ) (xs : List Seen)
+    → own shape c block (filter (is_of_client Unseen c) xs) ≡ own shape c block (filter is_message xs)
+messages shape c block [] = refl
+messages shape c block (OnLink x b message ∷ xs) =
+    left_out (is_own shape c block (OnLink x b message)) (is_of_client Unseen c (OnLink x b message)) (OnLink x b message)
+    (own shape c block (filter is_message xs)) (filter (is_of_client Unseen c) xs) (own shape c block)
+    (of_client shape c block (OnLink x b message)) (λ u. refl) (messages shape c block xs)
+messages shape c block (OnMemory b message ∷ xs) = messages shape c block xs
+messages shape c block (Load x address bytes ∷ xs) = messages shape c block xs
+messages shape c block (Store x address bytes ∷ xs) = messages shape c block xs
+
+told-filter : (cores : Cores) (shape : Shape) (c block : ℕ) (xs : List Seen)
+    → own shape c block (filter (is_of_client cores c) xs) ≡ own shape c block (told cores xs)
+told-filter Watched shape c block xs = own-filter shape c block xs
+told-filter Unseen shape c block xs = messages shape c block xs
+
 -- the order of all lines is that of each block's
-pub keeps : (shape : Shape) (c : ℕ) (lines seen some all : List Seen) → all ≡ filter (is_of_client c) lines → some ≡ filter (is_of_client c) seen
-    → IsBeginning some all → KeepsOrder shape c lines seen
-keeps shape c lines seen some all is_all is_some b block = (
+pub keeps : (cores : Cores) (shape : Shape) (c : ℕ) (lines seen some all : List Seen) → all ≡ filter (is_of_client cores c) lines
+    → some ≡ filter (is_of_client Watched c) seen → IsBeginning some all → KeepsOrder cores shape c lines seen
+keeps cores shape c lines seen some all is_all is_some b block = (
   own shape c block b.0,
-  sym (own-filter shape c block lines)
+  sym (told-filter cores shape c block lines)
       ∙ (ap (λ (xs : List Seen). own shape c block xs) (sym is_all ∙ b.1)
       ∙ (joined shape c block some b.0
       ∙ ap (λ (xs : List Seen). xs ++ own shape c block b.0) (ap (λ (xs : List Seen). own shape c block xs) is_some ∙ own-filter shape c block seen))),

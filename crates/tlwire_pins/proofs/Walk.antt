@@ -6,27 +6,30 @@ use Rattle.tlwire_pins.proofs.Impossible.{every_line}
 use Rattle.tlwire_pins.proofs.Leads.{joined}
 use Rattle.tlwire_pins.specs.Impossible.{IsImpossible}
 use Rattle.tlwire_pins.specs.Pins.{is_own, own}
-use Rattle.tlwire_pins.specs.View.{MayLine, after_line, fresh, led_by}
+use Rattle.tlwire_pins.specs.View.{MayBeSeen, after_seen, fresh, led_by}
 use Rattle.tlwire_pins.specs.Walk.{AllMay, Steps, StepsAt}
+use Rattle.tlwire_pins.specs.declared.view.Cores.{Cores}
 use Rattle.tlwire_pins.specs.declared.view.View.{View}
 
 -- some lines lead to what a client holds of each block, and each may be seen
-pub record Walked (shape : Shape) (c : ℕ) (xs : List Seen) (views : ℕ → View) : Type 0 where
-  pub led : (block : ℕ) → views block ≡ led_by shape fresh (own shape c block xs)
-  pub may : (block : ℕ) → AllMay shape fresh (own shape c block xs)
+pub record Walked (cores : Cores) (shape : Shape) (c : ℕ) (xs : List Seen) (views : ℕ → View) : Type 0 where
+  pub led : (block : ℕ) → views block ≡ led_by cores shape fresh (own shape c block xs)
+  pub may : (block : ℕ) → AllMay cores shape fresh (own shape c block xs)
 
 -- no lines
-pub none_walked : (shape : Shape) (c : ℕ) (views : ℕ → View) → ((block : ℕ) → views block ≡ fresh) → Walked shape c [] views
-none_walked shape c views h = record { led = h; may = λ block. tt }
+pub none_walked : (cores : Cores) (shape : Shape) (c : ℕ) (views : ℕ → View) → ((block : ℕ) → views block ≡ fresh) → Walked cores shape c [] views
+none_walked cores shape c views h = record { led = h; may = λ block. tt }
 
 -- one line more
-led_more : (shape : Shape) (v : View) (xs : List Seen) (x : Seen) → led_by shape v (xs ++ x ∷ []) ≡ after_line shape (led_by shape v xs) x
-led_more shape v [] x = refl
-led_more shape v (y ∷ ys) x = led_more shape (after_line shape v y) ys x
+led_more : (cores : Cores) (shape : Shape) (v : View) (xs : List Seen) (x : Seen)
+    → led_by cores shape v (xs ++ x ∷ []) ≡ after_seen cores shape (led_by cores shape v xs) x
+led_more cores shape v [] x = refl
+led_more cores shape v (y ∷ ys) x = led_more cores shape (after_seen cores shape v y) ys x
 
-may_more : (shape : Shape) (v : View) (xs : List Seen) (x : Seen) → AllMay shape v xs → MayLine shape (led_by shape v xs) x → AllMay shape v (xs ++ x ∷ [])
-may_more shape v [] x all m = (m, tt)
-may_more shape v (y ∷ ys) x all m = (all.0, may_more shape (after_line shape v y) ys x all.1 m)
+may_more : (cores : Cores) (shape : Shape) (v : View) (xs : List Seen) (x : Seen) → AllMay cores shape v xs → MayBeSeen cores shape (led_by cores shape v xs) x
+    → AllMay cores shape v (xs ++ x ∷ [])
+may_more cores shape v [] x all m = (m, tt)
+may_more cores shape v (y ∷ ys) x all m = (all.0, may_more cores shape (after_seen cores shape v y) ys x all.1 m)
 
 -- what is of a block, of a line
 abbrev of_line : Bool → Seen → List Seen
@@ -39,26 +42,26 @@ pub nil_more : (xs : List Seen) → xs ++ [] ≡ xs
 nil_more [] = refl
 nil_more (x ∷ xs) = ap (λ (ys : List Seen). x ∷ ys) (nil_more xs)
 
-step_led : (shape : Shape) (t : Bool) (x : Seen) (v w : View) (xs : List Seen) → StepsAt shape x t v w → v ≡ led_by shape fresh xs
-    → w ≡ led_by shape fresh (xs ++ of_line t x)
-step_led shape true x v w xs s e = s.1 ∙ (ap (λ (u : View). after_line shape u x) e ∙ sym (led_more shape fresh xs x))
-step_led shape false x v w xs s e = s ∙ (e ∙ ap (λ (ys : List Seen). led_by shape fresh ys) (sym (nil_more xs)))
+step_led : (cores : Cores) (shape : Shape) (t : Bool) (x : Seen) (v w : View) (xs : List Seen) → StepsAt cores shape x t v w
+    → v ≡ led_by cores shape fresh xs → w ≡ led_by cores shape fresh (xs ++ of_line t x)
+step_led cores shape true x v w xs s e = s.1 ∙ (ap (λ (u : View). after_seen cores shape u x) e ∙ sym (led_more cores shape fresh xs x))
+step_led cores shape false x v w xs s e = s ∙ (e ∙ ap (λ (ys : List Seen). led_by cores shape fresh ys) (sym (nil_more xs)))
 
-step_may : (shape : Shape) (t : Bool) (x : Seen) (v w : View) (xs : List Seen) → StepsAt shape x t v w → v ≡ led_by shape fresh xs
-    → AllMay shape fresh xs → AllMay shape fresh (xs ++ of_line t x)
-step_may shape true x v w xs s e all = may_more shape fresh xs x all (subst (λ (u : View). MayLine shape u x) e s.0)
-step_may shape false x v w xs s e all = subst (λ (ys : List Seen). AllMay shape fresh ys) (sym (nil_more xs)) all
+step_may : (cores : Cores) (shape : Shape) (t : Bool) (x : Seen) (v w : View) (xs : List Seen) → StepsAt cores shape x t v w
+    → v ≡ led_by cores shape fresh xs → AllMay cores shape fresh xs → AllMay cores shape fresh (xs ++ of_line t x)
+step_may cores shape true x v w xs s e all = may_more cores shape fresh xs x all (subst (λ (u : View). MayBeSeen cores shape u x) e s.0)
+step_may cores shape false x v w xs s e all = subst (λ (ys : List Seen). AllMay cores shape fresh ys) (sym (nil_more xs)) all
 
-pub walked_more : (shape : Shape) (c : ℕ) (xs : List Seen) (x : Seen) (old new : ℕ → View) → Walked shape c xs old → Steps shape c x old new
-    → Walked shape c (xs ++ x ∷ []) new
-walked_more shape c xs x old new h s =
+pub walked_more : (cores : Cores) (shape : Shape) (c : ℕ) (xs : List Seen) (x : Seen) (old new : ℕ → View) → Walked cores shape c xs old
+    → Steps cores shape c x old new → Walked cores shape c (xs ++ x ∷ []) new
+walked_more cores shape c xs x old new h s =
     record {
       led = λ block.
-          step_led shape (is_own shape c block x) x (old block) (new block) (own shape c block xs) (s block) (h.led block)
-          ∙ ap (λ (ys : List Seen). led_by shape fresh ys) (sym (joined shape c block xs (x ∷ [])));
+          step_led cores shape (is_own shape c block x) x (old block) (new block) (own shape c block xs) (s block) (h.led block)
+          ∙ ap (λ (ys : List Seen). led_by cores shape fresh ys) (sym (joined shape c block xs (x ∷ [])));
       may = λ block.
-          subst (λ (ys : List Seen). AllMay shape fresh ys) (sym (joined shape c block xs (x ∷ [])))
-          (step_may shape (is_own shape c block x) x (old block) (new block) (own shape c block xs) (s block) (h.led block) (h.may block));
+          subst (λ (ys : List Seen). AllMay cores shape fresh ys) (sym (joined shape c block xs (x ∷ [])))
+          (step_may cores shape (is_own shape c block x) x (old block) (new block) (own shape c block xs) (s block) (h.led block) (h.may block));
     }
 
 -- a line that is of a block stands between those before it and those behind it
@@ -66,10 +69,10 @@ own_first : (shape : Shape) (c block : ℕ) (x : Seen) (rest : List Seen) → is
 own_first shape c block x rest e = ap (λ (t : Bool). cond t (x ∷ own shape c block rest) (own shape c block rest)) e
 
 -- where a line may not be seen, no lawful run is seen so
-pub is_impossible : (shape : Shape) (c block : ℕ) (before rest : List Seen) (x : Seen) → is_own shape c block x ≡ true
-    → ¬ MayLine shape (led_by shape fresh (own shape c block before)) x → IsImpossible shape c (before ++ x ∷ rest)
-is_impossible shape c block before rest x at may_not image run so =
-    may_not (every_line c shape image (before ++ x ∷ rest) run so block (own shape c block before) (own shape c block rest) x
+pub is_impossible : (cores : Cores) (shape : Shape) (c block : ℕ) (before rest : List Seen) (x : Seen) → is_own shape c block x ≡ true
+    → ¬ MayBeSeen cores shape (led_by cores shape fresh (own shape c block before)) x → IsImpossible cores shape c (before ++ x ∷ rest)
+is_impossible cores shape c block before rest x at may_not image run so =
+    may_not (every_line cores c shape image (before ++ x ∷ rest) run so block (own shape c block before) (own shape c block rest) x
     (joined shape c block before (x ∷ rest) ∙ ap (λ (ys : List Seen). own shape c block before ++ ys) (own_first shape c block x rest at)))
 
 -- a list is what stands before a place, what stands there, and what stands behind it
@@ -79,11 +82,12 @@ split_at (y ∷ ys) zero x e = let same : y ≡ x = cc in (ys, ap (λ (z : Seen)
 split_at (y ∷ ys) (suc place) x e = let more = split_at ys place x e in (more.0, ap (λ (zs : List Seen). y ∷ zs) more.1)
 
 -- the line at a place may not be seen
-pub is_impossible_at : (shape : Shape) (c block place : ℕ) (seen : List Seen) (x : Seen) → slice_get seen place ≡ Some x → is_own shape c block x ≡ true
-    → ¬ MayLine shape (led_by shape fresh (own shape c block (take place seen))) x → IsImpossible shape c seen
-is_impossible_at shape c block place seen x there at may_not =
+pub is_impossible_at : (cores : Cores) (shape : Shape) (c block place : ℕ) (seen : List Seen) (x : Seen) → slice_get seen place ≡ Some x
+    → is_own shape c block x ≡ true → ¬ MayBeSeen cores shape (led_by cores shape fresh (own shape c block (take place seen))) x
+    → IsImpossible cores shape c seen
+is_impossible_at cores shape c block place seen x there at may_not =
     let parts = split_at seen place x there in
-    subst (λ (xs : List Seen). IsImpossible shape c xs) (sym parts.1) (is_impossible shape c block (take place seen) parts.0 x at may_not)
+    subst (λ (xs : List Seen). IsImpossible cores shape c xs) (sym parts.1) (is_impossible cores shape c block (take place seen) parts.0 x at may_not)
 
 -- the next line is the one at the place
 pub take_one : (xs : List Seen) (place : ℕ) (d : Seen) → place < length xs → take (place + 1) xs ≡ take place xs ++ get_or xs place d ∷ []

@@ -1,5 +1,5 @@
 -- What a client holds of a block and waits for, as the messages at its pins tell (TileLink 1.8, section 9).
-use Rattle.std.specs.Prelude.{◌≡◌, ◌≢◌, ◌%◌, ℕ, List, [], ◌∷◌, Option, Some, None}
+use Rattle.std.specs.Prelude.{◌≡◌, ◌≢◌, ◌%◌, ℕ, true, false, List, [], ◌∷◌, Option, Some, None}
 use Rattle.tl_types.specs.Message.{probe_answer, surrender}
 use Rattle.tl_types.specs.Parameters.{dirty_prune, probe_report}
 use Rattle.tl_types.specs.Permission.{grant_perm, grow_from, prune_from, prune_to, report_to}
@@ -18,7 +18,7 @@ use Rattle.tl_protocol.specs.Access.{FitsBlock, ReadsAs}
 use Rattle.tl_protocol.specs.Client.{bytes_or}
 use Rattle.tl_protocol.specs.Copy.{bytes_of, clean_copy, dirty_bytes, perm_of, reduced, stored_in}
 use Rattle.tl_protocol.specs.declared.copy.CachedCopy.{CachedCopy}
-use Rattle.tl_protocol.specs.declared.copy.CachedCopy.TheVariants.{Absent}
+use Rattle.tl_protocol.specs.declared.copy.CachedCopy.TheVariants.{Absent, Readable, Writable}
 use Rattle.tl_protocol.specs.declared.client.Client.{Client}
 use Rattle.tl_protocol.specs.declared.shape.Shape.{Shape}
 use Rattle.tlcheck_rules.specs.Differs.{DiffersFrom, IsMessage}
@@ -30,6 +30,8 @@ use Rattle.tlcheck_rules.specs.declared.rule.Rule.{Rule}
 use Rattle.tlcheck_rules.specs.declared.rule.Rule.TheVariants as rule
 use Rattle.tlwire_search.specs.declared.seen.Seen.{Seen}
 use Rattle.tlwire_search.specs.declared.seen.Seen.TheVariants.{OnLink, OnMemory, Load, Store}
+use Rattle.tlwire_pins.specs.declared.view.Cores.{Cores}
+use Rattle.tlwire_pins.specs.declared.view.Cores.TheVariants.{Watched, Unseen}
 use Rattle.tlwire_pins.specs.declared.view.View.{View}
 
 -- what a client holds and waits for
@@ -105,10 +107,41 @@ after_line shape v (OnMemory block message) = v
 after_line shape v (Load c address bytes) = v
 after_line shape v (Store c address bytes) = record v { held = stored_in (address % shape.block_bytes) bytes v.held }
 
+-- ## Stores that nobody saw
+
+-- A copy at Tip as stores may have left it where a message shows its bytes: with these bytes, and dirty; clean where it
+-- shows none.
+abbrev pub as_shown : CachedCopy → Option (List ℕ) → CachedCopy
+as_shown Absent shown = Absent
+as_shown (Readable bytes) shown = Readable bytes
+as_shown (Writable bytes dirty) None = Writable bytes false
+as_shown (Writable bytes dirty) (Some shown) = Writable shown true
+
+-- the bytes that a line shows
+abbrev pub line_bytes : Seen → Option (List ℕ)
+line_bytes (OnLink c block message) = message.bytes
+line_bytes (OnMemory block message) = None
+line_bytes (Load c address bytes) = None
+line_bytes (Store c address bytes) = None
+
+-- What a client holds and waits for just before a line: where nobody watched its core, stores made of its Tip what the
+-- line shows.
+abbrev pub before_line : Cores → View → Seen → View
+before_line Watched v x = v
+before_line Unseen v x = record v { held = as_shown v.held (line_bytes x) }
+
+-- a line may be seen of such a client next, with stores before it that nobody saw
+abbrev pub MayBeSeen : Cores → Shape → View → Seen → Type 0
+MayBeSeen cores shape v x = MayLine shape (before_line cores v x) x
+
+-- what it leaves
+abbrev pub after_seen : Cores → Shape → View → Seen → View
+after_seen cores shape v x = after_line shape (before_line cores v x) x
+
 -- where these lines lead, one after another
-abbrev pub led_by : Shape → View → List Seen → View
-led_by shape v [] = v
-led_by shape v (x ∷ rest) = led_by shape (after_line shape v x) rest
+abbrev pub led_by : Cores → Shape → View → List Seen → View
+led_by cores shape v [] = v
+led_by cores shape v (x ∷ rest) = led_by cores shape (after_seen cores shape v x) rest
 
 -- ## What a line breaks that may not be seen next
 

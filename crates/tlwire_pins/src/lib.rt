@@ -12,4 +12,4 @@ pub use order::keeps_order;
 pub use pass::{Wrong, first_wrong};
 pub use replay::lines_at_pins;
 pub use theorem::every_line_may_be_seen;
-pub use view::View;
+pub use view::{Cores, View};

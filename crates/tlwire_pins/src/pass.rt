@@ -5,7 +5,7 @@ ghost use Rattle.tlwire_pins.specs.Pins.{own};
 ghost use Rattle.tlwire_pins.specs.View.{fresh};
 ghost use Rattle.tlwire_pins.specs.Walk.{AllMay, IsWrong};
 
-use crate::view::View;
+use crate::view::{Cores, View};
 use crate::views::{Broken, step};
 use std::alloc::{AllocError, Global};
 use std::collections::HashMap;
@@ -23,7 +23,8 @@ pub struct Wrong {
     pub client: ClientId,
     /// The block that it is of.
     pub block: BlockNo,
-    /// What the client holds of the block there, and waits for.
+    /// What the client holds of the block there, and waits for. Where nobody watched its core, a Tip is as the line
+    /// shows it.
     pub view: View,
     /// What the line breaks.
     pub breach: Breach,
@@ -48,22 +49,24 @@ fn at_place(place: usize, client: ClientId, broken: Broken) -> Wrong
 }
 
 /// Looks for the first line of a record that may not be seen at a client's pins. Where there is one, no lawful run is
-/// seen so there. It takes time by lines, and memory by the blocks that they are of. The error is want of memory.
+/// seen so there. Where nobody watched the client's core, only its permission and what it waits for count. It takes
+/// time by lines, and memory by the blocks that they are of. The error is want of memory.
 pub fn first_wrong(
     alloc: Global,
     shape: Shape,
     client: ClientId,
+    cores: Cores,
     seen: &[Seen],
 ) -> Result<Option<Wrong>, AllocError>
     requires { (0 < shape.block_bytes) × (shape.block_bytes ≤ BLOCK_BYTES) }
-    ensures wrong { IfOk result (λ found. IfSome found (IsWrong shape client seen.now)) }
-    ensures impossible { IfOk result (λ found. IsSome found → IsImpossible shape client seen.now) }
+    ensures wrong { IfOk result (λ found. IfSome found (IsWrong cores shape client seen.now)) }
+    ensures impossible { IfOk result (λ found. IsSome found → IsImpossible cores shape client seen.now) }
     ensures none { IfOk result
-        (λ found. IsNone found → (block : ℕ) → AllMay shape fresh (own shape client block seen.now)) }
+        (λ found. IsNone found → (block : ℕ) → AllMay cores shape fresh (own shape client block seen.now)) }
 {
     let mut views = HashMap::new(alloc);
     for place in 0..seen.len() {
-        if let Some(broken) = step(&mut views, shape, client, &seen[place])? {
+        if let Some(broken) = step(&mut views, shape, client, cores, &seen[place])? {
             return Ok(Some(at_place(place, client, broken)));
         }
     }

@@ -4,7 +4,7 @@ ghost use Rattle.tl_protocol.specs.Access.{FitsBlock, ReadsAs};
 ghost use Rattle.tl_protocol.specs.Client.{bytes_or};
 ghost use Rattle.tl_protocol.specs.Copy.{bytes_of, clean_copy, perm_of};
 ghost use Rattle.tl_types.specs.Permission.{grant_perm};
-ghost use Rattle.tlwire_pins.specs.View.{BreaksAcquire, BreaksAnswer, BreaksAs, BreaksGiving, BreaksLine, BreaksLoad, BreaksRelease, BreaksStore, MayAcquire, MayAnswer, MayLine, MayRelease, MaySeeAs, after_line, after_message, cap_to, fresh};
+ghost use Rattle.tlwire_pins.specs.View.{BreaksAcquire, BreaksAnswer, BreaksAs, BreaksGiving, BreaksLine, BreaksLoad, BreaksRelease, BreaksStore, MayAcquire, MayAnswer, MayLine, MayRelease, MaySeeAs, after_line, after_message, as_shown, before_line, cap_to, fresh, line_bytes};
 
 use std::mem;
 use tl_protocol::CachedCopy;
@@ -15,6 +15,15 @@ use tl_types::{
 };
 use tlcheck_rules::{Breach, Rule, Shown, other_message};
 use tlwire_search::Seen;
+
+/// Whether somebody watched a client's core.
+#[derive(Clone, Copy, Debug, PartialEq, Eq)]
+pub enum Cores {
+    /// Its loads and stores were seen.
+    Watched,
+    /// They were not.
+    Unseen,
+}
 
 /// What a client holds of a block, and the answer that it waits for.
 #[derive(Drop)]
@@ -51,6 +60,33 @@ fn bytes_or(bytes: &Option<BlockBytes>, own: CachedCopy) -> BlockBytes
     match bytes {
         Some(bytes) => bytes.copied(),
         None => own.into_bytes(),
+    }
+}
+
+/// The bytes that a line shows.
+fn line_bytes(line: &Seen) -> Option<BlockBytes>
+    ensures { result ≡ line_bytes line.now }
+{
+    match line {
+        Seen::OnLink(_, _, message) => match &message.bytes {
+            Some(bytes) => Some(bytes.copied()),
+            None => None,
+        },
+        Seen::OnMemory(_, _) | Seen::Load(_, _, _) | Seen::Store(_, _, _) => None,
+    }
+}
+
+/// A copy at Tip as stores may have left it where a message shows its bytes.
+fn as_shown(held: CachedCopy, shown: Option<BlockBytes>) -> CachedCopy
+    ensures { result ≡ as_shown held shown }
+{
+    match held {
+        CachedCopy::Absent => CachedCopy::Absent,
+        CachedCopy::Readable(bytes) => CachedCopy::Readable(bytes),
+        CachedCopy::Writable(bytes, _) => match shown {
+            Some(shown) => CachedCopy::Writable(shown, true),
+            None => CachedCopy::Writable(bytes, false),
+        },
     }
 }
 
@@ -215,6 +251,19 @@ impl View {
             Kind::Grant(cap) | Kind::GrantData(cap) => self.take_grant(cap, &message.bytes),
             Kind::ReleaseAck => self.wait = Awaited::Nothing,
             _ => {}
+        }
+    }
+
+    /// Where nobody watched the client's core, the stores are made that a line shows.
+    pub fn store_unseen(&mut self, cores: Cores, line: &Seen)
+        ensures { self.new ≡ before_line cores self.old line.now }
+    {
+        match cores {
+            Cores::Watched => {}
+            Cores::Unseen => {
+                let held = mem::replace(&mut self.held, CachedCopy::Absent);
+                self.held = as_shown(held, line_bytes(line));
+            }
         }
     }
 

@@ -3,7 +3,7 @@ ghost use Rattle.std.specs.Prelude.{◌≡◌, ◌==◌, ◌<◌, ◌≤◌, ℕ
 ghost use Rattle.tlwire_pins.specs.Pins.{is_own, is_told};
 ghost use Rattle.tlwire_pins.specs.Walk.{BreaksNext, Steps, held_in, is_at};
 
-use crate::view::View;
+use crate::view::{Cores, View};
 use std::alloc::{AllocError, Global};
 use std::collections::HashMap;
 use tl_rules::Shape;
@@ -68,17 +68,19 @@ pub(crate) fn step(
     views: &mut Views,
     shape: Shape,
     c: ClientId,
+    cores: Cores,
     line: &Seen,
 ) -> Result<Option<Broken>, AllocError>
     requires { (0 < shape.block_bytes) × (shape.block_bytes ≤ BLOCK_BYTES) }
     ensures steps { IfOk result
-        (λ found. IsNone found → Steps shape c line.now (held_in views.old) (held_in views.new)) }
-    ensures broken { IfOk result (λ found. IfSome found (BreaksNext shape c line.now (held_in views.old))) }
+        (λ found. IsNone found → Steps cores shape c line.now (held_in views.old) (held_in views.new)) }
+    ensures broken { IfOk result (λ found. IfSome found (BreaksNext cores shape c line.now (held_in views.old))) }
 {
     let Some(block) = block_at_pins(shape, c, line) else {
         return Ok(None);
     };
     let mut view = take(views, block);
+    view.store_unseen(cores, line);
     if let Some(breach) = view.breach(shape, line) {
         return Ok(Some(Broken {
             block,

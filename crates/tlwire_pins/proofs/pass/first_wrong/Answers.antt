@@ -2,7 +2,7 @@ use Rattle.std.proofs.Common.{◌++◌, ◌∷◌, [], List, Option, take, IfSom
 use Rattle.tlwire_search.proofs.Marking.{here_is}
 use Rattle.tlwire_search.specs.declared.seen.Seen.{Seen}
 use Rattle.tlwire_pins.proofs.Walk.{Walked, is_impossible_at, take_one, walked_more}
-use Rattle.tlwire_pins.specs.View.{MayLine}
+use Rattle.tlwire_pins.specs.View.{MayLine, before_line}
 use Rattle.tlwire_pins.specs.Walk.{BreaksNext, held_in}
 use Rattle.tlwire_pins.specs.declared.view.View.{View}
 use Rattle.tlwire_pins.specs.declared.views.Broken.{Broken}
@@ -10,17 +10,18 @@ use Rattle.tlwire_pins.proofs.pass.first_wrong.Goals as goal
 
 pub returns-in-Some-clause-impossible : goal.returns-in-Some-clause-impossible
 returns-in-Some-clause-impossible c = λ yes.
-    let b : BreaksNext c.args.shape c.args.client c.index-seen-place.result (held_in c.loop-place.views) c.in-Some.broken =
-    subst (λ (o : Option Broken). IfSome o (BreaksNext c.args.shape c.args.client c.index-seen-place.result (held_in c.loop-place.views))) c.in-Some.is
+    let b : BreaksNext c.args.cores c.args.shape c.args.client c.index-seen-place.result (held_in c.loop-place.views) c.in-Some.broken =
+    subst (λ (o : Option Broken). IfSome o (BreaksNext c.args.cores c.args.shape c.args.client c.index-seen-place.result (held_in c.loop-place.views))) c.in-Some.is
     c.in_ok-broken.ensures.broken in
-    is_impossible_at c.args.shape c.args.client c.in-Some.broken.block c.loop-place.place c.args.seen.now c.index-seen-place.result
+    is_impossible_at c.args.cores c.args.shape c.args.client c.in-Some.broken.block c.loop-place.place c.args.seen.now c.index-seen-place.result
     (here_is c.args.seen.now c.loop-place.place c.index-seen-place.result (omega arith) c.index-seen-place.is) b.own_line
-    (subst (λ (v : View). ¬ MayLine c.args.shape v c.index-seen-place.result) (b.held ∙ c.loop-place.invariant.led c.in-Some.broken.block) b.may_not)
+    (subst (λ (v : View). ¬ MayLine c.args.shape v c.index-seen-place.result)
+    (b.held ∙ ap (λ (v : View). before_line c.args.cores v c.index-seen-place.result) (c.loop-place.invariant.led c.in-Some.broken.block)) b.may_not)
 
 pub loop-place-preserved : goal.loop-place-preserved
 loop-place-preserved c =
-    subst (λ (xs : List Seen). Walked c.args.shape c.args.client xs (held_in c.step.new.views))
+    subst (λ (xs : List Seen). Walked c.args.cores c.args.shape c.args.client xs (held_in c.step.new.views))
     (ap (λ (z : Seen). take c.loop-place.place c.args.seen.now ++ z ∷ []) c.index-seen-place.is
     ∙ sym (take_one c.args.seen.now c.loop-place.place c.index-seen-place.result (omega arith)))
-    (walked_more c.args.shape c.args.client (take c.loop-place.place c.args.seen.now) c.index-seen-place.result (held_in c.loop-place.views)
+    (walked_more c.args.cores c.args.shape c.args.client (take c.loop-place.place c.args.seen.now) c.index-seen-place.result (held_in c.loop-place.views)
     (held_in c.step.new.views) c.loop-place.invariant (c.in_ok-broken.ensures.steps (search rules)))
