@@ -1,21 +1,14 @@
 -- One more frame at the end of a film.
-use Rattle.std.proofs.Common.{◌≡◌, ℕ, suc, ◌+◌, ◌<◌, List, [], ◌∷◌, ◌++◌, length, take, map, get_or, refl, sym, ap, ◌∙◌, subst, arith}
-use Rattle.std.proofs.lemmas.List.{take_more, length-map, length-take-le}
+use Rattle.std.proofs.Common.{◌≡◌, ℕ, suc, ◌+◌, ◌<◌, List, [], ◌∷◌, ◌++◌, length, take, get_or, refl, sym, ap, ◌∙◌, subst, arith}
+use Rattle.std.proofs.lemmas.List.{take_more, length-take-le}
 use Rattle.tl_script_words.specs.declared.step.Step.{Step}
 use Rattle.tl_text.specs.declared.answer.Answer.{Answer}
 use Rattle.tl_trace.specs.NetworkSteps.{IsNetworkStep}
 use Rattle.tl_trace.specs.NetworkState.{NetworkState}
-use Rattle.tlchart_page.specs.Film.{AreFrames, IsFrame, changed}
-use Rattle.tlchart_page.specs.Parts.{cell_text, state_shown}
+use Rattle.tlchart_page.specs.Film.{AreFrames, changed}
+use Rattle.tlchart_page.specs.Parts.{state_shown}
 use Rattle.tlchart_page.specs.declared.film.Change.{Change}
 use Rattle.tlchart_page.specs.declared.parts.Cell.{Cell}
-
--- the texts of the same cells are as many
-pub same-length : {S : Type 0} (f : S → List ℕ) (xs ys : List S) (cells : List Cell) (old new : NetworkState)
-    → map f xs ≡ state_shown old cells → map f ys ≡ state_shown new cells → length xs ≡ length ys
-same-length f xs ys cells old new before after =
-    sym (length-map xs f) ∙ ap length before ∙ length-map cells (cell_text old) ∙ sym (length-map cells (cell_text new)) ∙ sym (ap length after)
-    ∙ length-map ys f
 
 -- one more step after some that were filmed is filmed with them
 frames-push : (cells : List Cell) (index : ℕ) (steps : List Step) (old mid new : NetworkState) (answers : List Answer) (frames : List (List Change))

@@ -1,5 +1,5 @@
 -- The states that a page shows, told as changes (this project's own).
-use Rattle.std.specs.Prelude.{◌≡◌, ◌≢◌, ℕ, suc, List, [], ◌∷◌, ◌++◌, map, slice_set, string_bytes, vec_items, Option, Some, None}
+use Rattle.std.specs.Prelude.{◌≡◌, ℕ, suc, List, [], ◌∷◌, ◌++◌, map, slice_set, string_bytes, vec_items}
 use Rattle.tl_map.specs.Numbers.{Numbers}
 use Rattle.tl_script_words.specs.declared.step.Step.{Step}
 use Rattle.tl_text.specs.declared.answer.Answer.{Answer}
@@ -15,11 +15,6 @@ use Rattle.tlchart_page.specs.declared.parts.Cell.{Cell}
 abbrev pub changed : List (List ℕ) → List Change → List (List ℕ)
 changed state [] = state
 changed state (c ∷ rest) = changed (slice_set state c.place (string_bytes c.text)) rest
-
--- a cell shows another text, or the same as before
-abbrev pub IsChange : ℕ → List ℕ → List ℕ → Option Change → Type 0
-IsChange place before text None = before ≡ text
-IsChange place before text (Some change) = (change.place ≡ place) × (string_bytes change.text ≡ text) × (before ≢ text)
 
 -- A step's frame: its answer, and the changes that make of the state that was shown before it the one that is shown after it.
 pub record IsFrame (cells : List Cell) (index : ℕ) (step : Step) (old new : NetworkState) (state : List (List ℕ)) (frame : Frame) : Type 0 where

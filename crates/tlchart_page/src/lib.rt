@@ -8,11 +8,12 @@ mod film;
 mod json;
 mod page;
 mod parts;
+mod reach;
 mod script;
 mod style;
 mod words;
 
-pub use film::{Change, Film, film_of, push_change};
+pub use film::{Change, Film, film_of, tell};
 pub use json::{push_arrows, push_comma};
 pub use page::{page_script, push_head, push_tail};
 pub use parts::{Cell, Part};
