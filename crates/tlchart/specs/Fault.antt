@@ -9,7 +9,8 @@ use Rattle.tlchart_draw.specs.Draw.{draw_error_text}
 use Rattle.tlchart_draw.specs.declared.draw.DrawError.{DrawError}
 use Rattle.tlchart_draw.specs.declared.draw.DrawError.TheVariants as draw
 use Rattle.tlchart.specs.declared.fault.Fault.{Fault}
-use Rattle.tlchart.specs.declared.fault.Fault.TheVariants.{Program, Draw}
+use Rattle.tlcheck_reader.specs.Ending.{ending_text, status_of as ending_status}
+use Rattle.tlchart.specs.declared.fault.Fault.TheVariants.{Program, Draw, Record}
 
 -- the fault of words that ask for nothing
 abbrev pub fault_of_words : WordsError → Fault
@@ -29,8 +30,10 @@ draw_status draw.Memory = program_fault_status program.Memory
 abbrev pub status_of : Fault → ℕ
 status_of (Program fault) = program_fault_status fault
 status_of (Draw error) = draw_status error
+status_of (Record ending) = ending_status ending
 
 -- the line of a fault
 abbrev pub fault_text : Fault → List ℕ
 fault_text (Program fault) = program_fault_text fault
 fault_text (Draw error) = draw_error_text error
+fault_text (Record ending) = ending_text ending

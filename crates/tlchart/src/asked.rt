@@ -1,4 +1,4 @@
-//! The command line: `tlchart [--mermaid] [--block NUM] FILE`, or `tlchart --html FILE`.
+//! The command line: `tlchart [--mermaid] [--block NUM] FILE`, or `tlchart --html [--record] FILE`.
 
 use clap::{Arg, ArgAction, ArgMatches, Command};
 use std::alloc::{AllocError, Global};
@@ -7,13 +7,15 @@ use tl_streams::WordsError;
 use tl_types::BlockNo;
 use tlchart_draw::Form;
 
-/// What is made of a script.
+/// What is made of a file.
 #[derive(Clone, Copy, Debug)]
 pub(crate) enum Output {
     /// A picture in a form, with bands of a block.
     Picture(Form, Option<BlockNo>),
-    /// A page that walks through the trace.
+    /// A page that walks through the trace of a script.
     Page,
+    /// A page that walks through a record.
+    RecordPage,
 }
 
 /// What the words ask for.
@@ -35,6 +37,11 @@ fn command<'a>(alloc: Global) -> Result<Command<'a>, AllocError> {
         .arg(
             Arg::new(alloc, "html")
                 .long("html")
+                .action(ArgAction::SetTrue),
+        )?
+        .arg(
+            Arg::new(alloc, "record")
+                .long("record")
                 .action(ArgAction::SetTrue),
         )?
         .arg(
@@ -69,14 +76,20 @@ fn form_asked(matches: &ArgMatches<'_>) -> Form {
     }
 }
 
-/// What is asked for: a page has no form and no block.
+/// What is asked for: a page has no form and no block, and a record no picture.
 fn output_asked(matches: &ArgMatches<'_>) -> Result<Output, WordsError> {
     let form = form_asked(matches);
     let block = block_asked(matches)?;
-    match (matches.get_flag("html"), form, block) {
-        (false, form, block) => Ok(Output::Picture(form, block)),
-        (true, Form::Svg, None) => Ok(Output::Page),
-        (true, _, _) => Err(WordsError::Usage),
+    match (
+        matches.get_flag("html"),
+        matches.get_flag("record"),
+        form,
+        block,
+    ) {
+        (false, false, form, block) => Ok(Output::Picture(form, block)),
+        (true, false, Form::Svg, None) => Ok(Output::Page),
+        (true, true, Form::Svg, None) => Ok(Output::RecordPage),
+        _ => Err(WordsError::Usage),
     }
 }
 

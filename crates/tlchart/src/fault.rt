@@ -7,15 +7,18 @@ use std::fmt;
 use std::io::Write;
 use tl_streams::{ProgramFault, ReadError, WordsError, tell};
 use tlchart_draw::DrawError;
+use tlcheck_reader::Ending;
 
 /// What stops the program. It prints as the one fault line.
-#[derive(Debug, Drop)]
+#[derive(Drop)]
 pub(crate) enum Fault {
     /// The words were refused, the file could not be read or the picture not written, or a request for memory was
     /// refused outside the drawing.
     Program(ProgramFault),
     /// The script is not drawn.
     Draw(DrawError),
+    /// The record cannot be read as one.
+    Record(Ending),
 }
 
 impl fmt::Display for Fault {
@@ -28,6 +31,7 @@ impl fmt::Display for Fault {
         match self {
             Fault::Program(fault) => write!(f, "{fault}"),
             Fault::Draw(error) => write!(f, "{error}"),
+            Fault::Record(ending) => write!(f, "{ending}"),
         }
     }
 }
@@ -57,7 +61,8 @@ impl From<DrawError> for Fault {
 }
 
 impl Fault {
-    /// The status that the program ends with: as `tlcache` has them, and 6 for too many steps.
+    /// The status that the program ends with: as `tlcache` has them, 6 for too many steps, and of a record as `tlcheck`
+    /// has them.
     pub(crate) fn status(&self) -> u8
         ensures { result ≡ status_of self.now }
     {
@@ -66,6 +71,7 @@ impl Fault {
             Fault::Draw(DrawError::Memory) => ProgramFault::Memory.status(),
             Fault::Draw(DrawError::Script(error)) => error.status(),
             Fault::Draw(DrawError::TooMany(_)) => 6,
+            Fault::Record(ending) => ending.status(),
         }
     }
 }

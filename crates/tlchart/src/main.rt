@@ -1,5 +1,5 @@
-//! `tlchart FILE`: the sequence chart of a script's trace, or a page that walks through it. `-` stands for standard
-//! input.
+//! `tlchart FILE`: the sequence chart of a script's trace, or a page that walks through it or through a record. `-`
+//! stands for standard input.
 #![tactic(auto)]
 
 mod asked;
@@ -12,6 +12,7 @@ use std::process::ExitCode;
 use tl_streams::{ProgramFault, read_whole, words, write_whole};
 use tlchart_draw::draw_script;
 use tlchart_page::page_script;
+use tlchart_record::page_record;
 
 /// The bytes of the file that is asked for.
 fn bytes(rt: &HostRuntime, file: &str) -> Result<Vec<u8>, Fault> {
@@ -31,6 +32,10 @@ fn text(rt: &HostRuntime, asked: &Asked) -> Result<String, Fault> {
     match asked.output {
         Output::Picture(form, block) => Ok(draw_script(rt.alloc(), &bytes, title, form, block)?),
         Output::Page => Ok(page_script(rt.alloc(), &bytes, title)?),
+        Output::RecordPage => match page_record(rt.alloc(), &bytes, title) {
+            Ok(page) => Ok(page),
+            Err(ending) => Err(Fault::Record(ending)),
+        },
     }
 }
 

@@ -1,17 +1,24 @@
 "use strict";
 (() => {
-// The data: what each cell shows at the start, and which cells show another text after each step.
-const data = JSON.parse(document.getElementById("data").textContent);
+// The data: what each cell shows at the start, and which cells show another text after each step. That of a record of
+// events has a verdict, and in place of cells the state of each block in lines.
+const given = JSON.parse(document.getElementById("data").textContent);
+const isRecord = given.verdict !== undefined;
+const CHANNELS = ["A", "B", "C", "D", "E"];
+const data = isRecord ? { ...given, ...cellsOf(given) } : given;
 const g = data.geometry;
 const last = data.rows.length - 1;
+// A row is a step, with its index; or an entry of a record, with the number of its line.
+const [WORD, NAME] = isRecord ? ["line", "Line"] : ["step", "Step"];
+const numberOf = (index) => (isRecord ? data.rows[index][4] : index);
+const indexOf = (number) => (isRecord ? data.rows.findLastIndex((row) => row[4] <= number) : number);
 // How many steps the chart shows at once, and how many rows a table shows beside those that the step is about.
 const PAGE = 200;
 const ROWS = 30;
 // Up to as many blocks are listed for choice; of more the number is typed.
 const LISTED = 64;
-// A channel has room for as many messages.
-const FULL = 64;
-const CHANNELS = ["A", "B", "C", "D", "E"];
+// A channel has room for as many messages; what a record is of may have more.
+const FULL = isRecord ? Infinity : 64;
 
 // ---- Small tools
 
@@ -45,6 +52,101 @@ function kept(read) {
     }
     return known.get(text);
   };
+}
+
+// ---- The states of a record as cells
+
+// The lines of a block's state (docs/RECORD.md, State), in the words of cells.
+function partsOf(lines) {
+  const parts = { home: "- -", serves: "-", memory: "", clients: new Map() };
+  for (const line of lines.split("\n")) {
+    const [, is, words] = /^(\w+(?: \d+)?): (.*)$/.exec(line) || ["", "", ""];
+    if (is === "memory") parts.memory = words;
+    else if (is === "home") Object.assign(parts, homePart(words.split(", ")));
+    else if (is.startsWith("client ")) parts.clients.set(Number(is.slice(7)), clientPart(words.split(", ")));
+  }
+  return parts;
+}
+function homePart([copy, ...rest]) {
+  const letters = { Get: "G", AccessAckData: "A", PutFullData: "P", AccessAck: "K" };
+  const [what, bytes] = copy.split(" ");
+  const serves = rest.find((words) => words.startsWith("serves client "));
+  const passes = rest.find((words) => / the memory /.test(words));
+  const [kind, data] = passes ? passes.split(" the memory ")[1].split(" ") : [];
+  const line = what === "no" ? "-" : what[0].toUpperCase() + bytes;
+  return { home: `${line} ${kind ? letters[kind] + (data || "") : "-"}`, serves: serves ? serves.slice(14) : "-" };
+}
+function clientPart([copy, ...rest]) {
+  const words = copy.split(" ");
+  const letter = words[1] === "dirty" ? "D" : words[0][0];
+  const bytes = words[0] === "None" ? "" : words[words.length - 1];
+  const recorded = rest.find((one) => one.startsWith("recorded "))[9];
+  const wait = rest.includes("waits for a Grant") ? "G" : rest.includes("waits for a ReleaseAck") ? "R" : "-";
+  const lanes = { A: [], B: [], C: [], D: [], E: [] };
+  for (const one of rest.filter((each) => each.startsWith("on "))) {
+    const message = one.slice(5).split(" ");
+    const data = /Data$/.test(message[0]) ? message.pop() : "";
+    lanes[one[3]].push({ kind: message.join(" "), bytes: data });
+  }
+  return { text: `${letter}${bytes} ${wait} ${recorded}`, lanes };
+}
+
+// The cells of a record, at the start and as each entry changes them. The messages of a channel stand in the order in
+// which they were sent; of those that were sent before the first entry that is shown, by block.
+function cellsOf({ geometry, blocks: numbers, start, changes, rows }) {
+  const [cells, texts, places, lanes] = [[], [], new Map(), new Map()];
+  const clients = Array.from({ length: geometry.clients }, (_, who) => who);
+  const add = (name, text) => {
+    places.set(name, cells.length);
+    cells.push(name);
+    texts.push(text);
+  };
+  for (const block of numbers) {
+    for (const [kind, text] of [["home", "- -"], ["memory", ""], ["serves", "-"]]) add(`0 ${kind} ${block}`, text);
+    for (const who of clients) add(`0 client ${who} ${block}`, "N - N");
+  }
+  for (const who of clients) {
+    for (const channel of CHANNELS) {
+      add(`0 channel ${who} ${channel}`, "");
+      lanes.set(`0 channel ${who} ${channel}`, { sent: 0, waiting: [] });
+    }
+  }
+  // What a block's messages of a channel are now: some at the front are taken, some at the end are new.
+  const flow = (name, block, now) => {
+    const lane = lanes.get(name);
+    const old = lane.waiting.filter((one) => one.block === block);
+    if (now.length < old.length) lane.waiting = lane.waiting.filter((one) => one !== old[0]);
+    for (const one of now.slice(old.length)) lane.waiting.push({ serial: lane.sent++, block, ...one });
+    return lane.waiting.map((one) => `${one.serial},${one.block},${one.kind},${one.bytes};`).join("");
+  };
+  const put = (found, block, lines) => {
+    const parts = partsOf(lines);
+    const set = (name, text) => {
+      const place = places.get(name);
+      if (texts[place] === text) return;
+      texts[place] = text;
+      found.push(place, text);
+    };
+    for (const kind of ["home", "memory", "serves"]) set(`0 ${kind} ${block}`, parts[kind]);
+    for (const who of clients) {
+      const part = parts.clients.get(who);
+      set(`0 client ${who} ${block}`, part ? part.text : "N - N");
+      for (const channel of CHANNELS) {
+        const name = `0 channel ${who} ${channel}`;
+        set(name, flow(name, block, part ? part.lanes[channel] : []));
+      }
+    }
+    return found;
+  };
+  start.forEach((lines, place) => put([], numbers[place], lines));
+  const first = texts.slice();
+  const all = changes.map((of) => {
+    const found = [];
+    for (let i = 0; i < of.length; i += 2) put(found, numbers[of[i]], of[i + 1]);
+    return found;
+  });
+  while (all.length < rows.length) all.push([]);
+  return { cells, start: first, changes: all };
 }
 
 // ---- What the cells show
@@ -104,12 +206,12 @@ const clientNumbers = Array.from({ length: g.clients }, (_, number) => number);
 // each bank how many entries its table has.
 const state = data.start.slice();
 const entries = Array.from({ length: g.banks }, () => clientNumbers.map(() => 0));
-const IDLE = { client: "N - N", home: "- -" };
+const IDLE = { client: "N - N", home: "- -", serves: "-" };
 function count(place, by) {
   const it = blockAt[place];
   if (!it || place === it.memory) return;
-  if (state[place] !== IDLE.client && state[place] !== IDLE.home) it.busy += by;
-  if (place !== it.home && client(state[place]).hasEntry) entries[it.bank][clientOf[place]] += by;
+  if (!Object.values(IDLE).includes(state[place])) it.busy += by;
+  if (clientOf[place] !== undefined && client(state[place]).hasEntry) entries[it.bank][clientOf[place]] += by;
 }
 function put(place, text) {
   count(place, -1);
@@ -147,7 +249,8 @@ function changedWords() {
     const [bank, kind, one, two] = data.cells[place].split(" ");
     switch (kind) {
       case "client": return `client ${one} b${two}`;
-      case "channel": return `channel ${two} of client ${one} in bank ${bank}`;
+      case "channel": return `channel ${two} of client ${one}${isRecord ? "" : " in bank " + bank}`;
+      case "serves": return `what home serves of b${one}`;
       case "set": return `ways of set ${one} in bank ${bank}`;
       case "registers": return `registers of bank ${bank}`;
       default: return `${kind} b${one}`;
@@ -175,6 +278,9 @@ const TAKES = { answer_probe: "B", take_grant: "D", take_release_ack: "D", accep
   take_grant_ack: "E" };
 const SENDS = { acquire: "A", release: "C", answer_probe: "C", take_grant: "E", take_c: "D" };
 
+// The events of a record that name a block alone.
+const OF_BLOCK = ["get", "serve", "take_data", "drop", "put", "take_put_ack"];
+
 // What a step is about: its block, and its client, bank and channel where it has them.
 const known = [];
 function about(index) {
@@ -183,6 +289,10 @@ function about(index) {
 }
 function look(words, index) {
   const [verb, one, two] = words;
+  if (isRecord && OF_BLOCK.includes(verb)) return { verb, words, block: Number(one) };
+  if (isRecord && verb !== "load" && verb !== "store") {
+    return { verb, words, client: Number(one), bank: 0, block: Number(two) };
+  }
   if (verb === "load" || verb === "store") {
     return { verb, words, client: Number(one), block: Math.floor(Number(two) / g.blockBytes) };
   }
@@ -196,8 +306,30 @@ function look(words, index) {
   return { verb, words, client: to ? Number(to[1]) : undefined, block: Number(one) };
 }
 
+function entrySentence(it) {
+  switch (it.verb) {
+    case "load": return `Client ${it.client} reads ${it.words[3]} from its copy of block ${it.block}.`;
+    case "answer_probe": return `Client ${it.client} answers home's Probe of block ${it.block}.`;
+    case "take_grant": return `Client ${it.client} takes its Grant of block ${it.block}, and acknowledges it.`;
+    case "take_release_ack": return `Client ${it.client} takes the answer to its Release of block ${it.block}.`;
+    case "accept": return `Home takes client ${it.client}'s Acquire of block ${it.block}, and serves it from here on.`;
+    case "probe": return `Home asks client ${it.client} to give block ${it.block} up (ProbeBlock ${it.words[3]}).`;
+    case "take_c": return `Home takes what client ${it.client} gave back on channel C of block ${it.block}.`;
+    case "grant": return `Home sends client ${it.client} the Grant of block ${it.block}.`;
+    case "take_grant_ack": return `Home takes client ${it.client}'s GrantAck of block ${it.block}: the Acquire ends.`;
+    case "get": return `Home asks the memory for block ${it.block} (Get).`;
+    case "serve": return `The memory answers what home asked about block ${it.block}.`;
+    case "take_data": return `Home takes the memory's data of block ${it.block}.`;
+    case "drop": return `Home gives up its clean copy of block ${it.block}.`;
+    case "put": return `Home writes its dirty copy of block ${it.block} back to the memory (PutFullData).`;
+    case "take_put_ack": return `Home takes the memory's acknowledgement for block ${it.block}.`;
+    default: return undefined;
+  }
+}
 function sentence(index) {
   const it = about(index);
+  const told = isRecord ? entrySentence(it) : undefined;
+  if (told) return told;
   const what = it.arrow ? it.arrow[6] + " of block " + it.block : "a message";
   switch (it.verb) {
     case "load": return `Client ${it.client} reads ${it.words[3]} byte(s) of its copy of block ${it.block}.`;
@@ -328,6 +460,38 @@ function hereWhy(index, name) {
   }
 }
 
+// What an entry of a record breaks, as the verdict has it, and why it does here, as far as the state tells.
+function breach() {
+  const found = /^not lawful: line \d+, entry \d+: (.*) \((.*)\), (docs\/\S+), (.*)$/.exec(data.verdict);
+  if (!found) return [make("p", { id: "rule" }, data.verdict)];
+  const [, rule, whose, file, section] = found;
+  const why = hereBreaks(about(last), rule);
+  return [make("p", { id: "rule" }, "It breaks a rule: ", make("strong", {}, rule), ` (${whose}).`),
+    why && make("p", { id: "why" }, `Here ${why}.`),
+    make("p", { class: "quiet", id: "places" }, "See ", placeOf([file, section]), ".")];
+}
+function hereBreaks(it, rule) {
+  if (!blocks.has(it.block)) return outOfRange(it);
+  const waiting = (on, kinds) => clientNumbers.flatMap((who) => on.flatMap((channel) => lane(0, who, channel)
+    .filter((m) => m.block === it.block && kinds.test(m.kind))
+    .map((m) => `client ${who}'s ${m.kind} is on channel ${channel}`))).join(", and ");
+  if (/Probe of the block is unanswered/.test(rule)) return waiting(["B", "C"], /^Probe/);
+  if (/Grant of the block is pending/.test(rule)) return waiting(["D", "E"], /^Grant/);
+  if (/first of its channel/.test(rule)) {
+    return CHANNELS.flatMap((channel) => lane(0, it.client, channel).slice(0, 1)
+      .map((m) => `the first message on channel ${channel} is ${m.kind} of block ${m.block}`)).join(", and ");
+  }
+  if (it.client === undefined || /serves|Acquire of the block/.test(rule)) {
+    const has = homeAt(it.block).has ? "has a copy" : "has no copy";
+    return `home ${has}, and serves ${servedWords(blocks.get(it.block).serves)}`;
+  }
+  if (it.client >= g.clients) return outOfRange(it);
+  const k = clientAt(it.client, it.block);
+  return `client ${it.client} has block ${it.block} at ${k.perm}, waits for ${k.waits}, and home records ${k.recorded} `
+    + "of it";
+}
+const servedWords = (place, text = textNow) => (text(place) === "-" ? "nobody" : "client " + text(place));
+
 // ---- Miss registers
 
 const isProbe = (block) => (m) => m.block === block && /^Probe/.test(m.kind);
@@ -393,7 +557,7 @@ function blocksInUse() {
   if (at >= 0 && blocks.has(about(at).block)) found.add(about(at).block);
   return found;
 }
-const hasRoom = (it, who, k) => (k.hasEntry || entries[it.bank][who] < g.copies)
+const hasRoom = (it, who, k) => (isRecord || k.hasEntry || entries[it.bank][who] < g.copies)
   && lane(it.bank, who, "A").length < FULL;
 // Whether a client may do anything about a block, but take a message.
 function maySomething(who, it) {
@@ -420,15 +584,16 @@ function clientSteps(who, it) {
 // The messages of a bank that a client may take, or answer, with their blocks.
 function ticketSteps(bank, who) {
   const found = [];
+  const named = (channel, m) => (isRecord ? `${who} ${m.block}` : `${bank}.${who}.${channel}.${m.serial}`);
   const [probe] = lane(bank, who, "B");
   if (probe && clientAt(who, probe.block).wait !== "R" && lane(bank, who, "C").length < FULL) {
-    found.push(["answer_probe", `answer_probe ${bank}.${who}.B.${probe.serial}`, probe.block]);
+    found.push(["answer_probe", `answer_probe ${named("B", probe)}`, probe.block]);
   }
   const [answer] = lane(bank, who, "D");
   if (answer && answer.kind === "ReleaseAck") {
-    found.push(["take_release_ack", `take_release_ack ${bank}.${who}.D.${answer.serial}`, answer.block]);
+    found.push(["take_release_ack", `take_release_ack ${named("D", answer)}`, answer.block]);
   } else if (answer && lane(bank, who, "E").length < FULL) {
-    found.push(["take_grant", `take_grant ${bank}.${who}.D.${answer.serial}`, answer.block]);
+    found.push(["take_grant", `take_grant ${named("D", answer)}`, answer.block]);
   }
   return found;
 }
@@ -497,16 +662,21 @@ function clientsTable() {
   };
   return table("Clients: copies", COPIES, found, isNear, rowOf, "No client has a copy, or waits for one.");
 }
-const AT_HOME = ["bank", "block", "home's copy", "bytes", "to or from memory", "memory's bytes"];
+// What stands in a row of a script's page alone: the banks and the tickets.
+const inScript = (...words) => (isRecord ? [] : words);
+const AT_HOME = [...inScript("bank"), "block", "home's copy", "bytes", ...(isRecord ? ["serves"] : []),
+  "to or from memory", "memory's bytes"];
 function homeTable() {
   const isQuiet = (it) => state[it.home] === IDLE.home && textBefore(it.home) === IDLE.home
-    && textBefore(it.memory) === state[it.memory];
+    && textBefore(it.memory) === state[it.memory] && (!isRecord || state[it.serves] === IDLE.serves);
   const found = [...blocks.values()].filter((it) => wantsBlock(it.block) && (chosen.block !== "" || !isQuiet(it)));
   const passes = (h) => h.words + (h.data && " " + grouped(h.data));
   const rowOf = (it) => {
     const [h, o] = [home(state[it.home]), home(textBefore(it.home))];
-    return make("tr", { "data-home": it.block }, heads(String(it.bank), `b${it.block}`), cell(h.dirty, o.dirty),
-      bytesCell(h.bytes, o.bytes), cell(passes(h), passes(o)), bytesCell(state[it.memory], textBefore(it.memory)));
+    return make("tr", { "data-home": it.block }, heads(...inScript(String(it.bank)), `b${it.block}`),
+      cell(h.dirty, o.dirty), bytesCell(h.bytes, o.bytes),
+      isRecord && cell(servedWords(it.serves), servedWords(it.serves, textBefore)), cell(passes(h), passes(o)),
+      bytesCell(state[it.memory], textBefore(it.memory)));
   };
   return table("Home and the memory", AT_HOME, found, isNear, rowOf,
     "Home has no copy, and nothing passes to the memory.");
@@ -520,10 +690,12 @@ function onChannel(place) {
 }
 function messageRow({ bank, who, channel, m, what, ticket }) {
   const isTaken = what === "taken";
-  const told = isTaken ? [" ", news("taken in this step")] : what && spoken("sent in this step");
-  const way = "ACE".includes(channel) ? `client ${who} to bank ${bank}` : `bank ${bank} to client ${who}`;
+  const told = isTaken ? [" ", news(`taken in this ${WORD}`)] : what && spoken(`sent in this ${WORD}`);
+  const other = isRecord ? "home" : "bank " + bank;
+  const way = "ACE".includes(channel) ? `client ${who} to ${other}` : `${other} to client ${who}`;
   return make("tr", { [isTaken ? "data-taken" : "data-message"]: ticket,
-    class: what && (isTaken ? "changed gone" : "changed") }, heads(channel), make("td", {}, way), heads(ticket),
+    class: what && (isTaken ? "changed gone" : "changed") }, heads(channel), make("td", {}, way),
+  heads(...inScript(ticket)),
   make("td", {}, `${m.kind} b${m.block}`, told), make("td", {}, grouped(m.bytes)));
 }
 function flightTable() {
@@ -535,7 +707,7 @@ function flightTable() {
       if (wantsBlock(m.block)) found.push({ bank, who, channel, m, what, ticket: `${name}.${m.serial}` });
     }
   }
-  return table("Messages in flight", ["channel", "from, to", "ticket", "message", "bytes"], found,
+  return table("Messages in flight", ["channel", "from, to", ...inScript("ticket"), "message", "bytes"], found,
     (one) => one.what !== "" || near.has(one.m.block), messageRow, "No message is in flight.");
 }
 // What a register shows: its words before the step are those of the texts before it.
@@ -606,11 +778,26 @@ function refusedBox(number, name) {
     make("p", { class: "quiet", id: "places" }, "See ",
       places.map((one, index) => [index > 0 && ", and ", placeOf(one)]), "."));
 }
+// An entry of a record: what it sent, and at the end the verdict.
+function entryBox(mark) {
+  const sent = sentBy.has(at) && data.arrows[sentBy.get(at)];
+  const heading = `Line ${numberOf(at)}, entry ${data.first + at + 1}: `;
+  const message = sent && [sent[6], grouped(sent[7])].join(" ").trim();
+  return [make("h2", {}, heading, make("code", {}, rowWords(at, Infinity))), make("p", {}, sentence(at)),
+    sent && make("p", {}, "Sent: ", make("code", { id: "answer" }, message), ` to ${sent[3]}.`),
+    mark === "not lawful" && make("div", { class: "refused", id: "refusal" }, make("p", {},
+      make("strong", {}, "Not lawful"), ": this entry may not come here. The state is that before it."), breach()),
+    at === last && make("p", { id: "verdict" }, data.verdict)];
+}
 function stepBox() {
   if (at < 0) {
-    return [make("h2", {}, "Before the first step"), make("p", {}, "Nobody but the memory holds anything (reset).")];
+    const isReset = !isRecord || data.first === 0;
+    return [make("h2", {}, isReset ? `Before the first ${WORD}` : `After entry ${data.first}`),
+      make("p", {}, isReset ? "Nobody but the memory holds anything (reset)."
+        : `The first ${data.first} entries of the record are lawful, and are not shown.`)];
   }
   const [step, answer, , mark] = data.rows[at];
+  if (isRecord) return entryBox(mark);
   const refused = /^refused (\d+) (\w+)$/.exec(mark);
   return [make("h2", {}, `Step ${at}: `, make("code", {}, step)), make("p", {}, sentence(at)),
     make("p", {}, "Answer: ", make("code", { id: "answer" }, answer.replace(/[0-9a-f]{17,}/g, grouped))),
@@ -630,8 +817,8 @@ function reveal() {
 function drawState() {
   near = nearBlocks();
   byId("about").replaceChildren(...stepBox().filter((one) => one));
-  byId("tables").replaceChildren(clientsTable(), homeTable(), flightTable(), registersTable(), waysTable(),
-    permittedTable());
+  byId("tables").replaceChildren(clientsTable(), homeTable(), flightTable(),
+    ...(isRecord ? [] : [registersTable(), waysTable()]), permittedTable());
 }
 
 // ---- The chart: the rows' names at the left and the lifelines' names above stay in sight
@@ -663,10 +850,17 @@ function placeOfRow(rows, row) {
 const isShown = (row) => shown[placeOfRow(shown, row)] === row;
 // The middle of a row, or of the place where it would stand.
 const y = (row) => ROW * placeOfRow(shown, row) + ROW / 2;
-const rowLabel = (index) => `${index} ${[data.rows[index][0], data.rows[index][3] || data.rows[index][1]].join(", ")}`;
-function rowWords(index) {
-  const text = data.rows[index][0];
-  return text.length > 25 ? text.slice(0, 24) + "…" : text;
+function rowLabel(index) {
+  const [words, answer, , mark] = data.rows[index];
+  return `${numberOf(index)} ${[words, mark || answer].filter((one) => one).join(", ")}`;
+}
+// The words of a row, without the message that an entry shows, as far as there is room.
+const SHORT = ["load", "store", "acquire", "release", "probe"];
+function rowWords(index, room = 25) {
+  const { verb, words } = about(index);
+  const text = isRecord ? words.slice(0, SHORT.includes(verb) ? 4 : OF_BLOCK.includes(verb) ? 2 : 3).join(" ")
+    : data.rows[index][0];
+  return text.length > room ? text.slice(0, room - 1) + "…" : text;
 }
 const stripe = (place, index, size) => svg("rect", { class: place % 2 ? "plain" : "stripe", "data-row": index, x: 1,
   y: ROW * place, width: size - 2, height: ROW });
@@ -674,13 +868,15 @@ function drawName(index, place) {
   const top = y(index) + 4;
   return svg("g", { class: "row", id: "row-" + index, role: "option", "aria-label": rowLabel(index),
     "aria-selected": "false", "data-row": index }, svg("title", {}, data.rows[index][0]), stripe(place, index, NAMES),
-  svg("text", { class: "quiet end", x: 38, y: top }, String(index)), svg("text", { x: 46, y: top }, rowWords(index)));
+  svg("text", { class: "quiet end", x: 38, y: top }, String(numberOf(index))),
+  svg("text", { x: 46, y: top }, rowWords(index)));
 }
 function shapeOf(word, left, top) {
   switch (word) {
     case "": return svg("circle", { class: "dot", cx: left, cy: top, r: 2 });
     case "load":
     case "store": return svg("circle", { class: word, cx: left, cy: top, r: 4 });
+    case "not":
     case "refused": return svg("path", { class: "cross", d: `M${left} ${top}m-4 -4l8 8m0 -8l-8 8` });
     default: return svg("path", { class: "dot", d: `M${left} ${top}m-4 -4h8v8h-8z` });
   }
@@ -691,7 +887,7 @@ function drawMark(index) {
   const word = mark.split(" ")[0];
   const isRight = name === "memory";
   return svg("g", { id: "mark-" + index }, shapeOf(word, left, top),
-    mark && svg("text", { class: "halo" + (word === "refused" ? " bad" : "") + (isRight ? " end" : ""),
+    mark && svg("text", { class: "halo" + (["refused", "not"].includes(word) ? " bad" : "") + (isRight ? " end" : ""),
       x: left + (isRight ? -BESIDE : BESIDE), y: top + 4 }, mark.replace("refused ", "")));
 }
 function drawArrow(index) {
@@ -704,7 +900,7 @@ function drawArrow(index) {
   const finish = isOpen ? start + ROW / 2 : isBelow ? ROW * shown.length : y(taken) - ASIDE;
   const line = `M${left} ${start}L${right} ${finish}`;
   const words = `${kind} b${block}` + (bytes && " " + (bytes.length > 8 ? bytes.slice(0, 8) + "…" : bytes));
-  const ends = `sent in step ${sent}, ` + (isOpen ? "never taken" : `taken in step ${taken}`);
+  const ends = `sent in ${WORD} ${numberOf(sent)}, ` + (isOpen ? "never taken" : `taken in ${WORD} ${numberOf(taken)}`);
   return svg("g", { class: "message", "data-arrow": index, onclick: () => go(at === sent && !isOpen ? taken : sent) },
     svg("title", {}, `${kind} b${block} ${bytes}: ${ends}`), svg("path", { class: "hit", d: line }),
     svg("path", { class: `arrow ${channel}` + (isOpen ? " open" : ""), d: line,
@@ -801,11 +997,11 @@ function go(step) {
   drawState();
   markRow();
   reveal();
-  byId("step").value = at < 0 ? "" : String(at);
+  byId("step").value = at < 0 ? "" : String(numberOf(at));
   byId("back").disabled = byId("first").disabled = at < 0;
   byId("next").disabled = byId("end").disabled = at >= (wanted.length ? wanted[wanted.length - 1] : -1);
-  byId("told").textContent = at < 0 ? "Before the first step" : `Step ${rowLabel(at)}. ${changedWords()}`;
-  history.replaceState(null, "", `#step=${at < 0 ? "start" : at}`);
+  byId("told").textContent = at < 0 ? `Before the first ${WORD}` : `${NAME} ${rowLabel(at)}. ${changedWords()}`;
+  history.replaceState(null, "", `#${WORD}=${at < 0 ? "start" : numberOf(at)}`);
 }
 // Goes on by some of the steps that are wanted, or back; at an end it stays among them.
 function move(by) {
@@ -828,15 +1024,17 @@ function chooseTyped(field) {
   else field.reportValidity();
 }
 function stepAsked() {
-  const asked = /step=(\d+)/.exec(location.hash);
-  return asked ? Number(asked[1]) : -1;
+  const asked = /(?:step|line)=(\d+)/.exec(location.hash);
+  return asked ? indexOf(Number(asked[1])) : -1;
 }
 const KEYS = { ArrowRight: () => move(1), ArrowDown: () => move(1), ArrowLeft: () => move(-1), ArrowUp: () => move(-1),
   Home: () => go(-1), End: toEnd, PageDown: () => move(20), PageUp: () => move(-20) };
 
 // What a reader who is new to the protocol needs.
 const READING = [
-  "A row is a step: click it, or use the arrow keys. The state beside it is that after the step.",
+  isRecord ? "A row is an entry of the record, with the number of its line: click it, or use the arrow keys. The state "
+    + "beside it is that after the entry, as tlcheck judges it."
+    : "A row is a step: click it, or use the arrow keys. The state beside it is that after the step.",
   "An arrow is a message, from the row that sent it to the row that took it; thick while it is in flight, dashed if "
     + "never taken.",
   "Home is the cache that all clients share. A client asks it for a copy of a block (Acquire, channel A), home gives "
@@ -847,7 +1045,7 @@ const READING = [
   "A copy of a block is at None, Branch (may be read) or Tip (may be written). A band on a client is its copy of the "
     + "block that is chosen, or of the first message's.",
   "Marks: a filled circle is a store, an open one a load, a cross what is refused, a square a drop or an eviction. b0 "
-    + "is block 0; the ticket 0.1.C.3 is bank 0, client 1, channel C, its message 3.",
+    + "is block 0" + (isRecord ? "." : "; the ticket 0.1.C.3 is bank 0, client 1, channel C, its message 3."),
 ];
 
 // A control's name begins with the words that it shows, and goes on with what they leave out.
@@ -882,13 +1080,14 @@ function keyDown(event) {
 }
 function bar() {
   const turn = (by) => () => go(wanted[(page + by) * PAGE] ?? at);
+  const most = last < 0 ? 0 : numberOf(last);
   return make("div", { class: "bar", role: "group", "aria-label": "Steps" },
-    button("first", "start", "before the first step (Home)", () => go(-1)),
-    button("back", "◀ back", "one step (arrow left)", () => move(-1)),
-    make("label", {}, "step ", make("input", { id: "step", type: "number", min: 0, max: last,
-      onchange: (event) => go(event.target.value === "" ? -1 : Number(event.target.value)) }), ` of ${last}`),
-    button("next", "next ▶", "one step (arrow right)", () => move(1)),
-    button("end", "end", "the last step (End)", toEnd), blockField(), picker("client", clientNumbers, ""),
+    button("first", "start", `before the first ${WORD} (Home)`, () => go(-1)),
+    button("back", "◀ back", `one ${WORD} (arrow left)`, () => move(-1)),
+    make("label", {}, WORD + " ", make("input", { id: "step", type: "number", min: 0, max: most,
+      onchange: (event) => go(event.target.value === "" ? -1 : indexOf(Number(event.target.value))) }), ` of ${most}`),
+    button("next", "next ▶", `one ${WORD} (arrow right)`, () => move(1)),
+    button("end", "end", `the last ${WORD} (End)`, toEnd), blockField(), picker("client", clientNumbers, ""),
     make("span", { id: "pages", class: "bar" }, button("pageBack", "◀ rows", "the page before", turn(-1)),
       make("span", { id: "pageName" }), button("pageNext", "rows ▶", "the next page", turn(1))));
 }

@@ -65,16 +65,21 @@ function clientsTable() {
   };
   return table("Clients: copies", COPIES, found, isNear, rowOf, "No client has a copy, or waits for one.");
 }
-const AT_HOME = ["bank", "block", "home's copy", "bytes", "to or from memory", "memory's bytes"];
+// What stands in a row of a script's page alone: the banks and the tickets.
+const inScript = (...words) => (isRecord ? [] : words);
+const AT_HOME = [...inScript("bank"), "block", "home's copy", "bytes", ...(isRecord ? ["serves"] : []),
+  "to or from memory", "memory's bytes"];
 function homeTable() {
   const isQuiet = (it) => state[it.home] === IDLE.home && textBefore(it.home) === IDLE.home
-    && textBefore(it.memory) === state[it.memory];
+    && textBefore(it.memory) === state[it.memory] && (!isRecord || state[it.serves] === IDLE.serves);
   const found = [...blocks.values()].filter((it) => wantsBlock(it.block) && (chosen.block !== "" || !isQuiet(it)));
   const passes = (h) => h.words + (h.data && " " + grouped(h.data));
   const rowOf = (it) => {
     const [h, o] = [home(state[it.home]), home(textBefore(it.home))];
-    return make("tr", { "data-home": it.block }, heads(String(it.bank), `b${it.block}`), cell(h.dirty, o.dirty),
-      bytesCell(h.bytes, o.bytes), cell(passes(h), passes(o)), bytesCell(state[it.memory], textBefore(it.memory)));
+    return make("tr", { "data-home": it.block }, heads(...inScript(String(it.bank)), `b${it.block}`),
+      cell(h.dirty, o.dirty), bytesCell(h.bytes, o.bytes),
+      isRecord && cell(servedWords(it.serves), servedWords(it.serves, textBefore)), cell(passes(h), passes(o)),
+      bytesCell(state[it.memory], textBefore(it.memory)));
   };
   return table("Home and the memory", AT_HOME, found, isNear, rowOf,
     "Home has no copy, and nothing passes to the memory.");
@@ -88,10 +93,12 @@ function onChannel(place) {
 }
 function messageRow({ bank, who, channel, m, what, ticket }) {
   const isTaken = what === "taken";
-  const told = isTaken ? [" ", news("taken in this step")] : what && spoken("sent in this step");
-  const way = "ACE".includes(channel) ? `client ${who} to bank ${bank}` : `bank ${bank} to client ${who}`;
+  const told = isTaken ? [" ", news(`taken in this ${WORD}`)] : what && spoken(`sent in this ${WORD}`);
+  const other = isRecord ? "home" : "bank " + bank;
+  const way = "ACE".includes(channel) ? `client ${who} to ${other}` : `${other} to client ${who}`;
   return make("tr", { [isTaken ? "data-taken" : "data-message"]: ticket,
-    class: what && (isTaken ? "changed gone" : "changed") }, heads(channel), make("td", {}, way), heads(ticket),
+    class: what && (isTaken ? "changed gone" : "changed") }, heads(channel), make("td", {}, way),
+  heads(...inScript(ticket)),
   make("td", {}, `${m.kind} b${m.block}`, told), make("td", {}, grouped(m.bytes)));
 }
 function flightTable() {
@@ -103,7 +110,7 @@ function flightTable() {
       if (wantsBlock(m.block)) found.push({ bank, who, channel, m, what, ticket: `${name}.${m.serial}` });
     }
   }
-  return table("Messages in flight", ["channel", "from, to", "ticket", "message", "bytes"], found,
+  return table("Messages in flight", ["channel", "from, to", ...inScript("ticket"), "message", "bytes"], found,
     (one) => one.what !== "" || near.has(one.m.block), messageRow, "No message is in flight.");
 }
 // What a register shows: its words before the step are those of the texts before it.
@@ -174,11 +181,26 @@ function refusedBox(number, name) {
     make("p", { class: "quiet", id: "places" }, "See ",
       places.map((one, index) => [index > 0 && ", and ", placeOf(one)]), "."));
 }
+// An entry of a record: what it sent, and at the end the verdict.
+function entryBox(mark) {
+  const sent = sentBy.has(at) && data.arrows[sentBy.get(at)];
+  const heading = `Line ${numberOf(at)}, entry ${data.first + at + 1}: `;
+  const message = sent && [sent[6], grouped(sent[7])].join(" ").trim();
+  return [make("h2", {}, heading, make("code", {}, rowWords(at, Infinity))), make("p", {}, sentence(at)),
+    sent && make("p", {}, "Sent: ", make("code", { id: "answer" }, message), ` to ${sent[3]}.`),
+    mark === "not lawful" && make("div", { class: "refused", id: "refusal" }, make("p", {},
+      make("strong", {}, "Not lawful"), ": this entry may not come here. The state is that before it."), breach()),
+    at === last && make("p", { id: "verdict" }, data.verdict)];
+}
 function stepBox() {
   if (at < 0) {
-    return [make("h2", {}, "Before the first step"), make("p", {}, "Nobody but the memory holds anything (reset).")];
+    const isReset = !isRecord || data.first === 0;
+    return [make("h2", {}, isReset ? `Before the first ${WORD}` : `After entry ${data.first}`),
+      make("p", {}, isReset ? "Nobody but the memory holds anything (reset)."
+        : `The first ${data.first} entries of the record are lawful, and are not shown.`)];
   }
   const [step, answer, , mark] = data.rows[at];
+  if (isRecord) return entryBox(mark);
   const refused = /^refused (\d+) (\w+)$/.exec(mark);
   return [make("h2", {}, `Step ${at}: `, make("code", {}, step)), make("p", {}, sentence(at)),
     make("p", {}, "Answer: ", make("code", { id: "answer" }, answer.replace(/[0-9a-f]{17,}/g, grouped))),
@@ -198,8 +220,8 @@ function reveal() {
 function drawState() {
   near = nearBlocks();
   byId("about").replaceChildren(...stepBox().filter((one) => one));
-  byId("tables").replaceChildren(clientsTable(), homeTable(), flightTable(), registersTable(), waysTable(),
-    permittedTable());
+  byId("tables").replaceChildren(clientsTable(), homeTable(), flightTable(),
+    ...(isRecord ? [] : [registersTable(), waysTable()]), permittedTable());
 }
 
 // ---- The chart: the rows' names at the left and the lifelines' names above stay in sight
@@ -231,10 +253,17 @@ function placeOfRow(rows, row) {
 const isShown = (row) => shown[placeOfRow(shown, row)] === row;
 // The middle of a row, or of the place where it would stand.
 const y = (row) => ROW * placeOfRow(shown, row) + ROW / 2;
-const rowLabel = (index) => `${index} ${[data.rows[index][0], data.rows[index][3] || data.rows[index][1]].join(", ")}`;
-function rowWords(index) {
-  const text = data.rows[index][0];
-  return text.length > 25 ? text.slice(0, 24) + "…" : text;
+function rowLabel(index) {
+  const [words, answer, , mark] = data.rows[index];
+  return `${numberOf(index)} ${[words, mark || answer].filter((one) => one).join(", ")}`;
+}
+// The words of a row, without the message that an entry shows, as far as there is room.
+const SHORT = ["load", "store", "acquire", "release", "probe"];
+function rowWords(index, room = 25) {
+  const { verb, words } = about(index);
+  const text = isRecord ? words.slice(0, SHORT.includes(verb) ? 4 : OF_BLOCK.includes(verb) ? 2 : 3).join(" ")
+    : data.rows[index][0];
+  return text.length > room ? text.slice(0, room - 1) + "…" : text;
 }
 const stripe = (place, index, size) => svg("rect", { class: place % 2 ? "plain" : "stripe", "data-row": index, x: 1,
   y: ROW * place, width: size - 2, height: ROW });
@@ -242,13 +271,15 @@ function drawName(index, place) {
   const top = y(index) + 4;
   return svg("g", { class: "row", id: "row-" + index, role: "option", "aria-label": rowLabel(index),
     "aria-selected": "false", "data-row": index }, svg("title", {}, data.rows[index][0]), stripe(place, index, NAMES),
-  svg("text", { class: "quiet end", x: 38, y: top }, String(index)), svg("text", { x: 46, y: top }, rowWords(index)));
+  svg("text", { class: "quiet end", x: 38, y: top }, String(numberOf(index))),
+  svg("text", { x: 46, y: top }, rowWords(index)));
 }
 function shapeOf(word, left, top) {
   switch (word) {
     case "": return svg("circle", { class: "dot", cx: left, cy: top, r: 2 });
     case "load":
     case "store": return svg("circle", { class: word, cx: left, cy: top, r: 4 });
+    case "not":
     case "refused": return svg("path", { class: "cross", d: `M${left} ${top}m-4 -4l8 8m0 -8l-8 8` });
     default: return svg("path", { class: "dot", d: `M${left} ${top}m-4 -4h8v8h-8z` });
   }
@@ -259,7 +290,7 @@ function drawMark(index) {
   const word = mark.split(" ")[0];
   const isRight = name === "memory";
   return svg("g", { id: "mark-" + index }, shapeOf(word, left, top),
-    mark && svg("text", { class: "halo" + (word === "refused" ? " bad" : "") + (isRight ? " end" : ""),
+    mark && svg("text", { class: "halo" + (["refused", "not"].includes(word) ? " bad" : "") + (isRight ? " end" : ""),
       x: left + (isRight ? -BESIDE : BESIDE), y: top + 4 }, mark.replace("refused ", "")));
 }
 function drawArrow(index) {
@@ -272,7 +303,7 @@ function drawArrow(index) {
   const finish = isOpen ? start + ROW / 2 : isBelow ? ROW * shown.length : y(taken) - ASIDE;
   const line = `M${left} ${start}L${right} ${finish}`;
   const words = `${kind} b${block}` + (bytes && " " + (bytes.length > 8 ? bytes.slice(0, 8) + "…" : bytes));
-  const ends = `sent in step ${sent}, ` + (isOpen ? "never taken" : `taken in step ${taken}`);
+  const ends = `sent in ${WORD} ${numberOf(sent)}, ` + (isOpen ? "never taken" : `taken in ${WORD} ${numberOf(taken)}`);
   return svg("g", { class: "message", "data-arrow": index, onclick: () => go(at === sent && !isOpen ? taken : sent) },
     svg("title", {}, `${kind} b${block} ${bytes}: ${ends}`), svg("path", { class: "hit", d: line }),
     svg("path", { class: `arrow ${channel}` + (isOpen ? " open" : ""), d: line,
@@ -369,11 +400,11 @@ function go(step) {
   drawState();
   markRow();
   reveal();
-  byId("step").value = at < 0 ? "" : String(at);
+  byId("step").value = at < 0 ? "" : String(numberOf(at));
   byId("back").disabled = byId("first").disabled = at < 0;
   byId("next").disabled = byId("end").disabled = at >= (wanted.length ? wanted[wanted.length - 1] : -1);
-  byId("told").textContent = at < 0 ? "Before the first step" : `Step ${rowLabel(at)}. ${changedWords()}`;
-  history.replaceState(null, "", `#step=${at < 0 ? "start" : at}`);
+  byId("told").textContent = at < 0 ? `Before the first ${WORD}` : `${NAME} ${rowLabel(at)}. ${changedWords()}`;
+  history.replaceState(null, "", `#${WORD}=${at < 0 ? "start" : numberOf(at)}`);
 }
 // Goes on by some of the steps that are wanted, or back; at an end it stays among them.
 function move(by) {
@@ -396,15 +427,17 @@ function chooseTyped(field) {
   else field.reportValidity();
 }
 function stepAsked() {
-  const asked = /step=(\d+)/.exec(location.hash);
-  return asked ? Number(asked[1]) : -1;
+  const asked = /(?:step|line)=(\d+)/.exec(location.hash);
+  return asked ? indexOf(Number(asked[1])) : -1;
 }
 const KEYS = { ArrowRight: () => move(1), ArrowDown: () => move(1), ArrowLeft: () => move(-1), ArrowUp: () => move(-1),
   Home: () => go(-1), End: toEnd, PageDown: () => move(20), PageUp: () => move(-20) };
 
 // What a reader who is new to the protocol needs.
 const READING = [
-  "A row is a step: click it, or use the arrow keys. The state beside it is that after the step.",
+  isRecord ? "A row is an entry of the record, with the number of its line: click it, or use the arrow keys. The state "
+    + "beside it is that after the entry, as tlcheck judges it."
+    : "A row is a step: click it, or use the arrow keys. The state beside it is that after the step.",
   "An arrow is a message, from the row that sent it to the row that took it; thick while it is in flight, dashed if "
     + "never taken.",
   "Home is the cache that all clients share. A client asks it for a copy of a block (Acquire, channel A), home gives "
@@ -415,7 +448,7 @@ const READING = [
   "A copy of a block is at None, Branch (may be read) or Tip (may be written). A band on a client is its copy of the "
     + "block that is chosen, or of the first message's.",
   "Marks: a filled circle is a store, an open one a load, a cross what is refused, a square a drop or an eviction. b0 "
-    + "is block 0; the ticket 0.1.C.3 is bank 0, client 1, channel C, its message 3.",
+    + "is block 0" + (isRecord ? "." : "; the ticket 0.1.C.3 is bank 0, client 1, channel C, its message 3."),
 ];
 
 // A control's name begins with the words that it shows, and goes on with what they leave out.
@@ -450,13 +483,14 @@ function keyDown(event) {
 }
 function bar() {
   const turn = (by) => () => go(wanted[(page + by) * PAGE] ?? at);
+  const most = last < 0 ? 0 : numberOf(last);
   return make("div", { class: "bar", role: "group", "aria-label": "Steps" },
-    button("first", "start", "before the first step (Home)", () => go(-1)),
-    button("back", "◀ back", "one step (arrow left)", () => move(-1)),
-    make("label", {}, "step ", make("input", { id: "step", type: "number", min: 0, max: last,
-      onchange: (event) => go(event.target.value === "" ? -1 : Number(event.target.value)) }), ` of ${last}`),
-    button("next", "next ▶", "one step (arrow right)", () => move(1)),
-    button("end", "end", "the last step (End)", toEnd), blockField(), picker("client", clientNumbers, ""),
+    button("first", "start", `before the first ${WORD} (Home)`, () => go(-1)),
+    button("back", "◀ back", `one ${WORD} (arrow left)`, () => move(-1)),
+    make("label", {}, WORD + " ", make("input", { id: "step", type: "number", min: 0, max: most,
+      onchange: (event) => go(event.target.value === "" ? -1 : indexOf(Number(event.target.value))) }), ` of ${most}`),
+    button("next", "next ▶", `one ${WORD} (arrow right)`, () => move(1)),
+    button("end", "end", `the last ${WORD} (End)`, toEnd), blockField(), picker("client", clientNumbers, ""),
     make("span", { id: "pages", class: "bar" }, button("pageBack", "◀ rows", "the page before", turn(-1)),
       make("span", { id: "pageName" }), button("pageNext", "rows ▶", "the next page", turn(1))));
 }

@@ -3,18 +3,25 @@
 /// The script, up to where it draws.
 pub(crate) const SCRIPT: &str = r##""use strict";
 (() => {
-// The data: what each cell shows at the start, and which cells show another text after each step.
-const data = JSON.parse(document.getElementById("data").textContent);
+// The data: what each cell shows at the start, and which cells show another text after each step. That of a record of
+// events has a verdict, and in place of cells the state of each block in lines.
+const given = JSON.parse(document.getElementById("data").textContent);
+const isRecord = given.verdict !== undefined;
+const CHANNELS = ["A", "B", "C", "D", "E"];
+const data = isRecord ? { ...given, ...cellsOf(given) } : given;
 const g = data.geometry;
 const last = data.rows.length - 1;
+// A row is a step, with its index; or an entry of a record, with the number of its line.
+const [WORD, NAME] = isRecord ? ["line", "Line"] : ["step", "Step"];
+const numberOf = (index) => (isRecord ? data.rows[index][4] : index);
+const indexOf = (number) => (isRecord ? data.rows.findLastIndex((row) => row[4] <= number) : number);
 // How many steps the chart shows at once, and how many rows a table shows beside those that the step is about.
 const PAGE = 200;
 const ROWS = 30;
 // Up to as many blocks are listed for choice; of more the number is typed.
 const LISTED = 64;
-// A channel has room for as many messages.
-const FULL = 64;
-const CHANNELS = ["A", "B", "C", "D", "E"];
+// A channel has room for as many messages; what a record is of may have more.
+const FULL = isRecord ? Infinity : 64;
 
 // ---- Small tools
 
@@ -48,6 +55,101 @@ function kept(read) {
     }
     return known.get(text);
   };
+}
+
+// ---- The states of a record as cells
+
+// The lines of a block's state (docs/RECORD.md, State), in the words of cells.
+function partsOf(lines) {
+  const parts = { home: "- -", serves: "-", memory: "", clients: new Map() };
+  for (const line of lines.split("\n")) {
+    const [, is, words] = /^(\w+(?: \d+)?): (.*)$/.exec(line) || ["", "", ""];
+    if (is === "memory") parts.memory = words;
+    else if (is === "home") Object.assign(parts, homePart(words.split(", ")));
+    else if (is.startsWith("client ")) parts.clients.set(Number(is.slice(7)), clientPart(words.split(", ")));
+  }
+  return parts;
+}
+function homePart([copy, ...rest]) {
+  const letters = { Get: "G", AccessAckData: "A", PutFullData: "P", AccessAck: "K" };
+  const [what, bytes] = copy.split(" ");
+  const serves = rest.find((words) => words.startsWith("serves client "));
+  const passes = rest.find((words) => / the memory /.test(words));
+  const [kind, data] = passes ? passes.split(" the memory ")[1].split(" ") : [];
+  const line = what === "no" ? "-" : what[0].toUpperCase() + bytes;
+  return { home: `${line} ${kind ? letters[kind] + (data || "") : "-"}`, serves: serves ? serves.slice(14) : "-" };
+}
+function clientPart([copy, ...rest]) {
+  const words = copy.split(" ");
+  const letter = words[1] === "dirty" ? "D" : words[0][0];
+  const bytes = words[0] === "None" ? "" : words[words.length - 1];
+  const recorded = rest.find((one) => one.startsWith("recorded "))[9];
+  const wait = rest.includes("waits for a Grant") ? "G" : rest.includes("waits for a ReleaseAck") ? "R" : "-";
+  const lanes = { A: [], B: [], C: [], D: [], E: [] };
+  for (const one of rest.filter((each) => each.startsWith("on "))) {
+    const message = one.slice(5).split(" ");
+    const data = /Data$/.test(message[0]) ? message.pop() : "";
+    lanes[one[3]].push({ kind: message.join(" "), bytes: data });
+  }
+  return { text: `${letter}${bytes} ${wait} ${recorded}`, lanes };
+}
+
+// The cells of a record, at the start and as each entry changes them. The messages of a channel stand in the order in
+// which they were sent; of those that were sent before the first entry that is shown, by block.
+function cellsOf({ geometry, blocks: numbers, start, changes, rows }) {
+  const [cells, texts, places, lanes] = [[], [], new Map(), new Map()];
+  const clients = Array.from({ length: geometry.clients }, (_, who) => who);
+  const add = (name, text) => {
+    places.set(name, cells.length);
+    cells.push(name);
+    texts.push(text);
+  };
+  for (const block of numbers) {
+    for (const [kind, text] of [["home", "- -"], ["memory", ""], ["serves", "-"]]) add(`0 ${kind} ${block}`, text);
+    for (const who of clients) add(`0 client ${who} ${block}`, "N - N");
+  }
+  for (const who of clients) {
+    for (const channel of CHANNELS) {
+      add(`0 channel ${who} ${channel}`, "");
+      lanes.set(`0 channel ${who} ${channel}`, { sent: 0, waiting: [] });
+    }
+  }
+  // What a block's messages of a channel are now: some at the front are taken, some at the end are new.
+  const flow = (name, block, now) => {
+    const lane = lanes.get(name);
+    const old = lane.waiting.filter((one) => one.block === block);
+    if (now.length < old.length) lane.waiting = lane.waiting.filter((one) => one !== old[0]);
+    for (const one of now.slice(old.length)) lane.waiting.push({ serial: lane.sent++, block, ...one });
+    return lane.waiting.map((one) => `${one.serial},${one.block},${one.kind},${one.bytes};`).join("");
+  };
+  const put = (found, block, lines) => {
+    const parts = partsOf(lines);
+    const set = (name, text) => {
+      const place = places.get(name);
+      if (texts[place] === text) return;
+      texts[place] = text;
+      found.push(place, text);
+    };
+    for (const kind of ["home", "memory", "serves"]) set(`0 ${kind} ${block}`, parts[kind]);
+    for (const who of clients) {
+      const part = parts.clients.get(who);
+      set(`0 client ${who} ${block}`, part ? part.text : "N - N");
+      for (const channel of CHANNELS) {
+        const name = `0 channel ${who} ${channel}`;
+        set(name, flow(name, block, part ? part.lanes[channel] : []));
+      }
+    }
+    return found;
+  };
+  start.forEach((lines, place) => put([], numbers[place], lines));
+  const first = texts.slice();
+  const all = changes.map((of) => {
+    const found = [];
+    for (let i = 0; i < of.length; i += 2) put(found, numbers[of[i]], of[i + 1]);
+    return found;
+  });
+  while (all.length < rows.length) all.push([]);
+  return { cells, start: first, changes: all };
 }
 
 // ---- What the cells show
@@ -107,12 +209,12 @@ const clientNumbers = Array.from({ length: g.clients }, (_, number) => number);
 // each bank how many entries its table has.
 const state = data.start.slice();
 const entries = Array.from({ length: g.banks }, () => clientNumbers.map(() => 0));
-const IDLE = { client: "N - N", home: "- -" };
+const IDLE = { client: "N - N", home: "- -", serves: "-" };
 function count(place, by) {
   const it = blockAt[place];
   if (!it || place === it.memory) return;
-  if (state[place] !== IDLE.client && state[place] !== IDLE.home) it.busy += by;
-  if (place !== it.home && client(state[place]).hasEntry) entries[it.bank][clientOf[place]] += by;
+  if (!Object.values(IDLE).includes(state[place])) it.busy += by;
+  if (clientOf[place] !== undefined && client(state[place]).hasEntry) entries[it.bank][clientOf[place]] += by;
 }
 function put(place, text) {
   count(place, -1);
@@ -150,7 +252,8 @@ function changedWords() {
     const [bank, kind, one, two] = data.cells[place].split(" ");
     switch (kind) {
       case "client": return `client ${one} b${two}`;
-      case "channel": return `channel ${two} of client ${one} in bank ${bank}`;
+      case "channel": return `channel ${two} of client ${one}${isRecord ? "" : " in bank " + bank}`;
+      case "serves": return `what home serves of b${one}`;
       case "set": return `ways of set ${one} in bank ${bank}`;
       case "registers": return `registers of bank ${bank}`;
       default: return `${kind} b${one}`;
@@ -178,6 +281,9 @@ const TAKES = { answer_probe: "B", take_grant: "D", take_release_ack: "D", accep
   take_grant_ack: "E" };
 const SENDS = { acquire: "A", release: "C", answer_probe: "C", take_grant: "E", take_c: "D" };
 
+// The events of a record that name a block alone.
+const OF_BLOCK = ["get", "serve", "take_data", "drop", "put", "take_put_ack"];
+
 // What a step is about: its block, and its client, bank and channel where it has them.
 const known = [];
 function about(index) {
@@ -186,6 +292,10 @@ function about(index) {
 }
 function look(words, index) {
   const [verb, one, two] = words;
+  if (isRecord && OF_BLOCK.includes(verb)) return { verb, words, block: Number(one) };
+  if (isRecord && verb !== "load" && verb !== "store") {
+    return { verb, words, client: Number(one), bank: 0, block: Number(two) };
+  }
   if (verb === "load" || verb === "store") {
     return { verb, words, client: Number(one), block: Math.floor(Number(two) / g.blockBytes) };
   }
@@ -199,8 +309,30 @@ function look(words, index) {
   return { verb, words, client: to ? Number(to[1]) : undefined, block: Number(one) };
 }
 
+function entrySentence(it) {
+  switch (it.verb) {
+    case "load": return `Client ${it.client} reads ${it.words[3]} from its copy of block ${it.block}.`;
+    case "answer_probe": return `Client ${it.client} answers home's Probe of block ${it.block}.`;
+    case "take_grant": return `Client ${it.client} takes its Grant of block ${it.block}, and acknowledges it.`;
+    case "take_release_ack": return `Client ${it.client} takes the answer to its Release of block ${it.block}.`;
+    case "accept": return `Home takes client ${it.client}'s Acquire of block ${it.block}, and serves it from here on.`;
+    case "probe": return `Home asks client ${it.client} to give block ${it.block} up (ProbeBlock ${it.words[3]}).`;
+    case "take_c": return `Home takes what client ${it.client} gave back on channel C of block ${it.block}.`;
+    case "grant": return `Home sends client ${it.client} the Grant of block ${it.block}.`;
+    case "take_grant_ack": return `Home takes client ${it.client}'s GrantAck of block ${it.block}: the Acquire ends.`;
+    case "get": return `Home asks the memory for block ${it.block} (Get).`;
+    case "serve": return `The memory answers what home asked about block ${it.block}.`;
+    case "take_data": return `Home takes the memory's data of block ${it.block}.`;
+    case "drop": return `Home gives up its clean copy of block ${it.block}.`;
+    case "put": return `Home writes its dirty copy of block ${it.block} back to the memory (PutFullData).`;
+    case "take_put_ack": return `Home takes the memory's acknowledgement for block ${it.block}.`;
+    default: return undefined;
+  }
+}
 function sentence(index) {
   const it = about(index);
+  const told = isRecord ? entrySentence(it) : undefined;
+  if (told) return told;
   const what = it.arrow ? it.arrow[6] + " of block " + it.block : "a message";
   switch (it.verb) {
     case "load": return `Client ${it.client} reads ${it.words[3]} byte(s) of its copy of block ${it.block}.`;
@@ -331,6 +463,38 @@ function hereWhy(index, name) {
   }
 }
 
+// What an entry of a record breaks, as the verdict has it, and why it does here, as far as the state tells.
+function breach() {
+  const found = /^not lawful: line \d+, entry \d+: (.*) \((.*)\), (docs\/\S+), (.*)$/.exec(data.verdict);
+  if (!found) return [make("p", { id: "rule" }, data.verdict)];
+  const [, rule, whose, file, section] = found;
+  const why = hereBreaks(about(last), rule);
+  return [make("p", { id: "rule" }, "It breaks a rule: ", make("strong", {}, rule), ` (${whose}).`),
+    why && make("p", { id: "why" }, `Here ${why}.`),
+    make("p", { class: "quiet", id: "places" }, "See ", placeOf([file, section]), ".")];
+}
+function hereBreaks(it, rule) {
+  if (!blocks.has(it.block)) return outOfRange(it);
+  const waiting = (on, kinds) => clientNumbers.flatMap((who) => on.flatMap((channel) => lane(0, who, channel)
+    .filter((m) => m.block === it.block && kinds.test(m.kind))
+    .map((m) => `client ${who}'s ${m.kind} is on channel ${channel}`))).join(", and ");
+  if (/Probe of the block is unanswered/.test(rule)) return waiting(["B", "C"], /^Probe/);
+  if (/Grant of the block is pending/.test(rule)) return waiting(["D", "E"], /^Grant/);
+  if (/first of its channel/.test(rule)) {
+    return CHANNELS.flatMap((channel) => lane(0, it.client, channel).slice(0, 1)
+      .map((m) => `the first message on channel ${channel} is ${m.kind} of block ${m.block}`)).join(", and ");
+  }
+  if (it.client === undefined || /serves|Acquire of the block/.test(rule)) {
+    const has = homeAt(it.block).has ? "has a copy" : "has no copy";
+    return `home ${has}, and serves ${servedWords(blocks.get(it.block).serves)}`;
+  }
+  if (it.client >= g.clients) return outOfRange(it);
+  const k = clientAt(it.client, it.block);
+  return `client ${it.client} has block ${it.block} at ${k.perm}, waits for ${k.waits}, and home records ${k.recorded} `
+    + "of it";
+}
+const servedWords = (place, text = textNow) => (text(place) === "-" ? "nobody" : "client " + text(place));
+
 // ---- Miss registers
 
 const isProbe = (block) => (m) => m.block === block && /^Probe/.test(m.kind);
@@ -396,7 +560,7 @@ function blocksInUse() {
   if (at >= 0 && blocks.has(about(at).block)) found.add(about(at).block);
   return found;
 }
-const hasRoom = (it, who, k) => (k.hasEntry || entries[it.bank][who] < g.copies)
+const hasRoom = (it, who, k) => (isRecord || k.hasEntry || entries[it.bank][who] < g.copies)
   && lane(it.bank, who, "A").length < FULL;
 // Whether a client may do anything about a block, but take a message.
 function maySomething(who, it) {
@@ -423,15 +587,16 @@ function clientSteps(who, it) {
 // The messages of a bank that a client may take, or answer, with their blocks.
 function ticketSteps(bank, who) {
   const found = [];
+  const named = (channel, m) => (isRecord ? `${who} ${m.block}` : `${bank}.${who}.${channel}.${m.serial}`);
   const [probe] = lane(bank, who, "B");
   if (probe && clientAt(who, probe.block).wait !== "R" && lane(bank, who, "C").length < FULL) {
-    found.push(["answer_probe", `answer_probe ${bank}.${who}.B.${probe.serial}`, probe.block]);
+    found.push(["answer_probe", `answer_probe ${named("B", probe)}`, probe.block]);
   }
   const [answer] = lane(bank, who, "D");
   if (answer && answer.kind === "ReleaseAck") {
-    found.push(["take_release_ack", `take_release_ack ${bank}.${who}.D.${answer.serial}`, answer.block]);
+    found.push(["take_release_ack", `take_release_ack ${named("D", answer)}`, answer.block]);
   } else if (answer && lane(bank, who, "E").length < FULL) {
-    found.push(["take_grant", `take_grant ${bank}.${who}.D.${answer.serial}`, answer.block]);
+    found.push(["take_grant", `take_grant ${named("D", answer)}`, answer.block]);
   }
   return found;
 }
