@@ -1,16 +1,19 @@
 "use strict";
 // drive.js BROWSER [--pages FOLDER] [--tlcache PROGRAM] [--tlchart PROGRAM --tlgen PROGRAM] [--plants] [--shots FOLDER]: opens
-// the pages of the example traces in a headless Chromium, and tries what a reader does; with tlcache it compares the steps that
-// a page calls permitted, with tlchart and tlgen it opens large pages, and with --plants it tries pages whose script has a
-// fault. Each trial that fails prints a line; the last line is 'N passed, M failed'.
+// the pages of the example traces and records in a headless Chromium, and tries what a reader does; with tlcache it
+// compares the steps that a page calls permitted, with tlchart and tlgen it opens large pages, and with --plants it
+// tries pages whose script has a fault. Each trial that fails prints a line; the last line is 'N passed, M failed'.
 const fs = require("fs");
 const path = require("path");
 const { finds, plant, runs } = require("./shared.js");
 const { large } = require("./large.js");
 const { permits } = require("./permits.js");
 const { PLANTS } = require("./plants.js");
-const { PAGES, TRIALS, links, schemes, top } = require("./trials.js");
+const { RECORDS, records, verdicts } = require("./records.js");
+const trials = require("./trials.js");
 
+const { PAGES, links, schemes, top } = trials;
+const TRIALS = { ...trials.TRIALS, records, verdicts };
 const golden = path.join(top, "crates/golden/data");
 const urlIn = (folder) => (name, hash) => `file://${path.join(folder, name + ".html")}${hash || ""}`;
 
@@ -19,7 +22,7 @@ async function plants(browser, tally, pages) {
   const folder = path.join(browser.folder, "plants");
   fs.mkdirSync(folder);
   for (const [name, trial, old, planted] of PLANTS) {
-    for (const page of PAGES) {
+    for (const page of PAGES.concat(RECORDS)) {
       const text = fs.readFileSync(path.join(pages, page + ".html"), "utf8");
       fs.writeFileSync(path.join(folder, page + ".html"), plant(tally, name, text, old, planted));
     }

@@ -4,7 +4,8 @@
 const { spawnSync } = require("child_process");
 const fs = require("fs");
 const path = require("path");
-const { DATA, STEP, choose, press, textOf } = require("./trials.js");
+const { shownIn } = require("./records.js");
+const { DATA, STEP, TABLES, choose, press, textOf } = require("./trials.js");
 
 const OPENS = 2000;
 const STEPS = 100;
@@ -40,6 +41,14 @@ function manyAtHome() {
 function manyNamed() {
   const numbers = { clients: 4, banks: 8, block_bytes: 64, sets: 64, ways: 8, registers: 8, copies: 64, memory_blocks: 65536 };
   return GROUPS(numbers, Array.from({ length: 4096 }, (_, block) => `acquire ${Math.floor(block / 8) % 4} ${block} NtoT`));
+}
+// Two clients have a block in turns: a record of more entries than a page shows, whose last round is not over.
+function turns(rounds) {
+  const round = (to, from) => [`acquire ${to} 0 NtoT`, `accept ${to} 0`, `probe ${from} 0 toN`,
+    `answer_probe ${from} 0`, `take_c ${from} 0`, `grant ${to} 0`, `take_grant ${to} 0`, `take_grant_ack ${to} 0`];
+  const first = ["acquire 0 0 NtoT", "accept 0 0", "get 0", "serve 0", "take_data 0", ...round(0, 1).slice(5)];
+  const entries = Array.from({ length: rounds }, (_, number) => (number % 2 ? round(0, 1) : round(1, 0))).flat();
+  return ["clients 2 block_bytes 8 memory_blocks 4", ...first, ...entries.slice(0, -4)];
 }
 function madeBy(program, words, input) {
   const { status, stdout } = spawnSync(program, words, { input, encoding: "utf8", maxBuffer: 1 << 28 });
@@ -117,7 +126,33 @@ async function chosen(browser, tally, name) {
   await browser.ask(choose("block", "70000"));
   tally.check(`${name}: no such block`, await browser.ask("document.getElementById('block').validationMessage") !== "");
 }
+// Of a long record the last entries are shown, and begin with the state that those before them left.
+async function long(browser, tally, tlchart) {
+  const [name, lines] = ["a long record", turns(700)];
+  const [made, cut] = [lines, lines.slice(0, -4096)].map((some, index) => {
+    const page = madeBy(tlchart, ["--html", "--record", "-"], some.join("\n") + "\n");
+    tally.check(`${name}: page ${index} is made`, page !== undefined);
+    const file = path.join(browser.folder, `long-record-${index}.html`);
+    fs.writeFileSync(file, page || "");
+    return file;
+  });
+  browser.faults.length = 0;
+  await browser.go(`file://${cut}#line=${lines.length - 4096}`);
+  const before = shownIn(await browser.ask(TABLES)).sort().join("; ");
+  await browser.go(`file://${made}#line=${lines.length}`);
+  const { first, rows } = JSON.parse(await browser.ask(DATA));
+  tally.check(`${name}: the last 4,096 entries`, first === lines.length - 1 - 4096 && rows.length === 4096
+    && rows[0][4] === lines.length - 4095, [first, rows.length, rows[0][4]].join(", "));
+  tally.check(`${name}: a link to its last line`, await browser.ask(STEP) === String(lines.length));
+  await browser.key("Home");
+  const begun = shownIn(await browser.ask(TABLES)).sort().join("; ");
+  tally.check(`${name}: the state before them`, begun === before && begun.includes("ProbeAck"),
+    `${begun}, not ${before}`);
+  tally.check(`${name}: no error`, browser.faults.length === 0, browser.faults.join("\n"));
+  for (const file of [made, cut]) fs.unlinkSync(file);
+}
 async function large(browser, tally, tlchart, tlgen) {
+  await long(browser, tally, tlchart);
   const random = madeBy(tlgen, ["7", "trace", "version=2", "clients=8", "banks=8", "steps=4096", "spots=64"]);
   const scripts = { "4,096 random steps": random, "512 blocks at home": manyAtHome(), "4,096 blocks named": manyNamed() };
   for (const [name, script] of Object.entries(scripts)) {
@@ -135,4 +170,4 @@ async function large(browser, tally, tlchart, tlgen) {
   }
 }
 
-module.exports = { chosen, large, manyAtHome, manyNamed, opens };
+module.exports = { chosen, large, long, manyAtHome, manyNamed, opens };

@@ -31,9 +31,14 @@ const PLANTS = [
   ["Page Down leaves the filter", "filters", "PageDown: () => move(20)", "PageDown: () => go(at + 20)"],
   ["Enter stays in the field", "tries", "byId(\"rows\").focus({ preventScroll: true })", "\"\""],
   ["a name without the words that are shown", "names", "\"aria-label\": name, onclick", "\"aria-label\": more, onclick"],
-  ["what changed is not told", "names", "`Step ${rowLabel(at)}. ${changedWords()}`", "`Step ${rowLabel(at)}.`"],
+  ["what changed is not told", "names", "`${NAME} ${rowLabel(at)}. ${changedWords()}`", "`${NAME} ${rowLabel(at)}.`"],
   ["the victim's clients are told as the own block's", "shows", "return opened.victim === null ? opened.own : opened.victim;",
     "return register.victim === null ? register.own : register.victim;"],
+  ["a line is told as its index", "records", "(isRecord ? data.rows[index][4] : index)", "index"],
+  ["a record's message is left out", "records", "for (const one of now.slice(old.length))", "for (const one of now.slice(old.length + 1))"],
+  ["whom home serves is left out", "records", "for (const kind of [\"home\", \"memory\", \"serves\"]) set(", "for (const kind of [\"home\", \"memory\"]) set("],
+  ["a record's dirty copy is told as clean", "records", "words[1] === \"dirty\" ? \"D\" : words[0][0]", "words[0][0]"],
+  ["no reason for what a record breaks", "verdicts", "why && make(\"p\", { id: \"why\" }, `Here ${why}.`)", "false"],
   ["bytes in one group", "shows", "/[^]{1,16}/g", "/[^]+/g"],
 ];
 

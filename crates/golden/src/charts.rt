@@ -1,11 +1,12 @@
-//! Whether each script is drawn as its pictures, and has its page.
+//! Whether each script is drawn as its pictures, and has its page; and whether each record of events has its page.
 
 use crate::answers::script_of;
-use crate::names::DRAWN;
+use crate::names::{DRAWN, PAGED};
 use std::alloc::Global;
 use std::{fs, io};
 use tlchart_draw::{Form, draw_script};
 use tlchart_page::page_script;
+use tlchart_record::page_record;
 
 /// Whether the picture of a script is this one.
 fn is_drawn(alloc: Global, script: &[u8], name: &str, form: Form, picture: &[u8]) -> bool {
@@ -51,6 +52,26 @@ fn print_page(rt: &HostRuntime, name: &str, script: &[u8]) -> io::Result<()> {
     println!(rt; "{name}.html written {told}")
 }
 
+/// Whether the page of a record is this one.
+fn is_record_page(alloc: Global, record: &[u8], name: &str, page: &[u8]) -> bool {
+    match page_record(alloc, record, name) {
+        Ok(text) => text.as_bytes() == page,
+        Err(_) => false,
+    }
+}
+
+/// Prints whether a record of events has its page.
+fn print_record_page(rt: &HostRuntime, name: &str) -> io::Result<()> {
+    let record = fs::read(rt, format!(in rt.alloc(); "record-{name}.txt")?.as_str())?;
+    let page = fs::read(rt, format!(in rt.alloc(); "record-{name}.html")?.as_str())?;
+    let told = if is_record_page(rt.alloc(), &record, name, &page) {
+        "as before"
+    } else {
+        "otherwise"
+    };
+    println!(rt; "record-{name}.html written {told}")
+}
+
 /// Prints for each picture of a script, and for its page, whether it is drawn so.
 fn print_pictures(rt: &HostRuntime, name: &str) -> io::Result<()> {
     let script = script_of(rt, name)?;
@@ -59,11 +80,14 @@ fn print_pictures(rt: &HostRuntime, name: &str) -> io::Result<()> {
     print_page(rt, name, &script)
 }
 
-/// Prints for each script whether it is drawn as its pictures and has its page. The error is a file's or standard
-/// output's.
+/// Prints for each picture whether its script is drawn so, and for each page whether its record has it. The error is a
+/// file's or standard output's.
 pub fn print_rows(rt: &HostRuntime) -> io::Result<()> {
     for name in DRAWN {
         print_pictures(rt, name)?;
+    }
+    for name in PAGED {
+        print_record_page(rt, name)?;
     }
     Ok(())
 }

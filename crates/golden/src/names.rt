@@ -64,6 +64,16 @@ pub const DRAWN: &[&str] = &[
     "every-mark",
 ];
 
+/// Records of events with pages; the files are `record-NAME`.
+pub const PAGED: &[&str] = &[
+    "answers-before-the-release-ack",
+    "grants-beside-a-probe",
+    "grants-old-bytes",
+    "out-of-order",
+    "reads-old-bytes",
+    "two-writers",
+];
+
 /// Records of messages.
 pub const RECORDS: &[&str] = &[
     "a-miss.txt",
