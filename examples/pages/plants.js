@@ -39,6 +39,9 @@ const PLANTS = [
   ["whom home serves is left out", "records", "for (const kind of [\"home\", \"memory\", \"serves\"]) set(", "for (const kind of [\"home\", \"memory\"]) set("],
   ["a record's dirty copy is told as clean", "records", "words[1] === \"dirty\" ? \"D\" : words[0][0]", "words[0][0]"],
   ["no reason for what a record breaks", "verdicts", "why && make(\"p\", { id: \"why\" }, `Here ${why}.`)", "false"],
+  ["home is called next where no block is in use", "saysWhyNone", "if (inUse.size === 0)", "if (false)"],
+  ["home is called next where a choice leaves none", "saysWhyNone", "if (chosen.block !== \"\" || chosen.client !== \"\")",
+    "if (false)"],
   ["bytes in one group", "shows", "/[^]{1,16}/g", "/[^]+/g"],
 ];
 

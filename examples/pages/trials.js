@@ -263,6 +263,17 @@ async function filters(browser, tally, url) {
   tally.check("every row again", await browser.ask(ROWS) === all);
 }
 
+// Where no client step is listed, the page says why: no block is in use, a choice leaves none, or home is next.
+const LAST = "document.getElementById('tables').lastChild.textContent";
+async function saysWhyNone(browser, tally, url) {
+  await browser.go(url("release-crosses-probe"));
+  tally.check("permitted at reset", /No block is in use: each client may acquire any block\.$/.test(await browser.ask(LAST)));
+  await browser.go(url("release-crosses-probe", "#step=13"));
+  tally.check("permitted in a race", /only home or the memory can go on there\.$/.test(await browser.ask(LAST)));
+  await browser.ask(choose("client", "1"));
+  tally.check("permitted to a client that waits", /None of the block or client that is chosen\.$/.test(await browser.ask(LAST)));
+}
+
 // Names for screen readers: each control has one, which has the words in it that are shown; changes are told in words.
 const NAMES = `[...document.querySelectorAll("button, input, select, [tabindex], [role=option]")].map((one) => [
   one.getAttribute("aria-label") || (one.labels && one.labels.length ? one.labels[0].textContent : one.textContent),
@@ -353,6 +364,6 @@ async function schemes(browser, tally, url, shots) {
 }
 
 const ofEach = (trial) => async (browser, tally, url) => { for (const name of PAGES) await trial(browser, tally, url, name); };
-const TRIALS = { walks: ofEach(walks), shows, marks: ofEach(marks), refuses, tries, filters, names, draws: ofEach(draws) };
+const TRIALS = { walks: ofEach(walks), shows, marks: ofEach(marks), refuses, tries, filters, saysWhyNone, names, draws: ofEach(draws) };
 
 module.exports = { CHART, DATA, PAGES, STATE, STEP, TABLES, TRIALS, choose, links, press, schemes, textOf, top };

@@ -154,6 +154,11 @@ function waysTable() {
   return table("Ways", ["bank", "set", "what lies in its ways"], found,
     (it) => textBefore(it.place) !== state[it.place], rowOf, "Every way is free.");
 }
+function whyNoStep(inUse) {
+  if (inUse.size === 0) return "No block is in use: each client may acquire any block.";
+  if (chosen.block !== "" || chosen.client !== "") return "None of the block or client that is chosen.";
+  return "None of a block in use: only home or the memory can go on there.";
+}
 function permittedTable() {
   const inUse = chosen.block === "" ? blocksInUse() : new Set([Number(chosen.block)]);
   const tickets = Array.from({ length: g.banks }, (_, bank) => clientNumbers.map((who) => ticketSteps(bank, who)));
@@ -163,7 +168,7 @@ function permittedTable() {
     const steps = clientSteps(who, it).concat(ofBlock(it, who));
     return make("tr", {}, heads(`client ${who}`, `b${it.block}`), make("td", {}, steps.map(([word, step], index) =>
       [index > 0 && ", ", make("code", { "data-step": step, title: step }, word)])));
-  }, "None: home or the memory is next.");
+  }, whyNoStep(inUse));
 }
 
 // The first later step of the same words that is not refused.
