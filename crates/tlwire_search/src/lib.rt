@@ -5,6 +5,7 @@
 mod answer;
 mod clients;
 mod hidden;
+mod last;
 mod marks;
 mod premise;
 mod remedy;

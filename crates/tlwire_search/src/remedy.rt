@@ -1,6 +1,7 @@
 //! What has to come before an event that may not come yet.
 use crate::clients::{Which, in_way};
 use crate::hidden::hidden_store;
+use crate::last::LastAccepts;
 use crate::premise::{Premise, may_have_more};
 use crate::seen::{Seen, Wire};
 use crate::target::target;
@@ -8,6 +9,15 @@ use crate::wires::Wires;
 use tl_rules::{BlockState, Client, Event, Outward};
 use tl_types::{Awaited, BlockNo, Channel, ClientId, GrantCap};
 use tlcheck_rules::{Breach, Judge, Rule, client_of};
+
+/// Whose Acquire home accepts first where no Grant says whose.
+#[derive(Clone, Copy)]
+pub(crate) struct Preferred<'a> {
+    /// Of each block that home serves last without a Grant.
+    pub(crate) last: &'a LastAccepts,
+    /// This client's before others.
+    pub(crate) client: Option<ClientId>,
+}
 
 /// What takes the next step between home and the memory.
 fn outward_step(state: &BlockState, block: BlockNo) -> Option<Event> {
@@ -65,16 +75,29 @@ fn is_before_a_grant(judge: &Judge, wires: &Wires<'_>, c: ClientId) -> bool {
     }
 }
 
-/// A client whose Acquire of a block is first on A, and stands before one that is granted, if there is such a client;
-/// else one whose Acquire is first, this one before others; else one that has it on A.
+/// The client whose Acquire home accepts last of a block, where it waits.
+fn last_of(state: &BlockState, block: BlockNo, preferred: &Preferred<'_>) -> Option<ClientId> {
+    let c = preferred.last.client(block)?;
+    if state.client(c)?.may_take_a() {
+        Some(c)
+    } else {
+        None
+    }
+}
+
+/// The client that home is known to serve last; else one whose Acquire of a block is first on A, and stands before one
+/// that is granted; else one whose Acquire is first, the preferred one before others; else one that has it on A.
 fn asking(
     judge: &Judge,
     wires: &Wires<'_>,
     state: &BlockState,
     clients: u32,
     block: BlockNo,
-    preferred: &Option<ClientId>,
+    preferred: &Preferred<'_>,
 ) -> Option<ClientId> {
+    if let Some(c) = last_of(state, block, preferred) {
+        return Some(c);
+    }
     let mut first = None;
     for number in 0..clients {
         let c = ClientId::new(number);
@@ -82,7 +105,7 @@ fn asking(
             if is_before_a_grant(judge, wires, c) {
                 return Some(c);
             }
-            if first.is_none() || *preferred == Some(c) {
+            if first.is_none() || preferred.client == Some(c) {
                 first = Some(c);
             }
         }
@@ -137,7 +160,7 @@ fn home_before(
     event: &Event,
     state: &BlockState,
     rule: Rule,
-    preferred: &Option<ClientId>,
+    preferred: &Preferred<'_>,
 ) -> Option<Event> {
     let clients = judge.plain().shape().clients;
     let c = client_of(event);
@@ -270,8 +293,7 @@ fn first_taken(judge: &Judge, event: &Event) -> Option<Event> {
     }
 }
 
-/// An event that has to come before one that breaks something, or that is not seen as it would be. Where no Grant says
-/// whose Acquire home accepts first, it is this client's.
+/// An event that has to come before one that breaks something, or that is not seen as it would be.
 pub(crate) fn remedy(
     judge: &Judge,
     wires: &Wires<'_>,
@@ -279,7 +301,7 @@ pub(crate) fn remedy(
     seen: &[Seen],
     event: &Event,
     breach: Option<Breach>,
-    preferred: &Option<ClientId>,
+    preferred: &Preferred<'_>,
 ) -> Option<Event> {
     let state = judge.plain().block(event.block(judge.plain().shape()))?;
     match breach {

@@ -4,8 +4,9 @@ ghost use Rattle.tl_protocol.specs.Protocol.{May};
 ghost use Rattle.tlcheck_rules.specs.Judged.{Allows, own_block};
 
 use crate::clients::{Which, in_way};
+use crate::last::LastAccepts;
 use crate::premise::{Premise, is_seen_at_home, is_seen_at_pins, may_have_more};
-use crate::remedy::remedy;
+use crate::remedy::{Preferred, remedy};
 use crate::seen::{Seen, Wire};
 use crate::sight::seen_of;
 use crate::sooner::sooner;
@@ -39,8 +40,6 @@ struct Attempt<'a> {
     judge: Judge,
     wires: Wires<'a>,
     run: Vec<Event>,
-    /// The client whose Acquire home accepts first where no Grant says whose.
-    preferred: Option<ClientId>,
 }
 
 /// What a search found, and the first place that it did not reach.
@@ -114,7 +113,7 @@ fn ready_for(
     wires: &Wires<'_>,
     record: Record<'_>,
     wanted: Event,
-    preferred: &Option<ClientId>,
+    preferred: &Preferred<'_>,
 ) -> Result<Entry, Limit>
     ensures { IfOk result (λ entry. Allows judge.now entry) }
 {
@@ -211,7 +210,6 @@ impl<'a> Attempt<'a> {
             judge: Judge::new(alloc, shape, image)?,
             wires: Wires::new(alloc, shape, seen)?,
             run: Vec::new(alloc),
-            preferred: None,
         })
     }
 
@@ -242,7 +240,12 @@ impl<'a> Attempt<'a> {
 
     /// Takes events until what was seen at a place is sent, and taken where it was seen as it was taken; what ended the
     /// attempt, if something did.
-    fn reach(&mut self, record: Record<'_>, place: usize) -> Result<Option<Limit>, AllocError> {
+    fn reach(
+        &mut self,
+        record: Record<'_>,
+        preferred: &Preferred<'_>,
+        place: usize,
+    ) -> Result<Option<Limit>, AllocError> {
         let Some(line) = record.seen.get(place) else {
             return Ok(None);
         };
@@ -250,7 +253,6 @@ impl<'a> Attempt<'a> {
             let Some(wanted) = self.wanted(record, line, place) else {
                 return Ok(None);
             };
-            let preferred = &self.preferred;
             let entry = match ready_for(&self.judge, &self.wires, record, wanted, preferred) {
                 Ok(entry) => entry,
                 Err(limit) => return Ok(Some(limit)),
@@ -286,13 +288,22 @@ pub(crate) fn search(
     requires bytes { (0 < shape.block_bytes) × (shape.block_bytes ≤ BLOCK_BYTES) }
     requires blocks { shape.blocks ≤ BLOCKS }
 {
-    let mut found = search_once(alloc, shape, premises, image, seen, None)?;
+    let last = LastAccepts::of(alloc, shape, seen)?;
+    let nobody = Preferred {
+        last: &last,
+        client: None,
+    };
+    let mut found = search_once(alloc, shape, premises, image, seen, &nobody)?;
     for _ in 0..shape.clients {
-        let preferred = found.held_up;
-        if preferred.is_none() {
+        let client = found.held_up;
+        if client.is_none() {
             return Ok(found);
         }
-        let other = search_once(alloc, shape, premises, image, seen, preferred)?;
+        let preferred = Preferred {
+            last: &last,
+            client,
+        };
+        let other = search_once(alloc, shape, premises, image, seen, &preferred)?;
         if other.place <= found.place {
             return Ok(found);
         }
@@ -308,16 +319,15 @@ fn search_once(
     premises: &[Premise],
     image: &[u8],
     seen: &[Seen],
-    preferred: Option<ClientId>,
+    preferred: &Preferred<'_>,
 ) -> Result<Found, AllocError>
     requires bytes { (0 < shape.block_bytes) × (shape.block_bytes ≤ BLOCK_BYTES) }
     requires blocks { shape.blocks ≤ BLOCKS }
 {
     let record = Record { premises, seen };
     let mut attempt = Attempt::new(alloc, shape, image, seen)?;
-    attempt.preferred = preferred;
     for place in 0..seen.len() {
-        if let Some(limit) = attempt.reach(record, place)? {
+        if let Some(limit) = attempt.reach(record, preferred, place)? {
             let held_up = held_up(&attempt.judge, &seen[place]);
             return Ok(Found {
                 run: attempt.run,
