@@ -43,3 +43,26 @@ pub fn explain(
         None => Ok(Explanation::NotExplained(found.place.min(seen.len() - 1), found.limit)),
     }
 }
+
+/// What the events of a run, however it was found, say of what was seen: that the run explains it; or nothing, and the
+/// first thing seen is named. The error is want of memory.
+pub fn explained_along(
+    alloc: Global,
+    shape: Shape,
+    premises: &[Premise],
+    image: &[u8],
+    seen: &[Seen],
+    run: Vec<Event>,
+) -> Result<Explanation, AllocError>
+    requires bytes { (0 < shape.block_bytes) × (shape.block_bytes ≤ BLOCK_BYTES) }
+    requires blocks { shape.blocks ≤ BLOCKS }
+    ensures { IfOk result (IsExplanation premises.now shape image.now seen.now) }
+{
+    if seen.len() == 0 {
+        return Ok(Explanation::Explained(Vec::new(alloc)));
+    }
+    match explained_by(alloc, shape, premises, image, seen, run)? {
+        Some(run) => Ok(Explanation::Explained(run)),
+        None => Ok(Explanation::NotExplained(0, Limit::NoWay)),
+    }
+}

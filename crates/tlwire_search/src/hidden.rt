@@ -27,7 +27,7 @@ fn store(
 
 /// The next store that makes a client's copy at Tip what the client gives up: where the two differ, or anywhere where
 /// the copy is clean.
-pub(crate) fn hidden_store(
+pub fn hidden_store(
     shape: Shape,
     k: &Client,
     client: ClientId,

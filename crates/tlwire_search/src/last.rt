@@ -249,14 +249,14 @@ impl Candidate {
 /// The client whose Acquire of a block home accepts last, where no Grant follows; and how many of each client home
 /// accepts.
 #[derive(Drop)]
-pub(crate) struct LastAccepts {
+pub struct LastAccepts {
     clients: Vec<Option<ClientId>>,
     accepted: Vec<usize>,
 }
 
 impl LastAccepts {
     /// The client whose Acquire home accepts last of a block, where no Grant follows it.
-    pub(crate) fn client(&self, block: BlockNo) -> Option<ClientId> {
+    pub fn client(&self, block: BlockNo) -> Option<ClientId> {
         match self.clients.get(block.index()) {
             Some(client) => *client,
             None => None,
@@ -446,12 +446,8 @@ impl LastAccepts {
         Ok(false)
     }
 
-    /// What is chosen by what was seen.
-    pub(crate) fn of(
-        alloc: Global,
-        shape: Shape,
-        seen: &[Seen],
-    ) -> Result<LastAccepts, AllocError> {
+    /// What is chosen by what was seen. The error is want of memory.
+    pub fn of(alloc: Global, shape: Shape, seen: &[Seen]) -> Result<LastAccepts, AllocError> {
         let asks = Asks::of(alloc, shape, seen)?;
         let needs = asks.needs(alloc, seen)?;
         let mut last = LastAccepts::forced(alloc, shape, &asks)?;

@@ -7,7 +7,7 @@ use tl_types::{BlockNo, Kind};
 
 /// What is looked for of a block on a wire.
 #[derive(Clone, Copy)]
-pub(crate) enum Sought {
+pub enum Sought {
     /// Whatever is seen there.
     Line,
     /// A Grant.
@@ -18,7 +18,7 @@ pub(crate) enum Sought {
 
 impl Sought {
     /// Whether it is this.
-    pub(crate) fn is(self, line: &Seen) -> bool
+    pub fn is(self, line: &Seen) -> bool
         ensures { result ≡ is_sought self line.now }
     {
         match self {

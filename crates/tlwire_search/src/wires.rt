@@ -43,7 +43,7 @@ pub(crate) struct Wires<'a> {
 }
 
 /// A wire's number: the memory's two, then six of each client.
-fn number(wire: &Wire) -> usize
+pub fn number(wire: &Wire) -> usize
     ensures value { result ≡ number_of wire.now }
     ensures small { result < 2 ^ 35 }
 {
@@ -56,7 +56,7 @@ fn number(wire: &Wire) -> usize
 }
 
 /// The block that something seen is of.
-fn block_of(shape: Shape, line: &Seen) -> u32
+pub fn block_of(shape: Shape, line: &Seen) -> u32
     requires { 0 < shape.block_bytes }
     ensures { result ≡ block_of shape.block_bytes line.now }
 {

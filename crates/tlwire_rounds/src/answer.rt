@@ -1,0 +1,27 @@
+//! An explanation of what was seen, by the search in rounds.
+ghost use Rattle.std.specs.Prelude.{◌<◌, ◌≤◌, IfOk};
+ghost use Rattle.tlwire_search.specs.Explained.{IsExplanation};
+
+use crate::rounds::search_rounds;
+use std::alloc::{AllocError, Global};
+use tl_rules::Shape;
+use tl_types::{BLOCK_BYTES, BLOCKS};
+use tlwire_search::{Explanation, Premise, Seen, explained_along};
+
+/// Looks for a run as `explain` does, in rounds: first one for which the lines stand in order of time, then one for
+/// which lines may stand some way behind later ones. It finds runs that `explain` does not find, and takes longer. What
+/// is not explained may still be lawful. The error is want of memory.
+pub fn explain_in_rounds(
+    alloc: Global,
+    shape: Shape,
+    premises: &[Premise],
+    image: &[u8],
+    seen: &[Seen],
+) -> Result<Explanation, AllocError>
+    requires bytes { (0 < shape.block_bytes) × (shape.block_bytes ≤ BLOCK_BYTES) }
+    requires blocks { shape.blocks ≤ BLOCKS }
+    ensures { IfOk result (IsExplanation premises.now shape image.now seen.now) }
+{
+    let run = search_rounds(alloc, shape, premises, image, seen)?;
+    explained_along(alloc, shape, premises, image, seen, run)
+}
