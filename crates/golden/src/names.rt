@@ -76,13 +76,18 @@ pub const PAGED: &[&str] = &[
 
 /// Records of messages.
 pub const RECORDS: &[&str] = &[
+    "a-late-core.txt",
+    "a-late-write-back.txt",
     "a-miss.txt",
     "a-premise-that-is-none.txt",
+    "a-probe-before-an-earlier-grant.txt",
+    "accepts-without-a-grant.txt",
     "answers-before-its-get.txt",
     "answers-before-its-release-ack.txt",
     "asks-before-its-release-ack.txt",
     "delayed.txt",
     "gives-dirty-bytes-up-without-them.txt",
+    "grants-before-it-takes-a-release.txt",
     "grants-bytes-from-nowhere.txt",
     "grants-old-bytes.txt",
     "keeps-a-stale-copy.txt",
@@ -92,6 +97,7 @@ pub const RECORDS: &[&str] = &[
     "outside-the-profile.txt",
     "probes-beside-a-grant.txt",
     "release-crosses-probe.txt",
+    "two-grants-in-reverse.txt",
     "two-readers-and-a-writer.txt",
     "two-writers-at-their-pins.txt",
     "two-writers.txt",

@@ -6,7 +6,7 @@ ghost use Rattle.tlwire_answer.specs.Named.{is_at_clients, is_between, is_skew, 
 ghost use Rattle.tlwire_answer.specs.Answer.{ClientKeepsOrder, EachKeepsOrder, IsInOrder, IsNo, IsRuledOut, IsVerdict, Meets, NobodyIsTold, cores_of};
 ghost use Rattle.tl_protocol.specs.Runs.{IsRun};
 ghost use Rattle.tlwire_closed.specs.declared.premise.Way.{Way};
-ghost use Rattle.tlwire_search.specs.Explained.{Explains};
+ghost use Rattle.tlwire_search.specs.Explained.{Explains, IsExplanation};
 
 use std::alloc::{AllocError, Global};
 use tl_rules::Event;
@@ -14,10 +14,14 @@ use tl_types::{Channel, ClientId};
 use tlwire_closed::{Answer, Stuck, Way, is_seen_so, rule_out};
 use tlwire_pins::{Cores, Wrong, first_wrong, keeps_order, lines_at_pins};
 use tlwire_record::Messages;
+use tlwire_rounds::explain_in_rounds;
 use tlwire_search::{
     Explanation, Limit, Premise, Seen, Wire, explain, is_seen_at_home, is_seen_at_pins, is_unseen,
     is_whole,
 };
+
+/// How many messages, loads and stores a record has, at most, for which a run is sought in rounds.
+const SEEN_IN_ROUNDS: usize = 10_000;
 
 /// An order of lines that the header asks for, and a run does not have.
 #[derive(Clone, Copy, Debug, PartialEq, Eq)]
@@ -300,21 +304,68 @@ fn ordered(alloc: Global, messages: &Messages, run: Vec<Event>) -> Result<Verdic
     }
 }
 
+/// What an explanation comes to: a run, where it has each order that the header asks for; or how far an attempt came.
+fn weighed_run(
+    alloc: Global,
+    messages: &Messages,
+    explanation: Explanation,
+) -> Result<Verdict, AllocError>
+    requires { IsExplanation messages.now.setting.premises messages.now.setting.shape messages.now.image
+        messages.now.seen explanation }
+    ensures { IfOk result (IsVerdict messages.now) }
+{
+    match explanation {
+        Explanation::Explained(run) => ordered(alloc, messages, run),
+        Explanation::NotExplained(place, limit) => Ok(Verdict::NotDecided(place, limit)),
+    }
+}
+
 /// A run that explains what was seen, or how far an attempt came.
-fn explained(alloc: Global, messages: &Messages) -> Result<Verdict, AllocError>
+fn explained_at_once(alloc: Global, messages: &Messages) -> Result<Verdict, AllocError>
     ensures { IfOk result (IsVerdict messages.now) }
 {
     let setting = messages.setting();
-    match explain(
+    let explanation = explain(
         alloc,
         setting.shape(),
         setting.premises(),
         messages.image(),
         messages.seen(),
-    )? {
-        Explanation::Explained(run) => ordered(alloc, messages, run),
-        Explanation::NotExplained(place, limit) => Ok(Verdict::NotDecided(place, limit)),
+    )?;
+    weighed_run(alloc, messages, explanation)
+}
+
+/// The same by the search in rounds, which takes longer.
+fn explained_in_rounds(alloc: Global, messages: &Messages) -> Result<Verdict, AllocError>
+    ensures { IfOk result (IsVerdict messages.now) }
+{
+    let setting = messages.setting();
+    let explanation = explain_in_rounds(
+        alloc,
+        setting.shape(),
+        setting.premises(),
+        messages.image(),
+        messages.seen(),
+    )?;
+    weighed_run(alloc, messages, explanation)
+}
+
+/// A run that explains what was seen, or how far the first attempt came.
+fn explained(alloc: Global, messages: &Messages) -> Result<Verdict, AllocError>
+    ensures { IfOk result (IsVerdict messages.now) }
+{
+    let verdict = explained_at_once(alloc, messages)?;
+    if let Verdict::Explained(_) = &verdict {
+        return Ok(verdict);
     }
+    if messages.seen().len() > SEEN_IN_ROUNDS {
+        return Ok(verdict);
+    }
+    let again = explained_in_rounds(alloc, messages)?;
+    if let Verdict::Explained(_) = &again {
+        return Ok(again);
+    }
+    Ok(verdict)
 }
 
 /// Where each run of a block is stuck, in a way of seeing that the header names.
