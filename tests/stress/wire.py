@@ -69,7 +69,7 @@ class Monitor:
 
     def __init__(self, numbers, rng, sources=16):
         self.numbers, self.rng, self.each = numbers, rng, sources
-        self.base = rng.choice([0, 0, 0x8000_0000])
+        self.base = rng.choice([0, 0x8000_0000, 0xFFFF_FFFF_8000_0000])
         self.size = numbers["block_bytes"].bit_length() - 1
         self.seen, self.waiting = [], {}
         self.requests = [Numbers() for _ in range(numbers["clients"])]

@@ -2,6 +2,7 @@ pub mod Carries
 pub mod Cause
 pub mod Entry
 pub mod Header
+pub mod MessageName
 pub mod Parts
 pub mod Reason
 pub mod Shown

@@ -9,7 +9,7 @@ use Rattle.tlcheck_rules.specs.declared.judge.Breach.TheVariants.{NotPermitted, 
 use Rattle.tlcheck_rules.specs.declared.rule.Rule.{Rule}
 use Rattle.tlcheck_rules.specs.declared.rule.Rule.TheVariants.{BlockIsThere, ClientIsThere, AccessFits, CopyIsReadable, LoadHasItsBytes, CopyIsWritable, NoAcquireUnanswered, NoReleaseBesideAcquire, StartsFromItsCopy, ProbeWaits, NoReleaseUnanswered, GrantIsFirst, ReleaseAckIsFirst, AcquireWaits, ServesNoAcquire, RecordIsAbove, ClientHasNoProbe, NoGrantIsPending, OneGrantIsPending, MessageIsOnC, ServesThisClient, OthersLeaveRoom, HomeHasTheBlock, NoProbeIsPending, NothingIsPending, GrantAckWaits, ServesAnAcquire, HomeLacksTheBlock, NothingIsOutward, RequestIsOutward, DataIsOutward, PutAckIsOutward, CopyIsClean, CopyIsDirty, NobodyIsRecorded}
 use Rattle.tlcheck_record.specs.declared.reason.Source.{Source}
-use Rattle.tlcheck_record.specs.declared.reason.Source.TheVariants.{TileLink, Own}
+use Rattle.tlcheck_record.specs.declared.reason.Source.TheVariants.{TileLink, Own, Both}
 use Rattle.tlcheck_record.specs.declared.reason.Place.{Place}
 use Rattle.tlcheck_record.specs.declared.reason.Place.TheVariants.{Permissions, Rules, Events, Channels, Verdict}
 
@@ -61,7 +61,7 @@ rule_source LoadHasItsBytes = TileLink
 rule_source CopyIsWritable = TileLink
 rule_source NoAcquireUnanswered = TileLink
 rule_source NoReleaseBesideAcquire = Own
-rule_source StartsFromItsCopy = TileLink
+rule_source StartsFromItsCopy = Both
 rule_source ProbeWaits = TileLink
 rule_source NoReleaseUnanswered = TileLink
 rule_source GrantIsFirst = TileLink
@@ -162,6 +162,7 @@ place_of (NotAsShown difference) = Verdict
 abbrev pub source_text : Source → List ℕ
 source_text TileLink = codes "TileLink 1.8"
 source_text Own = codes "this project's profile"
+source_text Both = codes "TileLink 1.8; of an Acquire BtoT behind a ProbeAck this project's profile"
 
 -- how its place prints
 abbrev pub place_text : Place → List ℕ

@@ -14,6 +14,9 @@ pub enum Source {
     TileLink,
     /// This project, where the specification leaves a choice open, and for its own format.
     Own,
+    /// The specification; but it permits an Acquire BtoT behind the ProbeAck that took the copy, and this project
+    /// does not.
+    Both,
 }
 
 /// The section of the documents that has a rule.
@@ -100,7 +103,6 @@ fn rule_source(rule: Rule) -> Source
         | Rule::LoadHasItsBytes
         | Rule::CopyIsWritable
         | Rule::NoAcquireUnanswered
-        | Rule::StartsFromItsCopy
         | Rule::ProbeWaits
         | Rule::NoReleaseUnanswered
         | Rule::GrantIsFirst
@@ -117,6 +119,7 @@ fn rule_source(rule: Rule) -> Source
         | Rule::DataIsOutward
         | Rule::PutAckIsOutward
         | Rule::CopyIsClean => Source::TileLink,
+        Rule::StartsFromItsCopy => Source::Both,
     }
 }
 
@@ -254,6 +257,9 @@ impl fmt::Display for Source {
         match self {
             Source::TileLink => f.write_str("TileLink 1.8"),
             Source::Own => f.write_str("this project's profile"),
+            Source::Both => f.write_str(
+                "TileLink 1.8; of an Acquire BtoT behind a ProbeAck this project's profile",
+            ),
         }
     }
 }

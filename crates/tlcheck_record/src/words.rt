@@ -58,7 +58,7 @@ pub fn read_number(text: &str) -> Result<u32, Cause>
 }
 
 /// An address in its place; `Number` where the text is none.
-pub fn read_address(text: &str) -> Result<u32, Cause>
+pub(crate) fn read_address(text: &str) -> Result<u32, Cause>
     ensures { result ≡ address_in text.now }
 {
     parse_address(text).ok_or(Cause::Number)

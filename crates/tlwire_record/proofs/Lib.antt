@@ -1,3 +1,5 @@
 pub mod Codes
+pub mod DigitLaws
 pub mod FieldWords
 pub mod Lines
+pub mod Offsets

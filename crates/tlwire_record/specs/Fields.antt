@@ -3,7 +3,8 @@ use Rattle.std.specs.Prelude.{ℕ, ◌==◌, List, [], ◌∷◌, codes, bytes_e
 use Rattle.std.specs.List.{slice_split}
 use Rattle.std.specs.Option.{is_some}
 use Rattle.tlcheck_record.specs.Cause.{◌>>=◌}
-use Rattle.tlcheck_record.specs.Words.{address_in, block_bytes_in, number_in}
+use Rattle.tlcheck_record.specs.Words.{block_bytes_in, number_in}
+use Rattle.tlwire_record.specs.Address.{wide_address_in}
 use Rattle.tlcheck_record.specs.declared.cause.Cause.{Cause}
 use Rattle.tlcheck_record.specs.declared.cause.Cause.TheVariants as cause
 use Rattle.tlwire_record.specs.declared.fields.Field.{Field}
@@ -21,8 +22,11 @@ field_by key value =
     else if bytes_eq key (codes "size") then number_in value >>= (λ n. Ok (field.Size n))
     else if bytes_eq key (codes "source") then number_in value >>= (λ n. Ok (field.Source n))
     else if bytes_eq key (codes "sink") then number_in value >>= (λ n. Ok (field.Sink n))
-    else if bytes_eq key (codes "address") then address_in value >>= (λ n. Ok (field.Address n))
+    else if bytes_eq key (codes "address") then wide_address_in value >>= (λ n. Ok (field.Address n))
     else if bytes_eq key (codes "data") then block_bytes_in value >>= (λ bytes. Ok (field.Data bytes))
+    else if bytes_eq key (codes "denied") then number_in value >>= (λ n. Ok (field.Denied n))
+    else if bytes_eq key (codes "corrupt") then number_in value >>= (λ n. Ok (field.Corrupt n))
+    else if bytes_eq key (codes "mask") then number_in value >>= (λ n. Ok (field.Mask n))
     else Err cause.Key
 
 -- `KEY=VALUE`, in its two parts
@@ -36,7 +40,17 @@ field_of word = field_in (pair_of word)
 
 -- no fields
 abbrev pub no_fields : Fields
-no_fields = record { param = None; size = None; source = None; sink = None; address = None; bytes = None }
+no_fields = record {
+  param = None;
+  size = None;
+  source = None;
+  sink = None;
+  address = None;
+  bytes = None;
+  denied = None;
+  corrupt = None;
+  mask = None;
+}
 
 -- one field more, unless it is there
 abbrev pub with_field : Fields → Field → Result Fields Cause
@@ -46,6 +60,9 @@ with_field f (field.Source n) = if is_some f.source then Err cause.Twice else Ok
 with_field f (field.Sink n) = if is_some f.sink then Err cause.Twice else Ok (record f { sink = Some n })
 with_field f (field.Address n) = if is_some f.address then Err cause.Twice else Ok (record f { address = Some n })
 with_field f (field.Data bytes) = if is_some f.bytes then Err cause.Twice else Ok (record f { bytes = Some bytes })
+with_field f (field.Denied n) = if is_some f.denied then Err cause.Twice else Ok (record f { denied = Some n })
+with_field f (field.Corrupt n) = if is_some f.corrupt then Err cause.Twice else Ok (record f { corrupt = Some n })
+with_field f (field.Mask n) = if is_some f.mask then Err cause.Twice else Ok (record f { mask = Some n })
 
 -- one field more, of a key and a value
 abbrev pub with_pair : Fields → List ℕ → List ℕ → Result Fields Cause

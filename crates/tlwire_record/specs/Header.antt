@@ -4,7 +4,8 @@ use Rattle.std.specs.List.{list_any}
 use Rattle.tl_protocol.specs.declared.shape.Shape.{Shape}
 use Rattle.tlcheck_record.specs.Header.{is_in_range}
 use Rattle.tlcheck_record.specs.Cause.{◌>>=◌}
-use Rattle.tlcheck_record.specs.Words.{address_in, number_in}
+use Rattle.tlcheck_record.specs.Words.{number_in}
+use Rattle.tlwire_record.specs.Address.{wide_address_in}
 use Rattle.tlwire_record.specs.Fields.{pair_of}
 use Rattle.tlcheck_record.specs.declared.cause.Cause.{Cause}
 use Rattle.tlcheck_record.specs.declared.cause.Cause.TheVariants as cause
@@ -44,7 +45,7 @@ number_at key word = number_part key (pair_of word)
 
 -- the address behind the key, in the two parts of `KEY=ADDR`
 abbrev pub address_part : List ℕ → List (List ℕ) → Result ℕ Cause
-address_part key (name ∷ value ∷ []) = if bytes_eq name key then address_in value else Err cause.Key
+address_part key (name ∷ value ∷ []) = if bytes_eq name key then wide_address_in value else Err cause.Key
 address_part key _ = Err cause.Key
 
 -- the address at a key: `KEY=ADDR`

@@ -1,3 +1,4 @@
+pub mod Address
 pub mod Code
 pub mod Fields
 pub mod Header

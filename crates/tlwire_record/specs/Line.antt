@@ -5,7 +5,8 @@ use Rattle.tl_types.specs.declared.channel.Channel.{Channel}
 use Rattle.tl_types.specs.declared.channel.Channel.TheVariants as channel
 use Rattle.tl_script_words.specs.Words.{number_of}
 use Rattle.tlcheck_record.specs.Cause.{◌>>=◌}
-use Rattle.tlcheck_record.specs.Words.{access_bytes_in, address_in, number_in}
+use Rattle.tlcheck_record.specs.Words.{access_bytes_in, number_in}
+use Rattle.tlwire_record.specs.Address.{wide_address_in}
 use Rattle.tlwire_record.specs.Fields.{fields_in, no_fields}
 use Rattle.tlcheck_record.specs.declared.cause.Cause.{Cause}
 use Rattle.tlcheck_record.specs.declared.cause.Cause.TheVariants as cause
@@ -44,7 +45,7 @@ channel_of_word text =
 
 -- `ADDR HEX`: 1 to 8 bytes
 unfoldable pub access_in : List (List ℕ) → Result (ℕ × List ℕ) Cause
-access_in (place ∷ bytes ∷ []) = address_in place >>= (λ a. access_bytes_in bytes >>= (λ bs. Ok (a, bs)))
+access_in (place ∷ bytes ∷ []) = wide_address_in place >>= (λ a. access_bytes_in bytes >>= (λ bs. Ok (a, bs)))
 access_in _ = Err cause.Words
 
 -- `OPCODE FIELD..`

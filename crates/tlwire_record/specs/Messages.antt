@@ -11,10 +11,10 @@ use Rattle.tlwire_search.specs.declared.seen.Seen.{Seen}
 use Rattle.tlwire_search.specs.declared.seen.Wire.{Wire}
 use Rattle.tlwire_search.specs.declared.seen.Wire.TheVariants as wire
 use Rattle.tlwire_search.specs.declared.seen.Seen.TheVariants.{OnLink, OnMemory, Load as Loads, Store as Stores}
-use Rattle.tlwire_record.specs.Code.{is_on_link, kind_of, role_of}
+use Rattle.tlwire_record.specs.Code.{is_on_link, kind_of, name_of, role_of}
 use Rattle.tlcheck_record.specs.Cause.{◌>>=◌}
 use Rattle.tlwire_record.specs.Header.{SettingState, owns}
-use Rattle.tlwire_record.specs.Place.{has_its_data, has_other_fields, is_size, offset_of}
+use Rattle.tlwire_record.specs.Place.{has_its_data, has_other_fields, is_set, is_size, offset_of}
 use Rattle.tlwire_record.specs.Tables.{TableState, no_tables, taken}
 use Rattle.tlcheck_record.specs.declared.cause.Cause.{Cause}
 use Rattle.tlcheck_record.specs.declared.cause.Cause.TheVariants as cause
@@ -33,15 +33,30 @@ has_own_source setting Memory source = true
 has_own_source setting (Client c) None = true
 has_own_source setting (Client c) (Some source) = owns setting.sources c source
 
+-- a message was spoilt: it is denied, its data is corrupt, or it is for some bytes of a block alone (TileLink 1.8,
+-- section 3)
+abbrev pub spoilt : Fields → Option Cause
+spoilt f =
+    if is_set f.denied then Some cause.Denied
+    else if is_set f.corrupt then Some cause.Corrupt
+    else if is_set f.mask then Some cause.Mask
+    else None
+
+-- the first of two causes
+abbrev pub first_of : Option Cause → Option Cause → Option Cause
+first_of (Some c) other = Some c
+first_of None other = other
+
 -- what is wrong with a message of a kind on a link, if anything: the first of these
 abbrev pub wrong_in : SettingState → Link → Channel → Kind → Fields → Option Cause
 wrong_in setting link channel kind f =
-    if not (is_on_link kind link) then Some cause.Profile
+    if not (is_on_link kind link) then Some (cause.OffLink (name_of kind))
     else if has_other_fields channel f then Some cause.Extra
     else if not (is_size setting.shape f.size) then Some cause.Size
-    else if not (has_own_source setting link f.source) then Some cause.Source
+    else first_of (spoilt f) (
+    if not (has_own_source setting link f.source) then Some cause.Source
     else if not (has_its_data setting.shape kind f.bytes) then Some cause.Data
-    else None
+    else None)
 
 -- a message of a block, on a link
 abbrev pub seen_on : Link → ℕ → Shown → Seen

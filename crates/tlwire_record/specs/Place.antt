@@ -41,10 +41,21 @@ abbrev pub has_its_data : Shape → Kind → Option (List ℕ) → Bool
 has_its_data shape kind None = not (has_data kind)
 has_its_data shape kind (Some bytes) = has_data kind && (length bytes == shape.block_bytes)
 
+-- a field stands that is not 0
+abbrev pub is_set : Option ℕ → Bool
+is_set None = false
+is_set (Some n) = not (n == 0)
+
+-- a field stands that E has not: it has a sink alone
+abbrev pub has_more_than_a_sink : Fields → Bool
+has_more_than_a_sink f =
+    is_some f.address || is_some f.param || is_some f.size || is_some f.source || is_some f.denied || is_some f.corrupt
+    || is_some f.mask
+
 -- a field stands that the channel has not (TileLink 1.8, section 3: the signals of each channel)
 abbrev pub has_other_fields : Channel → Fields → Bool
-has_other_fields A f = is_some f.sink
-has_other_fields B f = is_some f.sink
-has_other_fields C f = is_some f.sink
-has_other_fields D f = is_some f.address
-has_other_fields E f = is_some f.address || is_some f.param || is_some f.size || is_some f.source
+has_other_fields A f = is_some f.sink || is_some f.denied
+has_other_fields B f = is_some f.sink || is_some f.denied
+has_other_fields C f = is_some f.sink || is_some f.denied || is_some f.mask
+has_other_fields D f = is_some f.address || is_some f.mask
+has_other_fields E f = has_more_than_a_sink f

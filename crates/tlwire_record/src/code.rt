@@ -1,54 +1,114 @@
 //! The kind of a message, by its codes.
 ghost use Rattle.std.specs.Prelude.{◌≡◌};
 ghost use Rattle.tl_types.specs.Decoding.{kind_at};
-ghost use Rattle.tlwire_record.specs.Code.{has_data, is_both_ways, is_from_client, is_from_home, is_named, is_on_link, kind_of, role_of};
+ghost use Rattle.tlwire_record.specs.Code.{has_data, is_on_link, kind_of, name_at, name_both_ways, name_from_client, name_from_home, name_if, name_of, role_of};
 
 use crate::line::Link;
 use tl_types::{Channel, Kind, decode};
-use tlcheck_record::Cause;
+use tlcheck_record::{Cause, MessageName};
 
-fn is_both_ways(opcode: u32, param: u32) -> bool
-    ensures { result ≡ is_both_ways opcode param }
+/// A name, where a test is met.
+fn name_if(is_met: bool, name: MessageName) -> Option<MessageName>
+    ensures { result ≡ name_if is_met name }
+{
+    if is_met { Some(name) } else { None }
+}
+
+/// The name of an opcode on A or B, with the two names of the last opcodes.
+fn name_both_ways(
+    block: MessageName,
+    perm: MessageName,
+    opcode: u32,
+    param: u32,
+) -> Option<MessageName>
+    ensures { result ≡ name_both_ways block perm opcode param }
 {
     match opcode {
-        0 | 1 | 4 => param == 0,
-        2 => param <= 4,
-        3 => param <= 3,
-        5 => param <= 1,
-        6 | 7 => param <= 2,
-        _ => false,
+        0 => name_if(param == 0, MessageName::PutFullData),
+        1 => name_if(param == 0, MessageName::PutPartialData),
+        2 => name_if(param <= 4, MessageName::ArithmeticData),
+        3 => name_if(param <= 3, MessageName::LogicalData),
+        4 => name_if(param == 0, MessageName::Get),
+        5 => name_if(param <= 1, MessageName::Intent),
+        6 => name_if(param <= 2, block),
+        7 => name_if(param <= 2, perm),
+        _ => None,
     }
 }
 
-fn is_from_client(opcode: u32, param: u32) -> bool
-    ensures { result ≡ is_from_client opcode param }
+/// The name of an opcode on C.
+fn name_from_client(opcode: u32, param: u32) -> Option<MessageName>
+    ensures { result ≡ name_from_client opcode param }
 {
     match opcode {
-        0 | 1 | 2 => param == 0,
-        4 | 5 | 6 | 7 => param <= 5,
-        _ => false,
+        0 => name_if(param == 0, MessageName::AccessAck),
+        1 => name_if(param == 0, MessageName::AccessAckData),
+        2 => name_if(param == 0, MessageName::HintAck),
+        4 => name_if(param <= 5, MessageName::ProbeAck),
+        5 => name_if(param <= 5, MessageName::ProbeAckData),
+        6 => name_if(param <= 5, MessageName::Release),
+        7 => name_if(param <= 5, MessageName::ReleaseData),
+        _ => None,
     }
 }
 
-fn is_from_home(opcode: u32, param: u32) -> bool
-    ensures { result ≡ is_from_home opcode param }
+/// The name of an opcode on D.
+fn name_from_home(opcode: u32, param: u32) -> Option<MessageName>
+    ensures { result ≡ name_from_home opcode param }
 {
     match opcode {
-        0 | 1 | 2 | 6 => param == 0,
-        4 | 5 => param <= 2,
-        _ => false,
+        0 => name_if(param == 0, MessageName::AccessAck),
+        1 => name_if(param == 0, MessageName::AccessAckData),
+        2 => name_if(param == 0, MessageName::HintAck),
+        4 => name_if(param <= 2, MessageName::Grant),
+        5 => name_if(param <= 2, MessageName::GrantData),
+        6 => name_if(param == 0, MessageName::ReleaseAck),
+        _ => None,
     }
 }
 
-/// Whether TileLink has a message with these codes.
-fn is_named(channel: Channel, opcode: u32, param: u32) -> bool
-    ensures { result ≡ is_named channel opcode param }
+/// The name of the message of TileLink with these codes, if there is one.
+fn name_at(channel: Channel, opcode: u32, param: u32) -> Option<MessageName>
+    ensures { result ≡ name_at channel opcode param }
 {
     match channel {
-        Channel::A | Channel::B => is_both_ways(opcode, param),
-        Channel::C => is_from_client(opcode, param),
-        Channel::D => is_from_home(opcode, param),
-        Channel::E => opcode == 0 && param == 0,
+        Channel::A => name_both_ways(
+            MessageName::AcquireBlock,
+            MessageName::AcquirePerm,
+            opcode,
+            param,
+        ),
+        Channel::B => name_both_ways(
+            MessageName::ProbeBlock,
+            MessageName::ProbePerm,
+            opcode,
+            param,
+        ),
+        Channel::C => name_from_client(opcode, param),
+        Channel::D => name_from_home(opcode, param),
+        Channel::E => name_if(opcode == 0 && param == 0, MessageName::GrantAck),
+    }
+}
+
+/// The name of a kind.
+pub(crate) fn name_of(kind: &Kind) -> MessageName
+    ensures { result ≡ name_of kind.now }
+{
+    match kind {
+        Kind::PutFullData => MessageName::PutFullData,
+        Kind::Get => MessageName::Get,
+        Kind::AcquireBlock(_) => MessageName::AcquireBlock,
+        Kind::ProbeBlock(_) => MessageName::ProbeBlock,
+        Kind::ProbeAck(_) => MessageName::ProbeAck,
+        Kind::ProbeAckData(_) => MessageName::ProbeAckData,
+        Kind::Release(_) => MessageName::Release,
+        Kind::ReleaseData(_) => MessageName::ReleaseData,
+        Kind::AccessAck => MessageName::AccessAck,
+        Kind::AccessAckData => MessageName::AccessAckData,
+        Kind::Grant(_) => MessageName::Grant,
+        Kind::GrantData(_) => MessageName::GrantData,
+        Kind::ReleaseAck => MessageName::ReleaseAck,
+        Kind::GrantAck => MessageName::GrantAck,
     }
 }
 
@@ -70,13 +130,10 @@ pub(crate) fn kind_of(channel: Channel, opcode: u32, param: u32) -> Result<Kind,
     }
     match kind_at(channel, opcode as u8, param as u8) {
         Some(kind) => Ok(kind),
-        None => {
-            if is_named(channel, opcode, param) {
-                Err(Cause::Profile)
-            } else {
-                Err(Cause::Code)
-            }
-        }
+        None => match name_at(channel, opcode, param) {
+            Some(name) => Err(Cause::Profile(name, param)),
+            None => Err(Cause::Code),
+        },
     }
 }
 

@@ -8,7 +8,7 @@ use arrayvec::ArrayVec;
 use tlcheck_record::cut_at;
 
 /// As many words as a line may have that is in the format: a message's, with each field.
-const FEW: usize = 10;
+const FEW: usize = 13;
 
 /// The words of a line, where they are no more than a line may have.
 pub(crate) fn few_words(line: &str) -> Option<ArrayVec<&str, FEW>>

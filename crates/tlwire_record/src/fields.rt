@@ -4,10 +4,11 @@ ghost use Rattle.tl_script_words.specs.Words.{texts};
 ghost use Rattle.tlcheck_record.specs.Cause.{Gives};
 ghost use Rattle.tlwire_record.specs.Fields.{fields_in, no_fields, pair_of, with_pair, with_word};
 
+use crate::address::read_wide_address;
 use crate::cut::cut_pair;
 use std::alloc::{AllocError, Global};
 use tl_types::BlockBytes;
-use tlcheck_record::{Cause, LineError, read_address, read_block_bytes, read_number};
+use tlcheck_record::{Cause, LineError, read_block_bytes, read_number};
 
 /// A field of a message, as the definitions of `Fields` name it: a line's fields are read into their places without it.
 #[derive(Drop)]
@@ -16,8 +17,11 @@ pub enum Field {
     Size(u32),
     Source(u32),
     Sink(u32),
-    Address(u32),
+    Address(u64),
     Data(BlockBytes),
+    Denied(u32),
+    Corrupt(u32),
+    Mask(u32),
 }
 
 /// The fields of a message, each where it stands.
@@ -27,8 +31,11 @@ pub struct Fields {
     pub size: Option<u32>,
     pub source: Option<u32>,
     pub sink: Option<u32>,
-    pub address: Option<u32>,
+    pub address: Option<u64>,
     pub bytes: Option<BlockBytes>,
+    pub denied: Option<u32>,
+    pub corrupt: Option<u32>,
+    pub mask: Option<u32>,
 }
 
 /// What stands between the `=` of a word.
@@ -49,6 +56,9 @@ pub(crate) fn no_fields() -> Fields
         sink: None,
         address: None,
         bytes: None,
+        denied: None,
+        corrupt: None,
+        mask: None,
     }
 }
 
@@ -62,11 +72,14 @@ fn add_field(alloc: Global, fields: &mut Fields, key: &str, value: &str) -> Resu
         "size" => fields.size.replace(read_number(value)?).is_some(),
         "source" => fields.source.replace(read_number(value)?).is_some(),
         "sink" => fields.sink.replace(read_number(value)?).is_some(),
-        "address" => fields.address.replace(read_address(value)?).is_some(),
+        "address" => fields.address.replace(read_wide_address(value)?).is_some(),
         "data" => fields
             .bytes
             .replace(read_block_bytes(alloc, value)?)
             .is_some(),
+        "denied" => fields.denied.replace(read_number(value)?).is_some(),
+        "corrupt" => fields.corrupt.replace(read_number(value)?).is_some(),
+        "mask" => fields.mask.replace(read_number(value)?).is_some(),
         _ => return Err(LineError::Wrong(Cause::Key)),
     };
     if was_there {

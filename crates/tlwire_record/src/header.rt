@@ -5,12 +5,13 @@ ghost use Rattle.tl_script_words.specs.Words.{texts};
 ghost use Rattle.tlcheck_record.specs.Cause.{Gives};
 ghost use Rattle.tlwire_record.specs.Header.{address_at, address_part, fitting, has_source, has_sources, is_fit, is_title, number_at, number_part, numbers_in, owns, setting_in, sources_in, sources_taken, with_premise, with_sources};
 
+use crate::address::read_wide_address;
 use crate::fields::split_pair;
 use std::alloc::Global;
 use std::marker::Model;
 use tl_rules::Shape;
 use tl_types::{BLOCK_BYTES, BLOCKS, ClientId};
-use tlcheck_record::{Cause, LineError, read_address, read_number};
+use tlcheck_record::{Cause, LineError, read_number};
 use tlwire_search::Premise;
 
 /// The source ids from one to another, both with them, which are a client's.
@@ -25,7 +26,7 @@ pub struct Sources {
 #[derive(Drop)]
 pub struct Setting {
     shape: Shape,
-    base: u32,
+    base: u64,
     sources: Vec<Sources>,
     premises: Vec<Premise>,
 }
@@ -78,7 +79,7 @@ impl Setting {
     }
 
     /// The address of block 0.
-    pub fn base(&self) -> u32
+    pub fn base(&self) -> u64
         ensures { result ≡ self.now.base }
     {
         self.base
@@ -148,13 +149,13 @@ fn number_at(alloc: Global, key: &str, word: &str) -> Result<u32, LineError>
     Ok(number_part(key, &parts)?)
 }
 
-fn address_part(key: &str, parts: &[&str]) -> Result<u32, Cause>
+fn address_part(key: &str, parts: &[&str]) -> Result<u64, Cause>
     ensures { result ≡ address_part key.now (texts parts.now) }
 {
     match *parts {
         [name, value] => {
             if name == key {
-                read_address(value)
+                read_wide_address(value)
             } else {
                 Err(Cause::Key)
             }
@@ -164,14 +165,14 @@ fn address_part(key: &str, parts: &[&str]) -> Result<u32, Cause>
 }
 
 /// The address at a key.
-fn address_at(alloc: Global, key: &str, word: &str) -> Result<u32, LineError>
+fn address_at(alloc: Global, key: &str, word: &str) -> Result<u64, LineError>
     ensures { Gives (λ x. x) result (address_at key.now word.now) }
 {
     let parts = split_pair(alloc, word)?;
     Ok(address_part(key, &parts)?)
 }
 
-fn is_fit(shape: Shape, base: u32) -> bool
+fn is_fit(shape: Shape, base: u64) -> bool
     ensures { result ≡ is_fit shape base }
 {
     1 <= shape.clients
@@ -182,10 +183,10 @@ fn is_fit(shape: Shape, base: u32) -> bool
             || shape.block_bytes == 64)
         && 1 <= shape.blocks
         && shape.blocks as usize <= BLOCKS
-        && base % shape.block_bytes == 0
+        && base % (shape.block_bytes as u64) == 0
 }
 
-fn fitting(alloc: Global, shape: Shape, base: u32) -> Result<Setting, Cause>
+fn fitting(alloc: Global, shape: Shape, base: u64) -> Result<Setting, Cause>
     ensures { result ≡ fitting shape base }
 {
     if is_fit(shape, base) {

@@ -2,6 +2,7 @@
 //! was seen.
 #![tactic(auto)]
 
+mod address;
 mod code;
 mod cut;
 mod fields;

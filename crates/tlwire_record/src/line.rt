@@ -4,11 +4,12 @@ ghost use Rattle.tl_script_words.specs.Words.{texts};
 ghost use Rattle.tlcheck_record.specs.Cause.{Gives};
 ghost use Rattle.tlwire_record.specs.Line.{access_in, channel_of_word, client_of_word, line_in, link_of, message_in, said_in, same_link};
 
+use crate::address::read_wide_address;
 use crate::fields::{Fields, parse_fields};
 use std::alloc::Global;
 use tl_script_words::parse_number;
 use tl_types::{AccessBytes, Channel, ClientId};
-use tlcheck_record::{Cause, LineError, read_access, read_address, read_number};
+use tlcheck_record::{Cause, LineError, read_access, read_number};
 
 /// Whose link.
 #[derive(Clone, Copy, Debug, PartialEq, Eq)]
@@ -51,9 +52,9 @@ impl Link {
 #[derive(Drop)]
 pub enum Said {
     /// The client reads these bytes from an address on.
-    Load(u32, AccessBytes),
+    Load(u64, AccessBytes),
     /// The client writes these bytes from an address on.
-    Store(u32, AccessBytes),
+    Store(u64, AccessBytes),
     /// A message with this opcode is sent on a channel.
     Message(Channel, u32, Fields),
 }
@@ -107,12 +108,12 @@ fn parse_channel(text: &str) -> Result<Channel, Cause>
 
 /// An address, and the bytes from it on.
 #[tactic(auto, unfolding(crate::specs::Line::access_in))]
-fn parse_words_of_access(words: &[&str]) -> Result<(u32, AccessBytes), LineError>
+fn parse_words_of_access(words: &[&str]) -> Result<(u64, AccessBytes), LineError>
     ensures { Gives (λ x. x) result (access_in (texts words.now)) }
 {
     match *words {
         [place, bytes] => {
-            let address = read_address(place)?;
+            let address = read_wide_address(place)?;
             let bytes = read_access(bytes)?;
             Ok((address, bytes))
         }

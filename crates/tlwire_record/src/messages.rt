@@ -2,13 +2,13 @@
 ghost use Rattle.std.specs.Prelude.{◌≡◌};
 ghost use Rattle.tlcheck_record.specs.Cause.{Gives};
 ghost use Rattle.tlwire_record.specs.declared.line.Said.TheVariants as its;
-ghost use Rattle.tlwire_record.specs.Messages.{began, has_own_source, is_there, is_unwatched, owner_of, seen_on, unwatched_wire, wrong_in};
+ghost use Rattle.tlwire_record.specs.Messages.{began, has_own_source, is_there, is_unwatched, owner_of, seen_on, spoilt, unwatched_wire, wrong_in};
 
-use crate::code::{is_on_link, kind_of, role_of};
+use crate::code::{is_on_link, kind_of, name_of, role_of};
 use crate::fields::Fields;
 use crate::header::Setting;
 use crate::line::{Line, Link, Said};
-use crate::place::{has_its_data, has_other_fields, is_size, offset_of};
+use crate::place::{has_its_data, has_other_fields, is_set, is_size, offset_of};
 use crate::tables::Tables;
 use std::alloc::Global;
 use std::marker::Model;
@@ -30,6 +30,22 @@ fn has_own_source(setting: &Setting, link: &Link, source: Option<u32>) -> bool
     }
 }
 
+/// Whether a message was spoilt: denied, with data that is corrupt, or for some bytes of a block alone.
+fn spoilt(fields: &Fields) -> Option<Cause>
+    ensures { result ≡ spoilt fields.now }
+{
+    if is_set(fields.denied) {
+        return Some(Cause::Denied);
+    }
+    if is_set(fields.corrupt) {
+        return Some(Cause::Corrupt);
+    }
+    if is_set(fields.mask) {
+        return Some(Cause::Mask);
+    }
+    None
+}
+
 /// What is wrong with a message of a kind on a link, if anything.
 fn wrong_in(
     setting: &Setting,
@@ -42,13 +58,16 @@ fn wrong_in(
 {
     let shape = setting.shape();
     if !is_on_link(kind, link) {
-        return Some(Cause::Profile);
+        return Some(Cause::OffLink(name_of(kind)));
     }
     if has_other_fields(channel, fields) {
         return Some(Cause::Extra);
     }
     if !is_size(shape, fields.size) {
         return Some(Cause::Size);
+    }
+    if let Some(cause) = spoilt(fields) {
+        return Some(cause);
     }
     if !has_own_source(setting, link, fields.source) {
         return Some(Cause::Source);
@@ -211,7 +230,7 @@ impl Messages {
 
     /// What is seen of a load.
     #[tactic(auto, unfolding(crate::specs::Messages::said_taken))]
-    fn load(&self, link: &Link, address: u32, bytes: AccessBytes) -> Result<Seen, LineError>
+    fn load(&self, link: &Link, address: u64, bytes: AccessBytes) -> Result<Seen, LineError>
         ensures { Gives (λ seen. (seen, self.now.tables)) result
             (said_taken self.now.setting self.now.tables link.now (its.Load address bytes)) }
     {
@@ -222,7 +241,7 @@ impl Messages {
 
     /// What is seen of a store.
     #[tactic(auto, unfolding(crate::specs::Messages::said_taken))]
-    fn store(&self, link: &Link, address: u32, bytes: AccessBytes) -> Result<Seen, LineError>
+    fn store(&self, link: &Link, address: u64, bytes: AccessBytes) -> Result<Seen, LineError>
         ensures { Gives (λ seen. (seen, self.now.tables)) result
             (said_taken self.now.setting self.now.tables link.now (its.Store address bytes)) }
     {

@@ -1,16 +1,16 @@
 //! Where a message or an access is, and whether its size and its bytes are a block's.
-ghost use Rattle.std.specs.Prelude.{◌≡◌, ◌<◌};
+ghost use Rattle.std.specs.Prelude.{◌≡◌, ◌<◌, ◌≤◌};
 ghost use Rattle.tl_types.specs.declared.kind.Kind.{Kind};
-ghost use Rattle.tlwire_record.specs.Place.{block_at, has_its_data, has_other_fields, is_size, offset_of};
+ghost use Rattle.tlwire_record.specs.Place.{block_at, has_its_data, has_more_than_a_sink, has_other_fields, is_set, is_size, offset_of};
 
 use crate::code::has_data;
 use crate::fields::Fields;
 use tl_rules::Shape;
-use tl_types::{AccessBytes, BlockBytes, BlockNo, Channel, Kind};
+use tl_types::{AccessBytes, BLOCK_BYTES, BLOCKS, BlockBytes, BlockNo, Channel, Kind};
 use tlcheck_record::Cause;
 
 /// The block whose first byte lies at an address.
-pub(crate) fn block_at(shape: Shape, base: u32, address: u32) -> Result<BlockNo, Cause>
+pub(crate) fn block_at(shape: Shape, base: u64, address: u64) -> Result<BlockNo, Cause>
     requires { 0 < shape.block_bytes }
     ensures { result ≡ block_at shape base address }
 {
@@ -18,37 +18,42 @@ pub(crate) fn block_at(shape: Shape, base: u32, address: u32) -> Result<BlockNo,
         return Err(Cause::Outside);
     }
     let offset = address - base;
-    if offset / shape.block_bytes >= shape.blocks {
+    let size = shape.block_bytes as u64;
+    let block = offset / size;
+    if block >= shape.blocks as u64 {
         return Err(Cause::Outside);
     }
-    if offset % shape.block_bytes != 0 {
+    if offset % size != 0 {
         return Err(Cause::Unaligned);
     }
-    Ok(BlockNo::new(offset / shape.block_bytes))
+    Ok(BlockNo::new(block as u32))
 }
 
 /// How far behind the memory's first byte an access begins.
 pub(crate) fn offset_of(
     shape: Shape,
-    base: u32,
-    address: u32,
+    base: u64,
+    address: u64,
     bytes: &AccessBytes,
 ) -> Result<u32, Cause>
-    requires { 0 < shape.block_bytes }
+    requires bytes { (0 < shape.block_bytes) × (shape.block_bytes ≤ BLOCK_BYTES) }
+    requires blocks { shape.blocks ≤ BLOCKS }
     ensures { result ≡ offset_of shape base address bytes.now }
 {
     if address < base {
         return Err(Cause::Outside);
     }
     let offset = address - base;
-    if offset / shape.block_bytes >= shape.blocks {
+    let size = shape.block_bytes as u64;
+    if offset / size >= shape.blocks as u64 {
         return Err(Cause::Outside);
     }
-    let from = (offset % shape.block_bytes) as usize;
+    let from = (offset % size) as usize;
     if from + bytes.as_slice().len() > shape.block_bytes as usize {
         return Err(Cause::Access);
     }
-    Ok(offset)
+    let near = offset as u32;
+    Ok(near)
 }
 
 /// Whether a size, where it stands, is a block's.
@@ -75,18 +80,37 @@ pub(crate) fn has_its_data(shape: Shape, kind: &Kind, bytes: &Option<BlockBytes>
     }
 }
 
+/// Whether a field stands that is not 0.
+pub(crate) fn is_set(field: Option<u32>) -> bool
+    ensures { result ≡ is_set field }
+{
+    match field {
+        Some(number) => number != 0,
+        None => false,
+    }
+}
+
+/// Whether a field of another channel than E stands.
+fn has_more_than_a_sink(fields: &Fields) -> bool
+    ensures { result ≡ has_more_than_a_sink fields.now }
+{
+    fields.address.is_some()
+        || fields.param.is_some()
+        || fields.size.is_some()
+        || fields.source.is_some()
+        || fields.denied.is_some()
+        || fields.corrupt.is_some()
+        || fields.mask.is_some()
+}
+
 /// Whether a field stands that the channel has not.
 pub(crate) fn has_other_fields(channel: Channel, fields: &Fields) -> bool
     ensures { result ≡ has_other_fields channel fields.now }
 {
     match channel {
-        Channel::A | Channel::B | Channel::C => fields.sink.is_some(),
-        Channel::D => fields.address.is_some(),
-        Channel::E => {
-            fields.address.is_some()
-                || fields.param.is_some()
-                || fields.size.is_some()
-                || fields.source.is_some()
-        }
+        Channel::A | Channel::B => fields.sink.is_some() || fields.denied.is_some(),
+        Channel::C => fields.sink.is_some() || fields.denied.is_some() || fields.mask.is_some(),
+        Channel::D => fields.address.is_some() || fields.mask.is_some(),
+        Channel::E => has_more_than_a_sink(fields),
     }
 }

@@ -79,7 +79,8 @@ fn needed(field: Option<u32>) -> Result<u32, Cause>
 fn at_address(setting: &Setting, fields: &Fields) -> Result<BlockNo, Cause>
     ensures { result ≡ at_address setting.now fields.now }
 {
-    block_at(setting.shape(), setting.base(), needed(fields.address)?)
+    let address = fields.address.ok_or(Cause::Missing)?;
+    block_at(setting.shape(), setting.base(), address)
 }
 
 /// What is open on all links.
