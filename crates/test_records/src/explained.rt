@@ -6,8 +6,8 @@ use tl_rules::Shape;
 use tl_types::{
     AccessBytes, BlockBytes, BlockNo, ClientId, DirtyPrune, GrantCap, Grow, Kind, ProbeCap,
 };
-use tlcheck_rules::Shown;
-use tlwire_closed::{Answer, Way, rule_out};
+use tlcheck_rules::{Breach, Difference, Shown};
+use tlwire_closed::{Answer, Hindrance, Side, Stop, Way, rule_out};
 use tlwire_search::{Explanation, Premise, Seen, explain};
 
 /// What is said of a record, without the run.
@@ -191,6 +191,33 @@ fn what_is_impossible_and_what_is_not(rt: HostRuntime) -> Result<(), Fail> {
         let found = ruled_out(rt.alloc(), *damage, *order, premise)?;
         assert_eq!(rt; found, *place, "at {damage:?}");
     }
+    Ok(())
+}
+
+/// Whether a state is kept from a line of the second client, which would be sent this kind in place of the one that is
+/// shown.
+fn is_sent_instead(stop: &Stop, kind: Kind) -> bool {
+    match (&stop.side, &stop.hindrance) {
+        (
+            Side::Client(client, _, _),
+            Hindrance::Breach(Breach::NotAsShown(Difference::OtherParam(sent))),
+        ) => *client == ClientId::new(1) && *sent == kind,
+        _ => false,
+    }
+}
+
+#[test]
+fn what_keeps_the_last_states_from_a_line(rt: HostRuntime) -> Result<(), Fail> {
+    let alloc = rt.alloc();
+    let seen = seen_in(alloc, Damage::GrantsTip, IN_ORDER)?;
+    let told = match rule_out(alloc, SHAPE, BETWEEN, &[], &seen)? {
+        Answer::Impossible(stuck) => stuck.stops.iter().any(|stop| is_sent_instead(
+            stop,
+            Kind::GrantData(GrantCap::ToB),
+        )),
+        Answer::NotDecided(_) => false,
+    };
+    assert!(rt; told);
     Ok(())
 }
 

@@ -22,6 +22,8 @@ use Rattle.tlwire_record.specs.Read.{IsRead}
 use Rattle.tlwire_record.specs.declared.record.ReadFault.TheVariants as read
 use Rattle.tlwire_answer.specs.declared.ending.Ending.{Ending}
 use Rattle.tlwire_answer.specs.declared.ending.Ending.TheVariants.{Usage, Answered, Wrong as WrongLine, Empty, Memory, File}
+use Rattle.tlwire_answer.specs.declared.verdict.Sets.{Sets}
+use Rattle.tlwire_answer.specs.declared.verdict.Sets.TheVariants.{Stuck, Open}
 use Rattle.tlwire_answer.specs.declared.verdict.Verdict.{Verdict}
 use Rattle.tlwire_answer.specs.declared.verdict.Verdict.TheVariants.{Explained, Impossible, RuledOut, NotDecided, OtherOrder}
 
@@ -77,8 +79,13 @@ abbrev pub IsVerdict : MessagesState → Verdict → Type 0
 IsVerdict m (Explained run) = IsExplained m run.items
 IsVerdict m (Impossible w) = IsNo m w
 IsVerdict m (RuledOut stuck) = IsRuledOut m
-IsVerdict m (NotDecided place limit) = place < length m.seen
-IsVerdict m (OtherOrder order) = Unit {0}
+IsVerdict m (NotDecided place limit sets) = place < length m.seen
+IsVerdict m (OtherOrder order sets) = Unit {0}
+
+-- What closed sets say of what was seen, in the ways that were asked: that there is no run; or why they say nothing.
+abbrev pub IsSets : MessagesState → Sets → Type 0
+IsSets m (Stuck stuck) = IsRuledOut m
+IsSets m (Open reason) = Unit {0}
 
 -- What may be said of a record's lines: what was seen is what they say, and what is said of it holds; or the first line that is outside
 -- the format, and what is wrong with it; or that there is nothing seen.

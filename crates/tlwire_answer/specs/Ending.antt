@@ -1,6 +1,7 @@
 -- What an answer ends with, what is written then, and its status (this project's own format).
 use Rattle.std.specs.Prelude.{◌≡◌, ◌≢◌, ℕ, ◌-◌, ◌==◌, List, [], ◌++◌, length, slice_get, codes, decimal, Option, Some, None, if◌then◌else◌}
 use Rattle.std.specs.Io.KnownBytes.{Appends}
+use Rattle.std.specs.List.{flat_map}
 use Rattle.std.specs.Borrow.{Bor}
 use Rattle.tl_protocol.specs.declared.event.Event.{Event}
 use Rattle.tl_streams.specs.Fault.{program_fault_text}
@@ -15,6 +16,13 @@ use Rattle.tlcheck_record.specs.Reason.{reason_text}
 use Rattle.tlcheck_record.specs.State.{copy_text, wait_text}
 use Rattle.tlwire_search.specs.declared.search.Limit.{Limit}
 use Rattle.tlwire_search.specs.declared.search.Limit.TheVariants.{NoWay, Depth, Events}
+use Rattle.tlwire_closed.specs.declared.answer.Hindrance.{Hindrance}
+use Rattle.tlwire_closed.specs.declared.answer.Hindrance.TheVariants.{Breach as Breaks, Line as Behind, Order as InOrder}
+use Rattle.tlwire_closed.specs.declared.answer.Reason.{Reason}
+use Rattle.tlwire_closed.specs.declared.answer.Reason.TheVariants.{NoContradiction, TooManyStates}
+use Rattle.tlwire_closed.specs.declared.answer.Side.{Side}
+use Rattle.tlwire_closed.specs.declared.answer.Side.TheVariants as side
+use Rattle.tlwire_closed.specs.declared.answer.Stop.{Stop}
 use Rattle.tlwire_closed.specs.declared.answer.Stuck.{Stuck}
 use Rattle.tlwire_pins.specs.declared.pass.Wrong.{Wrong}
 use Rattle.tlwire_pins.specs.declared.view.View.{View}
@@ -36,8 +44,8 @@ abbrev pub verdict_status : Verdict → ℕ
 verdict_status (Explained events) = 0
 verdict_status (Impossible wrong) = 1
 verdict_status (RuledOut stuck) = 1
-verdict_status (NotDecided place limit) = 6
-verdict_status (OtherOrder order) = 6
+verdict_status (NotDecided place limit sets) = 6
+verdict_status (OtherOrder order sets) = 6
 
 -- usage ends with 2, what is no record of messages with 3, want of memory with 4, the file with 5
 abbrev pub status_of : Ending → ℕ
@@ -118,14 +126,21 @@ limit_text NoWay = codes "no event that was tried leads there"
 limit_text Depth = codes "each of a row of 96 events asks for another one first"
 limit_text Events = codes "4096 events did not lead there"
 
+-- why no closed set says that it is unlawful, where one was sought
+abbrev pub sets_text : Option Reason → List ℕ
+sets_text None = []
+sets_text (Some NoContradiction) = codes "; in each block a state comes past all lines"
+sets_text (Some TooManyStates) = codes "; a block has more states than are kept"
+
 -- and that nothing more is said
-abbrev pub limit_line : Limit → List ℕ
-limit_line limit = codes "\n" ++ limit_text limit ++ codes "; this is no verdict that it is unlawful\n"
+abbrev pub limit_line : Limit → Option Reason → List ℕ
+limit_line limit sets =
+    codes "\n" ++ limit_text limit ++ sets_text sets ++ codes "; this is no verdict that it is unlawful\n"
 
 -- the line that no attempt reached, and what ended it
-abbrev pub not_decided_text : ℕ → List ℕ → Limit → List ℕ
-not_decided_text number line limit =
-    codes "not decided: line " ++ decimal number ++ codes ": " ++ line ++ limit_line limit
+abbrev pub not_decided_text : ℕ → List ℕ → Limit → Option Reason → List ℕ
+not_decided_text number line limit sets =
+    codes "not decided: line " ++ decimal number ++ codes ": " ++ line ++ limit_line limit sets
 
 -- where the order is another one
 abbrev pub order_text : Order → List ℕ
@@ -135,9 +150,10 @@ order_text AtHome = codes "at home's pins"
 order_text AtClients = codes "at the clients' pins"
 
 -- a run that was found is seen in another order there
-abbrev pub other_order_text : Order → List ℕ
-other_order_text order =
-    codes "not decided: the run that was found has another order " ++ order_text order ++ codes "; this is no verdict that it is unlawful\n"
+abbrev pub other_order_text : Order → Option Reason → List ℕ
+other_order_text order sets =
+    codes "not decided: the run that was found has another order " ++ order_text order ++ sets_text sets
+    ++ codes "; this is no verdict that it is unlawful\n"
 
 -- what a line breaks that may not be seen at its client's pins
 abbrev pub rule_line : ℕ → Breach → List ℕ
@@ -160,9 +176,27 @@ stuck_line number = codes "impossible: line " ++ decimal number ++ codes ": no l
 abbrev pub block_line : ℕ → List ℕ
 block_line block = codes "\nblock " ++ decimal block ++ codes "\n"
 
--- the line that no run comes to, and its block
-abbrev pub ruled_out_text : ℕ → List ℕ → Stuck → List ℕ
-ruled_out_text number line stuck = stuck_line number ++ line ++ block_line stuck.block
+-- whose line it is that a state does not reach, with what a client holds of the block in it, and waits for
+abbrev pub side_text : Side → List ℕ
+side_text (side.Client client held wait) =
+    codes "client " ++ decimal client ++ codes ": " ++ copy_text held ++ wait_text wait
+side_text side.Memory = codes "memory"
+
+-- what keeps a state from a line, by the numbers of the lines
+abbrev pub hindrance_text : List ℕ → Hindrance → List ℕ
+hindrance_text numbers (Breaks breach) = reason_text breach
+hindrance_text numbers (Behind place) =
+    codes "line " ++ decimal (number_at numbers place) ++ codes " has to be seen first"
+hindrance_text numbers InOrder = codes "another line has to be seen first"
+
+-- a state that does not reach a line
+abbrev pub stop_line : List ℕ → Stop → List ℕ
+stop_line numbers stop = side_text stop.side ++ codes "; " ++ hindrance_text numbers stop.hindrance ++ codes "\n"
+
+-- the line that no run comes to, its block, and what keeps each of the last states from it
+abbrev pub ruled_out_text : List ℕ → ℕ → List ℕ → Stuck → List ℕ
+ruled_out_text numbers number line stuck =
+    stuck_line number ++ line ++ (block_line stuck.block ++ flat_map (stop_line numbers) stuck.stops.items)
 
 -- what is written of a run that was found
 abbrev pub explained_text : Form → MessagesState → List Event → List ℕ
@@ -173,10 +207,11 @@ explained_text Run m events = run_of m events
 abbrev pub answer_text : Form → List (List ℕ) → MessagesState → Verdict → List ℕ
 answer_text form lines m (Explained events) = explained_text form m events.items
 answer_text form lines m (Impossible w) = impossible_text (number_at m.lines w.place) (text_at lines (number_at m.lines w.place)) w
-answer_text form lines m (RuledOut stuck) = ruled_out_text (number_at m.lines stuck.place) (text_at lines (number_at m.lines stuck.place)) stuck
-answer_text form lines m (NotDecided place limit) =
-    not_decided_text (number_at m.lines place) (text_at lines (number_at m.lines place)) limit
-answer_text form lines m (OtherOrder order) = other_order_text order
+answer_text form lines m (RuledOut stuck) =
+    ruled_out_text m.lines (number_at m.lines stuck.place) (text_at lines (number_at m.lines stuck.place)) stuck
+answer_text form lines m (NotDecided place limit sets) =
+    not_decided_text (number_at m.lines place) (text_at lines (number_at m.lines place)) limit sets
+answer_text form lines m (OtherOrder order sets) = other_order_text order sets
 
 -- what is written of an ending that is an answer
 abbrev pub ending_text : Form → List (List ℕ) → Ending → List ℕ

@@ -1,8 +1,9 @@
 //! What an answer ends with, and how it is told.
 ghost use Rattle.std.specs.Prelude.{◌≡◌, ◌++◌, Some, IfOk, OnOk, slice_get, string_bytes};
+ghost use Rattle.std.specs.List.{flat_map};
 ghost use Rattle.tl_streams.specs.Written.{AppendsBeginning};
 ghost use Rattle.tl_script_words.specs.Words.{texts};
-ghost use Rattle.tlwire_answer.specs.Ending.{answer_text, ending_of_read, ending_of_words, explained_text, fault_line, fault_text, impossible_text, lent_line, limit_line, limit_text, not_decided_text, number_at, order_text, other_order_text, rule_line, ruled_out_text, stuck_line, block_line, run_of, status_of, summary_line, summary_text, text_at, view_line};
+ghost use Rattle.tlwire_answer.specs.Ending.{answer_text, ending_of_read, ending_of_words, explained_text, fault_line, fault_text, hindrance_text, impossible_text, lent_line, limit_line, limit_text, not_decided_text, number_at, order_text, other_order_text, rule_line, ruled_out_text, sets_text, side_text, stop_line, stuck_line, block_line, run_of, status_of, summary_line, summary_text, text_at, view_line};
 
 use crate::run::RunText;
 use crate::verdict::{Order, Verdict};
@@ -13,9 +14,9 @@ use std::io::Write;
 use tl_rules::Event;
 use tl_streams::{ProgramFault, ReadError, WordsError, tell};
 use tl_types::{BlockNo, ClientId};
-use tlcheck_record::{Cause, Held, Reason, Waits};
+use tlcheck_record::{Cause, Held, Reason as Reasoned, Waits};
 use tlcheck_rules::Breach;
-use tlwire_closed::Stuck;
+use tlwire_closed::{Hindrance, Reason, Side, Stop, Stuck};
 use tlwire_pins::{View, Wrong};
 use tlwire_record::Messages;
 use tlwire_search::Limit;
@@ -98,8 +99,8 @@ impl Ending {
             Ending::Answered(_, Verdict::Explained(_)) => 0,
             Ending::Answered(_, Verdict::Impossible(_)) => 1,
             Ending::Answered(_, Verdict::RuledOut(_)) => 1,
-            Ending::Answered(_, Verdict::NotDecided(_, _)) => 6,
-            Ending::Answered(_, Verdict::OtherOrder(_)) => 6,
+            Ending::Answered(_, Verdict::NotDecided(_, _, _)) => 6,
+            Ending::Answered(_, Verdict::OtherOrder(_, _)) => 6,
             Ending::Usage => 2,
             Ending::Wrong(_, _) | Ending::Empty => 3,
             Ending::Memory => 4,
@@ -108,14 +109,21 @@ impl Ending {
     }
 }
 
+/// The number of the line of a thing seen, among those of all.
+fn number_in(numbers: &[u64], place: usize) -> u64
+    ensures { result ≡ number_at numbers.now place }
+{
+    match numbers.get(place) {
+        Some(number) => *number,
+        None => 0,
+    }
+}
+
 /// The number of the line of a thing seen.
 fn number_at(messages: &Messages, place: usize) -> u64
     ensures { result ≡ number_at messages.now.lines place }
 {
-    match messages.lines().get(place) {
-        Some(number) => *number,
-        None => 0,
-    }
+    number_in(messages.lines(), place)
 }
 
 fn line_at<'a>(lines: &[&'a [u8]], place: usize) -> &'a [u8]
@@ -209,26 +217,54 @@ impl fmt::Display for LimitText {
     }
 }
 
+// Why no closed set says that it is unlawful, where one was sought.
+#[derive(Clone, Copy)]
+struct SetsText(Option<Reason>);
+
+impl fmt::Display for SetsText {
+    ghost output = { λ x. Some (sets_text x.0) };
+
+    fn fmt<W: fmt::Write>(&self, f: &mut fmt::Formatter<W>) -> fmt::Result {
+        match self.0 {
+            None => Ok(()),
+            Some(Reason::NoContradiction) => {
+                f.write_str("; in each block a state comes past all lines")
+            }
+            Some(Reason::TooManyStates) => f.write_str("; a block has more states than are kept"),
+        }
+    }
+}
+
 // What ended an attempt, behind the line that it did not reach.
 #[derive(Clone, Copy)]
-struct LimitLine(Limit);
+struct LimitLine {
+    limit: Limit,
+    sets: Option<Reason>,
+}
 
 impl fmt::Display for LimitLine {
-    ghost output = { λ x. Some (limit_line x.0) };
+    ghost output = { λ x. Some (limit_line x.limit x.sets) };
 
     fn fmt<W: fmt::Write>(&self, f: &mut fmt::Formatter<W>) -> fmt::Result {
         write!(
             f,
-            "\n{}; this is no verdict that it is unlawful\n",
-            LimitText(self.0)
+            "\n{}{}; this is no verdict that it is unlawful\n",
+            LimitText(self.limit),
+            SetsText(self.sets)
         )
     }
 }
 
-fn not_decided(alloc: Global, number: u64, line: &[u8], limit: Limit) -> Result<Vec<u8>, AllocError>
-    ensures { IfOk result (λ text. text.items ≡ not_decided_text number line.now limit) }
+fn not_decided(
+    alloc: Global,
+    number: u64,
+    line: &[u8],
+    limit: Limit,
+    sets: Option<Reason>,
+) -> Result<Vec<u8>, AllocError>
+    ensures { IfOk result (λ text. text.items ≡ not_decided_text number line.now limit sets) }
 {
-    let ended = LimitLine(limit);
+    let ended = LimitLine { limit, sets };
     let head = format!(in alloc; "not decided: line {number}: ")?;
     let tail = format!(in alloc; "{ended}")?;
     let mut text = head.into_bytes();
@@ -254,12 +290,13 @@ impl fmt::Display for OrderText {
     }
 }
 
-fn other_order(alloc: Global, order: Order) -> Result<Vec<u8>, AllocError>
-    ensures { IfOk result (λ text. text.items ≡ other_order_text order) }
+fn other_order(alloc: Global, order: Order, sets: Option<Reason>) -> Result<Vec<u8>, AllocError>
+    ensures { IfOk result (λ text. text.items ≡ other_order_text order sets) }
 {
     let place = OrderText(order);
+    let reason = SetsText(sets);
     let text = format!(in alloc;
-        "not decided: the run that was found has another order {place}; this is no verdict that it is unlawful\n"
+        "not decided: the run that was found has another order {place}{reason}; this is no verdict that it is unlawful\n"
     )?;
     Ok(text.into_bytes())
 }
@@ -279,7 +316,7 @@ impl fmt::Display for RuleLine<'_> {
             f,
             "impossible: line {}: {}\n",
             self.number,
-            Reason(self.breach)
+            Reasoned(self.breach)
         )
     }
 }
@@ -355,13 +392,101 @@ impl fmt::Display for BlockLine {
     }
 }
 
-fn ruled_out(alloc: Global, number: u64, line: &[u8], stuck: &Stuck) -> Result<Vec<u8>, AllocError>
-    ensures { IfOk result (λ text. text.items ≡ ruled_out_text number line.now stuck.now) }
+// Whose line it is that a state does not reach.
+#[derive(Clone, Copy)]
+struct SideText<'a>(&'a Side);
+
+impl fmt::Display for SideText<'_> {
+    ghost output = { λ x. Some (side_text x.0.now) };
+
+    fn fmt<W: fmt::Write>(&self, f: &mut fmt::Formatter<W>) -> fmt::Result {
+        match self.0 {
+            Side::Client(client, held, wait) => {
+                write!(f, "client {client}: {}{}", Held(held), Waits(*wait))
+            }
+            Side::Memory => f.write_str("memory"),
+        }
+    }
+}
+
+// What keeps a state from a line, by the numbers of the lines.
+#[derive(Clone, Copy)]
+struct HindranceText<'a> {
+    numbers: &'a [u64],
+    hindrance: &'a Hindrance,
+}
+
+impl fmt::Display for HindranceText<'_> {
+    ghost output = { λ x. Some (hindrance_text x.numbers.now x.hindrance.now) };
+
+    fn fmt<W: fmt::Write>(&self, f: &mut fmt::Formatter<W>) -> fmt::Result {
+        match self.hindrance {
+            Hindrance::Breach(breach) => write!(f, "{}", Reasoned(breach)),
+            Hindrance::Line(place) => {
+                let number = number_in(self.numbers, *place);
+                write!(f, "line {number} has to be seen first")
+            }
+            Hindrance::Order => f.write_str("another line has to be seen first"),
+        }
+    }
+}
+
+// A state that does not reach a line.
+#[derive(Clone, Copy)]
+struct StopLine<'a> {
+    numbers: &'a [u64],
+    stop: &'a Stop,
+}
+
+impl fmt::Display for StopLine<'_> {
+    ghost output = { λ x. Some (stop_line x.numbers.now x.stop.now) };
+
+    fn fmt<W: fmt::Write>(&self, f: &mut fmt::Formatter<W>) -> fmt::Result {
+        let side = SideText(&self.stop.side);
+        let hindrance = HindranceText {
+            numbers: self.numbers,
+            hindrance: &self.stop.hindrance,
+        };
+        write!(f, "{side}; {hindrance}\n")
+    }
+}
+
+// The states that do not reach a line.
+#[derive(Clone, Copy)]
+struct StopLines<'a> {
+    numbers: &'a [u64],
+    stops: &'a [Stop],
+}
+
+impl fmt::Display for StopLines<'_> {
+    ghost output = { λ x. Some (flat_map (stop_line x.numbers.now) x.stops.now) };
+
+    fn fmt<W: fmt::Write>(&self, f: &mut fmt::Formatter<W>) -> fmt::Result {
+        let StopLines { numbers, stops } = *self;
+        for stop in stops {
+            write!(f, "{}", StopLine { numbers, stop })?;
+        }
+        Ok(())
+    }
+}
+
+fn ruled_out(
+    alloc: Global,
+    numbers: &[u64],
+    number: u64,
+    line: &[u8],
+    stuck: &Stuck,
+) -> Result<Vec<u8>, AllocError>
+    ensures { IfOk result (λ text. text.items ≡ ruled_out_text numbers.now number line.now stuck.now) }
 {
     let place = StuckLine(number);
     let block = BlockLine(stuck.block);
+    let stops = StopLines {
+        numbers,
+        stops: &stuck.stops,
+    };
     let head = format!(in alloc; "{place}")?;
-    let tail = format!(in alloc; "{block}")?;
+    let tail = format!(in alloc; "{block}{stops}")?;
     let mut text = head.into_bytes();
     text.extend_from_slice(line)?;
     text.extend_from_slice(tail.as_bytes())?;
@@ -386,13 +511,19 @@ pub(crate) fn text_of(
         }
         Verdict::RuledOut(stuck) => {
             let number = number_at(messages, stuck.place);
-            ruled_out(alloc, number, text_at(lines, number), stuck)
+            ruled_out(
+                alloc,
+                messages.lines(),
+                number,
+                text_at(lines, number),
+                stuck,
+            )
         }
-        Verdict::NotDecided(place, limit) => {
+        Verdict::NotDecided(place, limit, sets) => {
             let number = number_at(messages, *place);
-            not_decided(alloc, number, text_at(lines, number), *limit)
+            not_decided(alloc, number, text_at(lines, number), *limit, *sets)
         }
-        Verdict::OtherOrder(order) => other_order(alloc, *order),
+        Verdict::OtherOrder(order, sets) => other_order(alloc, *order, *sets),
     }
 }
 

@@ -3,15 +3,16 @@ ghost use Rattle.std.specs.List.{list_any};
 ghost use Rattle.std.specs.Prelude.{◌≡◌, ◌⊎◌, None, IfOk, IfSome, IsNone, IsTrue};
 ghost use Rattle.std.specs.Bool.{OnFalse};
 ghost use Rattle.tlwire_answer.specs.Named.{is_at_clients, is_between, is_skew, least_of, least_with, names, or_zero, premise_of};
-ghost use Rattle.tlwire_answer.specs.Answer.{ClientKeepsOrder, EachKeepsOrder, IsInOrder, IsNo, IsRuledOut, IsVerdict, Meets, NobodyIsTold, cores_of};
+ghost use Rattle.tlwire_answer.specs.Answer.{ClientKeepsOrder, EachKeepsOrder, IsInOrder, IsNo, IsSets, IsVerdict, Meets, NobodyIsTold, cores_of};
 ghost use Rattle.tl_protocol.specs.Runs.{IsRun};
 ghost use Rattle.tlwire_closed.specs.declared.premise.Way.{Way};
+ghost use Rattle.tlwire_record.specs.Messages.{MessagesState};
 ghost use Rattle.tlwire_search.specs.Explained.{Explains, IsExplanation};
 
 use std::alloc::{AllocError, Global};
 use tl_rules::Event;
 use tl_types::{Channel, ClientId};
-use tlwire_closed::{Answer, Stuck, Way, is_seen_so, rule_out};
+use tlwire_closed::{Answer, Reason, Stuck, Way, is_seen_so, rule_out};
 use tlwire_pins::{Cores, Wrong, first_wrong, keeps_order, lines_at_pins};
 use tlwire_record::Messages;
 use tlwire_rounds::explain_in_rounds;
@@ -45,10 +46,11 @@ pub enum Verdict {
     Impossible(Wrong),
     /// No lawful run is seen so, by a closed set of states of one block.
     RuledOut(Stuck),
-    /// Neither was found; the attempt ended before the thing seen at this place, by this.
-    NotDecided(usize, Limit),
-    /// A run was found that has what was seen on each wire, but not in this order.
-    OtherOrder(Order),
+    /// Neither was found; the attempt ended before the thing seen at this place, by this. Closed sets say nothing for
+    /// this reason, where one was sought.
+    NotDecided(usize, Limit, Option<Reason>),
+    /// A run was found that has what was seen on each wire, but not in this order. Of closed sets the same.
+    OtherOrder(Order, Option<Reason>),
 }
 
 /// That of the two whose line comes first, if there is one.
@@ -299,7 +301,7 @@ fn ordered(alloc: Global, messages: &Messages, run: Vec<Event>) -> Result<Verdic
     ensures { IfOk result (IsVerdict messages.now) }
 {
     match other_order(alloc, messages, &run)? {
-        Some(order) => Ok(Verdict::OtherOrder(order)),
+        Some(order) => Ok(Verdict::OtherOrder(order, None)),
         None => Ok(Verdict::Explained(run)),
     }
 }
@@ -316,7 +318,7 @@ fn weighed_run(
 {
     match explanation {
         Explanation::Explained(run) => ordered(alloc, messages, run),
-        Explanation::NotExplained(place, limit) => Ok(Verdict::NotDecided(place, limit)),
+        Explanation::NotExplained(place, limit) => Ok(Verdict::NotDecided(place, limit, None)),
     }
 }
 
@@ -368,13 +370,44 @@ fn explained(alloc: Global, messages: &Messages) -> Result<Verdict, AllocError>
     Ok(verdict)
 }
 
-/// Where each run of a block is stuck, in a way of seeing that the header names.
-fn ruled_out_by(alloc: Global, messages: &Messages, way: Way) -> Result<Option<Stuck>, AllocError>
-    ensures { IfOk result (λ found. IfSome found (λ stuck. IsRuledOut messages.now)) }
+/// What closed sets say of what was seen.
+#[derive(Drop)]
+pub(crate) enum Sets {
+    /// No lawful run is seen so: each run of a block is stuck.
+    Stuck(Stuck),
+    /// None says so, for this reason, where one was sought.
+    Open(Option<Reason>),
+}
+
+/// Which closed sets were asked before a run is sought.
+#[derive(Clone, Copy)]
+enum Asked {
+    Nothing,
+    /// Those between the links' ends or at home, which say nothing for this reason.
+    Between(Option<Reason>),
+}
+
+/// Of the reasons of two ways the one that a larger set could still undo.
+fn both(one: Option<Reason>, other: Option<Reason>) -> Option<Reason> {
+    match (one, other) {
+        (None, reason) | (reason, None) => reason,
+        (Some(Reason::NoContradiction), reason) => reason,
+        (Some(Reason::TooManyStates), _) => Some(Reason::TooManyStates),
+    }
+}
+
+/// What closed sets say, in a way of seeing that the header names, and in those that were asked before.
+fn sets_by(
+    alloc: Global,
+    messages: &Messages,
+    way: Way,
+    before: Option<Reason>,
+) -> Result<Sets, AllocError>
+    ensures { IfOk result (IsSets messages.now) }
 {
     let setting = messages.setting();
     if !names(setting.premises(), way) {
-        return Ok(None);
+        return Ok(Sets::Open(before));
     }
     match rule_out(
         alloc,
@@ -383,8 +416,8 @@ fn ruled_out_by(alloc: Global, messages: &Messages, way: Way) -> Result<Option<S
         messages.image(),
         messages.seen(),
     )? {
-        Answer::Impossible(stuck) => Ok(Some(stuck)),
-        Answer::NotDecided(_) => Ok(None),
+        Answer::Impossible(stuck) => Ok(Sets::Stuck(stuck)),
+        Answer::NotDecided(reason) => Ok(Sets::Open(both(before, Some(reason)))),
     }
 }
 
@@ -395,44 +428,52 @@ fn is_all_in_order(premises: &[Premise]) -> bool {
         && !is_unseen(premises, Wire::Core(ClientId::new(0)))
 }
 
-/// Where each run of a block is stuck, in the ways of seeing that are told between the links' ends or at home.
-fn ruled_out_between(alloc: Global, messages: &Messages) -> Result<Option<Stuck>, AllocError>
-    ensures { IfOk result (λ found. IfSome found (λ stuck. IsRuledOut messages.now)) }
+/// What closed sets say, in the ways of seeing that are told between the links' ends or at home.
+fn sets_between(alloc: Global, messages: &Messages) -> Result<Sets, AllocError>
+    ensures { IfOk result (IsSets messages.now) }
 {
-    match ruled_out_by(alloc, messages, Way::Between)? {
-        Some(stuck) => Ok(Some(stuck)),
-        None => ruled_out_by(alloc, messages, Way::AtHome),
+    match sets_by(alloc, messages, Way::Between, None)? {
+        Sets::Stuck(stuck) => Ok(Sets::Stuck(stuck)),
+        Sets::Open(reason) => sets_by(alloc, messages, Way::AtHome, reason),
     }
 }
 
-/// Where each run of a block is stuck, in the ways of seeing that were not asked before a run was sought.
-fn ruled_out_behind(
-    alloc: Global,
-    messages: &Messages,
-    asked: bool,
-) -> Result<Option<Stuck>, AllocError>
-    ensures { IfOk result (λ found. IfSome found (λ stuck. IsRuledOut messages.now)) }
+/// What closed sets say, in the ways of seeing that were not asked before a run was sought.
+fn sets_behind(alloc: Global, messages: &Messages, asked: Asked) -> Result<Sets, AllocError>
+    ensures { IfOk result (IsSets messages.now) }
 {
-    if !asked {
-        if let Some(stuck) = ruled_out_between(alloc, messages)? {
-            return Ok(Some(stuck));
-        }
+    let between = match asked {
+        Asked::Nothing => sets_between(alloc, messages)?,
+        Asked::Between(reason) => Sets::Open(reason),
+    };
+    match between {
+        Sets::Stuck(stuck) => Ok(Sets::Stuck(stuck)),
+        Sets::Open(reason) => sets_by(alloc, messages, Way::AtClients, reason),
     }
-    ruled_out_by(alloc, messages, Way::AtClients)
 }
 
-/// A run that explains what was seen; else where each run of a block is stuck, in the ways of seeing that were not
-/// asked before.
-fn sought(alloc: Global, messages: &Messages, asked: bool) -> Result<Verdict, AllocError>
+/// A verdict, with the reason for which closed sets say nothing, where it is none.
+fn with_reason(verdict: Verdict, reason: Option<Reason>) -> Verdict
+    ensures { (m : MessagesState) → IsVerdict m verdict → IsVerdict m result }
+{
+    match verdict {
+        Verdict::NotDecided(place, limit, _) => Verdict::NotDecided(place, limit, reason),
+        Verdict::OtherOrder(order, _) => Verdict::OtherOrder(order, reason),
+        verdict => verdict,
+    }
+}
+
+/// A run that explains what was seen; else what closed sets say, in the ways of seeing that were not asked before.
+fn sought(alloc: Global, messages: &Messages, asked: Asked) -> Result<Verdict, AllocError>
     ensures { IfOk result (IsVerdict messages.now) }
 {
     let verdict = explained(alloc, messages)?;
     if let Verdict::Explained(_) = &verdict {
         return Ok(verdict);
     }
-    match ruled_out_behind(alloc, messages, asked)? {
-        Some(stuck) => Ok(Verdict::RuledOut(stuck)),
-        None => Ok(verdict),
+    match sets_behind(alloc, messages, asked)? {
+        Sets::Stuck(stuck) => Ok(Verdict::RuledOut(stuck)),
+        Sets::Open(reason) => Ok(with_reason(verdict, reason)),
     }
 }
 
@@ -442,13 +483,13 @@ fn sought(alloc: Global, messages: &Messages, asked: bool) -> Result<Verdict, Al
 fn weighed(alloc: Global, messages: &Messages) -> Result<Verdict, AllocError>
     ensures { IfOk result (IsVerdict messages.now) }
 {
-    let first = is_all_in_order(messages.setting().premises());
-    if first {
-        if let Some(stuck) = ruled_out_between(alloc, messages)? {
-            return Ok(Verdict::RuledOut(stuck));
-        }
+    if !is_all_in_order(messages.setting().premises()) {
+        return sought(alloc, messages, Asked::Nothing);
     }
-    sought(alloc, messages, first)
+    match sets_between(alloc, messages)? {
+        Sets::Stuck(stuck) => Ok(Verdict::RuledOut(stuck)),
+        Sets::Open(reason) => sought(alloc, messages, Asked::Between(reason)),
+    }
 }
 
 /// What is said of what was seen. Err is a refused request for memory.

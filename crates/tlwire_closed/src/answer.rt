@@ -1,7 +1,8 @@
 //! What is answered of a record.
 use std::alloc::AllocError;
-use tl_rules::BlockState;
-use tlcheck_rules::Rule;
+use tl_rules::CachedCopy;
+use tl_types::{Awaited, ClientId};
+use tlcheck_rules::Breach;
 
 /// Why a closed set of a block was not found.
 #[derive(Clone, Copy, Debug, PartialEq, Eq)]
@@ -29,6 +30,33 @@ impl From<AllocError> for Halt {
     }
 }
 
+/// Whose line it is that a state does not reach.
+#[derive(Drop)]
+pub enum Side {
+    /// A client's, which holds this of the block in the state, and waits for this.
+    Client(ClientId, CachedCopy, Awaited),
+    /// The memory's.
+    Memory,
+}
+
+/// What keeps a state from a line.
+#[derive(Drop)]
+pub enum Hindrance {
+    /// The event of the line breaks this in the state.
+    Breach(Breach),
+    /// The line at this place, which stands behind, has to be seen first.
+    Line(usize),
+    /// Another line has to be seen first.
+    Order,
+}
+
+/// What keeps a state from a line, and whose line it is.
+#[derive(Drop)]
+pub struct Stop {
+    pub side: Side,
+    pub hindrance: Hindrance,
+}
+
 /// Where each run of a block ends, as far as it is seen so.
 #[derive(Drop)]
 pub struct Stuck {
@@ -36,10 +64,8 @@ pub struct Stuck {
     pub block: u32,
     /// The place of the first line that no run reaches.
     pub place: usize,
-    /// A state of the block before it.
-    pub state: BlockState,
-    /// The rules of the protocol that the line's event breaks, one for each state before it in which it breaks one.
-    pub rules: Vec<Rule>,
+    /// What keeps each of the states before it from it, each once.
+    pub stops: Vec<Stop>,
 }
 
 /// What is answered of a record.
