@@ -160,6 +160,8 @@ pub fn tell_run<W: Write, E: Write>(
             3
         }
         Err(TableError::Memory) => tell_fault(alloc, "", Fault::Memory, faults),
-        Err(TableError::NotClosed) => tell_fault(alloc, "", Fault::NotClosed, faults),
+        Err(TableError::NotClosed | TableError::NotReached) => {
+            tell_fault(alloc, "", Fault::NotClosed, faults)
+        }
     }
 }

@@ -53,7 +53,7 @@ fn refused(line: u64, error: LineError) -> Fault {
 fn no_table(error: TableError) -> Fault {
     match error {
         TableError::Memory => Fault::Memory,
-        TableError::NotClosed => Fault::NotClosed,
+        TableError::NotClosed | TableError::NotReached => Fault::NotClosed,
     }
 }
 
