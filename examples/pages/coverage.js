@@ -1,8 +1,8 @@
 "use strict";
-// coverage.js BROWSER TLCHECK [--shots FOLDER]: opens a page of `tlcheck --coverage --html` in a headless Chromium, and tries
-// what a reader does: sums, races, filters, the order of the rows, the command in each row; then the words of the command line,
-// and that each fault that is planted into the page is found. Each trial that fails prints a line; the last line is 'N passed, M
-// failed'.
+// coverage.js BROWSER TLCHECK [--shots FOLDER]: opens a page of `tlcheck --coverage --html` in a headless Chromium, and one with
+// `--home`, and tries what a reader does: sums, races, filters, the order of the rows, the command in each row; then the words of
+// the command line, and that each fault that is planted into the page is found. Each trial that fails prints a line; the last
+// line is 'N passed, M failed'.
 const { execFileSync, spawnSync } = require("child_process");
 const fs = require("fs");
 const path = require("path");
@@ -40,17 +40,18 @@ const act = (id, name, change) => `{ const one = document.querySelector('#${id} 
 const press = (id, data, value) =>
   `[...document.querySelectorAll('#${id} button')].find((one) => one.dataset.${data} === '${value}').click()`;
 
-// The text's own tables: of each section the title, the sums by action, and the rows by their numbers.
-function tablesOf(text) {
+// The text's own tables: of each section the title, the sums by action, and the rows by their numbers, as the page has their
+// cells. A row has one more with what home reaches, a sum two.
+function tablesOf(text, isByHome) {
   const tables = {};
   let table;
   for (const line of text.trim().split("\n")) {
-    const head = /^clients (\d+): (\d+) of (\d+) situations reached, (\d+) events beyond$/.exec(line);
-    const row = /^(\d+\.\d+) (\d+) (\S+) (.*)$/.exec(line);
-    const sum = /^(.+): (\d+) of (\d+)$/.exec(line);
-    if (head) table = tables["clients-" + head[1]] = { title: line.split(",")[0], sums: [], rows: {} };
-    else if (row) table.rows[row[1]] = row.slice(1);
-    else table.sums.push([sum[1], sum[2], sum[3], String(sum[3] - sum[2])]);
+    const head = /^(clients (\d+): .*), (\d+) events beyond$/.exec(line);
+    const row = (isByHome ? /^(\d+\.\d+) (\d+) (home|-) (\S+) (.*)$/ : /^(\d+\.\d+) (\d+) (\S+) (.*)$/).exec(line);
+    const sum = (isByHome ? /^(.+): (\d+) of (\d+), (\d+) of (\d+)$/ : /^(.+): (\d+) of (\d+)$/).exec(line);
+    if (head) table = tables["clients-" + head[2]] = { title: head[1], sums: [], rows: {} };
+    else if (row) table.rows[row[1]] = [row[1], row.at(-1), ...row.slice(2, -1), `tlcheck --how ${row[1]}`];
+    else table.sums.push([sum[1], sum[2], sum[3], String(sum[3] - sum[2]), ...sum.slice(4)]);
   }
   return tables;
 }
@@ -67,11 +68,8 @@ async function opens(browser, tally, url, tables) {
     tally.check(`${id}: each row is shown`, rows.every((row) => !row.isHidden) && told === `${count} of ${count} situations`, told);
     const numbers = new Set(rows.map(({ cells }) => cells[0]));
     tally.check(`${id}: each situation has one row`, numbers.size === count && rows.length === count);
-    tally.check(`${id}: each row is the text's`, rows.every(({ cells: [number, words, events, first], isShaded }) => {
-      const own = table.rows[number];
-      return own[3] === words && own[1] === events && own[2] === first && isShaded === (events === "0");
-    }));
-    tally.check(`${id}: each row has its command`, rows.every(({ cells }) => cells[4] === `tlcheck --how ${cells[0]}`));
+    tally.check(`${id}: each row is the text's, with its command`, rows.every(({ cells, isShaded }) =>
+      JSON.stringify(cells) === JSON.stringify(table.rows[cells[0]]) && isShaded === (cells[2] === "0")));
     const places = rows.map(({ cells }) => [sums.findIndex(([action]) => action === cells[1].split(";")[0]), cells[1]]);
     tally.check(`${id}: by action, and then by words`, places.every(([action, words], i) => i === 0 || places[i - 1][0] < action
       || (places[i - 1][0] === action && places[i - 1][1] < words)));
@@ -102,7 +100,7 @@ async function races(browser, tally, url) {
   }
 }
 
-// Each filter leaves its rows, alone and with another.
+// Each filter leaves its rows, alone and with another. That of what home reaches is there where its column is.
 async function filters(browser, tally, url) {
   await browser.go(url);
   const shown = async (id) => {
@@ -116,15 +114,23 @@ async function filters(browser, tally, url) {
     tally.check(`${id}: ${name}`, isTold && isExact, left.length);
   };
   const isNever = ({ cells }) => cells[2] === "0";
+  const isByHome = ({ cells }) => cells[3] === "home";
   const isOf = (action) => ({ cells }) => cells[1].split(";")[0] === action;
   const hasBoth = (race) => ({ cells }) => race.split("+").every((one) => flightsOf(cells[1]).includes(one));
-  for (const { id, races: cells } of await browser.ask(SECTIONS)) {
+  for (const { id, races: cells, rows } of await browser.ask(SECTIONS)) {
     await browser.ask(act(id, "never", "checked = true"));
     await only(id, "never reached", isNever);
     await browser.ask(act(id, "action", "value = 'take_c'"));
     await only(id, "never reached, of take_c", (row) => isNever(row) && isOf("take_c")(row));
     await browser.ask(act(id, "never", "checked = false"));
     await only(id, "of take_c", isOf("take_c"));
+    const hasHome = await browser.ask(`document.querySelector('#${id} [name=home]') !== null`);
+    tally.check(`${id}: the filter of what home reaches`, hasHome === (rows[0].cells.length === 6));
+    if (hasHome) {
+      await browser.ask(act(id, "home", "checked = true"));
+      await only(id, "of take_c, that this home reaches", (row) => isByHome(row) && isOf("take_c")(row));
+      await browser.ask(act(id, "home", "checked = false"));
+    }
     await browser.ask(press(id, "action", "probe toN"));
     await only(id, "an action that is pressed", isOf("probe toN"));
     for (const [race] of cells) {
@@ -144,7 +150,8 @@ function words(tally, tlcheck, files) {
   const same = said(["--coverage", "-"], fs.readFileSync(file));
   tally.check("standard input", same.status === 0 && same.stdout === own.stdout.replaceAll(file + ":", "-:"), same.stderr);
   for (const args of [[], ["--how"], ["--coverage"], ["--coverage", "--html"], ["--progress"], ["--html"], ["-x"],
-    ["--coverage", "--other", file], ["--coverage", file, "--html"], ["--progress", "--coverage"], ["--how", "1.0"]]) {
+    ["--coverage", "--other", file], ["--coverage", file, "--html"], ["--progress", "--coverage"], ["--how", "1.0"],
+    ["--coverage", "--home"], ["--coverage", "--home", "--html"], ["--home", file], ["--how", "--script"]]) {
     const { status, stdout, stderr } = said(args);
     tally.check(`tlcheck ${args.join(" ")}`, status === 2 && stdout === "" && stderr === "error usage\n", `${status} ${stderr}`);
   }
@@ -154,7 +161,8 @@ function words(tally, tlcheck, files) {
 async function leads(browser, tally, url, tlcheck) {
   await browser.go(url);
   for (const { id, rows } of await browser.ask(SECTIONS)) {
-    for (const { cells: [number, words, , , command] } of rows.filter((row, i) => i % 97 === 0)) {
+    for (const { cells } of rows.filter((row, i) => i % 97 === 0)) {
+      const [number, words, command] = [cells[0], cells[1], cells.at(-1)];
       const run = execFileSync(tlcheck, command.split(" ").slice(1)).toString();
       tally.check(`${id}: ${command}`, run.startsWith(`# ${number} ${words}\n`), run.split("\n")[0]);
     }
@@ -164,6 +172,7 @@ async function leads(browser, tally, url, tlcheck) {
 // Faults of the page's script, in the form of plants.js.
 const PLANTS = [
   ["the filter of what was never reached is off", "filters", "!never.checked ||", "true ||"],
+  ["the filter of what home reaches is off", "filters", "!home?.checked ||", "true ||"],
   ["the filter by action is off", "filters", "!action.value ||", "true ||"],
   ["a race asks for one of two", "filters", ".every((flight) =>", ".some((flight) =>"],
   ["a race takes the messages of others for its own", "filters", "includes(`|${flight}|`)", "includes(`${flight}|`)"],
@@ -202,12 +211,15 @@ runs(program, async (browser, tally) => {
     return file;
   });
   const said = (...words) => execFileSync(tlcheck, [...words, ...files], { maxBuffer: 1 << 26 }).toString();
-  const text = said("--coverage", "--html");
-  const tables = tablesOf(said("--coverage"));
   const page = path.join(browser.folder, "coverage.html");
-  fs.writeFileSync(page, text);
   const url = `file://${page}`;
-  for (const trial of [opens, races, filters]) await trial(browser, tally, url, tables);
+  let text, tables;
+  for (const home of [[], ["--home"]]) {
+    text = said("--coverage", ...home, "--html");
+    tables = tablesOf(said("--coverage", ...home), home.length > 0);
+    fs.writeFileSync(page, text);
+    for (const trial of [opens, races, filters]) await trial(browser, tally, url, tables);
+  }
   await leads(browser, tally, url, tlcheck);
   words(tally, tlcheck, files);
   await plants(browser, tally, text, tables);

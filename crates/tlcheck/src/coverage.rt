@@ -2,7 +2,9 @@
 
 use std::fs::File;
 use std::io::{BufReader, Read};
-use tlcheck_coverage::{Fault, Form, Number, Tallies, cover, tell_fault, tell_run, tell_tables};
+use tlcheck_coverage::{
+    Fault, Form, Number, Tallies, Way, cover, tell_fault, tell_tables, tell_way,
+};
 use tlcheck_reader::{Ending, show};
 
 /// Counts the events of what a reader has.
@@ -33,8 +35,12 @@ fn count(rt: &HostRuntime, name: &str, tallies: &mut Tallies, place: usize) -> R
 }
 
 /// Counts the events of files, and tells what they have reached.
-pub(crate) fn tell_coverage(rt: &HostRuntime, form: Form, names: &[String]) -> u8 {
-    let mut tallies = Tallies::new(rt.alloc());
+pub(crate) fn tell_coverage(rt: &HostRuntime, form: Form, by_home: bool, names: &[String]) -> u8 {
+    let mut tallies = if by_home {
+        Tallies::by_home(rt.alloc())
+    } else {
+        Tallies::new(rt.alloc())
+    };
     for (place, name) in names.iter().enumerate() {
         if let Err(fault) = count(rt, name.as_str(), &mut tallies, place) {
             return tell_fault(rt.alloc(), name.as_str(), fault, &mut rt.stderr());
@@ -50,10 +56,10 @@ pub(crate) fn tell_coverage(rt: &HostRuntime, form: Form, names: &[String]) -> u
     )
 }
 
-/// Tells a run that reaches a situation.
-pub(crate) fn tell_how(rt: &HostRuntime, word: &str) -> u8 {
+/// Tells a way into a situation.
+pub(crate) fn tell_how(rt: &HostRuntime, way: Way, word: &str) -> u8 {
     match Number::parse(word) {
-        Some(number) => tell_run(rt.alloc(), number, &mut rt.stdout(), &mut rt.stderr()),
+        Some(number) => tell_way(rt.alloc(), number, way, &mut rt.stdout(), &mut rt.stderr()),
         None => show(&mut rt.stderr(), &Ending::Usage),
     }
 }

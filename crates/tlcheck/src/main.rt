@@ -1,6 +1,7 @@
 //! `tlcheck [--progress] FILE`: whether a record of events is a lawful run; `-` stands for standard input, and no other
-//! word that begins with a dash for a file. `tlcheck --coverage [--html] FILE ..`: which situations of the protocol
-//! records have reached. `tlcheck --how N`: a run that reaches situation N.
+//! word that begins with a dash for a file. `tlcheck --coverage [--home] [--html] FILE ..`: which situations of the
+//! protocol records have reached, and with `--home` which of them this project's home reaches. `tlcheck --how N`: a run
+//! that reaches situation N; `tlcheck --how --script N`: a script for `tlcache trace` that does.
 #![tactic(auto)]
 
 mod asked;
@@ -68,8 +69,8 @@ fn status(rt: &HostRuntime) -> u8 {
     };
     match asked_by(&words) {
         Some(Asked::Judged(name, progress)) => judge_file(rt, name, progress),
-        Some(Asked::Covered(form, names)) => tell_coverage(rt, form, names),
-        Some(Asked::Reached(number)) => tell_how(rt, number),
+        Some(Asked::Covered(form, by_home, names)) => tell_coverage(rt, form, by_home, names),
+        Some(Asked::Reached(way, number)) => tell_how(rt, way, number),
         None => refuse(rt, Ending::Usage),
     }
 }

@@ -1,5 +1,6 @@
 -- What is counted of the situations of a record (this project's own).
-use Rattle.std.specs.Prelude.{◌≡◌, ◌≢◌, ◌⊎◌, ℕ, ◌+◌, ◌<◌, List, [], ◌∷◌, ◌++◌, Option, Some, None, slice_get, slice_index_or, slice_set}
+use Rattle.std.specs.Prelude.{◌≡◌, ◌≢◌, ◌⊎◌, ◌↔◌, ℕ, ◌+◌, ◌<◌, List, [], ◌∷◌, ◌++◌, Bool, Option, Some, None, Contains, IsTrue}
+use Rattle.std.specs.Prelude.{slice_get, slice_index_or, slice_set}
 use Rattle.tl_protocol.specs.declared.event.Event.{Event}
 use Rattle.tl_protocol.specs.declared.shape.Shape.{Shape}
 use Rattle.tl_protocol.specs.Protocol.{block_of}
@@ -9,16 +10,26 @@ use Rattle.tlcheck_rules.specs.Rules.{client_of}
 use Rattle.tlcheck_situations.specs.Situation.{situation_of}
 use Rattle.tlcheck_rules.specs.Judged.{Follows, IsPermitted, JudgeState}
 use Rattle.tlcheck_rules.specs.declared.entry.Entry.{Entry}
+use Rattle.tlcheck_home.specs.HomeTableState.{HomeTableState}
 use Rattle.tlcheck_situations.specs.Reach.{situation_after}
 use Rattle.tlcheck_situations.specs.declared.situation.Situation.{Situation}
 use Rattle.tlcheck_coverage.specs.declared.tally.Count.{Count}
 use Rattle.tlcheck_coverage.specs.declared.tally.Mark.{Mark}
 
--- the situations of a table, how often each was counted, and how many events were in none of them
+-- the situations of a table, where it is asked for the table of what this project's home reaches, how often each
+-- situation was counted, and how many events were in none of them
 pub record TallyState : Type 0 where
   pub situations : List Situation
+  pub home : Option HomeTableState
   pub counts : List Count
   pub beyond : ℕ
+
+-- whether this project's home reaches a situation; none where its table is not asked for
+abbrev pub IsByHome : Option HomeTableState → Situation → Option Bool → Type 0
+IsByHome None s None = Unit {0}
+IsByHome None s (Some b) = ⊥
+IsByHome (Some home) s None = ⊥
+IsByHome (Some home) s (Some b) = IsTrue b ↔ Contains home.situations s
 
 -- the first of two places
 abbrev pub first_mark : Option Mark → Mark → Option Mark
@@ -36,12 +47,14 @@ no_event = record { events = 0; first = None }
 -- The situation at a place is counted once more.
 pub record IsCountedAt (k : ℕ) (mark : Mark) (old new : TallyState) : Type 0 where
   pub same : new.situations ≡ old.situations
+  pub home : new.home ≡ old.home
   pub counts : new.counts ≡ slice_set old.counts k (one_more (slice_index_or old.counts k no_event) mark)
   pub beyond : new.beyond ≡ old.beyond
 
 -- One more event is in none of the situations.
 pub record IsCountedBeyond (old new : TallyState) : Type 0 where
   pub same : new.situations ≡ old.situations
+  pub home : new.home ≡ old.home
   pub counts : new.counts ≡ old.counts
   pub beyond : new.beyond ≡ old.beyond + 1
 

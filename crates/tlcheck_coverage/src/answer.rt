@@ -2,14 +2,16 @@
 
 use crate::page::push_page;
 use crate::reading::Fault;
+use crate::script::push_script;
 use crate::tallies::{MOST, Tallies};
 use crate::text::{push_run, push_tally};
 use std::alloc::{AllocError, Global};
 use std::io::Write;
 use tl_script_words::parse_number;
 use tl_streams::{ProgramFault, tell, write_whole};
+use tlcheck_home::HomeTable;
 use tlcheck_reader::{Ending, Outcome};
-use tlcheck_situations::{Table, TableError};
+use tlcheck_situations::{Situation, Table, TableError};
 
 /// How the tables are told.
 #[derive(Clone, Copy, Debug, PartialEq, Eq)]
@@ -47,7 +49,7 @@ fn status_of(fault: &Fault) -> u8 {
         Fault::Refused(Outcome::Lawful(_, _)) => 0,
         Fault::Refused(Outcome::Broken(_, _)) => 1,
         Fault::Refused(Outcome::Unreadable(_, _) | Outcome::Empty) => 3,
-        Fault::Memory | Fault::NotClosed => 4,
+        Fault::Memory | Fault::NotSearched => 4,
         Fault::File => 5,
     }
 }
@@ -61,7 +63,7 @@ fn fault_text(alloc: Global, name: &str, fault: Fault) -> Result<String, AllocEr
         }
         Fault::Memory => format!(in alloc; "{}\n", ProgramFault::Memory),
         Fault::File => format!(in alloc; "{name}: {}\n", ProgramFault::File),
-        Fault::NotClosed => format!(in alloc; "error 54 situations\n"),
+        Fault::NotSearched => format!(in alloc; "error 54 situations\n"),
     }
 }
 
@@ -127,41 +129,100 @@ pub fn tell_tables<W: Write, E: Write>(
     write_text(tables(alloc, tallies, names, form), 0, output, faults)
 }
 
-/// The record of a run that reaches a situation, with the situation as a comment; nothing where there is none of that
-/// number.
-fn run_text(alloc: Global, number: Number) -> Result<Option<String>, TableError> {
+/// How a way into a situation is told.
+#[derive(Clone, Copy, Debug, PartialEq, Eq)]
+pub enum Way {
+    /// A run, as a record.
+    Record,
+    /// Moves of clients and of this project's home, as a script for `tlcache trace`.
+    Script,
+}
+
+/// What is told of a way into a situation.
+#[derive(Drop)]
+enum Told {
+    Text(String),
+    NoSituation,
+    NotByHome,
+}
+
+/// The record of a run that reaches a situation, with the situation as a comment.
+fn run_text(
+    alloc: Global,
+    table: &Table,
+    number: Number,
+    situation: &Situation,
+) -> Result<Told, AllocError> {
+    let Some(run) = table.run_to(alloc, situation)? else {
+        return Ok(Told::NoSituation);
+    };
+    let mut text = String::new(alloc);
+    push_run(&mut text, number.clients, number.place, situation, &run)?;
+    Ok(Told::Text(text))
+}
+
+/// The script of moves into a situation, with the situation as a comment.
+fn script_text(alloc: Global, number: Number, situation: &Situation) -> Result<Told, TableError> {
+    if number.clients < 1 || number.clients > MOST {
+        return Ok(Told::NoSituation);
+    }
+    let table = HomeTable::new(alloc, number.clients)?;
+    let Some(moves) = table.moves_into(alloc, situation)? else {
+        return Ok(Told::NotByHome);
+    };
+    let mut text = String::new(alloc);
+    push_script(
+        alloc,
+        &mut text,
+        number.clients,
+        number.place,
+        situation,
+        &moves,
+    )?;
+    Ok(Told::Text(text))
+}
+
+/// What is told of a way into the situation of a number.
+fn way_text(alloc: Global, number: Number, way: Way) -> Result<Told, TableError> {
     if number.clients < 1 || number.place < 1 {
-        return Ok(None);
+        return Ok(Told::NoSituation);
     }
     let table = Table::new(alloc, number.clients)?;
     let place = number.place as usize - 1;
     let Some(situation) = table.situations().get(place) else {
-        return Ok(None);
+        return Ok(Told::NoSituation);
     };
-    let Some(run) = table.run_to(alloc, situation)? else {
-        return Ok(None);
-    };
-    let mut text = String::new(alloc);
-    push_run(&mut text, number.clients, number.place, situation, &run)?;
-    Ok(Some(text))
+    match way {
+        Way::Record => {
+            let told = run_text(alloc, &table, number, situation)?;
+            Ok(told)
+        }
+        Way::Script => script_text(alloc, number, situation),
+    }
 }
 
-/// Tells a run that reaches a situation, as a record, and answers the status: 3 where there is no such situation.
-pub fn tell_run<W: Write, E: Write>(
+/// Tells a way into a situation, and answers the status: 3 where there is no such situation, or no moves of this
+/// project's home lead into it.
+pub fn tell_way<W: Write, E: Write>(
     alloc: Global,
     number: Number,
+    way: Way,
     output: &mut W,
     faults: &mut E,
 ) -> u8 {
-    match run_text(alloc, number) {
-        Ok(Some(text)) => write_text(Ok(text), 0, output, faults),
-        Ok(None) => {
+    match way_text(alloc, number, way) {
+        Ok(Told::Text(text)) => write_text(Ok(text), 0, output, faults),
+        Ok(Told::NoSituation) => {
             let _ = write_whole(faults, b"error 53 no such situation\n");
+            3
+        }
+        Ok(Told::NotByHome) => {
+            let _ = write_whole(faults, b"error 55 no run of this home leads there\n");
             3
         }
         Err(TableError::Memory) => tell_fault(alloc, "", Fault::Memory, faults),
         Err(TableError::NotClosed | TableError::NotReached) => {
-            tell_fault(alloc, "", Fault::NotClosed, faults)
+            tell_fault(alloc, "", Fault::NotSearched, faults)
         }
     }
 }

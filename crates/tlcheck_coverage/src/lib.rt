@@ -4,11 +4,13 @@
 mod answer;
 mod page;
 mod reading;
+mod script;
 mod tallies;
 mod tally;
 mod text;
 
-pub use answer::{Form, Number, tell_fault, tell_run, tell_tables};
+pub use answer::{Form, Number, Way, tell_fault, tell_tables, tell_way};
 pub use reading::{Fault, cover};
+pub use script::push_script;
 pub use tallies::Tallies;
 pub use tally::{Count, Mark, Tally};

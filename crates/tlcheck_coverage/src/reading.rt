@@ -23,8 +23,8 @@ pub enum Fault {
     Memory,
     /// The file could not be read to its end.
     File,
-    /// The search for all situations has missed one.
-    NotClosed,
+    /// The search for all situations has missed one, or noted a way that does not lead into its situation.
+    NotSearched,
 }
 
 /// Where a reading is.
@@ -53,7 +53,7 @@ fn refused(line: u64, error: LineError) -> Fault {
 fn no_table(error: TableError) -> Fault {
     match error {
         TableError::Memory => Fault::Memory,
-        TableError::NotClosed | TableError::NotReached => Fault::NotClosed,
+        TableError::NotClosed | TableError::NotReached => Fault::NotSearched,
     }
 }
 
@@ -221,7 +221,8 @@ fn unread(error: &io::Error) -> Fault {
 /// Counts the events of a record, line by line, and answers how many there are. `file` is the record's place among
 /// those that are counted. The first entry that is not permitted, or that cannot be read, ends it (`Refused`); what was
 /// counted before stays. `Memory` where memory is refused, `File` where the record cannot be read to its end,
-/// `NotClosed` where the search for all situations has missed one.
+/// `NotSearched` where the search for all situations has missed one, or noted a way that does not lead into its
+/// situation.
 pub fn cover<R: BufRead>(
     alloc: Global,
     reader: &mut R,

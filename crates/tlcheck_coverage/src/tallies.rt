@@ -1,8 +1,10 @@
 //! A tally for each number of clients that is met.
-ghost use Rattle.std.specs.Prelude.{◌<◌};
+ghost use Rattle.std.specs.Prelude.{◌<◌, ◌≤◌};
 
 use crate::tally::{Mark, Tally};
 use std::alloc::{AllocError, Global};
+use tl_types::CLIENTS;
+use tlcheck_home::HomeTable;
 use tlcheck_rules::{Entry, Judge, Refusal};
 use tlcheck_situations::{Table, TableError};
 
@@ -12,13 +14,35 @@ pub(crate) const MOST: u32 = 3;
 /// The tallies so far, by their clients.
 #[derive(Drop)]
 pub struct Tallies {
+    by_home: bool,
     tallies: Vec<Tally>,
+}
+
+/// The table of what this project's home reaches, if it is asked for.
+fn home_asked(alloc: Global, clients: u32, by_home: bool) -> Result<Option<HomeTable>, TableError>
+    requires some { 0 < clients }
+    requires few { clients ≤ CLIENTS }
+{
+    if !by_home {
+        return Ok(None);
+    }
+    let table = HomeTable::new(alloc, clients)?;
+    Ok(Some(table))
 }
 
 impl Tallies {
     /// None.
     pub fn new(alloc: Global) -> Tallies {
         Tallies {
+            by_home: false,
+            tallies: Vec::new(alloc),
+        }
+    }
+
+    /// None. Each that is made has the table of what this project's home reaches.
+    pub fn by_home(alloc: Global) -> Tallies {
+        Tallies {
+            by_home: true,
             tallies: Vec::new(alloc),
         }
     }
@@ -42,7 +66,8 @@ impl Tallies {
         if let Some(place) = self.place_of(meant) {
             return Ok(place);
         }
-        let tally = Tally::new(alloc, Table::new(alloc, meant)?)?;
+        let home = home_asked(alloc, meant, self.by_home)?;
+        let tally = Tally::new(alloc, Table::new(alloc, meant)?, home)?;
         let place = self.tallies.len();
         match self.tallies.push(tally) {
             Ok(()) => Ok(place),

@@ -1,15 +1,17 @@
 //! How often each situation of a table was reached.
-ghost use Rattle.std.specs.Prelude.{◌≡◌, ◌≢◌, ◌<◌, ◌+◌, ℕ, List, Some, IfErr, IfOk, OnErr, OnOk, length};
+ghost use Rattle.std.specs.Prelude.{◌≡◌, ◌≢◌, ◌↔◌, ◌<◌, ◌+◌, ℕ, List, Some, IfErr, IfOk, IsSome, IsTrue, OnErr, OnOk, length};
 ghost use Rattle.tl_protocol.specs.declared.event.Event.{Event};
 ghost use Rattle.tl_protocol.specs.declared.shape.Shape.{Shape};
 ghost use Rattle.tlcheck_rules.specs.Judged.{Breaks, Follows};
 ghost use Rattle.tlcheck_rules.specs.declared.judge.Breach.{Breach};
 ghost use Rattle.tlcheck_rules.specs.declared.judge.Refusal.TheVariants.{Broken};
-ghost use Rattle.tlcheck_coverage.specs.Tally.{IsCountedAt, IsCountedBeyond, IsNoted, IsSeen, IsSituationIn, one_more};
+ghost use Rattle.tlcheck_coverage.specs.Tally.{IsByHome, IsCountedAt, IsCountedBeyond, IsNoted, IsSeen};
+ghost use Rattle.tlcheck_coverage.specs.Tally.{IsSituationIn, one_more};
 
 use std::alloc::{AllocError, Global};
 use std::marker::Model;
 use tl_rules::{Event, Plain};
+use tlcheck_home::HomeTable;
 use tlcheck_rules::{Entry, Judge, Refusal, client_of};
 use tlcheck_situations::{Action, Situation, Table, situation_at};
 
@@ -27,10 +29,11 @@ pub struct Count {
     pub first: Option<Mark>,
 }
 
-/// A table, with a count for each situation.
+/// A table, with a count for each situation, and the table of what this project's home reaches where it is asked for.
 #[derive(Drop)]
 pub struct Tally {
     table: Table,
+    home: Option<HomeTable>,
     counts: Vec<Count>,
     beyond: u64,
 }
@@ -41,7 +44,12 @@ impl Model for Tally {
 
     ghost Value = { TallyState };
 
-    ghost view = { λ t. record { situations = t.table.situations; counts = t.counts.items; beyond = t.beyond } };
+    ghost view = { λ t. record {
+      situations = t.table.situations;
+      home = t.home;
+      counts = t.counts.items;
+      beyond = t.beyond;
+    } };
 
     ghost invariant = { λ t. length t.counts.items ≡ length t.table.situations };
 }
@@ -77,8 +85,9 @@ fn situation_in(plain: &Plain, event: &Event) -> Option<Situation>
 
 impl Tally {
     /// Nothing is counted. The error is want of memory.
-    pub fn new(alloc: Global, table: Table) -> Result<Tally, AllocError>
-        ensures { IfOk result (λ t. t.situations ≡ table.situations) }
+    pub fn new(alloc: Global, table: Table, home: Option<HomeTable>) -> Result<Tally, AllocError>
+        ensures situations { IfOk result (λ t. t.situations ≡ table.situations) }
+        ensures home { IfOk result (λ t. t.home ≡ home) }
     {
         let none = Count {
             events: 0,
@@ -87,6 +96,7 @@ impl Tally {
         let counts = vec![in alloc; none; table.situations().len()]?;
         Ok(Tally {
             table,
+            home,
             counts,
             beyond: 0,
         })
@@ -97,6 +107,23 @@ impl Tally {
         ensures { result.now.situations ≡ self.now.situations }
     {
         &self.table
+    }
+
+    /// Whether it has the table of what this project's home reaches.
+    pub fn has_home(&self) -> bool
+        ensures { IsTrue result ↔ IsSome self.now.home }
+    {
+        self.home.is_some()
+    }
+
+    /// Whether this project's home reaches a situation; None where its table was not asked for.
+    pub fn by_home(&self, situation: &Situation) -> Option<bool>
+        ensures { IsByHome self.now.home situation.now result }
+    {
+        match &self.home {
+            None => None,
+            Some(home) => Some(home.has(situation)),
+        }
     }
 
     /// The counts, in the order of the table.

@@ -38,9 +38,11 @@ pub(crate) const TAIL: &str = r##"<script>
 "use strict";
 for (const section of document.querySelectorAll("section")) {
   const rows = [...section.querySelectorAll(".rows tbody tr")];
-  const [never, action, race] = ["never", "action", "race"].map((name) => section.querySelector(`[name=${name}]`));
+  const names = ["never", "home", "action", "race"];
+  const [never, home, action, race] = names.map((name) => section.querySelector(`[name=${name}]`));
   const told = section.querySelector("[role=status]");
   const fits = (row) => (!never.checked || row.classList.contains("never"))
+    && (!home?.checked || row.querySelector(".home").textContent === "home")
     && (!action.value || row.dataset.action === action.value)
     && race.value.split("+").every((flight) => !flight || row.dataset.flights.includes(`|${flight}|`));
   const show = () => {

@@ -3,7 +3,7 @@
 use crate::page::escape::push_escaped;
 use crate::page::flight::{FLIGHTS, is_in_flight};
 use crate::tally::{Count, Tally};
-use crate::text::Spot;
+use crate::text::{Spot, home_word};
 use std::alloc::{AllocError, Global};
 use std::fmt::Write;
 use tlcheck_situations::{ACTIONS, Action, Situation};
@@ -39,13 +39,15 @@ fn push_flights(text: &mut String, situation: &Situation) -> Result<(), AllocErr
     Ok(())
 }
 
-/// A situation's row: its number, its words, its count, where it was reached first, and the command that reaches it.
+/// A situation's row: its number, its words, its count, whether this project's home reaches it where that is asked for,
+/// where it was reached first, and the command that reaches it.
 fn push_row(
     alloc: Global,
     text: &mut String,
     number: &str,
     situation: &Situation,
     count: Count,
+    by_home: Option<bool>,
     names: &[String],
 ) -> Result<(), AllocError> {
     let style = if count.events == 0 { "never" } else { "met" };
@@ -58,8 +60,13 @@ fn push_row(
     let events = count.events;
     write!(
         text,
-        "\"><td>{number}<td>{situation}<td class=\"count\">{events}<td>"
+        "\"><td>{number}<td>{situation}<td class=\"count\">{events}"
     )?;
+    if let Some(is_by_home) = by_home {
+        let word = home_word(is_by_home);
+        write!(text, "<td class=\"home\">{word}")?;
+    }
+    text.push_str("<td>")?;
     let first = count.first;
     let spot = format!(in alloc; "{}", Spot { names, first })?;
     push_escaped(text, spot.as_str())?;
@@ -81,7 +88,16 @@ fn push_action(
         if let (Some(situation), Some(count)) = (situations.get(row.place), counts.get(row.place)) {
             let place = row.place.saturating_add(1);
             let number = format!(in alloc; "{clients}.{place}")?;
-            push_row(alloc, text, number.as_str(), situation, *count, names)?;
+            let by_home = tally.by_home(situation);
+            push_row(
+                alloc,
+                text,
+                number.as_str(),
+                situation,
+                *count,
+                by_home,
+                names,
+            )?;
         }
     }
     Ok(())
@@ -94,8 +110,11 @@ pub(crate) fn push_rows(
     tally: &Tally,
     names: &[String],
 ) -> Result<(), AllocError> {
-    text.push_str("<table class=\"rows\">\n<thead><tr><th>number<th>situation<th>events<th>first")?;
-    text.push_str("<th>a run that reaches it\n<tbody>\n")?;
+    text.push_str("<table class=\"rows\">\n<thead><tr><th>number<th>situation<th>events")?;
+    if tally.has_home() {
+        text.push_str("<th>home")?;
+    }
+    text.push_str("<th>first<th>a run that reaches it\n<tbody>\n")?;
     for action in ACTIONS {
         push_action(alloc, text, tally, *action, names)?;
     }
