@@ -19,6 +19,8 @@ mod pins;
 #[cfg(test)]
 mod readers;
 #[cfg(test)]
+mod scripts;
+#[cfg(test)]
 mod situations;
 #[cfg(test)]
 mod states;
