@@ -1,8 +1,8 @@
 -- How an agent's round goes on, where each ticket may be asked twice.
-use Rattle.std.proofs.Common.{◌≡◌, List, [], ◌∷◌, ◌++◌, Bool, false, refl, sym, subst}
+use Rattle.std.proofs.Common.{◌≡◌, List, [], ◌∷◌, ◌++◌, Bool, false, refl, sym, subst, inl, inr}
 use Rattle.tl_types.specs.declared.ticket.Ticket.{Ticket}
 use Rattle.tl_client_ports.specs.Ports.{asked}
-use Rattle.tl_client.specs.Agents.{AreAsked, IsAsked}
+use Rattle.tl_client.specs.Agents.{AreAsked, IsAsked, NoneServed}
 use Rattle.tl_client.specs.Rounds.{Goes}
 use Rattle.tl_client_mail.specs.Rounds.{Round, all_of, is_barred, once_asked}
 use Rattle.tl_client_ports.specs.declared.port.Asked.{Asked}
@@ -39,3 +39,23 @@ pub twice-all : (all : List Ticket) (before after : List Asked) (w : Round) → 
 twice-all all before after w went none =
     let goes : (more : List Asked) × (went.0 ≡ [] ++ more) × Goes [] all more (all_of w) = went-all all [] went.0 w went.2 none in
     (went.0, went.1, subst (λ (m : List Asked). Goes [] all m (all_of w)) (sym goes.1) goes.2)
+
+-- of some calls, and more behind them, none served its ticket: so did none of the first
+pub none-first : (first more : List Asked) → NoneServed (first ++ more) → NoneServed first
+none-first [] more none = tt
+none-first (a ∷ rest) more none = (none.0, none-first rest more none.1)
+
+-- nor did the last
+pub none-last : (first : List Asked) (one : Asked) → NoneServed (first ++ one ∷ []) → one.served ≡ false
+none-last [] one none = none.0
+none-last (a ∷ rest) one none = none-last rest one none.1
+
+-- where one more ticket was asked, by one call or two, and no call served its ticket, none did before, and the ticket was refused
+pub none-asked : (one : Asked) (old new : List Asked) → IsAsked one old new → NoneServed new → NoneServed old × (one.served ≡ false)
+none-asked one old new (inl is) none =
+    let all : NoneServed (old ++ one ∷ []) = subst (λ (calls : List Asked). NoneServed calls) is none in
+    (none-first old (one ∷ []) all, none-last old one all)
+none-asked one old new (inr is) none =
+    let twice : List Asked = old ++ asked one.ticket false ∷ [] in
+    let all : NoneServed (twice ++ one ∷ []) = subst (λ (calls : List Asked). NoneServed calls) is none in
+    (none-first old (asked one.ticket false ∷ []) (none-first twice (one ∷ []) all), none-last twice one all)

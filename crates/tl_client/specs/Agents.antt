@@ -1,5 +1,5 @@
 -- What an agent's turn asks of the banks (this project's own; each channel of a link keeps its order).
-use Rattle.std.specs.Prelude.{◌≡◌, ◌⊎◌, ℕ, false, List, [], ◌∷◌, ◌++◌}
+use Rattle.std.specs.Prelude.{◌≡◌, ◌≢◌, ◌⊎◌, ℕ, Bool, true, false, List, [], ◌∷◌, ◌++◌}
 use Rattle.std.specs.List.{filter}
 use Rattle.std.specs.declared.result.Result.{Result}
 use Rattle.tl_bank_spec.specs.declared.refusal.Refusal.{Refusal}
@@ -14,21 +14,28 @@ use Rattle.tl_client_ports.specs.Ports.{Asks, asked}
 use Rattle.tl_client_ports.specs.declared.port.Asked.{Asked}
 use Rattle.tl_client.specs.Rounds.{Goes}
 
--- what contracts see of a client's links: the client, the number of banks, and the tickets that wait: Grants and ReleaseAcks, and Probes
+-- what contracts see of a client's links: the client, the number of banks, whether home's answer to an Acquire or
+-- Release of the client's own is awaited, and the tickets that wait: Grants and ReleaseAcks, and Probes
 pub record ClientLinks : Type 0 where
   pub client : ℕ
   pub banks : ℕ
+  pub awaits : Bool
   pub downward : Round
   pub probes : Round
 
--- a client's links on which no ticket waits, with room for so many of each
+-- a client's links on which no ticket waits and no answer is awaited, with room for so many of each
 abbrev pub quiet_links : ℕ → ℕ → ℕ → ClientLinks
 quiet_links client banks room = record {
   client = client;
   banks = banks;
+  awaits = false;
   downward = record { kept = []; rest = []; room = room };
   probes = record { kept = []; rest = []; room = room };
 }
+
+-- the same links, but for whether an answer of home is awaited
+abbrev pub IsSameLinks : ClientLinks → ClientLinks → Type 0
+IsSameLinks old new = new ≡ record old { awaits = new.awaits }
 
 -- of some tickets those on D, Grants and ReleaseAcks, in order
 abbrev pub downward_in : List Ticket → List Ticket
@@ -70,6 +77,21 @@ abbrev pub ServesProbes : ClientLinks → List Asked → ClientLinks → List As
 ServesProbes old before new after =
     (new.client ≡ old.client) × (new.banks ≡ old.banks) × (new.downward ≡ old.downward)
     × ((all : List Asked) × (after ≡ before ++ all) × Goes [] (all_of old.probes) all (all_of new.probes))
+
+-- none of these calls served its ticket
+abbrev pub NoneServed : List Asked → Type 0
+NoneServed [] = Unit {0}
+NoneServed (one ∷ rest) = (one.served ≡ false) × NoneServed rest
+
+-- where a round served no ticket, an answer of home is awaited as before, and nothing was sent
+abbrev pub StaysQuiet : ClientLinks → List (List Ticket) → ClientLinks → List (List Ticket) → List Asked → Type 0
+StaysQuiet old before new after calls = NoneServed calls → (new.awaits ≡ old.awaits) × (after ≡ before)
+
+-- Where a turn served no ticket, an answer of home that was awaited is awaited still; and what the turn sent was an
+-- Acquire or a Release of the client's own, whose answer is awaited
+abbrev pub AwaitsAnswers : ClientLinks → List (List Ticket) → ClientLinks → List (List Ticket) → List Asked → Type 0
+AwaitsAnswers old before new after calls =
+    NoneServed calls → (old.awaits ≡ true → new.awaits ≡ true) × (after ≢ before → new.awaits ≡ true)
 
 -- A turn: what was taken of the inbox joined those that wait on its channel. A round went over all Grants and ReleaseAcks, which may be
 -- asked twice, and then one over all Probes; nothing else was asked

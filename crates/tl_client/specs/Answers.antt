@@ -1,11 +1,11 @@
 -- What an agent's answers say of loads and stores (this project's own).
-use Rattle.std.specs.Prelude.{◌≡◌, ◌≤◌, ℕ, true, ◌++◌, List, [], ◌∷◌, length, take, map}
+use Rattle.std.specs.Prelude.{◌≡◌, ◌⊎◌, ◌≤◌, ℕ, Bool, true, false, ◌++◌, List, [], ◌∷◌, length, take, map}
 use Rattle.std.specs.List.{All, list_all}
 use Rattle.tl_bank_spec.specs.declared.when.When.{When}
 use Rattle.tl_script_words.specs.declared.command.Command.{Command}
 use Rattle.tl_script_words.specs.declared.command.Command.TheVariants.{Load, Store, Drop}
 use Rattle.tl_text.specs.declared.report.Answered.{Answered}
-use Rattle.tl_client_mail.specs.Ways.{Post, has_none_back}
+use Rattle.tl_client_mail.specs.Ways.{Post, RingsOnce, has_none_back}
 use Rattle.tl_client_ports.specs.declared.port.Success.{Success}
 use Rattle.tl_client_ports.specs.declared.port.Success.TheVariants.{Loaded, Stored}
 use Rattle.tl_client.specs.Agents.{ClientLinks}
@@ -46,12 +46,14 @@ abbrev pub clock_after : ℕ → List Success → ℕ
 clock_after clock [] = clock
 clock_after clock (s ∷ rest) = clock_after (stamp_of s) rest
 
--- what contracts see of an agent: its clock is the last stamp that it got, and its client is that of its links
+-- what contracts see of an agent: its clock is the last stamp that it got, its client is that of its links, and it has
+-- rung the done bell or not
 pub record AgentView : Type 0 where
   pub links : ClientLinks
   pub script : List Command
   pub answered : List Answered
   pub clock : ℕ
+  pub has_rung : Bool
 
 -- what an agent hands with its present command: its clock, and the command's index
 abbrev pub when_of : AgentView → When
@@ -74,6 +76,14 @@ Gains old was new is =
 abbrev pub IsBeginning : AgentView → Type 0
 IsBeginning t = (commands_of t.answered ≡ take (length t.answered) t.script) × All IsAnswer t.answered
 
--- all is answered, and no ticket that an inbox handed back waits to be put
+-- all is answered, no answer of home to an Acquire or Release of the agent's own is awaited, and no ticket that an inbox
+-- handed back waits to be put
 abbrev pub IsDone : AgentView → Post → Type 0
-IsDone t mail = (length t.answered ≡ length t.script) × (list_all has_none_back mail.ways ≡ true)
+IsDone t mail =
+    (length t.answered ≡ length t.script) × (t.links.awaits ≡ false) × (list_all has_none_back mail.ways ≡ true)
+
+-- the done bell is left alone, or the agent, which is done and had not rung it, rings it once
+abbrev pub RingsDone : AgentView → Post → AgentView → Post → Type 0
+RingsDone old before new after =
+    ((new.has_rung ≡ old.has_rung) × (after.done.seat.rung ≡ before.done.seat.rung))
+    ⊎ ((old.has_rung ≡ false) × (new.has_rung ≡ true) × IsDone new after × RingsOnce before.done after.done)

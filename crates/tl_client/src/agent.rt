@@ -1,8 +1,9 @@
 //! A client's agent.
-ghost use Rattle.std.specs.Prelude.{◌≡◌, ◌≢◌, ◌≤◌, [], length, true, vec_len, IfOk, OnOk};
-ghost use Rattle.tl_client.specs.Agents.{Works, quiet_links};
-ghost use Rattle.tl_client.specs.Answers.{Gains, IsBeginning, IsDone, answered_of};
+ghost use Rattle.std.specs.Prelude.{◌≡◌, ◌≢◌, ◌≤◌, [], false, length, true, vec_len, IfOk, OnOk};
+ghost use Rattle.tl_client.specs.Agents.{AwaitsAnswers, IsSameLinks, Works, quiet_links};
+ghost use Rattle.tl_client.specs.Answers.{Gains, IsBeginning, IsDone, RingsDone, answered_of};
 ghost use Rattle.tl_client.specs.declared.turn.Turn.{Turn};
+ghost use Rattle.tl_client_mail.specs.Ways.{sent_by};
 
 use crate::carry_out::carry_out;
 use crate::requester::{ROOM, Requester};
@@ -18,8 +19,9 @@ use tl_map::Geometry;
 use tl_script_words::Command;
 use tl_types::{AccessBytes, ClientId};
 
-/// A client's agent. Contracts see its links with the tickets that wait, its script, what it answered, and its clock:
-/// the last stamp that it got. Of what it answered it keeps the bytes: the commands are the script's.
+/// A client's agent. Contracts see its links with the tickets that wait, its script, what it answered, its clock, which
+/// is the last stamp that it got, and whether it has rung the done bell. Of what it answered it keeps the bytes: the
+/// commands are the script's.
 #[derive(Drop)]
 pub struct Agent<'s> {
     requester: Requester,
@@ -38,10 +40,22 @@ impl<'s> Model for Agent<'s> {
     ghost Value = { AgentView };
 
     ghost view = { λ a.
-        record { links = a.requester; script = a.script.now; answered = answered_of a.bytes.items a.script.now; clock = a.clock } };
+        record {
+          links = a.requester;
+          script = a.script.now;
+          answered = answered_of a.bytes.items a.script.now;
+          clock = a.clock;
+          has_rung = a.has_rung;
+        } };
 
     ghost invariant = { λ a. IsBeginning
-        (record { links = a.requester; script = a.script.now; answered = answered_of a.bytes.items a.script.now; clock = a.clock })
+        (record {
+          links = a.requester;
+          script = a.script.now;
+          answered = answered_of a.bytes.items a.script.now;
+          clock = a.clock;
+          has_rung = a.has_rung;
+        })
         × (length a.bytes.items ≤ length a.script.now) × (length a.script.now ≤ vec_capacity a.bytes)
         × (length a.script.now < 2 ^ 32) };
 }
@@ -58,7 +72,13 @@ impl<'s> Agent<'s> {
     ) -> Result<Agent<'s>, AllocError>
         ensures { IfOk result
             (λ a. a
-            ≡ record { links = quiet_links client (vec_len shares) ROOM; script = commands.entry.now; answered = []; clock = 0 }) }
+            ≡ record {
+              links = quiet_links client (vec_len shares) ROOM;
+              script = commands.entry.now;
+              answered = [];
+              clock = 0;
+              has_rung = false;
+            }) }
     {
         if commands.len() > u32::MAX as usize {
             return Err(AllocError);
@@ -94,7 +114,10 @@ impl<'s> Agent<'s> {
     /// What it takes of its inbox, at most 64 tickets, joins those that wait. It asks the banks each Grant and
     /// ReleaseAck, in order, and then each Probe, but none of whose bank and channel an earlier one was refused; the
     /// refused and those behind them wait on. An idle turn, and one that finds all clients done, asks the port nothing
-    /// and takes no ticket.
+    /// and takes no ticket. What a turn sends that serves no ticket is an Acquire or a Release of the client's own:
+    /// home's answer is then awaited, until a ticket is served. The agent rings the done bell in one turn alone, in
+    /// which it is done: all is answered, nothing is left to send and no answer of home is awaited, to a Release of its
+    /// own neither.
     pub fn turn<P: Port, G: Gate, R: Wait + Clock>(
         &mut self,
         rt: &R,
@@ -113,6 +136,9 @@ impl<'s> Agent<'s> {
             → (self.new ≡ self.old) × (P.successes port.new ≡ P.successes port.old)
             × (P.asked port.new ≡ P.asked port.old) × (mail.new.inbox ≡ mail.old.inbox)
             × (clients ≤ mail.new.done.seat.seen) }
+        ensures awaits { result ≡ Turn.Worked
+            → AwaitsAnswers self.old.links (sent_by mail.old) self.new.links (sent_by mail.new) (P.asked port.new) }
+        ensures rings { RingsDone self.old mail.old self.new mail.new }
     {
         let is_due = self.requester.is_due() || mail.has_back();
         if mail.done() >= u64::from(clients) {
@@ -146,6 +172,9 @@ impl<'s> Agent<'s> {
         ensures beginning { IsBeginning self.new }
         ensures works { OnOk result
             (Works mail.old.inbox self.old.links mail.new.inbox self.new.links (P.asked port.new)) }
+        ensures awaits { OnOk result
+            (AwaitsAnswers self.old.links (sent_by mail.old) self.new.links (sent_by mail.new) (P.asked port.new)) }
+        ensures rings { RingsDone self.old mail.old self.new mail.new }
     {
         port.begin();
         self.requester.take_tickets(rt, mail)?;
@@ -158,7 +187,8 @@ impl<'s> Agent<'s> {
         Ok(())
     }
 
-    /// Tries the present command once, unless it waits for an answer of home.
+    /// Tries the present command once, unless it waits for an answer of home. What it sends, an Acquire or a Release,
+    /// is to be answered.
     fn try_command<P: Port, G: Gate, R: Wait>(
         &mut self,
         rt: &R,
@@ -168,9 +198,13 @@ impl<'s> Agent<'s> {
     ) -> Result<(), AllocError>
         ensures gains { Gains self.old (P.successes port.old) self.new (P.successes port.new) }
         ensures beginning { IsBeginning self.new }
-        ensures links { self.new.links ≡ self.old.links }
+        ensures links { IsSameLinks self.old.links self.new.links }
+        ensures awaits { sent_by mail.new ≢ sent_by mail.old → self.new.links.awaits ≡ true }
+        ensures waits { self.old.links.awaits ≡ true → self.new.links.awaits ≡ true }
+        ensures rung { self.new.has_rung ≡ self.old.has_rung }
         ensures asked { P.asked port.new ≡ P.asked port.old }
         ensures inbox { mail.new.inbox ≡ mail.old.inbox }
+        ensures done { mail.new.done ≡ mail.old.done }
     {
         let index = self.bytes.len();
         if index >= self.script.len() || self.requester.is_waiting() {
@@ -198,11 +232,12 @@ impl<'s> Agent<'s> {
         }
     }
 
-    /// Rings the done bell once, when the agent is done: never while a command is to be answered or a ticket to be put.
+    /// Rings the done bell once, when the agent is done.
     fn finish(&mut self, mail: &mut Mail<'_>)
-        ensures same { self.new ≡ self.old }
+        ensures same { self.new ≡ record self.old { has_rung = self.new.has_rung } }
+        ensures sent { sent_by mail.new ≡ sent_by mail.old }
         ensures inbox { mail.new.inbox ≡ mail.old.inbox }
-        ensures rings { mail.new.done.seat.rung ≢ mail.old.done.seat.rung → IsDone self.old mail.old }
+        ensures rings { RingsDone self.old mail.old self.new mail.new }
     {
         if self.is_done(mail) {
             mail.ring_done();
@@ -210,9 +245,10 @@ impl<'s> Agent<'s> {
         }
     }
 
-    /// Whether the done bell is to be rung: all is answered, nothing is left to send and no answer of home is awaited.
+    /// Whether the done bell is to be rung, which it was not: all is answered, nothing is left to send and no answer of
+    /// home is awaited.
     fn is_done(&self, mail: &Mail<'_>) -> bool
-        ensures { result ≡ true → IsDone self.now mail.now }
+        ensures { result ≡ true → (self.now.has_rung ≡ false) × IsDone self.now mail.now }
     {
         !self.has_rung
             && self.has_answered_all()

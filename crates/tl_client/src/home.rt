@@ -63,7 +63,7 @@ impl Home {
     /// One turn, over any port and gate. What it takes of its inbox, at most 64 tickets, joins those that wait: on E,
     /// then C, then A. It asks its bank each of them once, in order, but none of whose client and channel an earlier
     /// one was refused; the refused and those behind them wait on. An idle turn, and one that finds all done, asks none
-    /// and takes none.
+    /// and takes none. No turn rings the done bell.
     pub fn turn<P: HomePort, G: Gate, R: Wait + Clock>(
         &mut self,
         rt: &R,
@@ -78,6 +78,7 @@ impl Home {
             → (self.new ≡ self.old) × (P.asked port.new ≡ P.asked port.old) × (mail.new.inbox ≡ mail.old.inbox) }
         ensures finished { result ≡ Turn.Finished → (self.new ≡ self.old) × (P.asked port.new ≡ P.asked port.old)
             × (mail.new.inbox ≡ mail.old.inbox) × (clients ≤ mail.new.done.seat.seen) }
+        ensures rung { mail.new.done.seat.rung ≡ mail.old.done.seat.rung }
     {
         let is_due = self.progress.is_due() || !self.waiting.is_empty() || mail.has_back();
         mail.send_again(rt);
@@ -103,6 +104,7 @@ impl Home {
     /// Whether all clients are done and nothing is under way in the bank. Then all receivers hear of it.
     fn is_finished<P: HomePort>(&mut self, port: &P, clients: u32, mail: &mut Mail<'_>) -> bool
         ensures done { result ≡ true → clients ≤ mail.new.done.seat.seen }
+        ensures rung { mail.new.done.seat.rung ≡ mail.old.done.seat.rung }
         ensures same { self.new ≡ self.old }
         ensures inbox { mail.new.inbox ≡ mail.old.inbox }
     {
@@ -124,7 +126,8 @@ impl Home {
         clients: u32,
         mail: &mut Mail<'_>,
     ) -> Result<(), AllocError>
-        ensures { OnOk result (Works clients mail.old.inbox self.old mail.new.inbox self.new (P.asked port.new)) }
+        ensures works { OnOk result (Works clients mail.old.inbox self.old mail.new.inbox self.new (P.asked port.new)) }
+        ensures done { mail.new.done ≡ mail.old.done }
     {
         port.begin();
         self.take_tickets(rt, clients, mail)?;
@@ -142,7 +145,8 @@ impl Home {
         clients: u32,
         mail: &mut Mail<'_>,
     ) -> Result<(), AllocError>
-        ensures { OnOk result (Takes clients mail.old.inbox self.old mail.new.inbox self.new) }
+        ensures takes { OnOk result (Takes clients mail.old.inbox self.old mail.new.inbox self.new) }
+        ensures done { mail.new.done ≡ mail.old.done }
     {
         self.progress.begin();
         if !self.may_have_mail {
@@ -158,7 +162,8 @@ impl Home {
         clients: u32,
         mail: &mut Mail<'_>,
     ) -> Result<(), AllocError>
-        ensures { OnOk result (Takes clients mail.old.inbox self.old mail.new.inbox self.new) }
+        ensures takes { OnOk result (Takes clients mail.old.inbox self.old mail.new.inbox self.new) }
+        ensures done { mail.new.done ≡ mail.old.done }
     {
         self.taken.clear();
         self.taken.reserve(BATCH)?;
@@ -185,6 +190,7 @@ impl Home {
     ) -> Result<(), AllocError>
         ensures served { OnOk result (Serves self.old (P.asked port.old) self.new (P.asked port.new)) }
         ensures inbox { mail.new.inbox ≡ mail.old.inbox }
+        ensures done { mail.new.done ≡ mail.old.done }
     {
         self.waiting.begin();
         while let Some(ticket) = self.waiting.next() {
@@ -208,6 +214,7 @@ impl Home {
         ensures asked { IfOk result (λ served. P.asked port.new ≡ P.asked port.old ++ asked ticket served ∷ []) }
         ensures same { self.new ≡ self.old }
         ensures inbox { mail.new.inbox ≡ mail.old.inbox }
+        ensures done { mail.new.done ≡ mail.old.done }
     {
         mail.make_room()?;
         let channel = ticket.channel;
@@ -231,6 +238,7 @@ impl Home {
         requires { All HasRoom mail.old.ways }
         ensures same { self.new ≡ self.old }
         ensures inbox { mail.new.inbox ≡ mail.old.inbox }
+        ensures done { mail.new.done ≡ mail.old.done }
     {
         self.progress.succeed();
         self.may_be_open = self.may_be_open || channel == Channel::A;
@@ -249,6 +257,7 @@ impl Home {
         ensures asked { P.asked port.new ≡ P.asked port.old }
         ensures same { self.new ≡ self.old }
         ensures inbox { mail.new.inbox ≡ mail.old.inbox }
+        ensures done { mail.new.done ≡ mail.old.done }
     {
         if !self.may_be_open {
             return Ok(());
@@ -280,6 +289,7 @@ impl Home {
         ensures asked { P.asked port.new ≡ P.asked port.old }
         ensures same { self.new ≡ self.old }
         ensures inbox { mail.new.inbox ≡ mail.old.inbox }
+        ensures done { mail.new.done ≡ mail.old.done }
     {
         mail.make_room()?;
         let answer = port.advance(block);
@@ -300,6 +310,7 @@ impl Home {
         ensures asked { P.asked port.new ≡ P.asked port.old }
         ensures same { self.new ≡ self.old }
         ensures inbox { mail.new.inbox ≡ mail.old.inbox }
+        ensures done { mail.new.done ≡ mail.old.done }
     {
         match answer {
             Ok(action) => {
@@ -323,6 +334,7 @@ impl Home {
         ensures asked { P.asked port.new ≡ P.asked port.old }
         ensures same { self.new ≡ self.old }
         ensures inbox { mail.new.inbox ≡ mail.old.inbox }
+        ensures done { mail.new.done ≡ mail.old.done }
     {
         match action {
             Action::Probe(ticket) | Action::Grant(ticket) => {

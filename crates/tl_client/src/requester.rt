@@ -1,8 +1,8 @@
 //! What an agent does beside answering commands: it serves tickets, and asks for the copies that its command needs.
-ghost use Rattle.std.specs.Prelude.{◌≡◌, ◌++◌, ◌∷◌, [], vec_len, IfOk, OnOk};
+ghost use Rattle.std.specs.Prelude.{◌≡◌, ◌≢◌, ◌++◌, ◌∷◌, [], false, true, vec_len, IfOk, OnErr, OnOk};
 ghost use Rattle.std.specs.List.{All};
-ghost use Rattle.tl_client.specs.Agents.{AsksTwice, IsAsked, ServesDownward, ServesProbes, Takes, quiet_links};
-ghost use Rattle.tl_client_mail.specs.Ways.{HasRoom};
+ghost use Rattle.tl_client.specs.Agents.{AsksTwice, IsAsked, IsSameLinks, ServesDownward, ServesProbes, StaysQuiet, Takes, quiet_links};
+ghost use Rattle.tl_client_mail.specs.Ways.{HasRoom, sent_by};
 ghost use Rattle.tl_client_ports.specs.Ports.{Asks, asked};
 
 use crate::carry_out::address_of;
@@ -35,7 +35,7 @@ impl Answer {
 }
 
 /// A client's side of its links: its tickets, its shares, and what it waits for. Contracts see the client, the number
-/// of banks, and the tickets that wait.
+/// of banks, whether an answer of home is awaited, and the tickets that wait.
 #[derive(Drop)]
 pub(crate) struct Requester {
     client: ClientId,
@@ -56,13 +56,19 @@ pub(crate) struct Requester {
 }
 
 impl Model for Requester {
-    ghost use Rattle.std.specs.Prelude.{vec_len};
+    ghost use Rattle.std.specs.Prelude.{is_some, vec_len};
     ghost use Rattle.tl_client.specs.Agents.{ClientLinks};
 
     ghost Value = { ClientLinks };
 
     ghost view = { λ r.
-        record { client = r.client; banks = vec_len r.shares; downward = r.downward; probes = r.probes } };
+        record {
+          client = r.client;
+          banks = vec_len r.shares;
+          awaits = is_some r.awaited;
+          downward = r.downward;
+          probes = r.probes;
+        } };
 }
 
 /// For how many tickets of each channel a client has room from the start.
@@ -109,7 +115,9 @@ impl Requester {
     }
 
     /// Whether the present command waits for an answer of home.
-    pub(crate) fn is_waiting(&self) -> bool {
+    pub(crate) fn is_waiting(&self) -> bool
+        ensures { result ≡ self.now.awaits }
+    {
         self.awaited.is_some()
     }
 
@@ -159,6 +167,9 @@ impl Requester {
     ) -> Result<(), AllocError>
         ensures takes { OnOk result (Takes mail.old.inbox self.old mail.new.inbox self.new) }
         ensures client { self.new.client ≡ self.old.client }
+        ensures awaits { self.new.awaits ≡ self.old.awaits }
+        ensures sent { sent_by mail.new ≡ sent_by mail.old }
+        ensures done { mail.new.done ≡ mail.old.done }
     {
         self.progress.begin();
         if !self.may_have_mail {
@@ -171,6 +182,9 @@ impl Requester {
     fn take_mail<R: Wait>(&mut self, rt: &R, mail: &mut Mail<'_>) -> Result<(), AllocError>
         ensures takes { OnOk result (Takes mail.old.inbox self.old mail.new.inbox self.new) }
         ensures client { self.new.client ≡ self.old.client }
+        ensures awaits { self.new.awaits ≡ self.old.awaits }
+        ensures sent { sent_by mail.new ≡ sent_by mail.old }
+        ensures done { mail.new.done ≡ mail.old.done }
     {
         self.taken.clear();
         self.taken.reserve(BATCH)?;
@@ -196,9 +210,12 @@ impl Requester {
         mail: &mut Mail<'_>,
     ) -> Result<(), AllocError>
         ensures served { OnOk result (ServesDownward self.old (P.asked port.old) self.new (P.asked port.new)) }
+        ensures quiet { OnOk result
+            (StaysQuiet self.old (sent_by mail.old) self.new (sent_by mail.new) (P.asked port.new)) }
         ensures client { self.new.client ≡ self.old.client }
         ensures successes { P.successes port.new ≡ P.successes port.old }
         ensures inbox { mail.new.inbox ≡ mail.old.inbox }
+        ensures done { mail.new.done ≡ mail.old.done }
     {
         self.downward.begin();
         while let Some(ticket) = self.downward.next() {
@@ -217,9 +234,12 @@ impl Requester {
         mail: &mut Mail<'_>,
     ) -> Result<(), AllocError>
         ensures served { OnOk result (ServesProbes self.old (P.asked port.old) self.new (P.asked port.new)) }
+        ensures quiet { OnOk result
+            (StaysQuiet self.old (sent_by mail.old) self.new (sent_by mail.new) (P.asked port.new)) }
         ensures client { self.new.client ≡ self.old.client }
         ensures successes { P.successes port.new ≡ P.successes port.old }
         ensures inbox { mail.new.inbox ≡ mail.old.inbox }
+        ensures done { mail.new.done ≡ mail.old.done }
     {
         self.probes.begin();
         while let Some(ticket) = self.probes.next() {
@@ -238,9 +258,12 @@ impl Requester {
         ticket: Ticket,
     ) -> Result<bool, AllocError>
         ensures asked { IfOk result (λ served. IsAsked (asked ticket served) (P.asked port.old) (P.asked port.new)) }
-        ensures same { self.new ≡ self.old }
+        ensures same { IsSameLinks self.old self.new }
+        ensures refused { IfOk result (λ served. served ≡ false → self.new ≡ self.old) }
+        ensures sent { IfOk result (λ served. served ≡ false → sent_by mail.new ≡ sent_by mail.old) }
         ensures successes { P.successes port.new ≡ P.successes port.old }
         ensures inbox { mail.new.inbox ≡ mail.old.inbox }
+        ensures done { mail.new.done ≡ mail.old.done }
     {
         mail.make_room()?;
         match self.ask_as_either(port, ticket) {
@@ -262,8 +285,10 @@ impl Requester {
     ) -> Result<bool, AllocError>
         ensures asked { IfOk result (λ served. P.asked port.new ≡ P.asked port.old ++ asked ticket served ∷ []) }
         ensures same { self.new ≡ self.old }
+        ensures sent { IfOk result (λ served. served ≡ false → sent_by mail.new ≡ sent_by mail.old) }
         ensures successes { P.successes port.new ≡ P.successes port.old }
         ensures inbox { mail.new.inbox ≡ mail.old.inbox }
+        ensures done { mail.new.done ≡ mail.old.done }
     {
         mail.make_room()?;
         match self.ask_probe(port, ticket) {
@@ -280,6 +305,7 @@ impl Requester {
         requires { All HasRoom mail.old.ways }
         ensures same { self.new ≡ self.old }
         ensures inbox { mail.new.inbox ≡ mail.old.inbox }
+        ensures done { mail.new.done ≡ mail.old.done }
     {
         self.progress.succeed();
         if let Some(ticket) = sent {
@@ -295,7 +321,8 @@ impl Requester {
         ticket: Ticket,
     ) -> Result<Option<Ticket>, Refusal>
         ensures asked { AsksTwice ticket result (P.asked port.old) (P.asked port.new) }
-        ensures same { self.new ≡ self.old }
+        ensures same { IsSameLinks self.old self.new }
+        ensures refused { OnErr result (self.new ≡ self.old) }
         ensures successes { P.successes port.new ≡ P.successes port.old }
     {
         let again = ticket;
@@ -315,7 +342,8 @@ impl Requester {
         ticket: Ticket,
     ) -> Result<Option<Ticket>, Refusal>
         ensures asked { Asks ticket result (P.asked port.old) (P.asked port.new) }
-        ensures same { self.new ≡ self.old }
+        ensures same { IsSameLinks self.old self.new }
+        ensures refused { OnErr result (self.new ≡ self.old) }
         ensures successes { P.successes port.new ≡ P.successes port.old }
     {
         let sent = match kind {
@@ -356,7 +384,7 @@ impl Requester {
         }
     }
 
-    /// Asks for the copy that a command needs, or gives up the one that it drops.
+    /// Asks for the copy that a command needs, or gives up the one that it drops. What it sends is to be answered.
     pub(crate) fn change_copy<P: Port, R: Wait>(
         &mut self,
         rt: &R,
@@ -364,10 +392,13 @@ impl Requester {
         mail: &mut Mail<'_>,
         command: &Command,
     ) -> Result<(), AllocError>
-        ensures same { self.new ≡ self.old }
+        ensures same { IsSameLinks self.old self.new }
+        ensures awaits { sent_by mail.new ≢ sent_by mail.old → self.new.awaits ≡ true }
+        ensures waits { self.old.awaits ≡ true → self.new.awaits ≡ true }
         ensures asked { P.asked port.new ≡ P.asked port.old }
         ensures successes { P.successes port.new ≡ P.successes port.old }
         ensures inbox { mail.new.inbox ≡ mail.old.inbox }
+        ensures done { mail.new.done ≡ mail.old.done }
     {
         let block = self.block_of(command);
         match command {
@@ -391,10 +422,13 @@ impl Requester {
         block: BlockNo,
         grow: Grow,
     ) -> Result<(), AllocError>
-        ensures same { self.new ≡ self.old }
+        ensures same { IsSameLinks self.old self.new }
+        ensures awaits { sent_by mail.new ≢ sent_by mail.old → self.new.awaits ≡ true }
+        ensures waits { self.old.awaits ≡ true → self.new.awaits ≡ true }
         ensures asked { P.asked port.new ≡ P.asked port.old }
         ensures successes { P.successes port.new ≡ P.successes port.old }
         ensures inbox { mail.new.inbox ≡ mail.old.inbox }
+        ensures done { mail.new.done ≡ mail.old.done }
     {
         mail.make_room()?;
         match ask_acquire(port, self.client, block, grow) {
@@ -434,10 +468,13 @@ impl Requester {
         mail: &mut Mail<'_>,
         block: BlockNo,
     ) -> Result<(), AllocError>
-        ensures same { self.new ≡ self.old }
+        ensures same { IsSameLinks self.old self.new }
+        ensures awaits { sent_by mail.new ≢ sent_by mail.old → self.new.awaits ≡ true }
+        ensures waits { self.old.awaits ≡ true → self.new.awaits ≡ true }
         ensures asked { P.asked port.new ≡ P.asked port.old }
         ensures successes { P.successes port.new ≡ P.successes port.old }
         ensures inbox { mail.new.inbox ≡ mail.old.inbox }
+        ensures done { mail.new.done ≡ mail.old.done }
     {
         mail.make_room()?;
         let Some(bank) = self.bank_of(block) else {

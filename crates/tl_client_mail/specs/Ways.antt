@@ -29,6 +29,12 @@ RingsAsItPuts old new =
     (old.bell.seat.rung ≤ new.bell.seat.rung)
     × (new.bell.seat.rung < most_rings → new.bell.seat.rung + length old.inbox.pass.put ≡ old.bell.seat.rung + length new.inbox.pass.put)
 
+-- a seat rang its bell once more, unless it had rung the most that a seat rings
+abbrev pub RingsOnce : BellEnd → BellEnd → Type 0
+RingsOnce old new =
+    (old.seat.rung < most_rings → new.seat.rung ≡ old.seat.rung + 1)
+    × (most_rings ≤ old.seat.rung → new.seat.rung ≡ old.seat.rung)
+
 -- the inboxes and bells of one worker: its own, the ways to others, and the done bell
 pub record Post : Type 0 where
   pub inbox : InboxEnd

@@ -2,7 +2,7 @@
 ghost use Rattle.std.specs.Prelude.{◌≡◌, ◌++◌, ◌∷◌, ◌+◌, ◌≤◌, [], length, slice_index_or, slice_set, vec_len, vec_capacity, OnOk};
 ghost use Rattle.std.specs.List.{All, list_all};
 ghost use Rattle.tl_client_mail.specs.Inbox.{Took};
-ghost use Rattle.tl_client_mail.specs.Ways.{HasRoom, has_none_back, sent_by};
+ghost use Rattle.tl_client_mail.specs.Ways.{HasRoom, RingsOnce, has_none_back, sent_by};
 
 use crate::links::Links;
 use crate::sending::Sending;
@@ -94,6 +94,7 @@ impl<'a> Mail<'a> {
     pub fn send_again<R: Wait>(&mut self, rt: &R)
         ensures sent { sent_by self.new ≡ sent_by self.old }
         ensures inbox { self.new.inbox ≡ self.old.inbox }
+        ensures done { self.new.done ≡ self.old.done }
     {
         if !self.has_back {
             return;
@@ -112,6 +113,7 @@ impl<'a> Mail<'a> {
         ensures room { OnOk result (All HasRoom self.new.ways) }
         ensures sent { sent_by self.new ≡ sent_by self.old }
         ensures inbox { self.new.inbox ≡ self.old.inbox }
+        ensures done { self.new.done ≡ self.old.done }
     {
         if self.has_room {
             return Ok(());
@@ -129,6 +131,7 @@ impl<'a> Mail<'a> {
         ensures sent { sent_by self.new
             ≡ slice_set (sent_by self.old) to (slice_index_or (sent_by self.old) to [] ++ ticket ∷ []) }
         ensures inbox { self.new.inbox ≡ self.old.inbox }
+        ensures done { self.new.done ≡ self.old.done }
     {
         if to >= self.sending.len() {
             return;
@@ -142,7 +145,9 @@ impl<'a> Mail<'a> {
 
     /// Whether the worker's own bell rang since it was last read.
     pub fn is_rung(&mut self) -> bool
+        ensures sent { sent_by self.new ≡ sent_by self.old }
         ensures inbox { self.new.inbox ≡ self.old.inbox }
+        ensures done { self.new.done ≡ self.old.done }
     {
         let heard = self.bell.heard();
         let is_rung = heard != self.heard;
@@ -157,6 +162,7 @@ impl<'a> Mail<'a> {
         ensures taken { Took links.now self.old.inbox taken.old.items self.new.inbox taken.new.items }
         ensures few { length taken.new.items ≤ length taken.old.items + BATCH }
         ensures sent { sent_by self.new ≡ sent_by self.old }
+        ensures done { self.new.done ≡ self.old.done }
     {
         for _ in 0..BATCH {
             let Some(ticket) = self.inbox.take(rt) else {
@@ -172,14 +178,18 @@ impl<'a> Mail<'a> {
     /// How often the done bell was rung.
     pub fn done(&mut self) -> u64
         ensures seen { result ≡ self.new.done.seat.seen }
+        ensures rung { self.new.done.seat.rung ≡ self.old.done.seat.rung }
+        ensures sent { sent_by self.new ≡ sent_by self.old }
         ensures inbox { self.new.inbox ≡ self.old.inbox }
     {
         self.done.heard()
     }
 
-    /// Rings the done bell, and ends the receivers' rests.
+    /// Rings the done bell once, and ends the receivers' rests.
     pub fn ring_done(&mut self)
         ensures inbox { self.new.inbox ≡ self.old.inbox }
+        ensures ways { self.new.ways ≡ self.old.ways }
+        ensures rings { RingsOnce self.old.done self.new.done }
     {
         self.done.ring();
         self.wake_all();

@@ -11,6 +11,7 @@ pub loop-ticket-init : goal.loop-ticket-init
 loop-ticket-init g c = record {
   bank = ap (λ (v : Waits). v.bank) c.self.view_is;
   inbox = refl;
+  done = refl;
   went = (
     [],
     [],
@@ -38,6 +39,7 @@ loop-ticket-preserved-then-branch g c =
     record {
       bank = ap (λ (v : Waits). v.bank) (c.self-in-Some.view_is ∙ c.serve.ensures.same) ∙ ap (λ (v : Waits). v.bank) c.self-in-loop-ticket.view_is ∙ c.loop-ticket.invariant.bank;
       inbox = c.serve.ensures.inbox ∙ c.loop-ticket.invariant.inbox;
+      done = c.serve.ensures.done ∙ c.loop-ticket.invariant.done;
       went = subst (λ (w : Round). Went all before w new) (sym is)
           (went-served all before after new c.next.new.self c.in-Some.ticket passed c.in-Some.ensures.next more);
     }
@@ -60,6 +62,7 @@ loop-ticket-preserved g c =
     record {
       bank = ap (λ (v : Waits). v.bank) (c.self-in-Some.view_is ∙ c.serve.ensures.same) ∙ ap (λ (v : Waits). v.bank) c.self-in-loop-ticket.view_is ∙ c.loop-ticket.invariant.bank;
       inbox = c.serve.ensures.inbox ∙ c.loop-ticket.invariant.inbox;
+      done = c.serve.ensures.done ∙ c.loop-ticket.invariant.done;
       went = subst (λ (w : Round). Went all before w new) (sym is)
           (went-refused all before after new c.next.new.self c.in-Some.ticket passed c.in-Some.ensures.next more);
     }

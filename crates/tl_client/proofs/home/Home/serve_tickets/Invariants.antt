@@ -8,6 +8,7 @@ abbrev pub invariant-loop-ticket : goal.invariant-loop-ticket
 invariant-loop-ticket g l = record {
   bank : l.self.bank ≡ l.fn.self.bank;
   inbox : l.mail.inbox ≡ l.fn.mail.inbox;
+  done : l.mail.done ≡ l.fn.mail.done;
   went : Went (all_of l.fn.self.waiting) (g.P.HomePort.asked l.fn.port) l.self.waiting (g.P.HomePort.asked l.port);
 }
 

@@ -12,8 +12,8 @@ use Rattle.tl_client.proofs.ServeLaws.{laid}
 use Rattle.tl_client.proofs.home.Home.take_mail.Goals.{then-take_tickets, else-take_tickets}
 use Rattle.tl_client.proofs.home.Home.take_mail.Goals as goal
 
-pub returns : goal.returns
-returns g c =
+pub returns-clause-takes : goal.returns-clause-takes
+returns-clause-takes g c =
     let inside : Inside = c.if-take_tickets.self-inside in
     let taken : List Ticket = c.take_tickets.new.taken.items in
     let old : Round = c.self.inside.waiting in

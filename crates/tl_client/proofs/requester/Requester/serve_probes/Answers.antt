@@ -1,8 +1,10 @@
-use Rattle.std.proofs.Common.{◌≡◌, ◌<◌, [], List, drop, length, refl, sym, ◌∙◌, ap, subst, append-nil}
+use Rattle.std.proofs.Common.{◌≡◌, ◌<◌, [], ◌∷◌, ◌++◌, List, drop, length, refl, sym, ◌∙◌, ap, subst, append-nil}
 use Rattle.tl_types.specs.declared.ticket.Ticket.{Ticket}
-use Rattle.tl_client.specs.Agents.{ClientLinks}
+use Rattle.tl_client.specs.Agents.{ClientLinks, NoneServed}
 use Rattle.tl_client_mail.specs.Rounds.{Round, all_of, once_asked}
+use Rattle.tl_client_ports.specs.Ports.{asked}
 use Rattle.tl_client_ports.specs.declared.port.Asked.{Asked}
+use Rattle.tl_client.proofs.AgentLaws.{none-first, none-last}
 use Rattle.tl_client.proofs.ServeLaws.{Went, went-passed, went-asked, went-all, fewer, rest-asked}
 use Rattle.tl_client.proofs.requester.Requester.serve_probes.Goals as goal
 
@@ -13,6 +15,8 @@ loop-ticket-init g c = record {
   downward = ap (λ (v : ClientLinks). v.downward) c.self.view_is;
   successes = refl;
   inbox = refl;
+  done = refl;
+  quiet = λ none. (ap (λ (v : ClientLinks). v.awaits) c.self.view_is, refl);
   went = (
     [],
     [],
@@ -41,6 +45,14 @@ loop-ticket-preserved g c =
       downward = ap (λ (v : ClientLinks). v.downward) (c.self-in-Some.view_is ∙ c.answer_probe.ensures.same) ∙ ap (λ (v : ClientLinks). v.downward) c.self-in-loop-ticket.view_is ∙ c.loop-ticket.invariant.downward;
       successes = c.answer_probe.ensures.successes ∙ c.loop-ticket.invariant.successes;
       inbox = c.answer_probe.ensures.inbox ∙ c.loop-ticket.invariant.inbox;
+      done = c.answer_probe.ensures.done ∙ c.loop-ticket.invariant.done;
+      quiet = λ none. (let one : Asked = asked c.in-Some.ticket c.in_ok-served.served in
+          let calls : NoneServed (after ++ one ∷ []) = subst (λ (asks : List Asked). NoneServed asks) c.in_ok-served.ensures.asked none in
+          let were = c.loop-ticket.invariant.quiet (none-first after (one ∷ []) calls) in (
+            ap (λ (v : ClientLinks). v.awaits) (c.self-in-Some.view_is ∙ c.answer_probe.ensures.same) ∙ ap (λ (v : ClientLinks). v.awaits) c.self-in-loop-ticket.view_is
+                ∙ were.0,
+            c.in_ok-served.ensures.sent (none-last after one calls) ∙ were.1,
+          ));
       went = subst (λ (w : Round). Went all before w new) (sym is)
           (went-asked all before after new c.next.new.self c.in-Some.ticket c.in_ok-served.served passed c.in-Some.ensures.next c.in_ok-served.ensures.asked);
     }
@@ -59,6 +71,12 @@ returns-clause-served g c =
       ap (λ (v : ClientLinks). v.downward) c.self-in-loop-ticket.view_is ∙ c.loop-ticket.invariant.downward,
       went-all all before after c.next.new.self passed c.in_default.ensures.next,
     )
+
+pub returns-clause-quiet : goal.returns-clause-quiet
+returns-clause-quiet g c none = (
+  ap (λ (v : ClientLinks). v.awaits) c.self-in-loop-ticket.view_is ∙ (c.loop-ticket.invariant.quiet none).0,
+  (c.loop-ticket.invariant.quiet none).1,
+)
 
 pub loop-ticket-smaller : goal.loop-ticket-smaller
 loop-ticket-smaller g c =

@@ -17,4 +17,5 @@ loop-to-preserved c = (
   AllWithin-more_set c.loop-to.self-inside.sending.items c.loop-to.to c.make_room.new.self (grind (arith, common_steps)) HasRoom c.loop-to.invariant.2 c.in_ok-make_room.ensures.room,
   c.loop-to.invariant.3,
   c.loop-to.invariant.4,
+  c.loop-to.invariant.5,
 )

@@ -11,3 +11,4 @@ invariant-loop-to l =
     × AllWithin HasRoom l.self-inside.sending.items 0 l.to
     × (l.self-inside.inbox ≡ l.initial.self-inside.inbox)
     × (l.self-inside.has_room ≡ false)
+    × (l.self-inside.done ≡ l.initial.self-inside.done)

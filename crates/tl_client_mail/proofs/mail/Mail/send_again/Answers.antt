@@ -8,4 +8,5 @@ loop-to-preserved g c = (
   c.loop-to.invariant.1,
   c.loop-to.invariant.2,
   c.loop-to.invariant.3,
+  c.loop-to.invariant.4,
 )

@@ -13,6 +13,7 @@ invariant-loop g l = record {
   sending : l.self-inside.sending ≡ l.initial.self-inside.sending;
   known : l.self-inside.has_room ≡ l.initial.self-inside.has_room;
   inbox : l.self-inside.inbox.inbox ≡ l.initial.self-inside.inbox.inbox;
+  done : l.self-inside.done ≡ l.initial.self-inside.done;
   took : (popped : List Sent) × (length popped ≤ l.counter)
       × (l.self-inside.inbox.pass.taken ≡ l.initial.self-inside.inbox.pass.taken ++ popped)
       × (l.taken.items ≡ l.fn.taken.items ++ filter (λ (t : Ticket). brings l.links t) (map (λ (s : Sent). s.ticket) popped));
