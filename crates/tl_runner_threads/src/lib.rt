@@ -2,10 +2,15 @@
 #![tactic(auto)]
 
 mod banks;
+mod client_worker;
+mod course;
 mod deal;
+mod home_worker;
 mod mailbox;
 mod mailroom;
 mod runner;
+#[cfg(test)]
+mod stops;
 mod threads;
 mod workers;
 

@@ -8,10 +8,12 @@ ghost use Rattle.tl_runner_threads.specs.Ends.{is_finished, lacks_memory};
 ghost use Rattle.tl_runner_threads.specs.Opens.{HoldsEach, Opens};
 
 use crate::banks::{Opened, no_shares, open_banks};
+use crate::client_worker::ClientWorker;
 use crate::deal::Post;
+use crate::home_worker::HomeWorker;
 use crate::mailroom::{AllKeys, Mailroom, Posts, deal_out, open_mailroom};
 use crate::threads::{Joined, run_threads};
-use crate::workers::{ClientWorker, End, HomeWorker, Shared};
+use crate::workers::{End, Shared};
 use std::alloc::{AllocError, Global};
 use std::sync::Wait;
 use std::thread::Threads;
@@ -141,21 +143,29 @@ fn run_over<R: Threads + Wait + Clock + Sync, G: Gate + Sync>(
     // For the prover: the clauses alone name it.
     let _ = capacity;
     let posts = deal_out(shared.alloc, script.geometry(), mailroom, keys);
-    run_posts(rt, script, shared, posts, shares)
+    let joined = run_posts(rt, script, shared, posts, shares)?;
+    let banks = script.geometry().banks();
+    Ok(given_back(shared.alloc, banks, joined.clients)?)
 }
 
-/// Runs the threads with what each uses, where there was memory for that. The shares of each bank come back.
-fn run_posts<R: Threads + Wait + Clock + Sync, G: Gate + Sync>(
+/// Runs the threads with what each uses, where there was memory for that. All workers come back, and each has finished.
+fn run_posts<'s, 'x, R: Threads + Wait + Clock + Sync, G: Gate + Sync>(
     rt: &R,
-    script: &Script,
+    script: &'s Script,
     shared: &Shared<'_, G>,
-    posts: Result<Posts<'_>, AllocError>,
+    posts: Result<Posts<'x>, AllocError>,
     shares: Vec<Vec<Share>>,
-) -> Result<Vec<Vec<Share>>, RunError>
+) -> Result<Joined<ClientWorker<'s, 'x>, HomeWorker<'x>>, RunError>
     requires shares { vec_len shares ≡ length script.now.commands.items }
     requires clients { IfOk posts (λ p. vec_len p.clients ≡ script.now.geometry.clients) }
     requires homes { IfOk posts (λ p. vec_len p.homes ≡ script.now.geometry.banks) }
-    ensures { IfErr result (TellsTurns script.now.turns) }
+    ensures finished { IfOk result
+        (λ joined. (list_all (λ w. is_finished w.end) joined.clients.items ≡ true)
+        × (list_all (λ w. is_finished w.end) joined.homes.items ≡ true)) }
+    ensures count { IfOk result
+        (λ joined. (vec_len joined.clients ≡ script.now.geometry.clients)
+        × (vec_len joined.homes ≡ script.now.geometry.banks)) }
+    ensures stalled { IfErr result (TellsTurns script.now.turns) }
 {
     let geometry = script.geometry();
     let Posts {
@@ -167,11 +177,11 @@ fn run_posts<R: Threads + Wait + Clock + Sync, G: Gate + Sync>(
     let homes = home_workers(shared.alloc, homes)?;
     let joined = run_threads(rt, shared.alloc, shared, stop, clients, homes)?;
     end_of(&joined, script.turns)?;
-    Ok(given_back(shared.alloc, geometry.banks(), joined.clients)?)
+    Ok(joined)
 }
 
 /// The worker of a client, with its commands and shares.
-fn client_worker<'s, 'x>(
+pub(crate) fn client_worker<'s, 'x>(
     alloc: Global,
     geometry: Geometry,
     client: ClientId,
@@ -200,6 +210,7 @@ fn client_workers<'s, 'x>(
     requires shares { vec_len shares ≡ length commands.now }
     requires posts { vec_len posts ≡ length commands.now }
     requires few { length commands.now ≤ CLIENTS }
+    ensures { IfOk result (λ workers. vec_len workers ≡ length commands.entry.now) }
 {
     let mut workers = Vec::with_capacity(alloc, shares.len())?;
     let mut number: u32 = 0;
@@ -215,7 +226,7 @@ fn client_workers<'s, 'x>(
 }
 
 /// The worker of a bank's home.
-fn home_worker<'x>(
+pub(crate) fn home_worker<'x>(
     alloc: Global,
     bank: BankNo,
     post: Post<'x>,
@@ -233,6 +244,7 @@ fn home_worker<'x>(
 /// The workers of the homes.
 fn home_workers<'x>(alloc: Global, posts: Vec<Post<'x>>) -> Result<Vec<HomeWorker<'x>>, AllocError>
     requires { vec_len posts ≤ BANKS }
+    ensures { IfOk result (λ workers. vec_len workers ≡ vec_len posts.entry) }
 {
     let mut workers = Vec::with_capacity(alloc, posts.len())?;
     let mut number: u32 = 0;

@@ -11,8 +11,12 @@ use tl_tickets::Ringer;
 
 /// What a thread owns and does, over what all threads share.
 pub(crate) trait Work<S>: Drop {
+    /// What a worker has done that comes back, over what all threads share.
+    ghost works: { S → Self → Self → Type 0 };
+
     /// Works until it ends, and comes back.
-    fn work<R: Wait + Clock>(self, rt: &R, shared: &S) -> Self;
+    fn work<R: Wait + Clock>(self, rt: &R, shared: &S) -> Self
+        ensures { works shared.now self result };
 }
 
 /// All workers again, once their threads have ended.

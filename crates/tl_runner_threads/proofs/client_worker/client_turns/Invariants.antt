@@ -1,0 +1,15 @@
+use Rattle.std.proofs.Common.{◌≡◌, ◌<◌, ◌≤◌, ℕ}
+use Rattle.tl_runner_threads.specs.Course.{Turns}
+use Rattle.tl_runner_threads.specs.Courses.{IsAgentTurn, client_at}
+use Rattle.tl_runner_threads.proofs.client_worker.client_turns.Given as goal
+
+-- the turns so far, each with leave and none of them the last; none where the stop bell was rung before
+abbrev pub invariant-turns : goal.invariant-turns
+invariant-turns g l = record {
+  turns : (n : ℕ) × Turns (IsAgentTurn l.shared.clients) n (client_at l.fn.agent l.fn.mail) l.fn.course (client_at l.agent l.mail) l.course;
+  seen : l.fn.course.stop.seat.seen ≤ l.course.stop.seat.seen;
+  none : 0 < l.fn.course.stop.seat.seen → l.course.left ≡ l.fn.course.left;
+}
+
+abbrev pub decreases-turns : goal.decreases-turns
+decreases-turns g l = l.course.left
