@@ -1,6 +1,6 @@
 //! A gate that counts its calls.
 use std::cell::Cell;
-use tl_client_ports::{Gate, Who};
+use tl_client::{Gate, Who};
 use tl_types::{BankNo, ClientId};
 
 /// A gate that counts its calls.

@@ -8,8 +8,7 @@ use std::alloc::Global;
 use std::sync::Wait;
 use std::time::Clock;
 use tl_bank::Refusal;
-use tl_client::{Agent, Command, Turn};
-use tl_client_mail::Mail;
+use tl_client::{Agent, Command, Mail, Turn};
 use tl_map::Geometry;
 use tl_types::{AccessBytes, ClientId, Grow, Perm, Prune};
 

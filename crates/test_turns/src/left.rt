@@ -8,8 +8,7 @@ use crate::order::{Recorder, refusing_port};
 use std::alloc::Global;
 use std::sync::Wait;
 use std::time::Clock;
-use tl_client::{Free, Home, Turn};
-use tl_client_mail::Mail;
+use tl_client::{Free, Home, Mail, Turn};
 use tl_tickets::{Missing, Pass, Sender};
 use tl_types::{BankNo, Channel, ClientId, Ticket};
 

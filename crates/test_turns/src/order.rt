@@ -12,9 +12,7 @@ use std::marker::Model;
 use std::sync::Wait;
 use std::time::Clock;
 use tl_bank::{Action, Refusal, Reply};
-use tl_client::{Home, Turn};
-use tl_client_mail::Mail;
-use tl_client_ports::{Asked, Free, HomePort};
+use tl_client::{Asked, Free, Home, HomePort, Mail, Turn};
 use tl_tickets::{Ringer, Sender};
 use tl_types::{BankNo, BlockNo, Channel, ClientId, Ticket};
 

@@ -6,8 +6,7 @@ use std::alloc::Global;
 use std::sync::Wait;
 use std::time::Clock;
 use tl_bank::{Bank, Share};
-use tl_client::{Agent, Command, Turn};
-use tl_client_ports::Locked;
+use tl_client::{Agent, Command, Locked, Turn};
 use tl_map::{Geometry, GeometryNumbers};
 use tl_types::{AccessBytes, BankNo, BlockNo, ClientId, Perm};
 

@@ -5,8 +5,7 @@ use std::alloc::Global;
 use std::cell::Cell;
 use std::sync::Wait;
 use tl_bank::{Refusal, When};
-use tl_client::{Free, Gate, HomePort, Locked, Port, Who};
-use tl_client_ports::Success;
+use tl_client::{Free, Gate, HomePort, Locked, Port, Success, Who};
 use tl_map::{Geometry, GeometryNumbers};
 use tl_types::{BankNo, BlockNo, ClientId, Perm};
 

@@ -7,7 +7,7 @@ use crate::counts::count;
 use std::alloc::Global;
 use std::cell::Cell;
 use tl_bank::{Loaded, Refusal, Share, When};
-use tl_client_ports::{Asked, Port, Success};
+use tl_client::{Asked, Port, Success};
 use tl_types::{BankNo, BlockNo, Channel, ClientId, Grow, Perm, Prune, Ticket};
 
 /// A port to no bank: it counts its calls, and refuses all of them, an acquire and a release as it is told. The tickets

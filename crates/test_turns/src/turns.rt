@@ -4,8 +4,7 @@ use std::marker::Model;
 use std::sync::Wait;
 use std::time::Clock;
 use tl_bank::{Bank, Share};
-use tl_client::{Agent, Gate, Home, HomePort, Locked, Port, Turn};
-use tl_client_mail::Mail;
+use tl_client::{Agent, Gate, Home, HomePort, Locked, Mail, Port, Turn};
 use tl_map::Geometry;
 use tl_types::{AccessBytes, BankNo, ClientId};
 
