@@ -3,6 +3,7 @@
 // where there was one.
 //
 //   seed=1 cycles=100000    for so many cycles the cores ask; then the links are drained
+//   accesses=               the cores ask until so many accesses are done, if that is sooner
 //   plant=NAME              what is planted into L1 1 (plants.sv), in small letters with minus signs
 //   at=0 for=0              from which cycle on, and for how many; 0: to the end
 //   damage=NAME             what befalls one message of L1 1 on the wires, from cycle `at` on: flip-c, flip-d (a bit of
@@ -267,7 +268,8 @@ static void print(const Outcome &out, const Home &home, const Bench<Home> &bench
 using Hears = std::function<void(std::function<void()>)>; // has a function called at each fault of the home
 template <class Home> static Outcome run(const Settings &s, Home &home, Board &board, const Hears &hears) {
     Outcome out;
-    const uint64_t cycles = s.number("cycles", 100000), most = s.number("most", 1);
+    const uint64_t cycles = s.number("cycles", 100000), accesses = s.number("accesses", UINT64_MAX);
+    const uint64_t most = s.number("most", 1);
     Bench<Home> bench(s, home, board);
     hears([&] { if (!out.faults++) out.first_fault = home.cycle(); });
     bench.wrong = [&](uint32_t k, const std::string &what) {
@@ -276,7 +278,7 @@ template <class Home> static Outcome run(const Settings &s, Home &home, Board &b
     };
     auto from = std::chrono::steady_clock::now();
     auto goes_on = [&] { return most == 0 || out.faults + out.wrong < most; };
-    while (goes_on() && home.cycle() < cycles) bench.cycle(true);
+    while (goes_on() && home.cycle() < cycles && bench.accesses < accesses) bench.cycle(true);
     for (uint64_t i = 0; goes_on() && i < 30000 && (i < 200 || !home.is_quiet()); i++) bench.cycle(false);
     print(out, home, bench, std::chrono::duration<double>(std::chrono::steady_clock::now() - from).count());
     return out;
