@@ -1,5 +1,5 @@
 -- From one line of a record to the next, and the entries that a page shows.
-use Rattle.std.proofs.Common.{◌≡◌, ◌≢◌, ◌+◌, ◌<◌, ◌≤◌, ◌==◌, ℕ, Bool, true, false, cond, List, [], ◌∷◌, ◌++◌, length, take, drop, map, Option, Some, None, Result, Ok, Err, ⊥, refl, sym, ◌∙◌, ap, subst, arith, append_assoc, length-append, if◌then◌else◌}
+use Rattle.std.proofs.Common.{◌≡◌, ◌≢◌, ◌+◌, ◌<◌, ◌≤◌, ℕ, Bool, true, false, cond, List, [], ◌∷◌, ◌++◌, length, take, Option, Some, None, Result, Ok, Err, refl, sym, ◌∙◌, ap, subst, arith, append_assoc, length-append}
 use Rattle.std.proofs.lemmas.List.{append-nil, take_all, drop_all, take-append-drop, take-append-le, drop-append-le, map-append}
 use Rattle.std.specs.Io.BufRead.{take_through, drop_through, strip_last}
 use Rattle.tl_protocol.specs.declared.event.Event.{Event}
@@ -16,9 +16,9 @@ use Rattle.tlcheck_record.specs.declared.cause.LineError.TheVariants.{Wrong, Mem
 use Rattle.tlcheck_reader.specs.Lines.{lines_of}
 use Rattle.tlcheck_reader.specs.Reading.{Reading, fresh, shaped, going, after_line, after_text, image_or_entry, next, reading_of, with_entry}
 use Rattle.tlcheck_reader.proofs.Steps.{at_end, cut, read_more}
-use Rattle.tlcheck_reader.proofs.Takes.{length_more, refused_on}
+use Rattle.tlcheck_reader.proofs.Takes.{length_more}
 use Rattle.tlchart_record.specs.Film.{GoesOn, IsSomewhere, Plays, entries_of}
-use Rattle.tlchart_record.specs.Window.{Agrees, AreWrittenAfter, HasEntries, IsFit, IsFullLine, IsLineOf, IsWindow, IsWrittenAfter, Lead, LeadsTo, Shows, Takes, Writes, unread_as}
+use Rattle.tlchart_record.specs.Window.{Agrees, AreWrittenAfter, HasEntries, IsFullLine, IsLineOf, IsWindow, IsWrittenAfter, Lead, LeadsTo, Shows, Takes, unread_as}
 use Rattle.tlchart_record.specs.declared.window.Progress.{Progress}
 use Rattle.tlchart_record.specs.declared.window.Progress.TheVariants.{Fresh, Shaped, Going}
 use Rattle.tlchart_record.specs.declared.window.Window.{Window}
@@ -114,6 +114,12 @@ pub refused : (text : List ℕ) (before : ℕ) (then_ : Result Reading Cause) (e
 refused text before then_ (Wrong cause) h = (cause, h)
 refused text before then_ no_memory h = tt
 
+-- what cannot be read cannot be read on
+refused_on : {A : Type 0} (value : Result A Cause) (f : A → Result Reading Cause) (error : LineError) → Refuses error value
+    → Refuses error (value >>= f)
+refused_on value f (Wrong cause) h = ap (λ v. v >>= f) h
+refused_on value f no_memory h = tt
+
 -- a line with an entry
 pub entry-taken : (text : List ℕ) (before count line : ℕ) (shape : Shape) (image : List ℕ) (entries : List Entry) (words : List ℕ) (entry : Entry)
     (old new : Window) (is_shown : Bool) → entry_of words ≡ Ok entry → (is_shown ≡ true → before ≤ count) → (is_shown ≡ false → count < before)
@@ -125,8 +131,7 @@ entry-taken text before count line shape image entries words entry old new is_sh
     ap (λ (o : Result Entry Cause). o >>= (λ x. Ok (going shape image (entries ++ x ∷ [])))) e in
     let at : IsFullLine text line (Ok (going shape image (entries ++ entry ∷ []))) =
     subst (λ (o : Result Reading Cause). IsFullLine text line o) leads w in
-    let longer : length (entries ++ entry ∷ []) ≡ count + 1 = omega (arith, same, length_more entries entry) in
-    (
+    let longer : length (entries ++ entry ∷ []) ≡ count + 1 = omega (arith, same, length_more entries entry) in (
       going shape image (entries ++ entry ∷ []),
       leads,
       (shows-next text before count line shape image entries entry old new is_shown many few t shows same at, longer),
@@ -268,7 +273,7 @@ IsShortOf count (Shaped shape) = Unit {0}
 IsShortOf count (Going window taken) = taken ≢ count
 
 -- the same of what was read
-IsShort : ℕ → Reading → Type 0
+abbrev IsShort : ℕ → Reading → Type 0
 IsShort count fresh = Unit {0}
 IsShort count (shaped shape) = Unit {0}
 IsShort count (going shape image entries) = length entries ≢ count
@@ -391,8 +396,15 @@ module _ (text : List ℕ) (before count : ℕ) (left : List ℕ) (number : ℕ)
       rest = lines_of (drop_through 10 left);
       lines = lines_left;
       reads = at.reads;
-      number = ap (λ (n : ℕ). n + 1) at.number_is;
+      numbered = ap (λ (n : ℕ). n + 1) at.number_is;
     }
+
+    -- what it leads to, by what is taken without its line feed
+    pub leads-here : (words : List ℕ) → words ≡ strip_last 10 line → (result : Result Progress WindowFault)
+        → ((t : List ℕ) (reading : Reading) (full : List ℕ) → IsLineOf t (number + 1) reading full → words ≡ strip_last 10 full
+        → Agrees t before reading progress → LeadsTo t before (after_line reading full) result)
+        → LeadsTo text before (after_line at.reading line) result
+    leads-here words same result leads = leads text at.reading line line-at same at.agrees
 
     reads_more : (next_ : Reading) → after_line at.reading line ≡ Ok next_ → reading_of fresh (at.read ++ line ∷ []) ≡ Ok next_
     reads_more next_ e = read_more fresh at.read line at.reading at.reads ∙ e

@@ -1,5 +1,5 @@
 -- The entries of a record that a page shows (this project's own).
-use Rattle.std.specs.Prelude.{◌≡◌, ℕ, ◌+◌, ◌<◌, ◌≤◌, Bool, false, List, [], ◌∷◌, ◌++◌, length, take, drop, Result, Ok, Err, ⊥, if◌then◌else◌}
+use Rattle.std.specs.Prelude.{◌≡◌, ℕ, ◌+◌, ◌<◌, ◌≤◌, Bool, true, false, List, [], ◌∷◌, ◌++◌, length, take, drop, Result, Ok, Err}
 use Rattle.std.specs.Io.BufRead.{strip_last}
 use Rattle.tl_protocol.specs.declared.event.Event.{Event}
 use Rattle.tl_protocol.specs.declared.shape.Shape.{Shape}
@@ -42,7 +42,7 @@ pub record IsLineOf (text : List ℕ) (number : ℕ) (reading : Reading) (line :
   pub rest : List (List ℕ)
   pub lines : lines_of text ≡ read ++ line ∷ rest
   pub reads : reading_of fresh read ≡ Ok reading
-  pub number : length read + 1 ≡ number
+  pub numbered : length read + 1 ≡ number
 
 -- The line with this number is not blank, and leads to this after those before it.
 pub record IsFullLine (text : List ℕ) (number : ℕ) (then_ : Result Reading Cause) : Type 0 where
@@ -114,9 +114,8 @@ abbrev pub unread_as : LineError → WindowFault
 unread_as (Wrong cause) = Line
 unread_as no_memory = Memory
 
--- one more entry is taken, or shown with its line
+-- one more entry is shown with its line, or taken
 abbrev pub Takes : Bool → ℕ → Entry → Window → Window → Type 0
-Takes is_shown line entry old new =
-    if is_shown
-    then (new.judge ≡ old.judge) × (new.entries.items ≡ old.entries.items ++ record { line = line; entry = entry } ∷ [])
-    else Plays entry old.judge new.judge × (new.entries.items ≡ old.entries.items)
+Takes true line entry old new =
+    (new.judge ≡ old.judge) × (new.entries.items ≡ old.entries.items ++ record { line = line; entry = entry } ∷ [])
+Takes false line entry old new = Plays entry old.judge new.judge × (new.entries.items ≡ old.entries.items)

@@ -1,5 +1,5 @@
 //! The entries of a record that a page shows: the last so many up to its verdict.
-ghost use Rattle.std.specs.Prelude.{◌≡◌, ◌<◌, ◌≤◌, ℕ, List, [], length, IfOk, IfErr, OnOk, false, ⊥};
+ghost use Rattle.std.specs.Prelude.{◌≡◌, ◌<◌, ◌≤◌, ℕ, List, [], length, IfOk, IfErr, OnOk, false};
 ghost use Rattle.std.specs.Io.BufRead.{strip_last};
 ghost use Rattle.tl_types.specs.declared.limits.TheConstants.{BLOCKS, BLOCK_BYTES};
 ghost use Rattle.tl_protocol.specs.declared.shape.Shape.{Shape};
