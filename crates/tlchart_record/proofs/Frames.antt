@@ -1,5 +1,5 @@
 -- A judge that takes entries, and what is shown of it.
-use Rattle.std.proofs.Common.{◌≡◌, ◌≢◌, ◌⊎◌, ℕ, zero, suc, ◌+◌, ◌<◌, Bool, true, false, List, [], ◌∷◌, ◌++◌, length, take, map, get_or, slice_get, Option, Some, Result, Ok, Err, OnOk, IfErr, is_ok, cond, if◌then◌else◌, refl, sym, ap, ◌∙◌, subst, inl, inr, arith, string_bytes, vec_items}
+use Rattle.std.proofs.Common.{◌≡◌, ◌≢◌, ℕ, ◌+◌, ◌<◌, Bool, List, [], ◌∷◌, ◌++◌, length, take, map, get_or, slice_get, Option, Some, Result, Ok, Err, OnOk, IfErr, is_ok, cond, if◌then◌else◌, refl, sym, ap, ◌∙◌, subst, inl, inr, string_bytes, vec_items}
 use Rattle.std.specs.Prelude.{nat_lt}
 use Rattle.std.specs.Option.{option_map}
 use Rattle.std.proofs.lemmas.Bool.{cases_Bool, ltb-true, ne_eqb}

@@ -1,14 +1,23 @@
 //! The entries of a record that a page shows: the last so many up to its verdict.
-ghost use Rattle.std.specs.Prelude.{◌<◌, ◌≤◌, IfOk, OnOk};
+ghost use Rattle.std.specs.Prelude.{◌≡◌, ◌<◌, ◌≤◌, ℕ, List, [], length, IfOk, IfErr, OnOk, false};
+ghost use Rattle.std.specs.Io.BufRead.{strip_last};
 ghost use Rattle.tl_types.specs.declared.limits.TheConstants.{BLOCKS, BLOCK_BYTES};
+ghost use Rattle.tl_protocol.specs.declared.shape.Shape.{Shape};
+ghost use Rattle.tlcheck_rules.specs.declared.entry.Entry.{Entry};
+ghost use Rattle.tlcheck_rules.specs.Judged.{Follows};
+ghost use Rattle.tlcheck_reader.specs.Reading.{Reading, after_line, next, with_entry};
 ghost use Rattle.tlchart_record.specs.Film.{IsSomewhere};
+ghost use Rattle.tlchart_record.specs.Window.{Agrees, HasEntries, IsFit, IsFullLine, IsLineOf, IsWindow, LeadsTo, Shows, Takes, unread_as};
+ghost use Rattle.tlchart_record.specs.declared.window.WindowFault.TheVariants as fault;
+ghost use Rattle.tlchart_record.specs.declared.window.WindowFault.TheVariants.{Line};
+ghost use Rattle.tlchart_record.specs.declared.window.Progress.{Progress};
 
 use crate::film::play;
 use crate::turns::{Serials, turn_of};
 use std::alloc::{AllocError, Global};
 use std::io::BufRead;
 use tl_rules::Shape;
-use tlcheck_record::{is_blank, read_entry, read_image_line, read_shape, read_text};
+use tlcheck_record::{LineError, is_blank, read_entry, read_image_line, read_shape, read_text};
 use tlcheck_rules::{Entry, Judge};
 
 /// An entry, and the number of its line from 1 on.
@@ -37,22 +46,38 @@ pub enum WindowFault {
 }
 
 impl From<AllocError> for WindowFault {
+    ghost from_gives = { λ _ e. e ≡ fault.Memory };
+
     fn from(_error: AllocError) -> WindowFault {
         WindowFault::Memory
     }
 }
 
-/// Where a record starts.
+/// How far a record was read.
 #[derive(Drop)]
-struct Start {
-    /// A judge at reset.
-    judge: Judge,
-    /// Whether the line after the numbers has an image, and so no entry.
-    has_image: bool,
+pub(crate) enum Progress {
+    /// No line but blank ones.
+    Fresh,
+    /// Its numbers.
+    Shaped(Shape),
+    /// Its image, where it has one, and so many entries.
+    Going(Window, u64),
+}
+
+/// A line is not as it was checked, or there was no memory to read it.
+fn unread(error: LineError) -> WindowFault
+    ensures { result ≡ unread_as error }
+{
+    match error {
+        LineError::Wrong(_) => WindowFault::Line,
+        LineError::Memory => WindowFault::Memory,
+    }
 }
 
 /// A line without the line feed at its end.
-fn text_of(line: &[u8]) -> &[u8] {
+fn text_of(line: &[u8]) -> &[u8]
+    ensures { result.now ≡ strip_last 10 line.now }
+{
     if line.len() > 0 && line[line.len() - 1] == b'\n' {
         &line[..line.len() - 1]
     } else {
@@ -60,179 +85,183 @@ fn text_of(line: &[u8]) -> &[u8] {
     }
 }
 
-/// Reads the next line that is neither blank nor a comment, and counts the lines.
-fn read_line<R: BufRead>(
-    reader: &mut R,
-    line: &mut Vec<u8>,
-    number: &mut u64,
-) -> Result<(), WindowFault> {
-    for _ in 0..u64::MAX {
-        line.clear();
-        match reader.read_until(b'\n', line) {
-            Ok(_) => {}
-            Err(_) => return Err(WindowFault::Memory),
-        }
-        if line.is_empty() {
-            return Err(WindowFault::Line);
-        }
-        *number = number.saturating_add(1);
-        if !is_blank(text_of(line)) {
-            return Ok(());
-        }
-    }
-    Err(WindowFault::Line)
-}
-
-/// The text of a line.
-fn words(line: &[u8]) -> Result<&str, WindowFault> {
-    match read_text(text_of(line)) {
-        Ok(text) => Ok(text),
-        Err(_) => Err(WindowFault::Line),
-    }
-}
-
-/// The entry of a line.
-fn entry_in(alloc: Global, line: &[u8]) -> Result<Entry, WindowFault> {
-    match read_entry(alloc, words(line)?) {
-        Ok(entry) => Ok(entry),
-        Err(_) => Err(WindowFault::Line),
-    }
-}
-
-/// The numbers of a line.
-fn shape_in(alloc: Global, line: &[u8]) -> Result<Shape, WindowFault>
-    ensures bytes { IfOk result (λ shape. (0 < shape.block_bytes) × (shape.block_bytes ≤ BLOCK_BYTES)) }
-    ensures blocks { IfOk result (λ shape. shape.blocks ≤ BLOCKS) }
-{
-    match read_shape(alloc, words(line)?) {
-        Ok(shape) => Ok(shape),
-        Err(_) => Err(WindowFault::Line),
-    }
-}
-
-/// The image of a line, where it has one.
-fn image_in(alloc: Global, shape: Shape, line: &[u8]) -> Result<Option<Vec<u8>>, WindowFault> {
-    match read_image_line(alloc, shape, words(line)?) {
-        Ok(image) => Ok(image),
-        Err(_) => Err(WindowFault::Line),
-    }
-}
-
-/// A judge at reset over an image.
-fn judge_over(alloc: Global, shape: Shape, image: &[u8]) -> Result<Judge, AllocError>
-    requires bytes { (0 < shape.block_bytes) × (shape.block_bytes ≤ BLOCK_BYTES) }
-    requires blocks { shape.blocks ≤ BLOCKS }
-    ensures { IfOk result IsSomewhere }
-{
-    let judge = Judge::new(alloc, shape, image)?;
-    Ok(judge)
-}
-
-/// A judge at reset over the image of a line, where it has one.
-fn start_in(alloc: Global, shape: Shape, line: &[u8]) -> Result<Start, WindowFault>
-    requires bytes { (0 < shape.block_bytes) × (shape.block_bytes ≤ BLOCK_BYTES) }
-    requires blocks { shape.blocks ≤ BLOCKS }
-    ensures { IfOk result (λ start. IsSomewhere start.judge) }
-{
-    match image_in(alloc, shape, line)? {
-        Some(image) => {
-            let judge = judge_over(alloc, shape, &image)?;
-            Ok(Start {
-                judge,
-                has_image: true,
-            })
-        }
-        None => {
-            let judge = judge_over(alloc, shape, &[])?;
-            Ok(Start {
-                judge,
-                has_image: false,
-            })
-        }
-    }
-}
-
 /// Takes an entry before the window.
-fn pass(judge: &mut Judge, serials: &mut Serials, entry: &Entry) -> Result<(), AllocError>
-    requires { IsSomewhere judge.old }
-    ensures { OnOk result (IsSomewhere judge.new) }
+fn pass(window: &mut Window, entry: &Entry) -> Result<(), AllocError>
+    ensures { OnOk result (Takes false 0 entry.now window.old window.new) }
 {
-    let _turn = turn_of(judge, serials, entry);
-    play(judge, entry)?;
+    let _turn = turn_of(&window.judge, &mut window.serials, entry);
+    play(&mut window.judge, entry)?;
     Ok(())
 }
 
-/// Keeps an entry of the window; one before it the judge takes.
+/// Keeps an entry of the window with the number of its line; one before it the judge takes.
 fn take(window: &mut Window, line: u64, entry: Entry, is_shown: bool) -> Result<(), AllocError>
-    requires { IsSomewhere window.old.judge }
-    ensures { OnOk result (IsSomewhere window.new.judge) }
+    ensures { OnOk result (Takes is_shown line entry window.old window.new) }
 {
     if is_shown {
         window.entries.push(Written { line, entry })?;
         return Ok(());
     }
-    pass(&mut window.judge, &mut window.serials, &entry)
+    pass(window, &entry)
 }
 
-/// Takes the entries of the lines, from the line that was read last on.
-fn take_lines<R: BufRead>(
-    alloc: Global,
-    reader: &mut R,
-    line: &mut Vec<u8>,
-    number: &mut u64,
-    window: &mut Window,
-    before: u64,
-    count: u64,
-) -> Result<(), WindowFault>
-    requires { IsSomewhere window.old.judge }
-    ensures { OnOk result (IsSomewhere window.new.judge) }
+/// A window with no entry yet, over an image.
+fn open(alloc: Global, shape: Shape, image: &[u8]) -> Result<Window, AllocError>
+    requires bytes { (0 < shape.block_bytes) × (shape.block_bytes ≤ BLOCK_BYTES) }
+    requires blocks { shape.blocks ≤ BLOCKS }
+    ensures { IfOk result (λ window. Follows shape image.now [] window.judge × (window.entries.items ≡ [])) }
 {
-    for entry_index in 0..count {
-        if entry_index > 0 {
-            read_line(reader, line, number)?;
-        }
-        let entry = entry_in(alloc, line)?;
-        take(window, *number, entry, entry_index >= before)?;
-    }
-    Ok(())
+    Ok(Window {
+        judge: Judge::new(alloc, shape, image)?,
+        serials: Serials::new(alloc, shape.clients)?,
+        entries: Vec::new(alloc),
+    })
 }
 
-/// The entries of a record that was checked: the first `count` of them without the first `before`, which the judge has
-/// taken. The error is want of memory, or that the record is not as it was checked.
+/// Takes the first line that is not blank, which has the numbers.
+fn first_line(alloc: Global, words: &str) -> Result<Progress, WindowFault>
+    ensures leads { (text : List ℕ) (before : ℕ) (reading : Reading) → Agrees text before reading Progress.Fresh
+        → LeadsTo text before (next reading words.now) result }
+    ensures fit { IfOk result IsFit }
+{
+    match read_shape(alloc, words) {
+        Ok(shape) => Ok(Progress::Shaped(shape)),
+        Err(error) => Err(unread(error)),
+    }
+}
+
+/// Takes the line with that number, which has an entry; so many stand before it.
+fn entry_line(
+    alloc: Global,
+    mut window: Window,
+    count: u64,
+    before: u64,
+    number: u64,
+    words: &str,
+) -> Result<Progress, WindowFault>
+    ensures leads { (text : List ℕ) (shape : Shape) (image : List ℕ) (entries : List Entry)
+        → IsFullLine text number (with_entry shape image entries words.now)
+        → Shows text before shape image entries window → length entries ≡ count
+        → LeadsTo text before (with_entry shape image entries words.now) result }
+    ensures fit { IfOk result IsFit }
+{
+    if count == u64::MAX {
+        return Err(WindowFault::Memory);
+    }
+    match read_entry(alloc, words) {
+        Ok(entry) => {
+            take(&mut window, number, entry, count >= before)?;
+            Ok(Progress::Going(window, count + 1))
+        }
+        Err(error) => Err(unread(error)),
+    }
+}
+
+/// Takes the line after the numbers, which has the image or, where there is none, the first entry.
+fn second_line(
+    alloc: Global,
+    shape: Shape,
+    before: u64,
+    number: u64,
+    words: &str,
+) -> Result<Progress, WindowFault>
+    requires bytes { (0 < shape.block_bytes) × (shape.block_bytes ≤ BLOCK_BYTES) }
+    requires blocks { shape.blocks ≤ BLOCKS }
+    ensures leads { (text : List ℕ) (reading : Reading) → IsFullLine text number (next reading words.now)
+        → Agrees text before reading (Progress.Shaped shape) → LeadsTo text before (next reading words.now) result }
+    ensures fit { IfOk result IsFit }
+{
+    match read_image_line(alloc, shape, words) {
+        Ok(Some(image)) => {
+            let window = open(alloc, shape, &image)?;
+            Ok(Progress::Going(window, 0))
+        }
+        Ok(None) => {
+            let window = open(alloc, shape, &[])?;
+            entry_line(alloc, window, 0, before, number, words)
+        }
+        Err(error) => Err(unread(error)),
+    }
+}
+
+/// Takes the line with that number, which is not blank.
+fn full_line(
+    alloc: Global,
+    progress: Progress,
+    before: u64,
+    number: u64,
+    words: &str,
+) -> Result<Progress, WindowFault>
+    requires { IsFit progress }
+    ensures leads { (text : List ℕ) (reading : Reading) → IsFullLine text number (next reading words.now)
+        → Agrees text before reading progress → LeadsTo text before (next reading words.now) result }
+    ensures fit { IfOk result IsFit }
+{
+    match progress {
+        Progress::Fresh => first_line(alloc, words),
+        Progress::Shaped(shape) => second_line(alloc, shape, before, number, words),
+        Progress::Going(window, count) => entry_line(alloc, window, count, before, number, words),
+    }
+}
+
+/// Takes the line with that number, without its line feed.
+fn take_line(
+    alloc: Global,
+    progress: Progress,
+    before: u64,
+    number: u64,
+    line: &[u8],
+) -> Result<Progress, WindowFault>
+    requires { IsFit progress }
+    ensures leads { (text : List ℕ) (reading : Reading) (full : List ℕ) → IsLineOf text number reading full
+        → line.now ≡ strip_last 10 full → Agrees text before reading progress
+        → LeadsTo text before (after_line reading full) result }
+    ensures fit { IfOk result IsFit }
+{
+    if is_blank(line) {
+        return Ok(progress);
+    }
+    match read_text(line) {
+        Ok(words) => full_line(alloc, progress, before, number, words),
+        Err(_) => Err(WindowFault::Line),
+    }
+}
+
+/// The first `count` entries of a record without the first `before`, which the judge has taken, each with the number of
+/// its line. `Line` where no first lines of the record write so many entries, `Memory` where memory is refused.
 pub fn window_of(
     alloc: Global,
     bytes: &[u8],
     before: u64,
     count: u64,
 ) -> Result<Window, WindowFault>
-    ensures { IfOk result (λ window. IsSomewhere window.judge) }
+    ensures window { IfOk result (λ window. IsWindow bytes.now before count window) }
+    ensures fault { IfErr result (λ fault. fault ≡ Line → HasEntries bytes.now count → ⊥) }
+    ensures somewhere { IfOk result (λ window. IsSomewhere window.judge) }
 {
     let mut reader = bytes;
+    let mut progress = Progress::Fresh;
     let mut line = Vec::new(alloc);
-    let mut number = 0;
-    read_line(&mut reader, &mut line, &mut number)?;
-    let shape = shape_in(alloc, &line)?;
-    read_line(&mut reader, &mut line, &mut number)?;
-    let start = start_in(alloc, shape, &line)?;
-    let is_entry_next = start.has_image && count > 0;
-    let mut window = Window {
-        judge: start.judge,
-        serials: Serials::new(alloc, shape.clients)?,
-        entries: Vec::new(alloc),
-    };
-    if is_entry_next {
-        read_line(&mut reader, &mut line, &mut number)?;
+    for number in 0..u64::MAX {
+        line.clear();
+        match reader.read_until(b'\n', &mut line) {
+            Ok(_) => {}
+            Err(_) => return Err(WindowFault::Memory),
+        }
+        if line.is_empty() {
+            return Err(WindowFault::Line);
+        }
+        match take_line(alloc, progress, before, number + 1, text_of(&line))? {
+            Progress::Going(window, taken) => {
+                if taken == count {
+                    return Ok(window);
+                }
+                progress = Progress::Going(window, taken);
+            }
+            next => progress = next,
+        }
     }
-    take_lines(
-        alloc,
-        &mut reader,
-        &mut line,
-        &mut number,
-        &mut window,
-        before,
-        count,
-    )?;
-    Ok(window)
+    Err(WindowFault::Memory)
 }
 
 /// The blocks of the memory that some entries are of, by rising number, each once.
