@@ -174,13 +174,13 @@ probe_no_grant_ack x b c k (cap ∷ rest) =
 -- ## Answers to Probes
 
 probe_left : (x c b : ℕ) (k : Client) (caps : List ProbeCap) → HasFirst caps → answered Probes x (as_list (link_seen b (answer_post c k caps))) ≡ cond (x == c) (b ∷ []) []
-probe_left x c b k [] first = let gone : [] ≡ first.0 ∷ first.1.0 = first.1.1 in cc
+probe_left x c b k [] first = let gone : [] ≡ first.0 ∷ first.1 = first.2 in cc
 probe_left x c b k (cap ∷ rest) first =
     let a : ProbeAnswer = probe_answer (perm_of k.held) cap (dirty_bytes k.held) in
     some_if (x == c) (is_answer Probes (answer_kind a)) b (answer_yes a)
 
 probe_front : (b : ℕ) (caps : List ProbeCap) → HasFirst caps → picked Probes (first_as b (map body.ProbeBlock caps)) ≡ b ∷ []
-probe_front b [] first = let gone : [] ≡ first.0 ∷ first.1.0 = first.1.1 in cc
+probe_front b [] first = let gone : [] ≡ first.0 ∷ first.1 = first.2 in cc
 probe_front b (cap ∷ rest) first = refl
 
 probe_right : (t : Bool) (b : ℕ) (mine theirs : List ProbeCap) → (t ≡ true → theirs ≡ mine) → HasFirst mine
@@ -203,7 +203,7 @@ no_release_if false false b h = refl
 
 release_left : (x c b : ℕ) (ups : List Upward) → HasFirst ups
     → answered Releases x (as_list (link_seen b (ack_post c ups))) ≡ cond (x == c) (picked Releases (first_as b (map body.Upward ups))) []
-release_left x c b [] first = let gone : [] ≡ first.0 ∷ first.1.0 = first.1.1 in cc
+release_left x c b [] first = let gone : [] ≡ first.0 ∷ first.1 = first.2 in cc
 release_left x c b (ProbeAck a ∷ rest) first = no_release_if (x == c) (is_asked Releases (answer_kind a)) b (answer_no_release a)
 release_left x c b (Release g ∷ rest) first = release_if (x == c) (is_asked Releases (surrender_kind g)) b (surrender_yes g)
 
@@ -297,7 +297,7 @@ module _ (x : ℕ) (shape : Shape) (s : Block) where
       let g = may.1.1 in
       some_if (x == c) true b refl
       ∙ sym (grant_right (x == c) b (s.client c).d (s.client x).d (λ e. ap (λ (k : Client). k.d) (same_client c e))
-      (grant_front b g.0 g.1.0 g.1.1.0 (s.client c).d g.1.1.1))
+      (grant_front b g.0 g.1 g.2 (s.client c).d g.3))
   grants (TakeReleaseAck c b) may =
       let a = may.1.1 in
       ack_right (x == c) b a.0 (s.client c).d (s.client x).d (λ e. ap (λ (k : Client). k.d) (same_client c e)) a.1
