@@ -4,5 +4,5 @@
 mod order;
 mod pair;
 
-pub use order::{Misplaced, first_misplaced};
+pub use order::{LINES_OF_CLIENTS, Misplaced, first_misplaced};
 pub use pair::Pair;

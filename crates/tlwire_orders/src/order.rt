@@ -1,6 +1,8 @@
 //! The first answer on a client's link that stands in another order than what it answers.
-ghost use Rattle.std.specs.Prelude.{◌≡◌, ◌<◌, IfOk, IfSome, IsSome, length};
-ghost use Rattle.tlwire_orders.specs.Orders.{IsUnexplained, PartAt, answered, asked};
+ghost use Rattle.std.specs.Prelude.{◌≡◌, ◌<◌, ◌≤◌, ◌*◌, ◌↔◌, ℕ, IfOk, IfSome, IsNone, IsSome, IsTrue, MatchOption, length};
+ghost use Rattle.tlwire_orders.specs.declared.order.TheConstants.{LINES_OF_CLIENTS};
+ghost use Rattle.tlwire_orders.specs.Misplaced.{AreInOrder, IsAnswerAt, IsFirstParting, IsMisplaced, KeepsOrder, KeepsOrders};
+ghost use Rattle.tlwire_orders.specs.Orders.{IsUnexplained, answered, asked};
 
 use crate::pair::Pair;
 use std::alloc::{AllocError, Global};
@@ -9,7 +11,7 @@ use tl_types::{BlockNo, ClientId};
 use tlwire_search::Seen;
 
 /// Orders are asked for at most so many lines, each counted once for each client.
-const LINES_OF_CLIENTS: usize = 1_600_000;
+pub const LINES_OF_CLIENTS: usize = 1_600_000;
 
 /// An answer that stands in another order than what it answers.
 #[derive(Clone, Copy, Debug, PartialEq, Eq)]
@@ -56,7 +58,7 @@ fn answered(
 
 /// The first place at which two lists have different blocks.
 fn parting(one: &[BlockNo], other: &[BlockNo]) -> Option<usize>
-    ensures { IfSome result (PartAt one.now other.now) }
+    ensures { MatchOption result (AreInOrder one.now other.now) (IsFirstParting one.now other.now) }
 {
     for (place, block) in one.iter().enumerate() {
         if place >= other.len() {
@@ -69,8 +71,10 @@ fn parting(one: &[BlockNo], other: &[BlockNo]) -> Option<usize>
     None
 }
 
-/// The place in a record of the answer with a number on a client's link.
-fn place_of(pair: Pair, client: ClientId, seen: &[Seen], number: usize) -> usize {
+/// The place in a record of the answer with a number on a client's link, from 0 on.
+fn place_of(pair: Pair, client: ClientId, seen: &[Seen], number: usize) -> usize
+    ensures { number < length (answered pair client seen.now) → IsAnswerAt pair client seen.now number result }
+{
     let mut left = number;
     for (place, line) in seen.iter().enumerate() {
         if pair.answered_in(client, line).is_some() {
@@ -91,7 +95,8 @@ fn misplaced_in(
     client: ClientId,
     seen: &[Seen],
 ) -> Result<Option<Misplaced>, AllocError>
-    ensures { IfOk result (λ found. IsSome found → IsUnexplained shape seen.now) }
+    ensures found { IfOk result (λ found. MatchOption found (KeepsOrder pair client seen.now) (IsMisplaced seen.now)) }
+    ensures unexplained { IfOk result (λ found. IsSome found → IsUnexplained shape seen.now) }
 {
     let answers = answered(alloc, pair, client, seen)?;
     let asks = asked(alloc, pair, client, seen)?;
@@ -114,28 +119,41 @@ fn misplaced_at(
     client: ClientId,
     seen: &[Seen],
 ) -> Result<Option<Misplaced>, AllocError>
-    ensures { IfOk result (λ found. IsSome found → IsUnexplained shape seen.now) }
+    ensures found { IfOk result (λ found. MatchOption found (KeepsOrders client seen.now) (IsMisplaced seen.now)) }
+    ensures unexplained { IfOk result (λ found. IsSome found → IsUnexplained shape seen.now) }
 {
-    for pair in Pair::ALL {
-        let found = misplaced_in(alloc, shape, pair, client, seen)?;
-        if found.is_some() {
-            return Ok(found);
-        }
+    let probes = misplaced_in(alloc, shape, Pair::Probes, client, seen)?;
+    if probes.is_some() {
+        return Ok(probes);
     }
-    Ok(None)
+    let releases = misplaced_in(alloc, shape, Pair::Releases, client, seen)?;
+    if releases.is_some() {
+        return Ok(releases);
+    }
+    misplaced_in(alloc, shape, Pair::Grants, client, seen)
 }
 
-/// Looks for an answer on a client's link that stands in another order than what it answers. Where there is one, no run
-/// explains the record, over any image and however it was seen. It looks at no record with more than 1,600,000 lines,
-/// each counted once for each client. Err is a refused request for memory.
+/// Whether so many lines are few enough for so many clients that orders are asked.
+fn are_few(lines: usize, clients: u32) -> bool
+    ensures { IsTrue result ↔ (lines * clients ≤ LINES_OF_CLIENTS) }
+{
+    lines.saturating_mul(clients as usize) <= LINES_OF_CLIENTS
+}
+
+/// The first answer on a client's link that stands in another order than what it answers. Where there is one, no run
+/// explains the record, over any image and however it was seen. A record with more than 1,600,000 lines, each counted
+/// once for each client, is not looked at. Err is a refused request for memory.
 pub fn first_misplaced(
     alloc: Global,
     shape: Shape,
     seen: &[Seen],
 ) -> Result<Option<Misplaced>, AllocError>
-    ensures { IfOk result (λ found. IsSome found → IsUnexplained shape seen.now) }
+    ensures found { IfOk result (λ found. IfSome found (IsMisplaced seen.now)) }
+    ensures none { IfOk result (λ found. IsNone found → length seen.now * shape.clients ≤ LINES_OF_CLIENTS
+        → (client : ℕ) → client < shape.clients → KeepsOrders client seen.now) }
+    ensures unexplained { IfOk result (λ found. IsSome found → IsUnexplained shape seen.now) }
 {
-    if seen.len().saturating_mul(shape.clients as usize) > LINES_OF_CLIENTS {
+    if !are_few(seen.len(), shape.clients) {
         return Ok(None);
     }
     for number in 0..shape.clients {
