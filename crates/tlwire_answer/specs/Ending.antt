@@ -178,11 +178,17 @@ pair_text Probes = codes "a ProbeAck answers the first Probe that is not answere
 pair_text Releases = codes "a ReleaseAck answers the first Release that is not answered"
 pair_text Grants = codes "a GrantAck answers the first Grant that is not answered"
 
--- the number of the line of an answer in another order, and the block of what it should answer
+-- whose rule that is, and where it stands
+abbrev pub order_place : List ℕ
+order_place = codes " (this project's profile), docs/PROTOCOL.md, Channels of all blocks, and serials"
+
+-- which order an answer breaks, and the block of what it should answer
+abbrev pub order_rule : Misplaced → List ℕ
+order_rule x = pair_text x.pair ++ codes ", of block " ++ decimal x.first ++ order_place
+
+-- the number of its line before it
 abbrev pub misplaced_line : ℕ → Misplaced → List ℕ
-misplaced_line number x =
-    codes "impossible: line " ++ decimal number ++ codes ": " ++ pair_text x.pair ++ codes ", of block " ++ decimal x.first
-    ++ codes " (this project's profile), docs/PROTOCOL.md, Channels of all blocks, and serials\n"
+misplaced_line number x = codes "impossible: line " ++ decimal number ++ codes ": " ++ order_rule x ++ codes "\n"
 
 -- the block of the answer, and whose link it is on
 abbrev pub link_line : ℕ → ℕ → List ℕ

@@ -3,7 +3,7 @@ ghost use Rattle.std.specs.Prelude.{◌≡◌, ◌++◌, Some, IfOk, OnOk, slice
 ghost use Rattle.std.specs.List.{flat_map};
 ghost use Rattle.tl_streams.specs.Written.{AppendsBeginning};
 ghost use Rattle.tl_script_words.specs.Words.{texts};
-ghost use Rattle.tlwire_answer.specs.Ending.{answer_text, ending_of_read, ending_of_words, explained_text, fault_line, fault_text, hindrance_text, impossible_text, lent_line, limit_line, limit_text, link_line, misplaced_line, misplaced_text, not_decided_text, number_at, order_text, other_order_text, pair_text, rule_line, ruled_out_text, sets_text, side_text, stop_line, stuck_line, block_line, run_of, status_of, summary_line, summary_text, text_at, view_line};
+ghost use Rattle.tlwire_answer.specs.Ending.{answer_text, ending_of_read, ending_of_words, explained_text, fault_line, fault_text, hindrance_text, impossible_text, lent_line, limit_line, limit_text, link_line, misplaced_line, misplaced_text, not_decided_text, number_at, order_place, order_rule, order_text, other_order_text, pair_text, rule_line, ruled_out_text, sets_text, side_text, stop_line, stuck_line, block_line, run_of, status_of, summary_line, summary_text, text_at, view_line};
 
 use crate::run::RunText;
 use crate::verdict::{Order, Verdict};
@@ -384,7 +384,39 @@ impl fmt::Display for PairText {
     }
 }
 
-// The line of an answer in another order, and the block of what it should answer.
+// Whose rule that is, and where it stands.
+#[derive(Clone, Copy)]
+struct OrderPlace;
+
+impl fmt::Display for OrderPlace {
+    ghost output = { λ x. Some order_place };
+
+    fn fmt<W: fmt::Write>(&self, f: &mut fmt::Formatter<W>) -> fmt::Result {
+        f.write_str(
+            " (this project's profile), docs/PROTOCOL.md, Channels of all blocks, and serials",
+        )
+    }
+}
+
+// Which order an answer breaks, and the block of what it should answer.
+#[derive(Clone, Copy)]
+struct OrderRule(Misplaced);
+
+impl fmt::Display for OrderRule {
+    ghost output = { λ x. Some (order_rule x.0) };
+
+    fn fmt<W: fmt::Write>(&self, f: &mut fmt::Formatter<W>) -> fmt::Result {
+        write!(
+            f,
+            "{}, of block {}{}",
+            PairText(self.0.pair),
+            self.0.first,
+            OrderPlace
+        )
+    }
+}
+
+// The number of its line before it.
 #[derive(Clone, Copy)]
 struct MisplacedLine {
     number: u64,
@@ -397,10 +429,9 @@ impl fmt::Display for MisplacedLine {
     fn fmt<W: fmt::Write>(&self, f: &mut fmt::Formatter<W>) -> fmt::Result {
         write!(
             f,
-            "impossible: line {}: {}, of block {} (this project's profile), docs/PROTOCOL.md, Channels of all blocks, and serials\n",
+            "impossible: line {}: {}\n",
             self.number,
-            PairText(self.misplaced.pair),
-            self.misplaced.first
+            OrderRule(self.misplaced)
         )
     }
 }
