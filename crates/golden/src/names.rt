@@ -85,6 +85,7 @@ pub const RECORDS: &[&str] = &[
     "addresses-of-64-bits.txt",
     "answers-before-its-get.txt",
     "answers-before-its-release-ack.txt",
+    "answers-in-another-order.txt",
     "asks-before-its-release-ack.txt",
     "delayed.txt",
     "denied.txt",

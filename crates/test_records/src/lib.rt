@@ -15,6 +15,8 @@ mod examples;
 #[cfg(test)]
 mod explained;
 #[cfg(test)]
+mod orders;
+#[cfg(test)]
 mod pins;
 #[cfg(test)]
 mod readers;

@@ -8,6 +8,7 @@ use Rattle.tlwire_search.specs.declared.seen.Wire.TheVariants.{Core}
 use Rattle.tl_protocol.specs.Runs.{at_reset}
 use Rattle.tl_protocol.specs.declared.event.Event.{Event}
 use Rattle.tlwire_search.specs.declared.seen.Seen.{Seen}
+use Rattle.tlwire_orders.specs.Orders.{IsUnexplained}
 use Rattle.tlwire_pins.specs.Impossible.{IsImpossible}
 use Rattle.tlwire_pins.specs.Pins.{KeepsOrder, lines_from}
 use Rattle.tlwire_pins.specs.Walk.{IsWrong}
@@ -25,7 +26,7 @@ use Rattle.tlwire_answer.specs.declared.ending.Ending.TheVariants.{Usage, Answer
 use Rattle.tlwire_answer.specs.declared.verdict.Sets.{Sets}
 use Rattle.tlwire_answer.specs.declared.verdict.Sets.TheVariants.{Stuck, Open}
 use Rattle.tlwire_answer.specs.declared.verdict.Verdict.{Verdict}
-use Rattle.tlwire_answer.specs.declared.verdict.Verdict.TheVariants.{Explained, Impossible, RuledOut, NotDecided, OtherOrder}
+use Rattle.tlwire_answer.specs.declared.verdict.Verdict.TheVariants.{Explained, Misplaced, Impossible, RuledOut, NotDecided, OtherOrder}
 
 -- whether the header says that nobody watched a client's core
 abbrev pub cores_of : List Premise → ℕ → Cores
@@ -77,6 +78,7 @@ pub record IsExplained (m : MessagesState) (run : List Event) : Type 0 where
 -- What may be said of what was seen: a run that explains it; or that there is none; or a place in it, of which nothing else is claimed.
 abbrev pub IsVerdict : MessagesState → Verdict → Type 0
 IsVerdict m (Explained run) = IsExplained m run.items
+IsVerdict m (Misplaced x) = IsUnexplained m.setting.shape m.seen
 IsVerdict m (Impossible w) = IsNo m w
 IsVerdict m (RuledOut stuck) = IsRuledOut m
 IsVerdict m (NotDecided place limit sets) = place < length m.seen

@@ -1,6 +1,7 @@
 //! What is said of what was seen.
 ghost use Rattle.std.specs.List.{list_any};
-ghost use Rattle.std.specs.Prelude.{◌≡◌, ◌⊎◌, None, IfOk, IfSome, IsNone, IsTrue};
+ghost use Rattle.std.specs.Prelude.{◌≡◌, ◌⊎◌, None, IfOk, IfSome, IsNone, IsSome, IsTrue};
+ghost use Rattle.tlwire_orders.specs.Orders.{IsUnexplained};
 ghost use Rattle.std.specs.Bool.{OnFalse};
 ghost use Rattle.tlwire_answer.specs.Named.{is_at_clients, is_between, is_skew, least_of, least_with, names, or_zero, premise_of};
 ghost use Rattle.tlwire_answer.specs.Answer.{ClientKeepsOrder, EachKeepsOrder, IsInOrder, IsNo, IsSets, IsVerdict, Meets, NobodyIsTold, cores_of};
@@ -13,6 +14,7 @@ use std::alloc::{AllocError, Global};
 use tl_rules::Event;
 use tl_types::{Channel, ClientId};
 use tlwire_closed::{Answer, Reason, Stuck, Way, is_seen_so, rule_out};
+use tlwire_orders::{Misplaced, first_misplaced};
 use tlwire_pins::{Cores, Wrong, first_wrong, keeps_order, lines_at_pins};
 use tlwire_record::Messages;
 use tlwire_rounds::explain_in_rounds;
@@ -42,6 +44,8 @@ pub enum Order {
 pub enum Verdict {
     /// This run explains it.
     Explained(Vec<Event>),
+    /// No lawful run has what was seen on each wire: this answer stands in another order than what it answers.
+    Misplaced(Misplaced),
     /// No lawful run is seen so: this line may not be seen at its client's pins.
     Impossible(Wrong),
     /// No lawful run is seen so, by a closed set of states of one block.
@@ -352,13 +356,24 @@ fn explained_in_rounds(alloc: Global, messages: &Messages) -> Result<Verdict, Al
     weighed_run(alloc, messages, explanation)
 }
 
-/// A run that explains what was seen, or how far the first attempt came.
+/// The first answer of a client's link that stands in another order than what it answers.
+fn misplaced_in(alloc: Global, messages: &Messages) -> Result<Option<Misplaced>, AllocError>
+    ensures { IfOk result (λ found. IsSome found → IsUnexplained messages.now.setting.shape messages.now.seen) }
+{
+    first_misplaced(alloc, messages.setting().shape(), messages.seen())
+}
+
+/// A run that explains what was seen; else an answer in another order than what it answers, or how far the first attempt
+/// came.
 fn explained(alloc: Global, messages: &Messages) -> Result<Verdict, AllocError>
     ensures { IfOk result (IsVerdict messages.now) }
 {
     let verdict = explained_at_once(alloc, messages)?;
     if let Verdict::Explained(_) = &verdict {
         return Ok(verdict);
+    }
+    if let Some(misplaced) = misplaced_in(alloc, messages)? {
+        return Ok(Verdict::Misplaced(misplaced));
     }
     if messages.seen().len() > SEEN_IN_ROUNDS {
         return Ok(verdict);
@@ -468,7 +483,7 @@ fn sought(alloc: Global, messages: &Messages, asked: Asked) -> Result<Verdict, A
     ensures { IfOk result (IsVerdict messages.now) }
 {
     let verdict = explained(alloc, messages)?;
-    if let Verdict::Explained(_) = &verdict {
+    if let Verdict::Explained(_) | Verdict::Misplaced(_) = &verdict {
         return Ok(verdict);
     }
     match sets_behind(alloc, messages, asked)? {

@@ -1,0 +1,4 @@
+pub mod Links
+pub mod Answers
+pub mod Orders
+pub mod Parting

@@ -1,0 +1,2 @@
+pub mod Misplaced
+pub mod Orders
