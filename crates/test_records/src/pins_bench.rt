@@ -170,8 +170,8 @@ fn a_fault_is_told_again(rt: HostRuntime) {
     let first = see(&mut room, &wrong);
     let again = see(&mut room, &other);
     assert_eq!(rt; (asks, grant, of_the_other), ((0, 0, 0, 1), (0, 0, 2, 0), (0, 0, 2, 0)));
-    assert_eq!(rt; (told(&first), first.opcode, first.param), ((31, 38, 2, 0), 6, 1));
-    assert_eq!(rt; (told(&again), again.opcode, again.param), ((31, 38, 2, 0), 6, 1));
+    assert_eq!(rt; (told(&first), first.opcode, first.param), ((31, 41, 2, 0), 6, 1));
+    assert_eq!(rt; (told(&again), again.opcode, again.param), ((31, 41, 2, 0), 6, 1));
 }
 
 #[test]
