@@ -87,7 +87,11 @@ pub(crate) const SHAPE: Shape = Shape {
 };
 
 /// The lines of these numbers.
-pub(crate) fn seen_in(alloc: Global, damage: Damage, order: &[usize]) -> Result<Vec<Seen>, AllocError> {
+pub(crate) fn seen_in(
+    alloc: Global,
+    damage: Damage,
+    order: &[usize],
+) -> Result<Vec<Seen>, AllocError> {
     let mut seen = Vec::new(alloc);
     for number in order {
         seen.push(line(*number, damage))?;

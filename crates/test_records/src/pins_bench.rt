@@ -84,7 +84,13 @@ fn judge(alloc: Global, shape: Shape, client: u32, cores: Cores) -> PinsRoom {
 }
 
 /// The place of the first line that a judge refuses, and the rule.
-fn stops_at(alloc: Global, shape: Shape, client: u32, cores: Cores, seen: &[Seen]) -> Option<(usize, u32)> {
+fn stops_at(
+    alloc: Global,
+    shape: Shape,
+    client: u32,
+    cores: Cores,
+    seen: &[Seen],
+) -> Option<(usize, u32)> {
     let mut room = judge(alloc, shape, client, cores);
     for (place, line) in seen.iter().enumerate() {
         let told = see(&mut room, &numbers_of(line));
@@ -108,7 +114,13 @@ fn wrong_at(
 }
 
 /// Whether the judge stops where the whole record is found wrong, for the same rule.
-fn agrees(alloc: Global, shape: Shape, client: u32, cores: Cores, seen: &[Seen]) -> Result<bool, AllocError> {
+fn agrees(
+    alloc: Global,
+    shape: Shape,
+    client: u32,
+    cores: Cores,
+    seen: &[Seen],
+) -> Result<bool, AllocError> {
     let at_once = stops_at(alloc, shape, client, cores, seen);
     Ok(at_once == wrong_at(alloc, shape, client, cores, seen)?)
 }
@@ -169,9 +181,18 @@ fn a_fault_is_told_again(rt: HostRuntime) {
     let wrong = with_bytes(numbers(2, 0, 0, (2, 7, 1)), &[7; 8]);
     let first = see(&mut room, &wrong);
     let again = see(&mut room, &other);
-    assert_eq!(rt; (asks, grant, of_the_other), ((0, 0, 0, 1), (0, 0, 2, 0), (0, 0, 2, 0)));
-    assert_eq!(rt; (told(&first), first.opcode, first.param), ((31, 41, 2, 0), 6, 1));
-    assert_eq!(rt; (told(&again), again.opcode, again.param), ((31, 41, 2, 0), 6, 1));
+    assert_eq!(rt;
+        (asks, grant, of_the_other),
+        ((0, 0, 0, 1), (0, 0, 2, 0), (0, 0, 2, 0))
+    );
+    assert_eq!(rt;
+        (told(&first), first.opcode, first.param),
+        ((31, 41, 2, 0), 6, 1)
+    );
+    assert_eq!(rt;
+        (told(&again), again.opcode, again.param),
+        ((31, 41, 2, 0), 6, 1)
+    );
 }
 
 #[test]
@@ -187,7 +208,10 @@ fn what_is_no_line_changes_nothing(rt: HostRuntime) {
     let of_a_core = see(&mut unseen, &load).status;
     let (asks, _) = granted(&mut watched);
     assert_eq!(rt; (what, client, block), (17, 17, 17));
-    assert_eq!(rt; (param, no_data, of_a_core, asks), (17, 17, 17, (0, 0, 0, 1)));
+    assert_eq!(rt;
+        (param, no_data, of_a_core, asks),
+        (17, 17, 17, (0, 0, 0, 1))
+    );
 }
 
 #[test]
