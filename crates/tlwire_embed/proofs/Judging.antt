@@ -3,8 +3,9 @@ use Rattle.std.proofs.Common.{◌≡◌, ◌⊎◌, inl, inr, ℕ, List, [], ◌
 use Rattle.tl_protocol.specs.declared.shape.Shape.{Shape}
 use Rattle.tlwire_search.specs.Lists.{block_of}
 use Rattle.tlwire_search.specs.declared.seen.Seen.{Seen}
-use Rattle.tlwire_pins.specs.Judged.{EachMay, Follows, PinsState}
+use Rattle.tlwire_pins.specs.Judged.{EachMay, Follows, holds}
 use Rattle.tlwire_pins.specs.View.{led_by}
+use Rattle.tlwire_pins.specs.declared.judge.PinsJudge.{PinsJudge}
 use Rattle.tlwire_pins.specs.declared.view.Cores.{Cores}
 use Rattle.tlwire_pins.specs.declared.view.View.{View}
 use Rattle.tlwire_embed.specs.Histories.{AllTold, AreRepeated, AreSeen, AreToldBehind, EveryJudgingAtPins, IsToldBroken, taken_told}
@@ -43,10 +44,10 @@ repeated (x ∷ more) old end b fault was is h =
     )
 
 -- the state that a judge tells is what the lines lead to
-state-told : (cores : Cores) (shape : Shape) (c : ℕ) (lines : List Seen) (x : Seen) (j : PinsState) → Follows cores shape c lines j
+state-told : (cores : Cores) (shape : Shape) (c : ℕ) (lines : List Seen) (x : Seen) (j : PinsJudge) → Follows cores shape c lines j
     → state_told j x ≡ taken_told cores shape c lines x
 state-told cores shape c lines x j f =
-    ap (λ (s : Shape). with_view (j.holds (block_of s.block_bytes x)) (only 0)) f.same_shape
+    ap (λ (s : Shape). with_view (holds j (block_of s.block_bytes x)) (only 0)) f.same_shape
     ∙ ap (λ (v : View). with_view v (only 0)) (f.led (block_of shape.block_bytes x))
 
 -- what is told of one line, and of those behind it
@@ -107,7 +108,7 @@ told-next (Some line) l told more cores shape c lines old next is lawful f goes 
     told-line l told more cores shape c lines line old next is f goes again h
 
 -- what a judge that follows the lines takes the numbers for
-line-there : (cores : Cores) (shape : Shape) (c : ℕ) (lines : List Seen) (j : PinsState) (l : PinsLine) → Follows cores shape c lines j
+line-there : (cores : Cores) (shape : Shape) (c : ℕ) (lines : List Seen) (j : PinsJudge) (l : PinsLine) → Follows cores shape c lines j
     → line_of j.cores j.shape l ≡ line_of cores shape l
 line-there cores shape c lines j l f =
     ap (λ (k : Cores). line_of k j.shape l) f.same_cores ∙ ap (λ (s : Shape). line_of cores s l) f.same_shape

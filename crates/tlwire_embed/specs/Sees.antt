@@ -3,7 +3,8 @@ use Rattle.std.specs.Prelude.{◌≡◌, ◌⊎◌, ℕ, List, [], ◌∷◌, �
 use Rattle.tl_protocol.specs.declared.shape.Shape.{Shape}
 use Rattle.tlwire_search.specs.Lists.{block_of}
 use Rattle.tlwire_search.specs.declared.seen.Seen.{Seen}
-use Rattle.tlwire_pins.specs.Judged.{Breaks, Follows, PinsState}
+use Rattle.tlwire_pins.specs.Judged.{Breaks, Follows, holds}
+use Rattle.tlwire_pins.specs.declared.judge.PinsJudge.{PinsJudge}
 use Rattle.tlwire_pins.specs.declared.view.Cores.{Cores}
 use Rattle.tlwire_pins.specs.declared.views.Broken.{Broken}
 use Rattle.tlwire_embed.specs.Lines.{line_of}
@@ -18,8 +19,8 @@ pub record IsFresh (cores : Cores) (shape : Shape) (c : ℕ) (b : PinsBench) : T
   pub follows : Follows cores shape c [] b.judge
 
 -- the line may be seen, and what the client then holds of its block and waits for
-abbrev pub state_told : PinsState → Seen → PinsVerdict
-state_told judge x = with_view (judge.holds (block_of judge.shape.block_bytes x)) (only 0)
+abbrev pub state_told : PinsJudge → Seen → PinsVerdict
+state_told judge x = with_view (holds judge (block_of judge.shape.block_bytes x)) (only 0)
 
 -- The line may be seen after the lines where the judge is, which goes on with it; 0 is told, with the state behind it.
 pub record Takes (old : PinsBench) (x : Seen) (new : PinsBench) (told : PinsVerdict) : Type 0 where

@@ -2,6 +2,7 @@
 ghost use Rattle.std.specs.Prelude.{◌≡◌, ◌<◌, ◌≤◌, ◌∷◌, ◌++◌, ℕ, List, [], IfOk, IfSome, IsNone};
 ghost use Rattle.tl_protocol.specs.Copy.{perm_of};
 ghost use Rattle.tl_protocol.specs.declared.shape.Shape.{Shape};
+ghost use Rattle.tl_types.specs.declared.limits.TheConstants.{BLOCK_BYTES};
 ghost use Rattle.tlwire_pins.specs.declared.view.Cores.{Cores};
 ghost use Rattle.tlwire_search.specs.declared.seen.Seen.{Seen};
 
@@ -9,7 +10,6 @@ use crate::view::Cores;
 use crate::views::{Broken, Views, state_in, step};
 use std::alloc::{AllocError, Global};
 use std::collections::HashMap;
-use std::marker::Model;
 use tl_rules::Shape;
 use tl_types::{Awaited, BLOCK_BYTES, BlockNo, ClientId, Perm};
 use tlwire_search::Seen;
@@ -22,23 +22,11 @@ pub struct PinsJudge {
     shape: Shape,
     client: ClientId,
     views: Views,
-}
-
-impl Model for PinsJudge {
-    ghost use Rattle.std.specs.Prelude.{◌<◌, ◌≤◌};
-    ghost use Rattle.tl_types.specs.declared.limits.TheConstants.{BLOCK_BYTES};
-    ghost use Rattle.tlwire_pins.specs.Judged.{PinsState};
-    ghost use Rattle.tlwire_pins.specs.Walk.{held_in};
-
-    ghost Value = { PinsState };
-
-    ghost view = { λ j. record { cores = j.cores; shape = j.shape; client = j.client; holds = held_in j.views } };
-
-    ghost invariant = { λ j. (0 < j.shape.block_bytes) × (j.shape.block_bytes ≤ BLOCK_BYTES) };
+    ghost bytes: { (0 < shape.block_bytes) × (shape.block_bytes ≤ BLOCK_BYTES) },
 }
 
 impl PinsJudge {
-    ghost use Rattle.tlwire_pins.specs.Judged.{Breaks, Follows};
+    ghost use Rattle.tlwire_pins.specs.Judged.{Breaks, Follows, holds};
 
     /// A judge at the pins of a client, whose core is watched or not, that saw no line yet.
     pub fn new(alloc: Global, shape: Shape, client: ClientId, cores: Cores) -> PinsJudge
@@ -70,7 +58,7 @@ impl PinsJudge {
 
     /// What the client may do with a block, and which answer it waits for.
     pub fn state(&self, block: BlockNo) -> (Perm, Awaited)
-        ensures { result ≡ (perm_of (self.now.holds block).held, (self.now.holds block).wait) }
+        ensures { result ≡ (perm_of (holds self.now block).held, (holds self.now block).wait) }
     {
         state_in(&self.views, block)
     }

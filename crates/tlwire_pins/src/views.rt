@@ -1,8 +1,9 @@
 //! What a client holds of each block, as its lines so far tell.
 ghost use Rattle.std.specs.Prelude.{◌≡◌, ◌==◌, ◌<◌, ◌≤◌, ℕ, false, IfOk, IfSome, IsNone, OnOk};
 ghost use Rattle.tl_protocol.specs.Copy.{perm_of};
+ghost use Rattle.tlwire_pins.specs.Judged.{held_in};
 ghost use Rattle.tlwire_pins.specs.Pins.{is_own, is_told};
-ghost use Rattle.tlwire_pins.specs.Walk.{BreaksNext, Steps, held_in, is_at};
+ghost use Rattle.tlwire_pins.specs.Walk.{BreaksNext, Steps, is_at};
 
 use crate::view::{Cores, View};
 use std::alloc::{AllocError, Global};
