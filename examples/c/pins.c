@@ -77,7 +77,8 @@ static void closed_ones(void) {
 static jp_line shown(uint32_t client, const jv_answer *m) {
     return jp_message(client, m->place, m->channel, m->opcode, m->param, m->bytes, m->len);
 }
-/* A step of the cache; how many lines are seen of it, of which `lines` has room for two: a message on D as it is taken, and what is sent. */
+/* A step of the cache; how many lines are seen of it, of which `lines` has room for two: a message on D as it is taken, and on A, B, C or
+   E as it is sent. */
 static int step(jv_cache *c, uint32_t index, jp_line *lines) {
     static const uint32_t by_client[] = {JV_CALL_ANSWER_PROBE, JV_CALL_TAKE_GRANT, JV_CALL_TAKE_RELEASE_ACK, JV_CALL_ACCEPT, JV_CALL_TAKE_C,
         JV_CALL_TAKE_GRANT_ACK}, on[] = {JV_B, JV_D, JV_D, JV_A, JV_C, JV_E};
@@ -103,7 +104,7 @@ static int step(jv_cache *c, uint32_t index, jp_line *lines) {
         if (k == 6) lines[count++] = jp_access(JP_LOAD, client, r.place, a.bytes, a.len);
         if (k == 7) lines[count++] = jp_access(JP_STORE, client, r.place, r.bytes, r.len);
     }
-    if (a.what == JV_TELLS_MESSAGE && a.channel <= JV_E) lines[count++] = shown(a.client, &a);
+    if (a.what == JV_TELLS_MESSAGE && a.channel <= JV_E && a.channel != JV_D) lines[count++] = shown(a.client, &a);
     return count;
 }
 /* Numbers that are no line are told as such. */
