@@ -18,6 +18,9 @@
  *                      client would send, and nothing changed (`Saws`).
  *   jj_size, jj_align, jj_open, jj_see   a judge beside a bench, which tells of each entry at once whether it is permitted after those
  *                      before it, and of the first that is not the rule that it breaks (`OpensJudge`, `SeesRoom`, `EveryJudging`).
+ *   jp_size, jp_align, jp_open, jp_see   a judge at one client's pins, which tells of each line that is seen there at once whether it may
+ *                      be seen after those before it, and of the first that may not which rule it breaks; then no lawful run of the
+ *                      protocol is seen so at these pins (`OpensPins`, `SeesRoom`, `EveryJudgingAtPins`).
  *   jv_echo            the request again (`echoed`); jv_echo_seen likewise (`seen_echoed`); jv_version the number 5.
  * The functions that are `static inline` are C: they fill in a request and call one of these, and are tested (examples/c), not
  * proved. After any sequence of calls of an opened cache, each of which met its contract, each bank's log is a run of the protocol
@@ -686,6 +689,109 @@ static inline const char *jj_rule_name(uint32_t rule) {
         "what is shown is what the event sends: the data is missing", "what is shown is what the event sends: it sends no data",
         "what is shown is what the event sends: it sends other bytes"};
     return rule < sizeof names / sizeof *names ? names[rule] : "no such rule";
+}
+
+/* ---- a judge of messages at one client's pins
+
+   It is handed what a monitor sees at the pins of one client, a line at a time, and tells of each at once whether it may be seen there after
+   those before it, as `tlwire` does of a record that is `seen at client N` (docs/WIRE.md). Where it may not, no lawful run of the protocol,
+   over any image, is seen so, whatever home and the other clients do: so it needs no image and no event of home. Hand in a message on A or
+   C as the client sends it, one on D as the client takes it, a load and a store as the core makes them. Lines of another client and
+   messages on B and E may be handed in too, and break nothing. It takes memory for the blocks that the client's lines are of, and none for
+   the lines. */
+
+typedef struct jp_judge jp_judge; /* opaque, in room of jp_size() bytes; the promises above hold of it as of a cache */
+
+typedef struct {
+    jj_numbers of;         /* the clients, the bytes of a block, the blocks of the memory (20, 22, 27) */
+    uint32_t client;       /* at whose pins it judges: below `clients` (JV_OUT_OF_RANGE) */
+    uint32_t cores_unseen; /* 0 where the client's loads and stores are handed in, 1 where nobody watches its core (JV_BAD_ARGUMENT) */
+} jp_numbers;
+
+enum jp_what { JP_LOAD, JP_STORE, JP_MESSAGE };
+
+#define JP_CLOSES 255u /* as `what` of a line it closes a judge */
+
+typedef struct { /* a load, a store, or a message on a client's link; what a line does not use it takes no notice of */
+    uint32_t what;    /* jp_what */
+    uint32_t client;
+    uint32_t place;   /* the block of a message, or the address of an access */
+    uint32_t channel; /* of a message: jv_channel, A to E */
+    uint32_t opcode;  /* jv_opcode */
+    uint32_t param;
+    uint32_t len;     /* how many bytes: 1 to 8 of an access; of a message those of a block where it carries data, else 0 */
+    uint8_t bytes[64];
+} jp_line;
+
+enum jp_wait { JP_NOTHING, JP_GRANT, JP_RELEASE_ACK };
+
+typedef struct { /* what is not told is 0 */
+    uint32_t status; /* JV_OK: it may be seen; JV_NOT_PERMITTED: it may not; JV_BAD_ARGUMENT: no line, and nothing changed; JV_NO_MEMORY;
+                        JV_CLOSED */
+    uint32_t rule;   /* of JV_NOT_PERMITTED: jj_rule */
+    uint32_t opcode, param, len; /* of a rule from JJ_OTHER_MESSAGE on: what the client would send, its bytes with JJ_OTHER_BYTES alone */
+    uint32_t perm;   /* what the judge's client may do with the line's block (jv_perm_number): behind the line; before it where it may not
+                        be seen */
+    uint32_t wait;   /* what it waits for (jp_wait), likewise */
+    uint32_t why;    /* of JV_CLOSED: 20, 22, 27, JV_OUT_OF_RANGE, JV_BAD_ARGUMENT, or JV_CLOSED by its caller */
+    uint8_t bytes[64];
+} jp_verdict;
+
+JV_AT_(jp_numbers, client, 12); JV_AT_(jp_numbers, cores_unseen, 16); JV_ASSERT_(sizeof(jp_numbers) == 20, whole_pins_numbers);
+JV_AT_(jp_line, what, 0); JV_AT_(jp_line, client, 4); JV_AT_(jp_line, place, 8); JV_AT_(jp_line, channel, 12); JV_AT_(jp_line, opcode, 16);
+JV_AT_(jp_line, param, 20); JV_AT_(jp_line, len, 24); JV_AT_(jp_line, bytes, 28); JV_ASSERT_(sizeof(jp_line) == 92, whole_line);
+JV_AT_(jp_verdict, status, 0); JV_AT_(jp_verdict, rule, 4); JV_AT_(jp_verdict, opcode, 8); JV_AT_(jp_verdict, param, 12);
+JV_AT_(jp_verdict, len, 16); JV_AT_(jp_verdict, perm, 20); JV_AT_(jp_verdict, wait, 24); JV_AT_(jp_verdict, why, 28);
+JV_AT_(jp_verdict, bytes, 32); JV_ASSERT_(sizeof(jp_verdict) == 96, whole_pins_verdict);
+
+size_t jp_size(void);  /* how many bytes of room a judge needs */
+size_t jp_align(void); /* what the room's address divides by */
+/* Puts a judge into the room: at the client's pins, of which it saw no line yet, or closed, for the reason that `why` of each call tells. */
+void jp_open(const jp_numbers *numbers, void *room);
+/* Takes the line where it may be seen after those before it. Where it may not, JV_NOT_PERMITTED and the rule that it breaks are told, and
+   each later call answers just that again, whatever it is handed. Likewise JV_NO_MEMORY from the first request for memory on that was
+   refused. Numbers that are no line are the caller's fault (JV_BAD_ARGUMENT), and change nothing: another `what`, a client, a block or an
+   address that is not there; more than 8 bytes of an access, or an access where nobody watches the core; another channel, opcode or param,
+   or one that this profile does not have; bytes with a message that carries none, or other than a block's with one that does. */
+jp_verdict jp_see(jp_judge *judge, const jp_line *line);
+
+/* A judge in room of malloc's; or NULL, with the reason in *status (which may be NULL) as `why`. */
+static inline jp_judge *jp_new(const jp_numbers *numbers, uint32_t *status) {
+    uint32_t why = JV_NO_MEMORY; jp_judge *j = NULL; jp_line none;
+    void *room = jp_align() <= 16 ? malloc(jp_size()) : NULL;
+    if (room) {
+        jp_verdict v;
+        jp_open(numbers, room);
+        j = (jp_judge *)room;
+        memset(&none, 0, sizeof none); none.what = 254; /* no line: an open judge answers 17 */
+        v = jp_see(j, &none);
+        why = v.status == JV_CLOSED ? v.why : 0;
+        if (why) { free(room); j = NULL; }
+    }
+    if (status) *status = why;
+    return j;
+}
+/* Gives all that the judge holds back; the room is the caller's again. */
+static inline void jp_close(jp_judge *j) {
+    if (j) { jp_line l; memset(&l, 0, sizeof l); l.what = JP_CLOSES; (void)jp_see(j, &l); }
+}
+/* Closes a judge of jp_new and gives its room back. */
+static inline void jp_free(jp_judge *j) { if (j) { jp_close(j); free(j); } }
+/* The line of a message; bytes may be NULL where len is 0. More than 64 bytes are handed in as 65, which is no line. */
+static inline jp_line jp_message(uint32_t client, uint32_t block, uint32_t channel, uint32_t opcode, uint32_t param, const uint8_t *bytes,
+    uint32_t len) {
+    jp_line l; memset(&l, 0, sizeof l);
+    l.what = JP_MESSAGE; l.client = client; l.place = block; l.channel = channel; l.opcode = opcode; l.param = param;
+    l.len = len > 64 ? 65 : len;
+    if (len) memcpy(l.bytes, bytes, len > 64 ? 64 : len);
+    return l;
+}
+/* The line of a load or a store of 1 to 8 bytes. More are handed in as 9, which is no line. */
+static inline jp_line jp_access(uint32_t what, uint32_t client, uint32_t address, const uint8_t *bytes, uint32_t len) {
+    jp_line l; memset(&l, 0, sizeof l);
+    l.what = what; l.client = client; l.place = address; l.len = len > 8 ? 9 : len;
+    if (len) memcpy(l.bytes, bytes, len > 8 ? 8 : len);
+    return l;
 }
 #ifdef __cplusplus
 }

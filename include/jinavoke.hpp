@@ -13,7 +13,8 @@
 // `patience` cycles.
 //
 // Beside it, for a design with a home of its own: jinavoke::Judge is handed that home's and its clients' events, and
-// tells of each at once whether it is permitted.
+// tells of each at once whether it is permitted; jinavoke::PinsJudge is handed what is seen at one client's pins, and
+// tells of each line at once whether it may be seen there.
 #ifndef JINAVOKE_HPP
 #define JINAVOKE_HPP
 #include "jinavoke.h"
@@ -255,6 +256,13 @@ struct Options {
 
 // ---- a judge of events beside a bench
 
+// The first eight bytes in which what is sent differs from what is shown.
+inline std::string other_bytes(const uint8_t *sent, const uint8_t *shown, size_t len) {
+    size_t at = first_other(shown, sent, len);
+    return "bytes " + words::number(at) + " to " + words::number(at + 7) + " " + words::hex(sent + at, 8) + ", and "
+        + words::hex(shown + at, 8) + " are shown";
+}
+
 // jj_judge of jinavoke.h, which says what each entry and verdict is. It needs no Home: the events may be those of a
 // design's own home and clients, as a monitor tells them.
 class Judge {
@@ -304,7 +312,7 @@ class Judge {
         s += "block " + words::number(block) + ": " + words::event(e.event) + ": ";
         if (v.status != JV_NOT_PERMITTED) return s + jv_status_name(v.status);
         s += jj_rule_name(v.rule);
-        if (v.rule == JJ_OTHER_BYTES) s += ", " + other_bytes(e, v);
+        if (v.rule == JJ_OTHER_BYTES) s += ", " + other_bytes(v.bytes, e.bytes, v.len);
         else if (v.rule >= JJ_OTHER_MESSAGE) s += ", " + sent(e, v).kind();
         if (has_client) s += std::string("; the client has ") + words::perm(v.perm);
         return s + (v.is_at_home ? "; home has a copy" : "; home has no copy");
@@ -323,17 +331,74 @@ class Judge {
         default: return JV_E;
         }
     }
-    static std::string other_bytes(const jj_entry &e, const jj_verdict &v) {
-        size_t at = first_other(e.bytes, v.bytes, v.len);
-        return "bytes " + words::number(at) + " to " + words::number(at + 7) + " " + words::hex(&v.bytes[at], 8)
-            + ", and " + words::hex(&e.bytes[at], 8) + " are shown";
-    }
 
     uint32_t block_bytes_;
     jj_judge *judge_ = nullptr;
     uint64_t taken_ = 0;
     std::string said_;
 };
+
+// ---- a judge of messages at one client's pins
+
+// jp_judge of jinavoke.h, which says what each line and verdict is. It needs no Home, and no event of one.
+class PinsJudge {
+  public:
+    explicit PinsJudge(const jp_numbers &numbers) : client_(numbers.client), block_bytes_(numbers.of.block_bytes) {
+        uint32_t why = 0;
+        judge_ = jp_new(&numbers, &why);
+        if (!judge_) throw std::runtime_error("jinavoke: no judge: " + words::number(why) + " " + jv_status_name(why));
+    }
+    PinsJudge(const PinsJudge &) = delete;
+    PinsJudge &operator=(const PinsJudge &) = delete;
+    ~PinsJudge() { jp_free(judge_); }
+
+    jp_verdict see(const jp_line &line) {
+        jp_verdict v = jp_see(judge_, &line);
+        if (v.status == JV_OK) taken_++;
+        if (v.status != JV_OK && said_.empty()) said_ = text(line, v);
+        return v;
+    }
+    // A message of a block on a client's link: its channel, opcode, param, and its bytes where it has some.
+    jp_verdict see(uint32_t block, const Message &m) {
+        return see(jp_message(m.client, block, m.channel, m.opcode, m.param, m.bytes.data(), m.len));
+    }
+    // A load or a store of 1 to 8 bytes; the address begins at 0.
+    jp_verdict access(bool is_store, uint32_t client, uint32_t address, const uint8_t *bytes, uint32_t len) {
+        return see(jp_access(is_store ? JP_STORE : JP_LOAD, client, address, bytes, len));
+    }
+    uint64_t taken() const { return taken_; } // how many lines may be seen
+    // Of the first that may not: who, which block, what, which rule, and what was there before it. Else empty.
+    const std::string &said() const { return said_; }
+
+  private:
+    static std::string what(const jp_line &l) {
+        if (l.what != JP_MESSAGE) return words::at({"load", "store"}, l.what);
+        Message m;
+        m.channel = l.channel; m.opcode = l.opcode; m.param = l.param;
+        return m.kind();
+    }
+    std::string text(const jp_line &l, const jp_verdict &v) const {
+        uint32_t block = l.what == JP_MESSAGE ? l.place : l.place / block_bytes_;
+        std::string s = "client " + words::number(l.client) + ", block " + words::number(block) + ": " + what(l) + ": ";
+        if (v.status != JV_NOT_PERMITTED) return s + jv_status_name(v.status);
+        s += jj_rule_name(v.rule);
+        if (v.rule == JJ_OTHER_BYTES) s += ", " + other_bytes(v.bytes, l.bytes, v.len);
+        else if (v.rule >= JJ_OTHER_MESSAGE) {
+            Message sent;
+            sent.channel = JV_C; sent.opcode = v.opcode; sent.param = v.param;
+            s += ", " + sent.kind();
+        }
+        return s + "; client " + words::number(client_) + " has " + words::perm(v.perm)
+            + words::at({"", ", and waits for a Grant", ", and waits for a ReleaseAck"}, v.wait);
+    }
+
+    uint32_t client_, block_bytes_;
+    jp_judge *judge_ = nullptr;
+    uint64_t taken_ = 0;
+    std::string said_;
+};
+
+// ---- a judge of the events of a Home
 
 // Hands each step of a Home's model to a judge as it is made, with the message that was seen. Each bank has its own.
 class EventJudge : public Watch {

@@ -1,4 +1,4 @@
-// What jinavoke_pkg.sv imports, and the Python module loads: the calls of jinavoke.h, and of jinavoke.hpp a judge and a
+// What jinavoke_pkg.sv imports, and the Python module loads: the calls of jinavoke.h, and of jinavoke.hpp judges and a
 // home, with words and pointers alone, since DPI takes no struct by value. A bit vector of SystemVerilog is its words
 // of 32 bits, the lowest first.
 #include "jinavoke.hpp"
@@ -107,6 +107,30 @@ int jjd_see(void *judge, int event, int client, int place, int param, int is_sho
     return int(v.status);
 }
 const char *jjd_said(void *judge) { return static_cast<jinavoke::Judge *>(judge)->said().c_str(); }
+
+// ---- a judge of messages at one client's pins
+
+void *jpd_new(int clients, int block_bytes, int blocks, int client, int cores_unseen) {
+    jp_numbers n = {{uint32_t(clients), uint32_t(block_bytes), uint32_t(blocks)}, uint32_t(client),
+        uint32_t(cores_unseen)};
+    try {
+        return new jinavoke::PinsJudge(n);
+    } catch (const std::exception &why) {
+        std::fprintf(stderr, "%s\n", why.what());
+        return nullptr;
+    }
+}
+void jpd_free(void *judge) { delete static_cast<jinavoke::PinsJudge *>(judge); }
+int jpd_see(void *judge, int what, int client, int place, int channel, int opcode, int param, int len,
+            const uint32_t *bytes, int *rule) {
+    jp_line l = {uint32_t(what), uint32_t(client), uint32_t(place), uint32_t(channel), uint32_t(opcode),
+        uint32_t(param), uint32_t(len), {}};
+    std::memcpy(l.bytes, bytes, sizeof l.bytes);
+    jp_verdict v = static_cast<jinavoke::PinsJudge *>(judge)->see(l);
+    *rule = int(v.rule);
+    return int(v.status);
+}
+const char *jpd_said(void *judge) { return static_cast<jinavoke::PinsJudge *>(judge)->said().c_str(); }
 
 // ---- a home of links
 

@@ -62,12 +62,26 @@ def judged(cache, path):
             and fault.rule == jv.JJ_PUT_ACK_IS_OUTWARD
 
 
+def seen_at_pins(path):
+    """A judge at a client's pins takes what may be seen there, and stops at a Release that shows other bytes than were stored."""
+    with jv.PinsJudge(0, path=path, clients=2, block_bytes=8, memory_blocks=4) as judge:
+        told = [
+            judge.see("message", client=0, place=0, channel=jv.JV_A, opcode=jv.JV_OP_ACQUIRE_BLOCK, param=jv.JV_NTOT),
+            judge.see("message", bytes(8), client=0, place=0, channel=jv.JV_D, opcode=jv.JV_OP_GRANT_DATA, param=jv.JV_TO_T),
+            judge.see("store", b"\xaa", client=0, place=0),
+            judge.see("message", bytes(8), client=0, place=0, channel=jv.JV_C, opcode=jv.JV_OP_RELEASE_DATA, param=jv.JV_TTON),
+            judge.see("load", b"\xaa", client=0, place=0)]
+        return [it.status for it in told] == [0, 0, 0, jv.JV_NOT_PERMITTED, jv.JV_NOT_PERMITTED] \
+            and told[0].wait == jv.JP_GRANT and told[3].rule == jv.JJ_OTHER_BYTES and bytes(told[3]) == bytes(told[4])
+
+
 def main():
     path = sys.argv[1] if len(sys.argv) > 1 else None
     with jv.Cache(path=path, clients=2, banks=1, block_bytes=8, sets=1, ways=2, registers=2, copies=2, memory_blocks=4) as cache:
         is_well = race(cache)
         is_well = at_once(cache) and is_well
         is_well = judged(cache, path) and is_well
+        is_well = seen_at_pins(path) and is_well
         load = jv.asked("load", client=1, place=0, len=8)
         for text, batch, rounds in ("one call", cache.batch(load), 100000), ("a call of 64", cache.batch(*[load] * 64), 2000):
             start = time.perf_counter()

@@ -1,6 +1,6 @@
 /* Each request for memory refused in turn, by malloc and realloc of this file's own (linked with --wrap): opening answers 14 and leaves
- * nothing behind; a step or jv_reserve that is answered with 14 changed nothing, and is done when it is asked again; a judge that answered
- * 14 does so from then on; and at the end all memory was given back. Status 1 where one does not. */
+ * nothing behind; a step or jv_reserve that is answered with 14 changed nothing, and is done when it is asked again; a judge of events, or at
+ * a client's pins, that answered 14 does so from then on; and at the end all memory was given back. Status 1 where one does not. */
 #include "jinavoke.h"
 #include <stdio.h>
 
@@ -179,6 +179,31 @@ static void judged(void) {
     }
     jj_free(j);
 }
+/* A judge at a client's pins sees it get each block: it is opened and takes each line; or 14 is told, and from then on by each call. */
+static void judged_at_pins(void) {
+    jp_numbers n = {{2, 8, 1024}, 1, 0};
+    uint8_t bytes[8] = {0};
+    uint32_t why, block, k;
+    jp_verdict v, zero;
+    jp_judge *j = jp_new(&n, &why);
+    memset(&zero, 0, sizeof zero); zero.status = JV_NO_MEMORY;
+    if (!j) {
+        expect(why == JV_NO_MEMORY, "opening a judge tells another reason");
+        expect(live == 0, "opening a judge kept memory");
+        return;
+    }
+    for (block = 0; block < 1024; block++) for (k = 0; k < 2; k++) {
+        jp_line asks = jp_message(1, block, JV_A, JV_OP_ACQUIRE_BLOCK, JV_NTOT, NULL, 0);
+        jp_line gets = jp_message(1, block, JV_D, JV_OP_GRANT_DATA, JV_TO_T, bytes, 8);
+        v = jp_see(j, k ? &gets : &asks);
+        if (v.status == JV_OK) continue;
+        expect(!memcmp(&v, &zero, sizeof v), "a line is told as other than want of memory");
+        v = jp_see(j, &asks);
+        expect(!memcmp(&v, &zero, sizeof v), "want of memory is not told again");
+        block = 1024; break;
+    }
+    jp_free(j);
+}
 static void each_refused(void (*one)(void), const char *what) {
     long all, i;
     asked = refuse_at = refused = 0;
@@ -192,5 +217,6 @@ static void each_refused(void (*one)(void), const char *what) {
 int main(void) {
     each_refused(scenario, "a cache");
     each_refused(judged, "a judge");
+    each_refused(judged_at_pins, "a judge at a client's pins");
     return wrong != 0;
 }

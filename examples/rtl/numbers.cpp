@@ -1,5 +1,5 @@
-// numbers: a home of a bus, a link or a tap that cannot be is refused, from C++ and by the calls for DPI, and so is a
-// judge; a message of TileLink that the model has not is told, and not as a fault of the client. Status 1 where it is
+// numbers: a home of a bus, a link or a tap that cannot be is refused, from C++ and by the calls for DPI, and so are
+// judges; a message of TileLink that the model has not is told, and not as a fault of the client. Status 1 where it is
 // otherwise.
 #include "jinavoke_dpi.cpp"
 #include <iostream>
@@ -77,9 +77,37 @@ static void judges() {
     jjd_free(judge);
 }
 
+static int at_pins(void *judge, int channel, int opcode, int param) { // the status of a message of client 1 and block 3
+    const uint32_t none[JV_MOST_BLOCK_BYTES / 4] = {};
+    int rule = 0;
+    return jpd_see(judge, JP_MESSAGE, 1, 3, channel, opcode, param, 0, none, &rule);
+}
+static void judges_at_pins() {
+    struct Row { int clients, block_bytes, blocks, client, cores_unseen; bool is_made; };
+    const Row rows[] = {
+        {64, 64, 4, 63, 0, true}, {2, 64, 4, 1, 1, true}, {0, 64, 4, 0, 0, false}, {2, 24, 4, 0, 0, false},
+        {2, 64, 65537, 0, 0, false}, {2, 64, 4, 2, 0, false}, {2, 64, 4, -1, 0, false}, {2, 64, 4, 0, 2, false},
+    };
+    for (const Row &row : rows) {
+        void *judge = jpd_new(row.clients, row.block_bytes, row.blocks, row.client, row.cores_unseen);
+        const char *what = row.is_made ? "a judge at the pins of client" : "no judge at the pins of client";
+        want((judge != nullptr) == row.is_made, what, row.client);
+        jpd_free(judge);
+    }
+    void *judge = jpd_new(2, 64, 4, 1, 0);
+    want(at_pins(judge, JV_A, JV_OP_ACQUIRE_BLOCK, JV_NTOT) == JV_OK, "an Acquire at the pins, param", JV_NTOT);
+    want(at_pins(judge, JV_C, JV_OP_RELEASE, JV_TTON) == JV_NOT_PERMITTED, "no Release beside it, param", JV_TTON);
+    want(at_pins(judge, JV_B, JV_OP_PROBE_BLOCK, JV_TO_N) == JV_NOT_PERMITTED, "and that again, param", JV_TO_N);
+    const std::string said = "client 1, block 3: Release TtoN: no Release is sent between an Acquire and its Grant; "
+        "client 1 has None, and waits for a Grant";
+    want(jpd_said(judge) == said, jpd_said(judge), 1);
+    jpd_free(judge);
+}
+
 int main() {
     messages();
     judges();
+    judges_at_pins();
     for (uint32_t bus : {8u, 16u, 32u, 64u}) want(is_made(bus), "a bus of", bus);
     for (uint32_t bus : {0u, 1u, 4u, 7u, 12u, 24u, 63u, 65u, 128u, 1u << 31, ~0u})
         want(!is_made(bus), "no bus of", bus);

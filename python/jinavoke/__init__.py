@@ -7,8 +7,8 @@
 
 A design's links have a home of their own, `jv.Home` (links.py).
 
-Each JV_ and JJ_ name of the header is a name of this module, and `jv.Judge` judges events as a bench runs. To import it opens
-no file: the header is read where a number is first needed, and the shared library is loaded by the first cache. Both are
+Each JV_, JJ_ and JP_ name of the header is a name of this module; `jv.Judge` judges events as a bench runs, and
+`jv.PinsJudge` messages at a client's pins. To import it opens no file: the header is read where a number is first needed, and the shared library is loaded by the first cache. Both are
 those that were installed with this file, or, in a checkout, the repository's header. JINAVOKE_HEADER and JINAVOKE_LIBRARY
 name others.
 """
@@ -24,6 +24,8 @@ TOLD = "status what bank client channel opcode param place address size index le
 SEEN = "channel opcode param client block len options index".split()
 ENTRY = "event client place param shown channel opcode shown_param len".split()
 VERDICT = "status rule opcode param len perm is_at_home why".split()
+LINE = "what client place channel opcode param len".split()
+PINS_VERDICT = "status rule opcode param len perm wait why".split()
 # What a ticket is made of.
 TICKET = "bank client channel serial".split()
 
@@ -73,6 +75,21 @@ class Verdict(c.Structure):
     _fields_ = [(name, c.c_uint32) for name in VERDICT] + [("bytes", c.c_uint8 * 64)]
 
 
+class PinsNumbers(c.Structure):
+    """The numbers of a judge at a client's pins (jp_numbers)."""
+    _fields_ = [("of", JudgeNumbers), ("client", c.c_uint32), ("cores_unseen", c.c_uint32)]
+
+
+class Line(c.Structure):
+    """A message on a client's link, a load or a store (jp_line)."""
+    _fields_ = [(name, c.c_uint32) for name in LINE] + [("bytes", c.c_uint8 * 64)]
+
+
+class PinsVerdict(c.Structure):
+    """What a judge at a client's pins tells of a line (jp_verdict)."""
+    _fields_ = [(name, c.c_uint32) for name in PINS_VERDICT] + [("bytes", c.c_uint8 * 64)]
+
+
 class Refused(Exception):
     """A step was refused, or a cache was not opened: `status` is the number, as in jv_status."""
 
@@ -111,7 +128,7 @@ def enums():
 
 def __getattr__(name):
     """A number of the header, by its name there."""
-    if name.startswith(("JV_", "JJ_")):
+    if name.startswith(("JV_", "JJ_", "JP_")):
         for words in enums().values():
             if name in words:
                 return words[name]
@@ -138,6 +155,9 @@ def library(path):
     lib.jj_size.restype = lib.jj_align.restype = c.c_size_t
     lib.jj_open.argtypes, lib.jj_open.restype = [c.POINTER(JudgeNumbers), c.c_char_p, c.c_size_t, c.c_void_p], None
     lib.jj_see.argtypes, lib.jj_see.restype = [c.c_void_p, c.POINTER(Entry)], Verdict
+    lib.jp_size.restype = lib.jp_align.restype = c.c_size_t
+    lib.jp_open.argtypes, lib.jp_open.restype = [c.POINTER(PinsNumbers), c.c_void_p], None
+    lib.jp_see.argtypes, lib.jp_see.restype = [c.c_void_p, c.POINTER(Line)], PinsVerdict
     lib.jv_calls.restype = c.c_size_t  # a Batch hands over what needs no conversion
     back = lib.jv_echo(Request(101, 102, 103, 104, 105, 106, 107, 108, 109))
     told = [back.what, back.index, back.client, back.place, back.param, back.bank, back.channel, back.opcode, back.serial]
@@ -275,6 +295,42 @@ class Judge:
         """Gives all that the judge holds back; a closed one is closed again without harm."""
         if self.at:
             self.see(event=255)
+            self.at = None
+
+    def __enter__(self):
+        return self
+
+    def __exit__(self, *_):
+        self.close()
+
+    def __del__(self):
+        self.close()
+
+
+class PinsJudge:
+    """A judge of messages at a client's pins: client, clients, block_bytes, memory_blocks, cores_unseen (jp_numbers)."""
+
+    def __init__(self, client, cores_unseen=0, path=None, **numbers):
+        self.at = None
+        self.lib = library(path or library_file())
+        self.room = c.create_string_buffer(self.lib.jp_size() + self.lib.jp_align())
+        begin = c.addressof(self.room)
+        self.at = c.c_void_p(begin + -begin % self.lib.jp_align())
+        self.lib.jp_open(PinsNumbers(JudgeNumbers(**numbers), client, cores_unseen), self.at)
+        why = self.see(254)  # no line: an open judge answers JV_BAD_ARGUMENT
+        if why.status == enums()["jv_status"]["JV_CLOSED"]:
+            raise Refused("the judge is not opened", why.why)
+
+    def see(self, what, bytes=b"", **words):
+        """The verdict on the next line: what it is by number, or named as in the header (JP_..), in small letters."""
+        number = what if isinstance(what, int) else enums()["jp_what"]["JP_" + what.upper()]
+        held = (c.c_uint8 * 64)(*bytes[:64])
+        return self.lib.jp_see(self.at, Line(what=number, len=len(bytes), bytes=held, **words))
+
+    def close(self):
+        """Gives all that the judge holds back; a closed one is closed again without harm."""
+        if self.at:
+            self.see(255)
             self.at = None
 
     def __enter__(self):

@@ -19,7 +19,7 @@ enum Said {
 
 /// What is wrong with a record.
 #[derive(Clone, Copy, Debug, PartialEq, Eq)]
-enum Damage {
+pub(crate) enum Damage {
     Nothing,
     GrantsOldBytes,
     GrantsTip,
@@ -80,13 +80,18 @@ fn line(number: usize, damage: Damage) -> Seen {
 }
 
 /// Two clients and one block.
-const SHAPE: Shape = Shape {
+pub(crate) const SHAPE: Shape = Shape {
     clients: 2,
     block_bytes: 8,
     blocks: 1,
 };
 
-fn seen_in(alloc: Global, damage: Damage, order: &[usize]) -> Result<Vec<Seen>, AllocError> {
+/// The lines of these numbers.
+pub(crate) fn seen_in(
+    alloc: Global,
+    damage: Damage,
+    order: &[usize],
+) -> Result<Vec<Seen>, AllocError> {
     let mut seen = Vec::new(alloc);
     for number in order {
         seen.push(line(*number, damage))?;
@@ -105,7 +110,7 @@ fn answer_to(alloc: Global, damage: Damage, order: &[usize]) -> Result<Said, All
 }
 
 /// The lines of a whole record, in order.
-const IN_ORDER: &[usize] = &[0, 1, 2, 3, 4, 5, 6, 7, 8, 9, 10, 11];
+pub(crate) const IN_ORDER: &[usize] = &[0, 1, 2, 3, 4, 5, 6, 7, 8, 9, 10, 11];
 
 /// Records, what is wrong with them, and what is said of them.
 const RECORDS: &[(Damage, &[usize], Said)] = &[
@@ -225,13 +230,13 @@ fn what_keeps_the_last_states_from_a_line(rt: HostRuntime) -> Result<(), Fail> {
 const WITHOUT_MEMORY: &[usize] = &[0, 3, 4, 5, 6, 7, 8, 9, 10, 11];
 
 /// Lines of which none is a load or a store.
-const WITHOUT_CORES: &[usize] = &[0, 1, 2, 3, 4, 6, 7, 8, 9, 10];
+pub(crate) const WITHOUT_CORES: &[usize] = &[0, 1, 2, 3, 4, 6, 7, 8, 9, 10];
 
 /// The second client has its Grant before the first is probed.
-const GRANTED_BEFORE: &[usize] = &[0, 1, 2, 3, 4, 5, 6, 9, 10, 7, 8, 11];
+pub(crate) const GRANTED_BEFORE: &[usize] = &[0, 1, 2, 3, 4, 5, 6, 9, 10, 7, 8, 11];
 
 /// The first client's Grant stands two lines behind its GrantAck.
-const GRANT_BEHIND: &[usize] = &[0, 1, 2, 4, 5, 3, 6, 7, 8, 9, 10, 11];
+pub(crate) const GRANT_BEHIND: &[usize] = &[0, 1, 2, 4, 5, 3, 6, 7, 8, 9, 10, 11];
 
 /// Records, what is wrong with them, how they were seen (the way, by how many lines one may stand behind a later one,
 /// whether nobody watched the memory's link, or the cores), and the first line that no run reaches.

@@ -1,5 +1,5 @@
 //! Tests of records by the public calls: whole records and their verdicts, each damage of one, entries and states as
-//! lines, messages that are explained or not, readers that fail, a judge beside a bench, and what records reached.
+//! lines, messages that are explained or not, readers that fail, judges beside a bench, and what records reached.
 #![tactic(auto)]
 
 #[cfg(test)]
@@ -18,6 +18,8 @@ mod explained;
 mod orders;
 #[cfg(test)]
 mod pins;
+#[cfg(test)]
+mod pins_bench;
 #[cfg(test)]
 mod readers;
 #[cfg(test)]

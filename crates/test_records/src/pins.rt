@@ -8,7 +8,7 @@ use tlwire_pins::{Cores, first_wrong};
 use tlwire_search::Seen;
 
 /// One client and one block.
-const SHAPE: Shape = Shape {
+pub(crate) const SHAPE: Shape = Shape {
     clients: 1,
     block_bytes: 8,
     blocks: 1,
@@ -28,12 +28,18 @@ fn line(number: usize) -> Seen {
     }
 }
 
-/// The place of the first line that may not be seen.
-fn wrong_at(alloc: Global, cores: Cores, numbers: &[usize]) -> Result<Option<usize>, AllocError> {
+/// The lines of these numbers.
+pub(crate) fn lines(alloc: Global, numbers: &[usize]) -> Result<Vec<Seen>, AllocError> {
     let mut seen = Vec::new(alloc);
     for number in numbers {
         seen.push(line(*number))?;
     }
+    Ok(seen)
+}
+
+/// The place of the first line that may not be seen.
+fn wrong_at(alloc: Global, cores: Cores, numbers: &[usize]) -> Result<Option<usize>, AllocError> {
+    let seen = lines(alloc, numbers)?;
     let found = first_wrong(alloc, SHAPE, ClientId::new(0), cores, &seen)?;
     Ok(found.map(|wrong| wrong.place))
 }
@@ -41,7 +47,7 @@ fn wrong_at(alloc: Global, cores: Cores, numbers: &[usize]) -> Result<Option<usi
 /// Lines, whether somebody watched the core, and the first of them that may not be seen: a store is shown that nobody
 /// saw; a copy is given up as it came; a ProbeAck and an Acquire stand between a Release and its ReleaseAck; a client
 /// gives up what it has not.
-const AT_PINS: &[(&[usize], Cores, Option<usize>)] = &[
+pub(crate) const AT_PINS: &[(&[usize], Cores, Option<usize>)] = &[
     (&[0, 1, 2, 3], Cores::Watched, Some(2)),
     (&[0, 1, 2, 3], Cores::Unseen, None),
     (&[0, 1, 4, 3], Cores::Watched, None),

@@ -1,5 +1,5 @@
-//! The banks of a cache and the judge of events for callers in C (`include/jinavoke.h`): an opaque cache and an opaque
-//! judge in room that C gives, and functions that ask steps and views of them, one at a time or many at once.
+//! The banks of a cache and the judges of events and of messages for callers in C (`include/jinavoke.h`): an opaque cache
+//! and opaque judges in room that C gives, and functions that ask steps and views of them, one at a time or many at once.
 #![tactic(auto)]
 
 mod access;
@@ -10,6 +10,7 @@ mod export;
 mod history;
 mod judge;
 mod many;
+mod pins;
 mod request;
 mod saw;
 mod seen;

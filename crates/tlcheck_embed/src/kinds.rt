@@ -6,7 +6,7 @@ ghost use Rattle.tlcheck_embed.specs.Kinds.{acquire_at, grant_ack_at, has_data, 
 use tl_types::{DirtyPrune, GrantCap, Grow, Kind, ProbeCap, ProbeReport, Prune};
 
 /// The kind of message of a client's link with a channel, an opcode and a param, if this profile has one.
-pub(crate) fn kind_shown(channel: u32, opcode: u32, param: u32) -> Option<Kind>
+pub fn kind_shown(channel: u32, opcode: u32, param: u32) -> Option<Kind>
     ensures { result ≡ kind_shown channel opcode param }
 {
     match channel {
@@ -20,7 +20,7 @@ pub(crate) fn kind_shown(channel: u32, opcode: u32, param: u32) -> Option<Kind>
 }
 
 /// Whether a message of a kind carries the bytes of a block.
-pub(crate) fn has_data(kind: Kind) -> bool
+pub fn has_data(kind: Kind) -> bool
     ensures { result ≡ has_data kind }
 {
     match kind {

@@ -63,7 +63,7 @@ pub(crate) fn difference_number(difference: &Difference) -> u32
 }
 
 /// The number of a permission.
-pub(crate) fn perm_number(perm: Perm) -> u32
+pub fn perm_number(perm: Perm) -> u32
     ensures { result ≡ perm_number perm }
 {
     match perm {

@@ -34,7 +34,7 @@ pub struct JudgeRoom {
 pub fn opened(alloc: Global, numbers: &JudgeNumbers, image: &[u8]) -> JudgeRoom
     ensures { OpensJudge numbers.now image.now result }
 {
-    match refusal(numbers) {
+    match shape_refusal(numbers) {
         Some(status) => closed(status),
         None => opened_over(alloc, numbers, image),
     }
@@ -58,7 +58,8 @@ fn opened_over(alloc: Global, numbers: &JudgeNumbers, image: &[u8]) -> JudgeRoom
     }
 }
 
-fn shape_of(numbers: &JudgeNumbers) -> Shape
+/// The shape with these numbers.
+pub fn shape_of(numbers: &JudgeNumbers) -> Shape
     ensures { result ≡ shape_of numbers.now }
 {
     Shape {
@@ -68,8 +69,8 @@ fn shape_of(numbers: &JudgeNumbers) -> Shape
     }
 }
 
-/// The status of the first number that is not lawful.
-fn refusal(numbers: &JudgeNumbers) -> Option<u32>
+/// The status of the first number that is not lawful: 20 clients, 22 block bytes, 27 memory blocks.
+pub fn shape_refusal(numbers: &JudgeNumbers) -> Option<u32>
     ensures { result ≡ shape_refusal numbers.now }
 {
     if numbers.clients == 0 || numbers.clients > 64 {

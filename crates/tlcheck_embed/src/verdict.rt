@@ -51,7 +51,7 @@ impl Verdict {
 }
 
 /// What an entry breaks.
-pub(crate) fn breach_told(breach: &Breach) -> Verdict
+pub fn breach_told(breach: &Breach) -> Verdict
     ensures { result ≡ breach_told breach.now }
 {
     match breach {

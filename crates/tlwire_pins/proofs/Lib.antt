@@ -1,4 +1,5 @@
 pub mod Impossible
+pub mod Judged
 pub mod Leads
 pub mod Ordered
 pub mod Replayed

@@ -1,4 +1,5 @@
 pub mod Impossible
+pub mod Judged
 pub mod Pins
 pub mod View
 pub mod Walk

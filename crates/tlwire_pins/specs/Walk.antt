@@ -1,8 +1,5 @@
 -- A walk along the lines of a record, at a client's pins (this project's own).
-use Rattle.std.specs.Prelude.{◌≡◌, ◌==◌, ℕ, Bool, true, false, List, [], ◌∷◌, ◌++◌, take, nat_eq, unwrap_or, Option, Some, None, slice_get}
-use Rattle.std.specs.HashMap.{HashMap, get}
-use Rattle.std.specs.declared.hash.BuildHasherDefault.{BuildHasherDefault}
-use Rattle.std.specs.declared.hash.FoldHasher.{FoldHasher}
+use Rattle.std.specs.Prelude.{◌≡◌, ◌==◌, ℕ, Bool, true, false, List, [], ◌∷◌, ◌++◌, take, Option, Some, None, slice_get}
 use Rattle.tl_protocol.specs.declared.shape.Shape.{Shape}
 use Rattle.tl_protocol.specs.Runs.{at_reset}
 use Rattle.tl_protocol.specs.declared.event.Event.{Event}
@@ -31,14 +28,6 @@ pub record IsWrong (cores : Cores) (shape : Shape) (c : ℕ) (seen : List Seen) 
   pub client : w.client ≡ c
 
 -- ## One line. No public clause cites these.
-
--- what a client holds of each block
-abbrev pub Table : Type 0
-Table = HashMap ℕ View (BuildHasherDefault FoldHasher)
-
--- and of one: at first nothing
-abbrev pub held_in : Table → ℕ → View
-held_in table block = unwrap_or (get nat_eq table block) fresh
 
 -- it is this block
 abbrev pub is_at : Option ℕ → ℕ → Bool

@@ -1,6 +1,7 @@
 //! Proves of a record of messages that no lawful run was seen so at a client's pins.
 #![tactic(auto)]
 
+mod judge;
 mod order;
 mod pass;
 mod replay;
@@ -8,8 +9,10 @@ mod theorem;
 mod view;
 mod views;
 
+pub use judge::PinsJudge;
 pub use order::keeps_order;
 pub use pass::{Wrong, first_wrong};
 pub use replay::lines_at_pins;
 pub use theorem::every_line_may_be_seen;
 pub use view::{Cores, View};
+pub use views::Broken;

@@ -1,13 +1,15 @@
 //! What a client holds of each block, as its lines so far tell.
 ghost use Rattle.std.specs.Prelude.{◌≡◌, ◌==◌, ◌<◌, ◌≤◌, ℕ, false, IfOk, IfSome, IsNone, OnOk};
+ghost use Rattle.tl_protocol.specs.Copy.{perm_of};
+ghost use Rattle.tlwire_pins.specs.Judged.{held_in};
 ghost use Rattle.tlwire_pins.specs.Pins.{is_own, is_told};
-ghost use Rattle.tlwire_pins.specs.Walk.{BreaksNext, Steps, held_in, is_at};
+ghost use Rattle.tlwire_pins.specs.Walk.{BreaksNext, Steps, is_at};
 
 use crate::view::{Cores, View};
 use std::alloc::{AllocError, Global};
 use std::collections::HashMap;
 use tl_rules::Shape;
-use tl_types::{BLOCK_BYTES, BlockNo, Channel, ClientId};
+use tl_types::{Awaited, BLOCK_BYTES, BlockNo, Channel, ClientId, Perm};
 use tlcheck_rules::Breach;
 use tlwire_search::Seen;
 
@@ -36,10 +38,14 @@ fn block_at_pins(shape: Shape, c: ClientId, line: &Seen) -> Option<BlockNo>
 
 /// What a line breaks that may not be seen next.
 #[derive(Drop)]
-pub(crate) struct Broken {
-    pub(crate) block: BlockNo,
-    pub(crate) view: View,
-    pub(crate) breach: Breach,
+pub struct Broken {
+    /// The block that the line is of.
+    pub block: BlockNo,
+    /// What the client holds of the block there, and waits for. Where nobody watched its core, a Tip is as the line
+    /// shows it.
+    pub view: View,
+    /// What the line breaks.
+    pub breach: Breach,
 }
 
 /// What a client holds of each block, as its lines so far tell. It takes memory for the blocks that they are of.
@@ -61,6 +67,16 @@ fn put(views: &mut Views, block: BlockNo, view: View) -> Result<(), AllocError>
 {
     views.insert(block.number(), view)?;
     Ok(())
+}
+
+/// What the client may do with a block, and which answer it waits for.
+pub(crate) fn state_in(views: &Views, block: BlockNo) -> (Perm, Awaited)
+    ensures { result ≡ (perm_of (held_in views.now block).held, (held_in views.now block).wait) }
+{
+    match views.get(&block.number()) {
+        Some(view) => (view.held.perm(), view.wait),
+        None => (Perm::None, Awaited::Nothing),
+    }
 }
 
 /// Takes a line, where it is not of the client's pins or may be seen there next; else what it breaks.

@@ -2,8 +2,9 @@ use Rattle.std.proofs.Common.{◌++◌, ◌∷◌, [], List, Option, take, IfSom
 use Rattle.tlwire_search.proofs.Marking.{here_is}
 use Rattle.tlwire_search.specs.declared.seen.Seen.{Seen}
 use Rattle.tlwire_pins.proofs.Walk.{Walked, is_impossible_at, take_one, walked_more}
+use Rattle.tlwire_pins.specs.Judged.{held_in}
 use Rattle.tlwire_pins.specs.View.{MayLine, before_line}
-use Rattle.tlwire_pins.specs.Walk.{BreaksNext, held_in}
+use Rattle.tlwire_pins.specs.Walk.{BreaksNext}
 use Rattle.tlwire_pins.specs.declared.view.View.{View}
 use Rattle.tlwire_pins.specs.declared.views.Broken.{Broken}
 use Rattle.tlwire_pins.proofs.pass.first_wrong.Goals as goal

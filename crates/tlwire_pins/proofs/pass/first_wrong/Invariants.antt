@@ -1,5 +1,5 @@
 use Rattle.std.proofs.Common.{take}
-use Rattle.tlwire_pins.specs.Walk.{held_in}
+use Rattle.tlwire_pins.specs.Judged.{held_in}
 use Rattle.tlwire_pins.proofs.Walk.{Walked}
 use Rattle.tlwire_pins.proofs.pass.first_wrong.Given as goal
 
