@@ -4,10 +4,10 @@ ghost use Rattle.tl_types.specs.declared.limits.TheConstants.{BLOCKS, BLOCK_BYTE
 ghost use Rattle.tlchart_record.specs.Film.{IsSomewhere};
 
 use crate::film::play;
-use crate::turns::{Serials, turn_of};
 use std::alloc::{AllocError, Global};
 use std::io::BufRead;
 use tl_rules::Shape;
+use tlcheck_chart::{Serials, turn_of};
 use tlcheck_record::{is_blank, read_entry, read_image_line, read_shape, read_text};
 use tlcheck_rules::{Entry, Judge};
 
