@@ -4,9 +4,10 @@ use crate::answers::script_of;
 use crate::names::{DRAWN, PAGED};
 use std::alloc::Global;
 use std::{fs, io};
-use tlchart_draw::{Form, draw_script};
+use tlchart_draw::Form;
 use tlchart_page::page_script;
 use tlchart_record::page_record;
+use tlchart_trace::draw_script;
 
 /// Whether the picture of a script is this one.
 fn is_drawn(alloc: Global, script: &[u8], name: &str, form: Form, picture: &[u8]) -> bool {

@@ -163,7 +163,7 @@ fn ruled_out(
     premise: tlwire_closed::Premise,
 ) -> Result<Option<usize>, AllocError> {
     let seen = seen_in(alloc, damage, order)?;
-    Ok(match rule_out(alloc, SHAPE, premise, &[], &seen)? {
+    Ok(match rule_out(alloc, SHAPE, premise, &[], &seen, &mut ())? {
         Answer::Impossible(stuck) => Some(stuck.place),
         Answer::NotDecided(_) => None,
     })
@@ -215,7 +215,7 @@ fn is_sent_instead(stop: &Stop, kind: Kind) -> bool {
 fn what_keeps_the_last_states_from_a_line(rt: HostRuntime) -> Result<(), Fail> {
     let alloc = rt.alloc();
     let seen = seen_in(alloc, Damage::GrantsTip, IN_ORDER)?;
-    let told = match rule_out(alloc, SHAPE, BETWEEN, &[], &seen)? {
+    let told = match rule_out(alloc, SHAPE, BETWEEN, &[], &seen, &mut ())? {
         Answer::Impossible(stuck) => stuck.stops.iter().any(|stop| is_sent_instead(
             stop,
             Kind::GrantData(GrantCap::ToB),

@@ -107,15 +107,3 @@ pub(crate) fn asked_by(alloc: Global, words: &[String]) -> Result<Asked, WordsEr
     let matches = command(alloc)?.try_get_matches_from(words)?;
     asked_in(alloc, &matches)
 }
-
-/// A file's name, without its folder and its last ending.
-pub(crate) fn title_of(file: &str) -> &str {
-    let name = match file.rsplit_once('/') {
-        Some((_, name)) => name,
-        None => file,
-    };
-    match name.rsplit_once('.') {
-        Some((stem, _)) => stem,
-        None => name,
-    }
-}

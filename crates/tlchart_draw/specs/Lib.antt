@@ -1,1 +1,1 @@
-pub mod Draw
+pub mod Strip

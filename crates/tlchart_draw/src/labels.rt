@@ -3,7 +3,6 @@
 use crate::ink::Ink;
 use std::fmt::Write;
 use tl_script_words::{Address, BlockCall, Hex, Step, TicketCall};
-use tl_text::{BankClosing, BlockLine};
 use tl_types::AccessBytes;
 use tlchart_model::{Lifeline, Mark, ShownMessage};
 
@@ -47,6 +46,28 @@ fn push_access(ink: &mut Ink, word: &str, bytes: &AccessBytes) {
     let _ = write!(ink, "{word} {}", Hex(bytes.as_slice()));
 }
 
+/// The name of a refusal by its number; none where no refusal has it.
+pub fn refusal_name(number: u8) -> &'static str {
+    match number {
+        1 => "NoPermission",
+        2 => "Waiting",
+        3 => "WrongFrom",
+        4 => "NothingThere",
+        5 => "NotHead",
+        6 => "ReleasePending",
+        7 => "NoRegister",
+        8 => "BlockBusy",
+        9 => "NotYet",
+        10 => "OutOfRange",
+        11 => "WrongBank",
+        12 => "CopiesFull",
+        13 => "LinkFull",
+        14 => "Memory",
+        15 => "ClockFull",
+        _ => "",
+    }
+}
+
 /// The words of a mark.
 pub fn push_mark(ink: &mut Ink, mark: &Mark) {
     match mark {
@@ -56,11 +77,11 @@ pub fn push_mark(ink: &mut Ink, mark: &Mark) {
         Mark::Evicting(block) => {
             let _ = write!(ink, "evict b{block}");
         },
-        // A refusal prints as its number, and its name is that of the case.
-        Mark::Refused(refusal) => {
-            let _ = write!(ink, "refused {refusal} {refusal:?}");
+        Mark::Refused(number) => {
+            let _ = write!(ink, "refused {number} {}", refusal_name(*number));
         },
         Mark::Unlawful => ink.put("not lawful"),
+        Mark::Broken(words) => ink.put(words.as_str()),
     }
 }
 
@@ -144,16 +165,14 @@ pub fn push_title(ink: &mut Ink, title: &str) {
     }
 }
 
-/// The closing line of a block.
-pub(crate) fn push_block_line(ink: &mut Ink, line: &BlockLine) {
-    let _ = write!(ink, "{line}");
-}
-
-/// The closing line of a bank.
-pub(crate) fn push_bank_line(ink: &mut Ink, bank: usize, closing: &BankClosing) {
-    let _ = write!(
-        ink,
-        "bank {bank} held {} recorded {} events {}",
-        closing.held, closing.recorded, closing.events
-    );
+/// The title of a file's chart or page: the file's name, without its folder and its last ending.
+pub fn title_of(file: &str) -> &str {
+    let name = match file.rsplit_once('/') {
+        Some((_, name)) => name,
+        None => file,
+    };
+    match name.rsplit_once('.') {
+        Some((stem, _)) => stem,
+        None => name,
+    }
 }

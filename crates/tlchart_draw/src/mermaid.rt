@@ -1,12 +1,9 @@
 //! A chart as a Mermaid `sequenceDiagram`.
 
 use crate::ink::Ink;
-use crate::labels::{
-    push_bank_line, push_block_line, push_lifeline, push_mark, push_message, push_title,
-};
-use crate::sheet::{Foot, Sheet};
+use crate::labels::{push_lifeline, push_mark, push_message, push_title};
+use crate::sheet::Sheet;
 use std::fmt::Write;
-use tl_text::BankClosing;
 use tl_types::{BankNo, ClientId, Perm};
 use tlchart_model::{Arrow, Change, Chart, Lifeline, Mark, Turn};
 
@@ -139,32 +136,23 @@ fn push_turns(ink: &mut Ink, chart: &Chart) {
     }
 }
 
-/// The lines of the blocks that a bank's home holds.
-fn push_blocks(ink: &mut Ink, closing: &BankClosing) {
-    for block in &closing.blocks {
-        push_block_line(ink, block);
-        ink.put("<br/>");
+/// The lines of a text, with a break between them.
+fn push_lines(ink: &mut Ink, text: &str) {
+    for (place, line) in text.lines().enumerate() {
+        if place > 0 {
+            ink.put("<br/>");
+        }
+        ink.put(line);
     }
 }
 
-/// The closing lines of each bank, at its home.
-fn push_closings(ink: &mut Ink, banks: &[BankClosing]) {
-    for (bank, closing) in banks.iter().enumerate() {
+/// What stands at the foot, at each home.
+fn push_feet(ink: &mut Ink, foot: &[String]) {
+    for (bank, text) in foot.iter().enumerate() {
         let _ = write!(ink, "    Note over H{bank}: ");
-        push_blocks(ink, closing);
-        push_bank_line(ink, bank, closing);
+        push_lines(ink, text.as_str());
         ink.put("\n");
     }
-}
-
-/// The lines of a text, at the first home.
-fn push_text(ink: &mut Ink, lines: &str) {
-    ink.put("    Note over H0: ");
-    for line in lines.lines() {
-        ink.put(line);
-        ink.put("<br/>");
-    }
-    ink.put("\n")
 }
 
 /// The whole diagram.
@@ -174,8 +162,5 @@ pub(crate) fn push_picture(ink: &mut Ink, sheet: Sheet<'_>) {
     ink.put("\"\n---\nsequenceDiagram\n");
     push_participants(ink, sheet.chart);
     push_turns(ink, sheet.chart);
-    match sheet.foot {
-        Foot::Banks(banks) => push_closings(ink, banks),
-        Foot::Text(lines) => push_text(ink, lines),
-    }
+    push_feet(ink, sheet.foot)
 }

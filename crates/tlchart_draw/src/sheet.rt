@@ -4,7 +4,6 @@ use crate::ink::Ink;
 use crate::{mermaid, svg};
 use std::alloc::{AllocError, Global};
 use tl_script_words::Step;
-use tl_text::BankClosing;
 use tlchart_model::Chart;
 
 /// How a chart is written.
@@ -32,22 +31,14 @@ pub enum Rows<'a> {
     Lines(&'a [Line]),
 }
 
-/// What stands at the foot.
-#[derive(Clone, Copy, Debug)]
-pub enum Foot<'a> {
-    /// What the banks hold at the end.
-    Banks(&'a [BankClosing]),
-    /// These lines, of letters that have no meaning in SVG.
-    Text(&'a str),
-}
-
 /// A chart with what is written beside it: a title, the words of each row, and a foot.
 #[derive(Clone, Copy, Debug)]
 pub struct Sheet<'a> {
     pub title: &'a str,
     pub rows: Rows<'a>,
     pub chart: &'a Chart,
-    pub foot: Foot<'a>,
+    /// What stands at the foot: of each bank's home a text, of lines whose letters have no meaning in SVG.
+    pub foot: &'a [String],
 }
 
 /// The chart as text. The error is want of memory.

@@ -1,16 +1,16 @@
 //! A chart as an SVG document.
 
 use crate::ink::Ink;
-use crate::labels::{
-    push_bank_line, push_block_line, push_lifeline, push_mark, push_message, push_step, push_title,
-};
+use crate::labels::{push_lifeline, push_mark, push_message, push_step, push_title};
 use crate::layout::{BESIDE, REACH, ROW, until, width, x, y, y_sent, y_taken};
-use crate::sheet::{Foot, Line, Rows, Sheet};
+use crate::sheet::{Line, Rows, Sheet};
 use std::fmt::Write;
 use tl_script_words::Step;
-use tl_text::BankClosing;
 use tl_types::{BankNo, Channel, ClientId, Perm};
 use tlchart_model::{Arrow, Change, Chart, Lifeline, Mark};
+
+/// How many letters of words have room beside a lifeline.
+const LETTERS: usize = 40;
 
 /// Colours for light and dark, the shapes, and the letters.
 const STYLE: &str = "<style>
@@ -45,21 +45,13 @@ fn push_heads(ink: &mut Ink) {
     ink.put("</defs>\n")
 }
 
-/// How many lines the banks have at the foot.
-fn bank_lines(banks: &[BankClosing]) -> usize {
-    let mut lines = banks.len();
-    for closing in banks {
-        lines = lines.saturating_add(closing.blocks.len());
+/// How many lines stand at the foot.
+fn foot_lines(foot: &[String]) -> usize {
+    let mut lines: usize = 0;
+    for text in foot {
+        lines = lines.saturating_add(text.as_str().lines().count());
     }
     lines
-}
-
-/// How many lines stand at the foot.
-fn foot_lines(foot: Foot<'_>) -> usize {
-    match foot {
-        Foot::Banks(banks) => bank_lines(banks),
-        Foot::Text(text) => text.lines().count(),
-    }
 }
 
 /// The opening tag, the title, and the background.
@@ -82,15 +74,25 @@ fn push_opening(ink: &mut Ink, sheet: Sheet<'_>) {
     ink.put("</text>\n")
 }
 
+/// What a cross means.
+fn cross_word(rows: Rows<'_>) -> &'static str {
+    match rows {
+        Rows::Steps(_) => "refused",
+        Rows::Lines(_) => "where it broke",
+    }
+}
+
 /// What the bands and marks mean.
-fn push_legend(ink: &mut Ink, chart: &Chart) {
+fn push_legend(ink: &mut Ink, sheet: Sheet<'_>) {
     let _ = write!(
         ink,
         "<rect class=\"Branch\" x=\"16\" y=\"46\" width=\"10\" height=\"16\"/><text x=\"32\" y=\"58\">Branch</text><rect class=\"Tip\" x=\"88\" y=\"46\" width=\"10\" height=\"16\"/><text x=\"104\" y=\"58\">Tip of block {}</text>\n",
-        chart.block
+        sheet.chart.block
     );
-    ink.put(
-        "<circle class=\"mark\" cx=\"21\" cy=\"78\" r=\"4\"/><text x=\"32\" y=\"82\">store</text><circle class=\"hollow\" cx=\"93\" cy=\"78\" r=\"4\"/><text x=\"104\" y=\"82\">load</text><path class=\"cross\" d=\"M152 74l8 8m0 -8l-8 8\"/><text x=\"168\" y=\"82\">refused</text>\n",
+    let _ = write!(
+        ink,
+        "<circle class=\"mark\" cx=\"21\" cy=\"78\" r=\"4\"/><text x=\"32\" y=\"82\">store</text><circle class=\"hollow\" cx=\"93\" cy=\"78\" r=\"4\"/><text x=\"104\" y=\"82\">load</text><path class=\"cross\" d=\"M152 74l8 8m0 -8l-8 8\"/><text x=\"168\" y=\"82\">{}</text>\n",
+        cross_word(sheet.rows)
     );
     ink.put(
         "<path class=\"arrow open lE\" d=\"M16 98h36\"/><text x=\"60\" y=\"102\">never taken; b: block</text>\n",
@@ -273,7 +275,7 @@ fn push_shape(ink: &mut Ink, mark: &Mark, x: usize, y: usize) {
         Mark::Dropped | Mark::Evicting(_) => {
             let _ = write!(ink, "<path class=\"mark\" d=\"M{x} {y}m-4 -4h8v8h-8z\"/>");
         }
-        Mark::Refused(_) | Mark::Unlawful => {
+        Mark::Refused(_) | Mark::Unlawful | Mark::Broken(_) => {
             let _ = write!(
                 ink,
                 "<path class=\"cross\" d=\"M{x} {y}m-4 -4l8 8m0 -8l-8 8\"/>"
@@ -285,18 +287,15 @@ fn push_shape(ink: &mut Ink, mark: &Mark, x: usize, y: usize) {
 /// The colour of a mark's words.
 fn class_of(mark: &Mark) -> &'static str {
     match mark {
-        Mark::Refused(_) | Mark::Unlawful => "halo bad",
+        Mark::Refused(_) | Mark::Unlawful | Mark::Broken(_) => "halo bad",
         _ => "halo",
     }
 }
 
-/// A mark with its words: to its right, or for the memory, which is the last, to its left.
-fn push_mark_of(ink: &mut Ink, chart: &Chart, row: usize, at: Lifeline, mark: &Mark) {
-    let (x, y) = (x(chart, at), y(row));
-    push_shape(ink, mark, x, y);
-    let base = y.saturating_add(4);
-    let class = class_of(mark);
-    if at == Lifeline::Memory {
+/// The beginning of words beside a lifeline: to its right, or for the memory, which is the last, to its left.
+fn push_beside(ink: &mut Ink, class: &str, chart: &Chart, at: &Lifeline, base: usize) {
+    let x = x(chart, *at);
+    if *at == Lifeline::Memory {
         let right = x.saturating_sub(BESIDE);
         let _ = write!(
             ink,
@@ -306,15 +305,61 @@ fn push_mark_of(ink: &mut Ink, chart: &Chart, row: usize, at: Lifeline, mark: &M
         let left = x.saturating_add(BESIDE);
         let _ = write!(ink, "<text class=\"{class}\" x=\"{left}\" y=\"{base}\">");
     }
+}
+
+/// Where words begin beside the middle of a row: above it where they take several lines.
+fn base_of(y: usize, words: &str) -> usize {
+    if words.len() < LETTERS {
+        y.saturating_add(4)
+    } else {
+        y.saturating_sub(9)
+    }
+}
+
+/// Words in lines that have room beside a lifeline.
+fn push_folded(ink: &mut Ink, class: &str, chart: &Chart, at: &Lifeline, y: usize, words: &str) {
+    let mut base = base_of(y, words);
+    let mut column: usize = 0;
+    push_beside(ink, class, chart, at, base);
+    for word in words.split(' ') {
+        if column > 0 && column.saturating_add(word.len()) >= LETTERS {
+            base = base.saturating_add(13);
+            column = 0;
+            ink.put("</text>\n");
+            push_beside(ink, class, chart, at, base);
+        }
+        if column > 0 {
+            ink.put(" ");
+        }
+        ink.put(word);
+        column = column.saturating_add(word.len()).saturating_add(1);
+    }
+    ink.put("</text>\n")
+}
+
+/// Words in one line beside a lifeline: those of a mark.
+fn push_words(ink: &mut Ink, class: &str, chart: &Chart, at: &Lifeline, y: usize, mark: &Mark) {
+    push_beside(ink, class, chart, at, y.saturating_add(4));
     push_mark(ink, mark);
     ink.put("</text>\n")
+}
+
+/// A mark with its words.
+fn push_mark_of(ink: &mut Ink, chart: &Chart, row: usize, at: &Lifeline, mark: &Mark) {
+    let (x, y) = (x(chart, *at), y(row));
+    push_shape(ink, mark, x, y);
+    let class = class_of(mark);
+    match mark {
+        Mark::Broken(words) => push_folded(ink, class, chart, at, y, words.as_str()),
+        _ => push_words(ink, class, chart, at, y, mark),
+    }
 }
 
 /// The mark of each step; a dot where it has none.
 fn push_marks(ink: &mut Ink, chart: &Chart) {
     for (row, turn) in chart.turns.iter().enumerate() {
         match &turn.mark {
-            Some(mark) => push_mark_of(ink, chart, row, turn.at, mark),
+            Some(mark) => push_mark_of(ink, chart, row, &turn.at, mark),
             None => {
                 let (x, y) = (x(chart, turn.at), y(row));
                 let _ = write!(
@@ -334,44 +379,23 @@ fn push_foot(ink: &mut Ink, chart: &Chart, line: usize) {
     let _ = write!(ink, "<text x=\"16\" y=\"{base}\">");
 }
 
-/// The lines of the blocks that a bank's home holds, from a line of the foot on; the line after them.
-fn push_blocks(ink: &mut Ink, chart: &Chart, first: usize, closing: &BankClosing) -> usize {
+/// The lines of a text, from a line of the foot on; the line after them.
+fn push_lines_below(ink: &mut Ink, chart: &Chart, first: usize, text: &str) -> usize {
     let mut line = first;
-    for block in &closing.blocks {
+    for words in text.lines() {
         push_foot(ink, chart, line);
-        push_block_line(ink, block);
+        ink.put(words);
         ink.put("</text>\n");
         line = line.saturating_add(1);
     }
     line
 }
 
-/// The closing lines of each bank.
-fn push_closings(ink: &mut Ink, chart: &Chart, banks: &[BankClosing]) {
-    let mut line = 0;
-    for (bank, closing) in banks.iter().enumerate() {
-        line = push_blocks(ink, chart, line, closing);
-        push_foot(ink, chart, line);
-        push_bank_line(ink, bank, closing);
-        ink.put("</text>\n");
-        line = line.saturating_add(1);
-    }
-}
-
-/// Each line of a text.
-fn push_text(ink: &mut Ink, chart: &Chart, lines: &str) {
-    for (number, line) in lines.lines().enumerate() {
-        push_foot(ink, chart, number);
-        ink.put(line);
-        ink.put("</text>\n");
-    }
-}
-
 /// What stands at the foot.
 fn push_feet(ink: &mut Ink, sheet: Sheet<'_>) {
-    match sheet.foot {
-        Foot::Banks(banks) => push_closings(ink, sheet.chart, banks),
-        Foot::Text(lines) => push_text(ink, sheet.chart, lines),
+    let mut line = 0;
+    for text in sheet.foot {
+        line = push_lines_below(ink, sheet.chart, line, text.as_str());
     }
 }
 
@@ -379,7 +403,7 @@ fn push_feet(ink: &mut Ink, sheet: Sheet<'_>) {
 pub(crate) fn push_picture(ink: &mut Ink, sheet: Sheet<'_>) {
     push_opening(ink, sheet);
     push_rows(ink, sheet);
-    push_legend(ink, sheet.chart);
+    push_legend(ink, sheet);
     push_lifelines(ink, sheet.chart);
     push_bands(ink, sheet.chart);
     push_lines(ink, sheet.chart);

@@ -1,11 +1,7 @@
--- The chart of a trace (this project's own).
+-- A chart (this project's own).
 use Rattle.std.specs.Prelude.{◌≡◌, ℕ, List, [], ◌∷◌, Option, Some, None}
-use Rattle.tl_map.specs.Numbers.{Numbers}
-use Rattle.tl_script_words.specs.declared.step.Step.{Step}
-use Rattle.tl_text.specs.declared.trace.Trace.{Trace}
 use Rattle.tlchart_model.specs.Arrow.{arrows_of}
 use Rattle.tlchart_model.specs.Change.{changes_of}
-use Rattle.tlchart_model.specs.Turn.{turns_of}
 use Rattle.tlchart_model.specs.declared.arrow.Arrow.{Arrow}
 use Rattle.tlchart_model.specs.declared.chart.Chart.{Chart}
 use Rattle.tlchart_model.specs.declared.turn.Turn.{Turn}
@@ -25,7 +21,3 @@ pub record IsChartOf (c b : ℕ) (done : List Turn) (asked : Option ℕ) (chart 
   pub arrows : chart.arrows.items ≡ arrows_of done
   pub block : chart.block ≡ chosen asked (arrows_of done)
   pub changes : chart.changes.items ≡ changes_of chart.block (arrows_of done)
-
--- A chart of a trace is that of what each of its steps did, over the clients and the banks of its geometry.
-abbrev pub IsChart : Numbers → List Step → Trace → Option ℕ → Chart → Type 0
-IsChart g steps trace asked chart = IsChartOf g.clients g.banks (turns_of g steps trace.answers.items) asked chart

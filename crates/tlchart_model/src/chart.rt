@@ -1,14 +1,11 @@
-//! The chart of a trace.
+//! What a chart has.
 ghost use Rattle.std.specs.Prelude.{◌≡◌, IfOk};
-ghost use Rattle.tlchart_model.specs.Chart.{IsChart, IsChartOf, chosen};
+ghost use Rattle.tlchart_model.specs.Chart.{IsChartOf, chosen};
 
 use crate::arrow::{Arrow, arrows};
 use crate::change::{Change, changes};
-use crate::turn::{Turn, turns};
+use crate::turn::Turn;
 use std::alloc::{AllocError, Global};
-use tl_map::Geometry;
-use tl_script_words::Step;
-use tl_text::Trace;
 use tl_types::BlockNo;
 
 /// What is drawn of a trace: what each step did, a row a step; an arrow for each message; and where clients gain and
@@ -56,19 +53,4 @@ pub fn chart_of_turns(
         arrows,
         changes,
     })
-}
-
-/// The chart of the trace of some steps, with the permissions to the block that is asked for, or else to that of the
-/// first message. The error is want of memory.
-pub fn chart_of(
-    alloc: Global,
-    geometry: Geometry,
-    steps: &[Step],
-    trace: &Trace,
-    block: Option<BlockNo>,
-) -> Result<Chart, AllocError>
-    ensures { IfOk result (IsChart geometry steps.now trace.now block) }
-{
-    let turns = turns(alloc, geometry, steps, &trace.answers)?;
-    chart_of_turns(alloc, geometry.clients(), geometry.banks(), turns, block)
 }

@@ -1,5 +1,5 @@
-//! What a sequence chart of a trace draws: what each step did, each message from the step that sent it to the step that
-//! took it, and where clients gained and lost permissions to a block.
+//! What a sequence chart draws: what was done in each row, each message from the row that sent it to the row that took
+//! it, and where clients gained and lost permissions to a block. It knows neither traces nor records.
 #![tactic(auto)]
 
 mod arrow;
@@ -11,7 +11,7 @@ mod turn;
 
 pub use arrow::Arrow;
 pub use change::Change;
-pub use chart::{Chart, chart_of, chart_of_turns};
+pub use chart::{Chart, chart_of_turns};
 pub use lifeline::{Lifeline, Place};
 pub use message::{ShownMessage, link_message};
 pub use turn::{Mark, Turn};

@@ -9,11 +9,11 @@ ghost use Rattle.tlchart_page.specs.Film.{changed};
 ghost use Rattle.tlchart_page.specs.Told.{IsToldOn};
 ghost use Rattle.tlchart_record.specs.Film.{Filmed, IsLonger, IsRecordFilm, IsShownBut, IsSomewhere, Plays, blocks_shown, entries_of, is_settled};
 
-use crate::turns::{Serials, turn_of};
 use crate::window::Written;
 use std::alloc::{AllocError, Global};
 use tlchart_model::Turn;
 use tlchart_page::{Change, tell};
+use tlcheck_chart::{Serials, turn_of};
 use tlcheck_record::push_state;
 use tlcheck_rules::{Entry, Judge, Refusal};
 

@@ -5,7 +5,6 @@
 mod film;
 mod json;
 mod page;
-mod turns;
 mod window;
 
 pub use film::{RecordFilm, film_entries};

@@ -13,10 +13,10 @@ ghost use Rattle.tlchart_record.specs.declared.window.WindowFault.TheVariants.{L
 ghost use Rattle.tlchart_record.specs.declared.window.Progress.{Progress};
 
 use crate::film::play;
-use crate::turns::{Serials, turn_of};
 use std::alloc::{AllocError, Global};
 use std::io::BufRead;
 use tl_rules::Shape;
+use tlcheck_chart::{Serials, turn_of};
 use tlcheck_record::{LineError, is_blank, read_entry, read_image_line, read_shape, read_text};
 use tlcheck_rules::{Entry, Judge};
 

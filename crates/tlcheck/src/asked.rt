@@ -2,11 +2,30 @@
 
 use tlcheck_coverage::{Form, Way};
 
+/// How what was said of a record is written.
+#[derive(Clone, Copy)]
+pub(crate) enum Output {
+    /// As a verdict, with the state beside it.
+    Verdict,
+    /// As the chart of the last lines of the block of the entry that is not permitted.
+    Chart,
+}
+
+/// A file to be judged.
+#[derive(Clone, Copy)]
+pub(crate) struct Judged<'a> {
+    /// The file's name, or `-` for standard input.
+    pub(crate) file: &'a str,
+    pub(crate) output: Output,
+    /// Whether it is told how far the check is.
+    pub(crate) is_progress_told: bool,
+}
+
 /// What the words ask for.
 #[derive(Clone, Copy)]
 pub(crate) enum Asked<'a> {
-    /// Whether a file's record is a lawful run, and whether it is told how far that is.
-    Judged(&'a str, bool),
+    /// Whether a file's record is a lawful run.
+    Judged(Judged<'a>),
     /// What files have reached, in a form, and whether it is told what this project's home reaches.
     Covered(Form, bool, &'a [String]),
     /// A way into the situation of a number.
@@ -27,12 +46,27 @@ fn covered(form: Form, by_home: bool, words: &[String]) -> Option<Asked<'_>> {
     }
 }
 
-/// A file to be judged.
-fn judged(word: &str, is_progress_told: bool) -> Option<Asked<'_>> {
+/// A file to be judged, of which this is written.
+fn to_judge(word: &str, output: Output, is_progress_told: bool) -> Option<Asked<'_>> {
     if is_file(word) {
-        Some(Asked::Judged(word, is_progress_told))
+        Some(Asked::Judged(Judged {
+            file: word,
+            output,
+            is_progress_told,
+        }))
     } else {
         None
+    }
+}
+
+/// What the words behind `--progress` ask for, or all words where it is not asked for.
+fn asked_to_judge(words: &[String], is_progress_told: bool) -> Option<Asked<'_>> {
+    match words {
+        [file] => to_judge(file.as_str(), Output::Verdict, is_progress_told),
+        [option, file] if option.as_str() == "--chart" => {
+            to_judge(file.as_str(), Output::Chart, is_progress_told)
+        }
+        _ => None,
     }
 }
 
@@ -66,8 +100,7 @@ pub(crate) fn asked_by(words: &[String]) -> Option<Asked<'_>> {
         ("--how", [option, number]) if option.as_str() == "--script" => {
             Some(Asked::Reached(Way::Script, number.as_str()))
         }
-        ("--progress", [file]) => judged(file.as_str(), true),
-        (file, []) => judged(file, false),
-        _ => None,
+        ("--progress", _) => asked_to_judge(rest, true),
+        _ => asked_to_judge(words, false),
     }
 }

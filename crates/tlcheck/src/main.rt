@@ -1,34 +1,33 @@
-//! `tlcheck [--progress] FILE`: whether a record of events is a lawful run; `-` stands for standard input, and no other
-//! word that begins with a dash for a file. `tlcheck --coverage [--home] [--html] FILE ..`: which situations of the
+//! `tlcheck [--progress] [--chart] FILE`: whether a record of events is a lawful run, or where it broke, as a chart; `-`
+//! stands for standard input, and no other word that begins with a dash for a file. `tlcheck --coverage [--home] [--html] FILE ..`: which situations of the
 //! protocol records have reached, and with `--home` which of them this project's home reaches. `tlcheck --how N`: a run
 //! that reaches situation N; `tlcheck --how --script N`: a script for `tlcache trace` that does.
 #![tactic(auto)]
 
 mod asked;
+mod chart;
 mod coverage;
 
-use asked::{Asked, asked_by};
+use asked::{Asked, Judged, Output, asked_by};
+use chart::draw;
 use coverage::{tell_coverage, tell_how};
 use std::fs::File;
-use std::io::{BufReader, IsTerminal, Read};
+use std::io::{BufReader, IsTerminal, Read, Write};
 use std::process::ExitCode;
+use std::time::Clock;
 use tl_streams::{Progress, Watched, words};
 use tlcheck_reader::{Ending, check_record, show, tell_ending};
 
-fn refuse(rt: &HostRuntime, ending: Ending) -> u8 {
+pub(crate) fn refuse(rt: &HostRuntime, ending: Ending) -> u8 {
     show(&mut rt.stderr(), &ending)
 }
 
-/// Checks what a reader has, of so many bytes where they are known, and tells how far it is where that is asked for, or
-/// where faults go to a terminal.
-fn judge<R: Read + Drop>(rt: &HostRuntime, progress: bool, reader: R, size: Option<u64>) -> u8 {
-    let is_terminal = rt.stderr().is_terminal();
-    let progress = if progress || is_terminal {
-        Progress::begin(rt.stderr(), rt, is_terminal, size)
-    } else {
-        None
-    };
-    match BufReader::with_capacity(rt.alloc(), 65_536, Watched::new(reader, progress)) {
+/// Checks what a reader has as it is read, and tells the verdict.
+fn judge<R: Read + Drop, W: Write + Drop, C: Clock + Drop>(
+    rt: &HostRuntime,
+    reader: Watched<R, Option<Progress<W, C>>>,
+) -> u8 {
+    match BufReader::with_capacity(rt.alloc(), 65_536, reader) {
         Ok(mut reader) => {
             let ending = check_record(rt.alloc(), &mut reader);
             if let Some(progress) = reader.into_inner().into_watcher() {
@@ -40,6 +39,27 @@ fn judge<R: Read + Drop>(rt: &HostRuntime, progress: bool, reader: R, size: Opti
     }
 }
 
+/// Judges what a reader has, of so many bytes where they are known, and tells how far that is where it is asked for, or
+/// where faults go to a terminal.
+fn judge_read<R: Read + Drop>(
+    rt: &HostRuntime,
+    asked: Judged<'_>,
+    reader: R,
+    size: Option<u64>,
+) -> u8 {
+    let is_terminal = rt.stderr().is_terminal();
+    let progress = if asked.is_progress_told || is_terminal {
+        Progress::begin(rt.stderr(), rt, is_terminal, size)
+    } else {
+        None
+    };
+    let reader = Watched::new(reader, progress);
+    match asked.output {
+        Output::Verdict => judge(rt, reader),
+        Output::Chart => draw(rt, asked.file, reader),
+    }
+}
+
 /// How many bytes a file has, where it says that it has some.
 fn size_of(file: &File) -> Option<u64> {
     match file.metadata() {
@@ -48,15 +68,15 @@ fn size_of(file: &File) -> Option<u64> {
     }
 }
 
-/// Checks a file.
-fn judge_file(rt: &HostRuntime, name: &str, progress: bool) -> u8 {
-    if name == "-" {
-        return judge(rt, progress, rt.reader(), None);
+/// Judges a file.
+fn judge_file(rt: &HostRuntime, asked: Judged<'_>) -> u8 {
+    if asked.file == "-" {
+        return judge_read(rt, asked, rt.reader(), None);
     }
-    match File::open(rt, name) {
+    match File::open(rt, asked.file) {
         Ok(file) => {
             let size = size_of(&file);
-            judge(rt, progress, file, size)
+            judge_read(rt, asked, file, size)
         }
         Err(_) => refuse(rt, Ending::File),
     }
@@ -68,7 +88,7 @@ fn status(rt: &HostRuntime) -> u8 {
         Err(error) => return refuse(rt, Ending::from(error)),
     };
     match asked_by(&words) {
-        Some(Asked::Judged(name, progress)) => judge_file(rt, name, progress),
+        Some(Asked::Judged(asked)) => judge_file(rt, asked),
         Some(Asked::Covered(form, by_home, names)) => tell_coverage(rt, form, by_home, names),
         Some(Asked::Reached(way, number)) => tell_how(rt, way, number),
         None => refuse(rt, Ending::Usage),

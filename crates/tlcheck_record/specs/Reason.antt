@@ -175,3 +175,9 @@ place_text Verdict = codes "docs/RECORD.md, Verdict"
 -- the sentence, its source and its place
 abbrev pub reason_text : Breach → List ℕ
 reason_text breach = sentence_of breach ++ codes " (" ++ source_text (source_of breach) ++ codes "), " ++ place_text (place_of breach)
+
+-- what an entry breaks, in few words: without what differs, its source and its place
+abbrev pub breaks_text : Breach → List ℕ
+breaks_text (NotPermitted rule) = codes "breaks: " ++ rule_sentence rule
+breaks_text OutOfOrder = codes "breaks: a message is taken where it is the first of its channel"
+breaks_text (NotAsShown difference) = codes "breaks: what is shown is what the event sends"

@@ -21,7 +21,7 @@ pub use cut::cut_at;
 pub use entries::read_entry;
 pub use header::{read_image_line, read_shape};
 pub use message_name::MessageName;
-pub use reason::{Place, Reason, Source};
+pub use reason::{Breaks, Place, Reason, Source};
 pub use state::{push_end, push_state};
 pub use words::{is_blank, read_access, read_block_bytes, read_image, read_number, read_text};
 pub use written::{EntryLine, EventLine, lines_are_read_back};

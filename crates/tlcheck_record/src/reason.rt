@@ -1,6 +1,6 @@
 //! Why an entry is not permitted, in words.
 ghost use Rattle.std.specs.Prelude.{◌≡◌, Some};
-ghost use Rattle.tlcheck_record.specs.Reason.{bytes_text, difference_text, place_of, place_text, reason_text, rule_place, rule_sentence, rule_source, sentence_of, source_of, source_text};
+ghost use Rattle.tlcheck_record.specs.Reason.{breaks_text, bytes_text, difference_text, place_of, place_text, reason_text, rule_place, rule_sentence, rule_source, sentence_of, source_of, source_text};
 
 use std::fmt;
 use tl_script_words::Hex;
@@ -246,6 +246,26 @@ impl Reason<'_> {
             Breach::NotPermitted(rule) => rule_place(*rule),
             Breach::OutOfOrder => Place::Channels,
             Breach::NotAsShown(_) => Place::Verdict,
+        }
+    }
+}
+
+/// What an entry breaks, in few words: what is shown otherwise, who laid it down and where it stands is left out.
+#[derive(Clone, Copy, Debug)]
+pub struct Breaks<'a>(pub &'a Breach);
+
+impl fmt::Display for Breaks<'_> {
+    ghost output = { λ x. Some (breaks_text x.0.now) };
+
+    fn fmt<W: fmt::Write>(&self, f: &mut fmt::Formatter<W>) -> fmt::Result {
+        match self.0 {
+            Breach::NotPermitted(rule) => write!(f, "breaks: {}", rule_sentence(*rule)),
+            Breach::OutOfOrder => {
+                f.write_str("breaks: a message is taken where it is the first of its channel")
+            }
+            Breach::NotAsShown(_) => {
+                f.write_str("breaks: what is shown is what the event sends")
+            }
         }
     }
 }

@@ -1,45 +1,123 @@
-//! `tlwire [--run] FILE`: whether a run explains what a monitor on the links saw. `-` stands for standard input.
+//! `tlwire [--progress] [--run] FILE`: whether a run explains what a monitor on the links saw; `-` stands for standard
+//! input, and no other word that begins with a dash for a file.
 #![tactic(auto)]
 
+mod asked;
+
+use asked::{Asked, asked_by};
 use std::fs::File;
+use std::io::{IsTerminal, Read};
 use std::process::ExitCode;
-use tl_streams::{read_whole, words};
-use tlwire_answer::{Ending, Form, answer, show};
+use tl_streams::{Progress, Watched, read_whole, words};
+use tlwire_answer::{Ending, judge_lines, show, tell_ending};
+use tlwire_record::split_lines;
+
+fn refuse(rt: &HostRuntime, ending: Ending) -> u8 {
+    show(&mut rt.stderr(), &ending)
+}
+
+/// Whether it is told how far the work is: where that is asked for, or where faults go to a terminal.
+fn is_told(rt: &HostRuntime, asked: Asked<'_>) -> bool {
+    asked.is_progress_told || rt.stderr().is_terminal()
+}
+
+/// All that a reader has, of so many bytes where they are known. It tells how far that is.
+fn read_told<R: Read + Drop>(
+    rt: &HostRuntime,
+    reader: R,
+    size: Option<u64>,
+) -> Result<Vec<u8>, Ending> {
+    let progress = Progress::begin(rt.stderr(), rt, rt.stderr().is_terminal(), size);
+    let mut reader = Watched::new(reader, progress);
+    let bytes = read_whole(rt.alloc(), &mut reader);
+    if let Some(progress) = reader.into_watcher() {
+        progress.end();
+    }
+    Ok(bytes?)
+}
+
+/// All that a reader has.
+fn read_from<R: Read + Drop>(
+    rt: &HostRuntime,
+    asked: Asked<'_>,
+    mut reader: R,
+    size: Option<u64>,
+) -> Result<Vec<u8>, Ending> {
+    if is_told(rt, asked) {
+        return read_told(rt, reader, size);
+    }
+    Ok(read_whole(rt.alloc(), &mut reader)?)
+}
+
+/// How many bytes a file has, where it says that it has some.
+fn size_of(file: &File) -> Option<u64> {
+    match file.metadata() {
+        Ok(known) if known.len() > 0 => Some(known.len()),
+        _ => None,
+    }
+}
 
 /// The bytes of a file.
-fn bytes(rt: &HostRuntime, name: &str) -> Result<Vec<u8>, Ending> {
-    if name == "-" {
-        return Ok(read_whole(rt.alloc(), &mut rt.reader())?);
+fn bytes(rt: &HostRuntime, asked: Asked<'_>) -> Result<Vec<u8>, Ending> {
+    if asked.file == "-" {
+        return read_from(rt, asked, rt.reader(), None);
     }
-    match File::open(rt, name) {
-        Ok(mut file) => Ok(read_whole(rt.alloc(), &mut file)?),
+    match File::open(rt, asked.file) {
+        Ok(file) => {
+            let size = size_of(&file);
+            read_from(rt, asked, file, size)
+        }
         Err(_) => Err(Ending::File),
     }
 }
 
-/// The answer to a file.
-fn answer_to(rt: &HostRuntime, form: Form, name: &str) -> u8 {
-    match bytes(rt, name) {
-        Ok(bytes) => answer(rt.alloc(), form, &bytes, &mut rt.stdout(), &mut rt.stderr()),
-        Err(ending) => show(&mut rt.stderr(), &ending),
+/// What the answer to a record of these lines ends with. It tells how far closed sets are, as of the record's lines.
+fn judge_told(rt: &HostRuntime, lines: &[&[u8]]) -> Ending {
+    let whole = Some(lines.len() as u64);
+    let mut progress = Progress::begin(rt.stderr(), rt, rt.stderr().is_terminal(), whole);
+    let ending = judge_lines(rt.alloc(), lines, &mut progress);
+    if let Some(progress) = progress {
+        progress.end();
+    }
+    ending
+}
+
+/// The answer to a record of these lines.
+fn answer_lines(rt: &HostRuntime, asked: Asked<'_>, lines: &[&[u8]]) -> u8 {
+    let ending = if is_told(rt, asked) {
+        judge_told(rt, lines)
+    } else {
+        judge_lines(rt.alloc(), lines, &mut ())
+    };
+    tell_ending(
+        rt.alloc(),
+        asked.form,
+        lines,
+        &ending,
+        &mut rt.stdout(),
+        &mut rt.stderr(),
+    )
+}
+
+/// The answer to what a file has.
+fn answer_text(rt: &HostRuntime, asked: Asked<'_>, text: &[u8]) -> u8 {
+    match split_lines(rt.alloc(), text) {
+        Ok(lines) => answer_lines(rt, asked, &lines),
+        Err(_) => refuse(rt, Ending::Memory),
     }
 }
 
 fn status(rt: &HostRuntime) -> u8 {
     let words = match words(rt) {
         Ok(words) => words,
-        Err(error) => return show(&mut rt.stderr(), &Ending::from(error)),
+        Err(error) => return refuse(rt, Ending::from(error)),
     };
-    match words.as_slice() {
-        [name] => answer_to(rt, Form::Summary, name.as_str()),
-        [option, name] => {
-            if option.as_str() == "--run" {
-                answer_to(rt, Form::Run, name.as_str())
-            } else {
-                show(&mut rt.stderr(), &Ending::Usage)
-            }
-        }
-        _ => show(&mut rt.stderr(), &Ending::Usage),
+    let Some(asked) = asked_by(&words) else {
+        return refuse(rt, Ending::Usage);
+    };
+    match bytes(rt, asked) {
+        Ok(text) => answer_text(rt, asked, &text),
+        Err(ending) => refuse(rt, ending),
     }
 }
 

@@ -253,6 +253,15 @@ ending_text form lines Empty = []
 ending_text form lines Memory = []
 ending_text form lines File = []
 
+-- What is told of an ending: it, or that there was no memory for its text, or that it could not be written.
+abbrev pub Tells : Ending → Ending → Type 0
+Tells ending Usage = Usage ≡ ending
+Tells ending (Answered messages verdict) = Answered messages verdict ≡ ending
+Tells ending (WrongLine line cause) = WrongLine line cause ≡ ending
+Tells ending Empty = Empty ≡ ending
+Tells ending Memory = Unit {0}
+Tells ending File = Unit {0}
+
 -- An answer stands in the output, and nothing in the faults.
 pub record IsAnswer (written : List ℕ) (output output_new faults faults_new : Option (List ℕ)) : Type 0 where
   pub text : Appends output output_new written

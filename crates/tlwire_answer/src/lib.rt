@@ -8,5 +8,5 @@ mod run;
 mod verdict;
 
 pub use ending::{Ending, Form, show};
-pub use reply::answer;
+pub use reply::{answer, judge_lines, tell_ending};
 pub use verdict::{Order, Verdict};

@@ -3,41 +3,43 @@ ghost use Rattle.std.specs.Prelude.{◌≡◌};
 ghost use Rattle.tl_script_words.specs.Words.{texts};
 ghost use Rattle.tlwire_record.specs.Reading.{lines_of};
 ghost use Rattle.tlwire_answer.specs.Answer.{IsEnding, MayEnd};
-ghost use Rattle.tlwire_answer.specs.Ending.{IsTold, status_of};
+ghost use Rattle.tlwire_answer.specs.Ending.{IsTold, Tells, status_of};
 ghost use Rattle.tlwire_answer.specs.declared.ending.Ending.{Ending};
 
 use crate::ending::{Ending, Form, show, text_of};
 use crate::verdict::judge;
 use std::alloc::Global;
 use std::io::Write;
-use tl_streams::write_whole;
+use tl_streams::{Watcher, write_whole};
 use tlwire_record::{Messages, ReadFault, read, split_lines};
 
 /// What the answer to what was seen ends with.
-fn answered(alloc: Global, messages: Messages) -> Ending
+fn answered<T: Watcher>(alloc: Global, messages: Messages, watcher: &mut T) -> Ending
     ensures { IsEnding messages result }
 {
-    match judge(alloc, &messages) {
+    match judge(alloc, &messages, watcher) {
         Ok(verdict) => Ending::Answered(messages, verdict),
         Err(_) => Ending::Memory,
     }
 }
 
-/// What the answer to a record ends with.
-fn ending(alloc: Global, lines: &[&[u8]]) -> Ending
+/// What the answer to a record of these lines ends with. A watcher is told of each line that closed sets pass, as of one
+/// of so many.
+pub fn judge_lines<T: Watcher>(alloc: Global, lines: &[&[u8]], watcher: &mut T) -> Ending
     ensures { MayEnd (texts lines.now) result }
 {
     match read(alloc, lines) {
-        Ok(messages) => answered(alloc, messages),
+        Ok(messages) => answered(alloc, messages, watcher),
         Err(ReadFault::Line(line, cause)) => Ending::Wrong(line, cause),
         Err(ReadFault::Empty) => Ending::Empty,
         Err(ReadFault::Memory) => Ending::Memory,
     }
 }
 
-/// Writes an ending to `output` where it is an answer, else to `faults`, and answers its status: that of the file where
-/// it could not be written, or of want of memory.
-fn write_ending<W: Write, E: Write>(
+/// Writes what the answer to a record of these lines ends with: an answer in a form to `output`, a fault to `faults`. It
+/// answers the status: that of the ending, or 5 where the answer could not be written, or 4 for want of memory. A
+/// failing `faults` does not change it.
+pub fn tell_ending<W: Write, E: Write>(
     alloc: Global,
     form: Form,
     lines: &[&[u8]],
@@ -45,9 +47,8 @@ fn write_ending<W: Write, E: Write>(
     output: &mut W,
     faults: &mut E,
 ) -> u8
-    requires { MayEnd (texts lines.now) ending.now }
     ensures { (told : Ending)
-        × MayEnd (texts lines.now) told
+        × Tells ending.now told
         × (result ≡ status_of told)
         × IsTold result form (texts lines.now) told (W.contents output.old) (W.contents output.new)
         (E.contents faults.old) (E.contents faults.new) }
@@ -80,8 +81,8 @@ fn reply<W: Write, E: Write>(
         × IsTold result form (texts lines.now) ending (W.contents output.old) (W.contents output.new)
         (E.contents faults.old) (E.contents faults.new) }
 {
-    let ending = ending(alloc, lines);
-    write_ending(alloc, form, lines, &ending, output, faults)
+    let ending = judge_lines(alloc, lines, &mut ());
+    tell_ending(alloc, form, lines, &ending, output, faults)
 }
 
 /// Reads a record of messages, says what it found of it, and writes that: an answer to `output`, a fault to `faults`.

@@ -12,6 +12,7 @@ ghost use Rattle.tlwire_search.specs.Explained.{Explains, IsExplanation};
 
 use std::alloc::{AllocError, Global};
 use tl_rules::Event;
+use tl_streams::Watcher;
 use tl_types::{Channel, ClientId};
 use tlwire_closed::{Answer, Reason, Stuck, Way, is_seen_so, rule_out};
 use tlwire_orders::{Misplaced, first_misplaced};
@@ -412,11 +413,12 @@ fn both(one: Option<Reason>, other: Option<Reason>) -> Option<Reason> {
 }
 
 /// What closed sets say, in a way of seeing that the header names, and in those that were asked before.
-fn sets_by(
+fn sets_by<W: Watcher>(
     alloc: Global,
     messages: &Messages,
     way: Way,
     before: Option<Reason>,
+    watcher: &mut W,
 ) -> Result<Sets, AllocError>
     ensures { IfOk result (IsSets messages.now) }
 {
@@ -430,6 +432,7 @@ fn sets_by(
         premise_of(setting.premises(), way),
         messages.image(),
         messages.seen(),
+        watcher,
     )? {
         Answer::Impossible(stuck) => Ok(Sets::Stuck(stuck)),
         Answer::NotDecided(reason) => Ok(Sets::Open(both(before, Some(reason)))),
@@ -444,26 +447,35 @@ fn is_all_in_order(premises: &[Premise]) -> bool {
 }
 
 /// What closed sets say, in the ways of seeing that are told between the links' ends or at home.
-fn sets_between(alloc: Global, messages: &Messages) -> Result<Sets, AllocError>
+fn sets_between<W: Watcher>(
+    alloc: Global,
+    messages: &Messages,
+    watcher: &mut W,
+) -> Result<Sets, AllocError>
     ensures { IfOk result (IsSets messages.now) }
 {
-    match sets_by(alloc, messages, Way::Between, None)? {
+    match sets_by(alloc, messages, Way::Between, None, watcher)? {
         Sets::Stuck(stuck) => Ok(Sets::Stuck(stuck)),
-        Sets::Open(reason) => sets_by(alloc, messages, Way::AtHome, reason),
+        Sets::Open(reason) => sets_by(alloc, messages, Way::AtHome, reason, watcher),
     }
 }
 
 /// What closed sets say, in the ways of seeing that were not asked before a run was sought.
-fn sets_behind(alloc: Global, messages: &Messages, asked: Asked) -> Result<Sets, AllocError>
+fn sets_behind<W: Watcher>(
+    alloc: Global,
+    messages: &Messages,
+    asked: Asked,
+    watcher: &mut W,
+) -> Result<Sets, AllocError>
     ensures { IfOk result (IsSets messages.now) }
 {
     let between = match asked {
-        Asked::Nothing => sets_between(alloc, messages)?,
+        Asked::Nothing => sets_between(alloc, messages, watcher)?,
         Asked::Between(reason) => Sets::Open(reason),
     };
     match between {
         Sets::Stuck(stuck) => Ok(Sets::Stuck(stuck)),
-        Sets::Open(reason) => sets_by(alloc, messages, Way::AtClients, reason),
+        Sets::Open(reason) => sets_by(alloc, messages, Way::AtClients, reason, watcher),
     }
 }
 
@@ -479,14 +491,19 @@ fn with_reason(verdict: Verdict, reason: Option<Reason>) -> Verdict
 }
 
 /// A run that explains what was seen; else what closed sets say, in the ways of seeing that were not asked before.
-fn sought(alloc: Global, messages: &Messages, asked: Asked) -> Result<Verdict, AllocError>
+fn sought<W: Watcher>(
+    alloc: Global,
+    messages: &Messages,
+    asked: Asked,
+    watcher: &mut W,
+) -> Result<Verdict, AllocError>
     ensures { IfOk result (IsVerdict messages.now) }
 {
     let verdict = explained(alloc, messages)?;
     if let Verdict::Explained(_) | Verdict::Misplaced(_) = &verdict {
         return Ok(verdict);
     }
-    match sets_behind(alloc, messages, asked)? {
+    match sets_behind(alloc, messages, asked, watcher)? {
         Sets::Stuck(stuck) => Ok(Verdict::RuledOut(stuck)),
         Sets::Open(reason) => Ok(with_reason(verdict, reason)),
     }
@@ -495,24 +512,32 @@ fn sought(alloc: Global, messages: &Messages, asked: Asked) -> Result<Verdict, A
 /// What is said of what may be seen at the pins of its clients. Closed sets take longer than the search for a run, so
 /// it comes first; but not between the links' ends or at home, where all was watched in order of time: there a set is
 /// small.
-fn weighed(alloc: Global, messages: &Messages) -> Result<Verdict, AllocError>
+fn weighed<W: Watcher>(
+    alloc: Global,
+    messages: &Messages,
+    watcher: &mut W,
+) -> Result<Verdict, AllocError>
     ensures { IfOk result (IsVerdict messages.now) }
 {
     if !is_all_in_order(messages.setting().premises()) {
-        return sought(alloc, messages, Asked::Nothing);
+        return sought(alloc, messages, Asked::Nothing, watcher);
     }
-    match sets_between(alloc, messages)? {
+    match sets_between(alloc, messages, watcher)? {
         Sets::Stuck(stuck) => Ok(Verdict::RuledOut(stuck)),
-        Sets::Open(reason) => sought(alloc, messages, Asked::Between(reason)),
+        Sets::Open(reason) => sought(alloc, messages, Asked::Between(reason), watcher),
     }
 }
 
-/// What is said of what was seen. Err is a refused request for memory.
-pub(crate) fn judge(alloc: Global, messages: &Messages) -> Result<Verdict, AllocError>
+/// What is said of what was seen. A watcher is told how far closed sets are. Err is a refused request for memory.
+pub(crate) fn judge<W: Watcher>(
+    alloc: Global,
+    messages: &Messages,
+    watcher: &mut W,
+) -> Result<Verdict, AllocError>
     ensures { IfOk result (IsVerdict messages.now) }
 {
     match wrong_at_pins(alloc, messages)? {
         Some(wrong) => Ok(Verdict::Impossible(wrong)),
-        None => weighed(alloc, messages),
+        None => weighed(alloc, messages, watcher),
     }
 }

@@ -1,4 +1,4 @@
 use Rattle.tlwire_answer.proofs.verdict.sought.Goals as goal
 
 pub returns-in-Open : goal.returns-in-Open
-returns-in-Open c = c.with_reason.ensures c.args.messages.now c.in_ok-verdict.ensures
+returns-in-Open g c = c.with_reason.ensures c.args.messages.now c.in_ok-verdict.ensures

@@ -1,13 +1,14 @@
 -- What a step of a trace did (this project's own).
 use Rattle.std.specs.Prelude.{List, [], ◌∷◌, Option, Some, None}
+use Rattle.tl_bank_spec.specs.Refusal.{refusal_number}
 use Rattle.tl_map.specs.Numbers.{Numbers}
 use Rattle.tl_script_words.specs.declared.step.BlockCall.TheVariants.{Evict, ServeMemory, TakeMemory}
 use Rattle.tl_script_words.specs.declared.step.Step.{Step}
 use Rattle.tl_script_words.specs.declared.step.Step.TheVariants as step
 use Rattle.tl_text.specs.declared.answer.Answer.{Answer}
 use Rattle.tl_text.specs.declared.answer.Answer.TheVariants as answer
-use Rattle.tlchart_model.specs.Lifeline.{lifeline_of}
-use Rattle.tlchart_model.specs.Message.{message_by}
+use Rattle.tlchart_trace.specs.Lifeline.{lifeline_of}
+use Rattle.tlchart_trace.specs.Message.{message_by}
 use Rattle.tlchart_model.specs.declared.lifeline.Place.{Place}
 use Rattle.tlchart_model.specs.declared.lifeline.Place.TheVariants.{Link, ToMemory, FromMemory}
 use Rattle.tlchart_model.specs.declared.turn.Mark.{Mark}
@@ -37,7 +38,7 @@ abbrev pub mark_of : Step → Answer → Option Mark
 mark_of s answer.Dropped = Some Dropped
 mark_of s (answer.Loaded bytes) = Some (Loaded bytes)
 mark_of s answer.Done = mark_of_done s
-mark_of s (answer.Refused refusal) = Some (Refused refusal)
+mark_of s (answer.Refused refusal) = Some (Refused (refusal_number refusal))
 mark_of s _ = None
 
 -- what a step with an answer did

@@ -1,5 +1,7 @@
 //! What each entry of a record did.
+ghost use Rattle.std.specs.Prelude.{◌≡◌, false};
 ghost use Rattle.tl_protocol.specs.Protocol.{May};
+ghost use Rattle.tlchart_draw.specs.Strip.{is_broken};
 ghost use Rattle.tlcheck_rules.specs.Judged.{own_block};
 
 use std::alloc::{AllocError, Global};
@@ -21,7 +23,7 @@ pub struct Serials {
 
 impl Serials {
     /// Those of a record that begins.
-    pub(crate) fn new(alloc: Global, clients: u32) -> Result<Serials, AllocError> {
+    pub fn new(alloc: Global, clients: u32) -> Result<Serials, AllocError> {
         let count = clients as usize * CHANNELS;
         Ok(Serials {
             sent: vec![in alloc; 0; count]?,
@@ -64,7 +66,7 @@ fn ticket_of(numbers: &mut [u64], client: ClientId, channel: Channel) -> Ticket 
 }
 
 /// Who makes an event.
-fn lifeline_of(event: &Event) -> Lifeline {
+pub(crate) fn lifeline_of(event: &Event) -> Lifeline {
     match event {
         Event::Load(_)
         | Event::Store(_)
@@ -79,7 +81,9 @@ fn lifeline_of(event: &Event) -> Lifeline {
 }
 
 /// The mark of an event that neither sends nor takes a message.
-fn mark_of(event: &Event) -> Option<Mark> {
+fn mark_of(event: &Event) -> Option<Mark>
+    ensures { is_broken result ≡ false }
+{
     match event {
         Event::Load(access) => Some(Mark::Loaded(access.bytes.copied())),
         Event::Store(access) => Some(Mark::Stored(access.bytes.copied())),
@@ -182,6 +186,7 @@ fn sent_by(judge: &Judge, serials: &mut Serials, event: &Event) -> Option<ShownM
 /// What an event that may come next does.
 fn done_by(judge: &Judge, serials: &mut Serials, event: &Event) -> Turn
     requires { May judge.now.plain.shape (own_block judge.now event.now) event.now }
+    ensures { is_broken result.mark ≡ false }
 {
     Turn {
         at: lifeline_of(event),
@@ -192,7 +197,9 @@ fn done_by(judge: &Judge, serials: &mut Serials, event: &Event) -> Turn
 }
 
 /// What an entry does that comes next, where it is permitted; else its mark says that it is not.
-pub(crate) fn turn_of(judge: &Judge, serials: &mut Serials, entry: &Entry) -> Turn {
+pub fn turn_of(judge: &Judge, serials: &mut Serials, entry: &Entry) -> Turn
+    ensures { is_broken result.mark ≡ false }
+{
     match judge.breach(entry) {
         None => done_by(judge, serials, &entry.event),
         Some(_) => Turn {

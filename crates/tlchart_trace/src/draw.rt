@@ -1,9 +1,10 @@
 //! From the bytes of a script to its picture.
 ghost use Rattle.std.specs.Prelude.{◌≡◌, ◌≤◌, IfErr, OnOk, length};
-ghost use Rattle.tlchart_draw.specs.Draw.{IsDrawn, IsWhy};
-ghost use Rattle.tlchart_draw.specs.declared.draw.DrawError.TheVariants as its;
+ghost use Rattle.tlchart_trace.specs.Draw.{IsDrawn, IsWhy};
+ghost use Rattle.tlchart_trace.specs.declared.draw.DrawError.TheVariants as its;
 
-use crate::sheet::{Foot, Form, Rows, Sheet, picture_of};
+use crate::chart::chart_of;
+use crate::closing::closings;
 use std::alloc::{AllocError, Global};
 use std::fmt;
 use thiserror::Error;
@@ -11,7 +12,7 @@ use tl_script::{Script, ScriptError, read_script};
 use tl_streams::ProgramFault;
 use tl_trace::play;
 use tl_types::BlockNo;
-use tlchart_model::chart_of;
+use tlchart_draw::{Form, Rows, Sheet, picture_of};
 
 /// The most steps that are drawn.
 const MOST: usize = 200;
@@ -29,7 +30,7 @@ pub enum DrawError {
 
 impl fmt::Display for DrawError {
     ghost use Rattle.std.specs.Prelude.{Some};
-    ghost use Rattle.tlchart_draw.specs.Draw.{draw_error_text};
+    ghost use Rattle.tlchart_trace.specs.Draw.{draw_error_text};
 
     ghost output = { λ e. Some (draw_error_text e) };
 
@@ -73,11 +74,12 @@ fn drawn(
     let geometry = script.geometry();
     let trace = play(alloc, geometry, &script.image, &script.steps)?;
     let chart = chart_of(alloc, geometry, &script.steps, &trace, block)?;
+    let foot = closings(alloc, &trace.banks)?;
     let sheet = Sheet {
         title,
         rows: Rows::Steps(&script.steps),
         chart: &chart,
-        foot: Foot::Banks(&trace.banks),
+        foot: &foot,
     };
     picture_of(alloc, sheet, form)
 }

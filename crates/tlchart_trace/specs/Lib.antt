@@ -1,0 +1,5 @@
+pub mod Lifeline
+pub mod Message
+pub mod Turn
+pub mod Chart
+pub mod Draw
