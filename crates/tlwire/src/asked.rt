@@ -1,14 +1,22 @@
-//! The words of the command line: `tlwire [--progress] [--run] FILE`.
+//! The words of the command line: `tlwire [--progress] [--run | --chart] FILE`.
 
 use tlwire_answer::Form;
+
+/// How what was said of a record is written.
+#[derive(Clone, Copy)]
+pub(crate) enum Output {
+    /// As an answer, with a run that was found in a form.
+    Answer(Form),
+    /// As the chart of the last lines of the block of the line that is impossible.
+    Chart,
+}
 
 /// What the words ask for.
 #[derive(Clone, Copy)]
 pub(crate) struct Asked<'a> {
     /// The file's name, or `-` for standard input.
     pub(crate) file: &'a str,
-    /// What is written of a run that was found.
-    pub(crate) form: Form,
+    pub(crate) output: Output,
     /// Whether it is told how far the work is.
     pub(crate) is_progress_told: bool,
 }
@@ -19,11 +27,11 @@ fn is_file(word: &str) -> bool {
 }
 
 /// A file, of whose answer this is written.
-fn asked_of(word: &str, form: Form, is_progress_told: bool) -> Option<Asked<'_>> {
+fn asked_of(word: &str, output: Output, is_progress_told: bool) -> Option<Asked<'_>> {
     if is_file(word) {
         Some(Asked {
             file: word,
-            form,
+            output,
             is_progress_told,
         })
     } else {
@@ -31,12 +39,26 @@ fn asked_of(word: &str, form: Form, is_progress_told: bool) -> Option<Asked<'_>>
     }
 }
 
+/// What an option before a file asks for, if it is one.
+fn output_of(option: &str) -> Option<Output> {
+    match option {
+        "--run" => Some(Output::Answer(Form::Run)),
+        "--chart" => Some(Output::Chart),
+        _ => None,
+    }
+}
+
 /// What the words behind `--progress` ask for, or all words where it is not asked for.
 fn asked_behind(words: &[String], is_progress_told: bool) -> Option<Asked<'_>> {
     match words {
-        [file] => asked_of(file.as_str(), Form::Summary, is_progress_told),
-        [option, file] if option.as_str() == "--run" => {
-            asked_of(file.as_str(), Form::Run, is_progress_told)
+        [file] => asked_of(
+            file.as_str(),
+            Output::Answer(Form::Summary),
+            is_progress_told,
+        ),
+        [option, file] => {
+            let output = output_of(option.as_str())?;
+            asked_of(file.as_str(), output, is_progress_told)
         }
         _ => None,
     }

@@ -1,15 +1,17 @@
-//! `tlwire [--progress] [--run] FILE`: whether a run explains what a monitor on the links saw; `-` stands for standard
-//! input, and no other word that begins with a dash for a file.
+//! `tlwire [--progress] [--run | --chart] FILE`: whether a run explains what a monitor on the links saw, or where it
+//! broke, as a chart; `-` stands for standard input, and no other word that begins with a dash for a file.
 #![tactic(auto)]
 
 mod asked;
 
-use asked::{Asked, asked_by};
+use asked::{Asked, Output, asked_by};
 use std::fs::File;
 use std::io::{IsTerminal, Read};
 use std::process::ExitCode;
 use tl_streams::{Progress, Watched, read_whole, words};
+use tlchart_draw::title_of;
 use tlwire_answer::{Ending, judge_lines, show, tell_ending};
+use tlwire_chart::tell_chart;
 use tlwire_record::split_lines;
 
 fn refuse(rt: &HostRuntime, ending: Ending) -> u8 {
@@ -82,6 +84,20 @@ fn judge_told(rt: &HostRuntime, lines: &[&[u8]]) -> Ending {
     ending
 }
 
+/// Tells what the answer to a record of these lines ends with, as it is asked for.
+fn tell(rt: &HostRuntime, asked: Asked<'_>, lines: &[&[u8]], ending: &Ending) -> u8 {
+    let (mut output, mut faults) = (rt.stdout(), rt.stderr());
+    match asked.output {
+        Output::Answer(form) => {
+            tell_ending(rt.alloc(), form, lines, ending, &mut output, &mut faults)
+        }
+        Output::Chart => {
+            let title = title_of(asked.file);
+            tell_chart(rt.alloc(), title, lines, ending, &mut output, &mut faults)
+        }
+    }
+}
+
 /// The answer to a record of these lines.
 fn answer_lines(rt: &HostRuntime, asked: Asked<'_>, lines: &[&[u8]]) -> u8 {
     let ending = if is_told(rt, asked) {
@@ -89,14 +105,7 @@ fn answer_lines(rt: &HostRuntime, asked: Asked<'_>, lines: &[&[u8]]) -> u8 {
     } else {
         judge_lines(rt.alloc(), lines, &mut ())
     };
-    tell_ending(
-        rt.alloc(),
-        asked.form,
-        lines,
-        &ending,
-        &mut rt.stdout(),
-        &mut rt.stderr(),
-    )
+    tell(rt, asked, lines, &ending)
 }
 
 /// The answer to what a file has.

@@ -605,7 +605,7 @@ fn ruled_out(
 }
 
 /// What is written of what was said. Err is a refused request for memory.
-pub(crate) fn text_of(
+pub fn text_of(
     alloc: Global,
     form: Form,
     lines: &[&[u8]],

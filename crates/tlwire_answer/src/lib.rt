@@ -7,6 +7,6 @@ mod reply;
 mod run;
 mod verdict;
 
-pub use ending::{Ending, Form, show};
+pub use ending::{Ending, Form, show, text_of};
 pub use reply::{answer, judge_lines, tell_ending};
 pub use verdict::{Order, Verdict};
