@@ -109,6 +109,9 @@ fn wrong_at(
     cores: Cores,
     seen: &[Seen],
 ) -> Result<Option<(usize, u32)>, AllocError> {
+    if shape.block_bytes == 0 || shape.block_bytes > 64 {
+        return Ok(None);
+    }
     let found = first_wrong(alloc, shape, ClientId::new(client), cores, seen)?;
     Ok(found.map(|wrong| (wrong.place, breach_told(&wrong.breach).rule)))
 }

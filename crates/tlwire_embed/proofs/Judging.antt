@@ -4,7 +4,6 @@ use Rattle.tl_protocol.specs.declared.shape.Shape.{Shape}
 use Rattle.tlwire_search.specs.Lists.{block_of}
 use Rattle.tlwire_search.specs.declared.seen.Seen.{Seen}
 use Rattle.tlwire_pins.specs.Judged.{EachMay, Follows, holds}
-use Rattle.tlwire_pins.specs.View.{led_by}
 use Rattle.tlwire_pins.specs.declared.judge.PinsJudge.{PinsJudge}
 use Rattle.tlwire_pins.specs.declared.view.Cores.{Cores}
 use Rattle.tlwire_pins.specs.declared.view.View.{View}

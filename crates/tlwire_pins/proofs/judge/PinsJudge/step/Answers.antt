@@ -1,9 +1,5 @@
-use Rattle.std.proofs.Common.{List, ◌∷◌, ◌++◌, [], ℕ, IsNone, IfSome, Option, refl}
-use Rattle.tl_protocol.specs.declared.shape.Shape.{Shape}
-use Rattle.tlwire_search.specs.declared.seen.Seen.{Seen}
+use Rattle.std.proofs.Common.{refl}
 use Rattle.tlwire_pins.proofs.Judged.{breaks_now, follows_more, ok_map, some_map}
-use Rattle.tlwire_pins.specs.Judged.{Breaks, Follows}
-use Rattle.tlwire_pins.specs.declared.view.Cores.{Cores}
 use Rattle.tlwire_pins.proofs.judge.PinsJudge.step.Goals as goal
 
 pub returns-clause-taken : goal.returns-clause-taken
