@@ -94,8 +94,9 @@ WORDS = {
     "tlcache": ([b"run", b"no such file"], [[], [b"run"], [b"run", b"a", b"b"], [b"walk", b"a"], [b"--", b"run"], [b"--help"]]),
     "tlchart": ([b"no such file"], [[], [b"a", b"b"], [b"--block", b"a"], [b"--block", b"-1", b"a"], [b"--html", b"--mermaid", b"a"],
                                     [b"--html", b"--block", b"1", b"a"], [b"--help"]]),
-    "tlcheck": ([b"no such file"], [[], [b"a", b"b"]]),
-    "tlwire": ([b"--run", b"no such file"], [[], [b"--run"], [b"--walk", b"a"], [b"--run", b"a", b"b"], [b"--run", b"--progress", b"a"]]),
+    "tlcheck": ([b"no such file"], [[], [b"a", b"b"], [b"--chart"], [b"--chart", b"--progress", b"a"]]),
+    "tlwire": ([b"--run", b"no such file"], [[], [b"--run"], [b"--walk", b"a"], [b"--run", b"a", b"b"], [b"--run", b"--progress", b"a"],
+                                [b"--run", b"--chart", b"a"]]),
     "tlgen": ([b"1", b"run"], [[], [b"1"], [b"x", b"run"], [b"1", b"walk"], [b"1", b"run", b"colour=1"], [b"4294967296", b"run"]]),
 }
 # Words that are no UTF-8: a byte that none begins with, a lone continuation, a surrogate, and a character that is cut off.

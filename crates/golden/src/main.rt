@@ -5,7 +5,7 @@
 //! fault line, and its status where that is not 0. There is more than one where they depend on who comes first.
 //! `NAME.svg` and `NAME.mmd` are the pictures of a script, `NAME.html` is its page. `record-NAME.txt` is a record of
 //! events, `record-NAME.html` its page. `refused.txt` has scripts that are refused, each after a line with its fault;
-//! each other `NAME.txt` is a record of messages.
+//! each other `NAME.txt` is a record of messages. `NAME.svg` beside a record is the chart of where it broke.
 #![tactic(auto)]
 
 mod answers;

@@ -74,6 +74,21 @@ pub const PAGED: &[&str] = &[
     "two-writers",
 ];
 
+/// Records of events with charts.
+pub const CHARTED: &[&str] = &["grants-old-bytes"];
+
+/// Records of events that are lawful, and have none.
+pub const NOT_CHARTED: &[&str] = &["two-writers"];
+
+/// Records of messages with charts.
+pub const CHARTED_MESSAGES: &[&str] = &[
+    "answers-before-its-release-ack",
+    "two-writers-at-their-pins",
+];
+
+/// Records of messages that are explained, not decided or refused, and have none.
+pub const NOT_CHARTED_MESSAGES: &[&str] = &["a-miss", "no-such-sink", "two-writers"];
+
 /// Records of messages.
 pub const RECORDS: &[&str] = &[
     "a-late-core.txt",

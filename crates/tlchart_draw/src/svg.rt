@@ -307,18 +307,9 @@ fn push_beside(ink: &mut Ink, class: &str, chart: &Chart, at: &Lifeline, base: u
     }
 }
 
-/// Where words begin beside the middle of a row: above it where they take several lines.
-fn base_of(y: usize, words: &str) -> usize {
-    if words.len() < LETTERS {
-        y.saturating_add(4)
-    } else {
-        y.saturating_sub(9)
-    }
-}
-
-/// Words in lines that have room beside a lifeline.
+/// Words in lines that have room beside a lifeline, from the middle of a row on: above it a message may arrive.
 fn push_folded(ink: &mut Ink, class: &str, chart: &Chart, at: &Lifeline, y: usize, words: &str) {
-    let mut base = base_of(y, words);
+    let mut base = y.saturating_add(4);
     let mut column: usize = 0;
     push_beside(ink, class, chart, at, base);
     for word in words.split(' ') {

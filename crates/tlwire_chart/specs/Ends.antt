@@ -1,8 +1,6 @@
 -- Where a record of messages broke, by what is said of it (this project's own).
 use Rattle.std.specs.Prelude.{ℕ, List, codes, Option, Some, None}
 use Rattle.tlcheck_record.specs.Reason.{breaks_text}
-use Rattle.tlwire_answer.specs.declared.ending.Ending.{Ending}
-use Rattle.tlwire_answer.specs.declared.ending.Ending.TheVariants.{Usage, Answered, Wrong as WrongLine, Empty, Memory, File}
 use Rattle.tlwire_answer.specs.declared.verdict.Verdict.{Verdict}
 use Rattle.tlwire_answer.specs.declared.verdict.Verdict.TheVariants.{Explained, Misplaced, Impossible, RuledOut, NotDecided, OtherOrder}
 

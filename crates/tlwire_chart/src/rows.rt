@@ -1,9 +1,8 @@
 //! The rows of a chart: the last lines of a block, and the one that is impossible.
 ghost use Rattle.std.specs.List.{All};
 ghost use Rattle.std.specs.Option.{option_map};
-ghost use Rattle.std.specs.Prelude.{◌≡◌, ◌<◌, ℕ, IfOk, MatchOption, None, Option, Some, false, map, slice_get, string_bytes};
-ghost use Rattle.tl_script_words.specs.Words.{texts};
-ghost use Rattle.tlchart_draw.specs.Strip.{IsBrokenRow, IsUnbroken, is_broken};
+ghost use Rattle.std.specs.Prelude.{◌≡◌, ◌<◌, IfOk, MatchOption, None, Some, false, map, slice_get, string_bytes};
+ghost use Rattle.tlchart_draw.specs.Strip.{IsUnbroken, is_broken};
 ghost use Rattle.tlwire_answer.specs.Ending.{number_at};
 ghost use Rattle.tlwire_chart.specs.Rows.{IsStripOf, mark_of, mark_seen, message_drawn, message_of, message_seen, places_of, told_at, told_by};
 
