@@ -163,10 +163,12 @@ fn ruled_out(
     premise: tlwire_closed::Premise,
 ) -> Result<Option<usize>, AllocError> {
     let seen = seen_in(alloc, damage, order)?;
-    Ok(match rule_out(alloc, SHAPE, premise, &[], &seen, &mut ())? {
-        Answer::Impossible(stuck) => Some(stuck.place),
-        Answer::NotDecided(_) => None,
-    })
+    Ok(
+        match rule_out(alloc, SHAPE, premise, &[], &seen, &mut ())? {
+            Answer::Impossible(stuck) => Some(stuck.place),
+            Answer::NotDecided(_) => None,
+        },
+    )
 }
 
 /// Records, what is wrong with them, whether they are whole, and the first line that no run reaches.
