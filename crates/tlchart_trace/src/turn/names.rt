@@ -1,6 +1,7 @@
 //! The names of refusals in a chart beside those of a bank's.
 
 use std::alloc::{AllocError, Global};
+use std::test::Fail;
 use tl_bank_spec::Refusal;
 use tlchart_draw::refusal_name;
 
