@@ -131,8 +131,8 @@ fn take(judge: &mut Judge, lines: &mut Vec<Seen>, entry: &Entry) -> Result<bool,
     }
 }
 
-/// What is seen of a run at the pins of its clients, in order of time; None where it is no lawful run. The error is
-/// want of memory.
+/// What is seen of a run at the pins of its clients, in order of time; None where an event is not permitted, or
+/// takes a message out of its channel's order. The error is want of memory.
 pub fn lines_at_pins(
     alloc: Global,
     shape: Shape,
