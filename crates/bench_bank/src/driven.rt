@@ -5,15 +5,15 @@ use std::marker::Model;
 use tl_bank::{Action, Bank, Share, When};
 use tl_map::Geometry;
 use tl_protocol::Event;
-use tl_types::{BankNo, BlockNo, ClientId, Grow, Perm, Prune, Ticket};
+use tl_types::{BankNo, BlockNo, CLIENTS, ClientId, Grow, Perm, Prune, Ticket};
 
 /// A bank with its shares and the clocks of its clients. Its model says nothing, so that a cycle of many calls has
 /// their answers alone to carry along.
 #[derive(Drop)]
 pub(crate) struct Driven {
     bank: Bank,
-    shares: ArrayVec<Share, 16>,
-    clocks: ArrayVec<u64, 16>,
+    shares: ArrayVec<Share, CLIENTS>,
+    clocks: ArrayVec<u64, CLIENTS>,
 }
 
 impl Model for Driven {
@@ -30,7 +30,7 @@ impl Driven {
         }
         let (bank, shares) = Bank::new(alloc, geometry, BankNo::new(0), &[]).ok()?;
         let mut clocks = ArrayVec::new();
-        for _ in 0..16 {
+        for _ in 0..CLIENTS {
             let _ = clocks.try_push(0);
         }
         Some(Driven {

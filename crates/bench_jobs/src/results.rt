@@ -4,7 +4,7 @@ use crate::numbers::Digest;
 use tl_bank::{Action, Bank, Refusal, Reply};
 use tl_protocol::CachedCopy;
 use tl_text::{Answer, MemoryMessage};
-use tl_types::{Awaited, BlockNo, Body, Channel, ClientId, Message, Perm, Ticket, code};
+use tl_types::{Awaited, BlockNo, Body, Channel, ClientId, MESSAGES, Message, Perm, Ticket, code};
 
 /// The digest with a ticket more.
 pub(crate) fn with_ticket(digest: Digest, ticket: Ticket) -> Digest {
@@ -167,7 +167,7 @@ fn with_memory(digest: Digest, bank: &Bank) -> Digest {
 /// The digest with the messages that wait on a channel.
 fn with_waiting(digest: Digest, bank: &Bank, client: ClientId, channel: Channel) -> Digest {
     let mut digest = digest;
-    for place in 0..64 {
+    for place in 0..MESSAGES {
         match bank.waiting(client, channel, place) {
             Some((ticket, message)) => {
                 digest = with_body(with_ticket(digest, ticket), message.block, &message.body);

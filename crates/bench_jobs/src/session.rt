@@ -9,7 +9,7 @@ use std::marker::Model;
 use tl_bank::{Action, Bank, Refusal, Share, When};
 use tl_map::{Geometry, GeometryNumbers};
 use tl_protocol::Event;
-use tl_types::{BankNo, BlockNo, Channel, ClientId, Grow, Perm, Prune, Ticket};
+use tl_types::{BankNo, BlockNo, CLIENTS, Channel, ClientId, Grow, Perm, Prune, Ticket};
 
 /// How large a session is.
 #[derive(Clone, Copy)]
@@ -31,8 +31,8 @@ pub(crate) struct Sizes {
 pub(crate) struct Session {
     sizes: Sizes,
     bank: Bank,
-    shares: ArrayVec<Share, 16>,
-    clocks: ArrayVec<u64, 16>,
+    shares: ArrayVec<Share, CLIENTS>,
+    clocks: ArrayVec<u64, CLIENTS>,
     tickets: Vec<Ticket>,
     outward: Vec<BlockNo>,
     sights: Option<Sights>,
@@ -61,9 +61,9 @@ fn geometry_of(sizes: Sizes) -> Option<Geometry> {
     .ok()
 }
 
-fn zeros() -> ArrayVec<u64, 16> {
+fn zeros() -> ArrayVec<u64, CLIENTS> {
     let mut clocks = ArrayVec::new();
-    for _ in 0..16 {
+    for _ in 0..CLIENTS {
         let _ = clocks.try_push(0);
     }
     clocks

@@ -7,7 +7,7 @@ use std::test::Fail;
 use tl_bank::{Action, Bank, Refusal, Share, When};
 use tl_map::{Geometry, GeometryNumbers};
 use tl_protocol::{CachedCopy, Event};
-use tl_types::{Awaited, BankNo, BlockNo, Channel, ClientId, Grow, Perm, Prune, Ticket};
+use tl_types::{Awaited, BankNo, BlockNo, CLIENTS, Channel, ClientId, Grow, Perm, Prune, Ticket};
 
 /// What a call answers: the ticket of the message that it sent, if it sent one.
 pub type Answer = Result<Option<Ticket>, Refusal>;
@@ -20,7 +20,7 @@ pub type Copied = (Perm, Option<u8>, bool);
 #[derive(Drop)]
 pub struct Session {
     bank: Bank,
-    shares: ArrayVec<Share, 16>,
+    shares: ArrayVec<Share, CLIENTS>,
 }
 
 impl Model for Session {
@@ -295,7 +295,7 @@ impl Session {
     }
 
     /// The client, the bank and the count of each share.
-    pub fn shares(&self) -> ArrayVec<(u32, u32, u32), 16> {
+    pub fn shares(&self) -> ArrayVec<(u32, u32, u32), CLIENTS> {
         let mut shown = ArrayVec::new();
         for share in self.shares.as_slice() {
             let shares = (

@@ -4,7 +4,7 @@ use std::alloc::Global;
 use std::marker::Model;
 use std::test::Fail;
 use tl_map::{Geometry, GeometryNumbers, Set, Tag};
-use tl_types::{ClientId, Perm};
+use tl_types::{CLIENTS, ClientId, Perm};
 use tl_ways::{Entry, Way, Ways};
 
 /// One set of three ways.
@@ -117,7 +117,7 @@ fn the_way_granted_longest_ago_is_taken(rt: HostRuntime) -> Result<(), Fail> {
 /// The owner and the mask of an entry that records one permission.
 fn recorded(client: u32, perm: Perm) -> (Option<ClientId>, u16) {
     let mut entry = Entry::new(Tag::new(0), false);
-    if client < Entry::CLIENTS && entry.is_unshared() {
+    if (client as usize) < CLIENTS && entry.is_unshared() {
         entry.set(ClientId::new(client), perm);
     }
     (entry.owner(), entry.branches())

@@ -1,5 +1,6 @@
 //! A judge beside a bench: entries in numbers, and a verdict at once.
 use std::alloc::Global;
+use tl_types::BLOCK_BYTES;
 use tlcheck_embed::{BenchEntry, JudgeNumbers, JudgeRoom, Verdict, opened, see};
 
 /// An entry with nothing shown.
@@ -14,7 +15,7 @@ fn entry(event: u32, client: u32, place: u32, param: u32) -> BenchEntry {
         opcode: 0,
         shown_param: 0,
         len: 0,
-        bytes: [0; 64],
+        bytes: [0; BLOCK_BYTES],
     }
 }
 

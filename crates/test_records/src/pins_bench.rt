@@ -5,7 +5,7 @@ use crate::{explained, pins};
 use std::alloc::{AllocError, Global};
 use std::test::Fail;
 use tl_rules::Shape;
-use tl_types::{ClientId, code};
+use tl_types::{BLOCK_BYTES, ClientId, code};
 use tlcheck_embed::{JudgeNumbers, breach_told};
 use tlwire_embed::{PinsLine, PinsNumbers, PinsRoom, PinsVerdict, opened, see};
 use tlwire_pins::{Cores, first_wrong};
@@ -22,14 +22,14 @@ fn numbers(what: u32, client: u32, place: u32, message: (u32, u32, u32)) -> Pins
         opcode,
         param,
         len: 0,
-        bytes: [0; 64],
+        bytes: [0; BLOCK_BYTES],
     }
 }
 
-/// The same with bytes, at most 64.
+/// The same with bytes, at most `BLOCK_BYTES`.
 fn with_bytes(line: PinsLine, bytes: &[u8]) -> PinsLine {
-    let mut all = [0; 64];
-    if bytes.len() > 64 {
+    let mut all = [0; BLOCK_BYTES];
+    if bytes.len() > BLOCK_BYTES {
         return line;
     }
     all[..bytes.len()].copy_from_slice(bytes);
@@ -109,7 +109,7 @@ fn wrong_at(
     cores: Cores,
     seen: &[Seen],
 ) -> Result<Option<(usize, u32)>, AllocError> {
-    if shape.block_bytes == 0 || shape.block_bytes > 64 {
+    if shape.block_bytes == 0 || shape.block_bytes > BLOCK_BYTES as u32 {
         return Ok(None);
     }
     let found = first_wrong(alloc, shape, ClientId::new(client), cores, seen)?;

@@ -9,7 +9,7 @@ use tl_runner_report::{RunError, conclude};
 use tl_script::{Script, read_script};
 use tl_text::Report;
 use tl_tickets::{Missing, gather};
-use tl_types::{BankNo, BlockNo, Channel, ClientId, Grow, Ticket};
+use tl_types::{BankNo, BlockNo, CLIENTS, Channel, ClientId, Grow, Ticket};
 
 /// A script, its banks, and the list of shares of each. Its model says nothing, so that a test of many calls has their
 /// answers alone to carry along.
@@ -27,7 +27,7 @@ impl Model for Setting {
 }
 
 /// Shares as a list.
-fn listed(alloc: Global, given: ArrayVec<Share, 16>) -> Option<Vec<Share>> {
+fn listed(alloc: Global, given: ArrayVec<Share, CLIENTS>) -> Option<Vec<Share>> {
     let mut shares = Vec::new(alloc);
     for share in given {
         shares.push(share).ok()?;

@@ -30,6 +30,7 @@ use tl_registers::Registers;
 use tl_types::{BankNo, BlockNo, CLIENTS, ClientId, Perm};
 
 mod advance;
+mod checks;
 mod client_calls;
 mod contents;
 mod home_calls;
@@ -38,7 +39,6 @@ mod memory_calls;
 mod misses;
 mod open;
 mod protocol_view;
-mod settle;
 mod tickets;
 mod views;
 mod would;
@@ -83,7 +83,7 @@ impl Bank {
         geometry: Geometry,
         number: BankNo,
         image: &[u8],
-    ) -> Result<(Bank, ArrayVec<Share, 16>), BankError>
+    ) -> Result<(Bank, ArrayVec<Share, CLIENTS>), BankError>
         requires number { number < geometry.banks }
         requires image { length image.now ≤ geometry.memory_blocks * geometry.block_bytes }
         ensures bank { IfOk result
@@ -232,7 +232,7 @@ impl Bank {
 }
 
 /// The shares of all clients in a bank where nobody has a copy.
-fn first_shares(bank: BankNo, clients: u32) -> ArrayVec<Share, 16>
+fn first_shares(bank: BankNo, clients: u32) -> ArrayVec<Share, CLIENTS>
     requires { clients ≤ CLIENTS }
     ensures { result.items ≡ first_shares bank clients }
 {

@@ -4,6 +4,7 @@ use Rattle.std.specs.List.{AllByRecursion}
 use Rattle.std.proofs.Math.Bool.{or-true}
 use Rattle.std.proofs.lemmas.Bool.{cases_Bool}
 use Rattle.std.specs.Prelude.{slice_index_or}
+use Rattle.tl_types.specs.declared.limits.TheConstants.{CLIENTS}
 use Rattle.tl_types.specs.Lane.{Lane, sent}
 use Rattle.tl_types.specs.declared.ticket.Ticket.{Ticket}
 use Rattle.tl_types.specs.declared.channel.Channel.{Channel}
@@ -228,7 +229,7 @@ grant-free v old own c same none is =
     (sym (ap (due_full old) is) ∙ advance-free old own none)
 
 -- there are at most sixteen clients
-most-few : (version n : ℕ) → n ≤ most_clients version → n ≤ 16
+most-few : (version n : ℕ) → n ≤ most_clients version → n ≤ CLIENTS
 most-few version n h =
     elim (cases_Bool (version == 1)) [
       | inl t ↦ let k : n ≤ 8 = (rw t at h) in omega (arith, k)
@@ -236,6 +237,6 @@ most-few version n h =
     ]
 
 -- so each client's number is below sixteen
-pub client-few : (v : View) (h : Layers) (c : ℕ) → Means v h → c < v.geometry.clients → c < 16
+pub client-few : (v : View) (h : Layers) (c : ℕ) → Means v h → c < v.geometry.clients → c < CLIENTS
 client-few v h c m l =
     let k = most-few v.geometry.version v.geometry.clients m.geometry.clients.most in omega (arith, k, l)

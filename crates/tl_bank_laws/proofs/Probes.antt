@@ -2,6 +2,7 @@
 use Rattle.std.proofs.Common.{◌≡◌, ◌≢◌, ℕ, ◌<◌, ◌≤◌, ◌^◌, ◌-◌, ◌==◌, not, true, false, cond, length, List, [], ◌∷◌, ◌++◌, map, Some, None, if◌then◌else◌, refl, sym, ◌∙◌, ap, subst, arith, eq-eqb}
 use Rattle.std.proofs.lemmas.Bool.Decides.{nat_tests}
 use Rattle.std.proofs.lemmas.Bool.{or_parts}
+use Rattle.tl_types.specs.declared.limits.TheConstants.{MESSAGES}
 use Rattle.tl_types.specs.Lane.{IsFirst, Lane, sent, is_here, with_message, without_first, bodies_of}
 use Rattle.tl_types.specs.Permission.{probe_perm}
 use Rattle.tl_types.specs.declared.channel.Channel.{Channel}
@@ -62,7 +63,7 @@ pub record ProbeAllowed (v : View) (t : Ticket) (share : ShareView) : Type 0 whe
   pub head : HeadAllowed v t B any_body
   pub count : share.count ≡ copies_at v t.client
   pub wait : (client_at v t.client (block_named v t B)).wait ≢ ForReleaseAck
-  pub place : length (lane_at v t.client C).messages < 64
+  pub place : length (lane_at v t.client C).messages < MESSAGES
 
 -- so it is where no refusal's case holds
 probe-allowed : (v : View) (t : Ticket) (share : ShareView) → first_of (answer_probe_cases v t share) ≡ None → ProbeAllowed v t share

@@ -3,6 +3,7 @@ use Rattle.std.proofs.Common.{◌≡◌, ℕ, ◌^◌, ◌-◌, ◌<◌, ◌≤�
 use Rattle.std.proofs.lemmas.Bool.{cases_Bool}
 use Rattle.std.proofs.lemmas.Bool.Decides.{nat_tests}
 use Rattle.std.proofs.lemmas.List.{length-map}
+use Rattle.tl_types.specs.declared.limits.TheConstants.{MESSAGES}
 use Rattle.tl_types.specs.Lane.{is_here, sent, with_message}
 use Rattle.tl_types.specs.declared.channel.Channel.{Channel}
 use Rattle.tl_types.specs.declared.channel.Channel.TheVariants.{B}
@@ -30,8 +31,8 @@ use Rattle.tl_bank_laws.proofs.Pointwise.{entries-next, homes-next}
 use Rattle.tl_bank_laws.proofs.Ways.{bank-steady, noted-work, ways-stay}
 use Rattle.tl_protocol_lanes.proofs.Logs.{interleaves}
 
--- on a channel that is not full fewer than 64 messages wait
-place-left : (n : ℕ) → nat_le 64 n ≡ false → n < 64
+-- on a channel that is not full fewer than `MESSAGES` messages wait
+place-left : (n : ℕ) → nat_le MESSAGES n ≡ false → n < MESSAGES
 place-left n h = grind (arith, nat_tests)
 
 -- a channel that is not full has room for one more message
@@ -39,7 +40,7 @@ pub channel-room : (v : View) (h : Layers) (c : ℕ) (k : Channel) → Means v h
     → length v.log < 2 ^ 64 - 1 → HasRoom h.links c k
 channel-room v h c k m l free small =
     let counted : sent (lane_at v c k) ≤ length v.log = (interleaves (shape_of v.geometry) v.image v.log m.lawful).counted c k in
-    let place : length (lane_at v c k).messages < 64 = place-left (length (lane_at v c k).messages) free in
+    let place : length (lane_at v c k).messages < MESSAGES = place-left (length (lane_at v c k).messages) free in
     record {
       client = rw m.links_clients l;
       place = rw (m.lanes c k l) place;

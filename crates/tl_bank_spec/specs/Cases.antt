@@ -87,7 +87,7 @@ clock_full v clock = latest v clock == 2 ^ 64 - 1
 
 -- ## Channels and tickets
 
--- 64 messages are on the channel
+-- `MESSAGES` messages are on the channel
 abbrev pub link_full : View → ℕ → Channel → Bool
 link_full v client channel = nat_le MESSAGES (length (lane_at v client channel).messages)
 

@@ -28,13 +28,13 @@ no_register v block = registers_full v || (lacks v block && ways_held v (set_of 
 abbrev pub due_at : View → ℕ → Option Due
 due_at v block = due_of (shape_of v.geometry) (end_at v) (register_of block v.registers)
 
--- 64 messages are on the channel that an action sends on
+-- `MESSAGES` messages are on the channel that an action sends on
 abbrev pub due_full : View → Option Due → Bool
 due_full v (Some (due_Probe client block cap)) = link_full v client B
 due_full v (Some (due_Grant client)) = link_full v client D
 due_full v due = false
 
--- a Release is taken, and 64 messages are on the channel of its ReleaseAck
+-- a Release is taken, and `MESSAGES` messages are on the channel of its ReleaseAck
 abbrev pub answer_full : View → Ticket → Bool
 answer_full v ticket = begins is_a_release (waiting_at v ticket C) && link_full v ticket.client D
 

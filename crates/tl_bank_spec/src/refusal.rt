@@ -32,7 +32,7 @@ pub enum Refusal {
     WrongBank = 11,
     /// The client's table of copies is full and has no entry of the block.
     CopiesFull = 12,
-    /// 64 messages are on the channel that the call sends on.
+    /// `MESSAGES` messages are on the channel that the call sends on.
     LinkFull = 13,
     /// The log could not grow.
     Memory = 14,

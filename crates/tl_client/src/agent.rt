@@ -111,7 +111,7 @@ impl<'s> Agent<'s> {
 
     /// One turn, over any port and gate. The answers are a beginning of the script's; those that were there stay, and
     /// the loads and stores that the turn adds are, in order and with their bytes, what the port's successes gained.
-    /// What it takes of its inbox, at most 64 tickets, joins those that wait. It asks the banks each Grant and
+    /// What it takes of its inbox, at most `BATCH` tickets, joins those that wait. It asks the banks each Grant and
     /// ReleaseAck, in order, and then each Probe, but none of whose bank and channel an earlier one was refused; the
     /// refused and those behind them wait on. An idle turn, and one that finds all clients done, asks the port nothing
     /// and takes no ticket. What a turn sends that serves no ticket is an Acquire or a Release of the client's own:

@@ -60,8 +60,8 @@ impl Home {
         })
     }
 
-    /// One turn, over any port and gate. What it takes of its inbox, at most 64 tickets, joins those that wait: on E,
-    /// then C, then A. It asks its bank each of them once, in order, but none of whose client and channel an earlier
+    /// One turn, over any port and gate. What it takes of its inbox, at most `BATCH` tickets, joins those that wait: on
+    /// E, then C, then A. It asks its bank each of them once, in order, but none of whose client and channel an earlier
     /// one was refused; the refused and those behind them wait on. An idle turn, and one that finds all done, asks none
     /// and takes none. No turn rings the done bell.
     pub fn turn<P: HomePort, G: Gate, R: Wait + Clock>(
@@ -155,7 +155,8 @@ impl Home {
         self.take_mail(rt, clients, mail)
     }
 
-    /// Takes the tickets of the inbox, at most 64, and lays them behind those that wait: those on E, then C, then A.
+    /// Takes the tickets of the inbox, at most `BATCH`, and lays them behind those that wait: those on E, then C, then
+    /// A.
     fn take_mail<R: Wait>(
         &mut self,
         rt: &R,

@@ -178,7 +178,7 @@ impl Requester {
         self.take_mail(rt, mail)
     }
 
-    /// Takes the tickets of the inbox, at most 64, and lays each behind the others of its channel.
+    /// Takes the tickets of the inbox, at most `BATCH`, and lays each behind the others of its channel.
     fn take_mail<R: Wait>(&mut self, rt: &R, mail: &mut Mail<'_>) -> Result<(), AllocError>
         ensures takes { OnOk result (Takes mail.old.inbox self.old mail.new.inbox self.new) }
         ensures client { self.new.client ≡ self.old.client }

@@ -155,8 +155,8 @@ impl<'a> Mail<'a> {
         is_rung
     }
 
-    /// Takes tickets of the worker's own inbox, at most 64, and lays those of its links behind the others; the rest are
-    /// dropped. Whether it took 64.
+    /// Takes tickets of the worker's own inbox, at most `BATCH`, and lays those of its links behind the others; the
+    /// rest are dropped. Whether it took `BATCH`.
     pub fn take_tickets<R: Wait>(&mut self, rt: &R, links: &Links, taken: &mut Vec<Ticket>) -> bool
         requires { vec_len taken.old + BATCH ≤ vec_capacity taken.old }
         ensures taken { Took links.now self.old.inbox taken.old.items self.new.inbox taken.new.items }

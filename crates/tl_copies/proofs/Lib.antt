@@ -4,4 +4,4 @@ pub mod CountLaws
 pub mod TableLaws
 pub mod FirstLaws
 pub mod SlotLaws
-pub mod SharingLaws
+pub mod HintLaws

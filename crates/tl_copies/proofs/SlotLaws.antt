@@ -6,6 +6,7 @@ use Rattle.std.proofs.Math.Seq.{get_or-append_seam}
 use Rattle.std.proofs.lemmas.List.{take_at, get_or_default, get_or-map, get_or-set_same, get_or-set_other, get_or_append_left, length-map, length-set, map-append}
 use Rattle.std.proofs.lemmas.List.Edits.{length-remove}
 use Rattle.std.proofs.lemmas.List.Sums.{sum_by-append, sum_by-cons, sum_by-remove, sum_by-set}
+use Rattle.tl_types.specs.declared.limits.TheConstants.{COPIES}
 use Rattle.tl_copies.specs.declared.held.Held.{Held}
 use Rattle.tl_copies.specs.declared.table.Key.{Key}
 use Rattle.tl_copies.specs.Held.{is_copy}
@@ -308,7 +309,7 @@ module _ {keys : List Key} {slots : List Held} {free : List ℕ} {copies : ℕ} 
       ∙ rw (entries-more slots held keys (λ slot h. omega (arith, s.inside slot h)), get_or-append_seam slots held [] blank) refl
 
   -- the table stays sound
-  pub sound-added : (block : ℕ) (held : Held) → length slots < 64
+  pub sound-added : (block : ℕ) (held : Held) → length slots < COPIES
       → IsSound (keys ++ record { block = block; slot = length slots } ∷ []) (slots ++ held ∷ []) free (copies + one_if (is_copy held))
   sound-added block held room =
       let key : Key = record { block = block; slot = length slots } in

@@ -28,7 +28,7 @@ IsNotBefore block keys places = (k : ℕ) (d : Key) → k < places → (slice_in
 abbrev pub uses : List Key → List ℕ → ℕ → ℕ
 uses keys free slot = count_by (λ (key : Key). key.slot == slot) keys + count_by (λ x. x == slot) free
 
--- Each of at most 64 slots has one key or is free, and no other has one. The number of entries that are copies is kept.
+-- Each of at most `COPIES` slots has one key or is free, and no other has one. The number of entries that are copies is kept.
 pub record IsSound (keys : List Key) (slots : List Held) (free : List ℕ) (copies : ℕ) : Type 0 where
   pub once : (slot : ℕ) → uses keys free slot ≤ 1
   pub inside : (slot : ℕ) → length slots ≤ slot → uses keys free slot ≡ 0
@@ -36,7 +36,7 @@ pub record IsSound (keys : List Key) (slots : List Held) (free : List ℕ) (copi
   pub all : length keys + length free ≡ length slots
   pub counted : copies ≡ count_by (λ (e : Entry). is_copy e.held) (entries_of slots keys)
 
--- By the low six bits of a block's number, the numbers are those of the keys of such blocks.
-pub record IsShared (keys : List Key) (numbers : List ℕ) : Type 0 where
+-- By hint, the low six bits of a block's number, the numbers are those of the keys of such blocks.
+pub record AreCountedByHint (keys : List Key) (numbers : List ℕ) : Type 0 where
   pub all : length numbers ≡ 64
   pub numbered : (hint : ℕ) → hint < 64 → slice_index numbers hint ≡ count_by (λ (key : Key). key.block % 64 == hint) keys

@@ -25,12 +25,13 @@ impl Model for Copies {
     ghost use Rattle.std.specs.Prelude.{◌≤◌, All};
     ghost use Rattle.tl_copies.specs.Entries.{IsTable};
     ghost use Rattle.tl_copies.specs.Copies.{Tables};
+    ghost use Rattle.tl_types.specs.declared.limits.TheConstants.{COPIES};
 
     ghost Value = { Tables };
 
     ghost view = { λ c. record { bank = c.bank; limit = c.limit; blocks = c.blocks; tables = c.tables.items } };
 
-    ghost invariant = { λ c. (c.limit ≤ 64) × All (λ t. IsTable c.limit c.blocks t) c.tables.items };
+    ghost invariant = { λ c. (c.limit ≤ COPIES) × All (λ t. IsTable c.limit c.blocks t) c.tables.items };
 }
 
 impl Copies {

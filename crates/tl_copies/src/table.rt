@@ -47,13 +47,13 @@ pub struct Full {
 /// where entries probably are, by the low bits of their blocks' numbers: an entry that is not there is searched for.
 #[derive(Drop)]
 pub(crate) struct Table {
-    keys: ArrayVec<Key, 64>,
-    slots: ArrayVec<Held, 64>,
-    free: ArrayVec<u32, 64>,
+    keys: ArrayVec<Key, COPIES>,
+    slots: ArrayVec<Held, COPIES>,
+    free: ArrayVec<u32, COPIES>,
     copies: u32,
     hints: [u8; 64],
-    /// How many entries are of the blocks that share a hint: mostly none is of a block that the client has nothing of.
-    sharing: [u8; 64],
+    /// How many entries have each hint: mostly none has that of a block that the client has nothing of.
+    by_hint: [u8; 64],
 }
 
 impl Model for Table {
@@ -62,12 +62,12 @@ impl Model for Table {
 
     ghost Value = { List Entry };
 
-    ghost use Rattle.tl_copies.specs.Slots.{entries_of, IsSound, IsShared};
+    ghost use Rattle.tl_copies.specs.Slots.{entries_of, IsSound, AreCountedByHint};
 
     ghost view = { λ t. entries_of t.slots.items t.keys.items };
 
     ghost invariant = { λ t. IsSound t.keys.items t.slots.items t.free.items t.copies
-        × IsShared t.keys.items t.sharing };
+        × AreCountedByHint t.keys.items t.by_hint };
 }
 
 impl Table {
@@ -84,7 +84,7 @@ impl Table {
             free: ArrayVec::new(),
             copies: 0,
             hints: [0; 64],
-            sharing: [0; 64],
+            by_hint: [0; 64],
         }
     }
 
@@ -176,11 +176,11 @@ impl Table {
         self.search(block)
     }
 
-    /// Whether no entry is of a block that shares this one's hint: then it has none.
+    /// Whether no entry has this block's hint: then it has none.
     fn has_none_near(&self, block: BlockNo) -> bool
         ensures { IsTrue result → found block self.now ≡ None }
     {
-        self.sharing[hint_of(block)] == 0
+        self.by_hint[hint_of(block)] == 0
     }
 
     /// Where the entry of a block is, which mostly is there: at its hint, or where a search finds it.
@@ -298,7 +298,7 @@ impl Table {
         ensures { self.new ≡ self.old ++ record { block = block; held = held } ∷ [] }
     {
         self.copies += held.copies();
-        self.sharing[hint_of(block)] += 1;
+        self.by_hint[hint_of(block)] += 1;
         if let Some(slot) = self.free.pop() {
             self.slots[slot as usize] = held;
             self.keys.push(Key { block, slot });
@@ -366,7 +366,7 @@ impl Table {
     {
         let key = self.keys.remove(place);
         self.copies -= self.slots[key.slot as usize].copies();
-        self.sharing[hint_of(key.block)] -= 1;
+        self.by_hint[hint_of(key.block)] -= 1;
         self.free.push(key.slot);
     }
 

@@ -1,6 +1,7 @@
 -- What is told in few bytes is what an answer tells.
 use Rattle.std.proofs.Common.{◌≡◌, ◌⊎◌, inl, inr, ℕ, ◌≤◌, ◌-◌, ◌+◌, List, ◌++◌, length, replicate, refl, ◌∙◌, ap, append_assoc, arith}
 use Rattle.std.proofs.lemmas.List.{replicate-append-replicate}
+use Rattle.tl_types.specs.declared.limits.TheConstants.{BLOCK_BYTES}
 use Rattle.tl_bank_spec.specs.Refusal.{refusal_number}
 use Rattle.tl_bank_spec.specs.declared.refusal.Refusal.{Refusal}
 use Rattle.tl_bank_spec.specs.declared.refusal.Refusal.TheVariants.{NoPermission, Waiting, WrongFrom, NothingThere, NotHead, ReleasePending, NoRegister, BlockBusy, NotYet, OutOfRange, WrongBank, CopiesFull, LinkFull, Memory, ClockFull}
@@ -12,11 +13,11 @@ use Rattle.tl_embed.specs.Calls.{IsPlayed, IsStarved}
 use Rattle.tl_embed.specs.Told.{only}
 use Rattle.tl_embed.specs.declared.answer.Answer.{Answer}
 
--- zeros up to eight bytes, and then up to 64
+-- zeros up to eight bytes, and then up to `BLOCK_BYTES`
 pub padded-wide : (bytes : List ℕ) → length bytes ≤ 8
-    → (bytes ++ replicate (8 - length bytes) 0) ++ replicate 56 0 ≡ bytes ++ replicate (64 - length bytes) 0
+    → (bytes ++ replicate (8 - length bytes) 0) ++ replicate 56 0 ≡ bytes ++ replicate (BLOCK_BYTES - length bytes) 0
 padded-wide bytes few =
-    let sum : 8 - length bytes + 56 ≡ 64 - length bytes = omega (arith, few) in
+    let sum : 8 - length bytes + 56 ≡ BLOCK_BYTES - length bytes = omega (arith, few) in
     append_assoc bytes (replicate (8 - length bytes) 0) (replicate 56 0)
     ∙ ap (λ (zeros : List ℕ). bytes ++ zeros)
     (replicate-append-replicate (8 - length bytes) 56 0 ∙ ap (λ (n : ℕ). replicate n 0) sum)

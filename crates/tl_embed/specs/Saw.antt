@@ -1,7 +1,7 @@
 -- What is done for a message that was seen (this project's own).
 use Rattle.std.specs.Prelude.{◌≡◌, ◌≢◌, ◌⊎◌, ℕ, zero, suc, ◌+◌, ◌*◌, ◌<◌, ◌==◌, ◌&&◌, ◌||◌, not, Bool, true, false, List, [], ◌∷◌, ◌++◌, take, drop, length, nat_eq, Option, Some, None, Result, Ok, Err, MatchResult, if◌then◌else◌}
 use Rattle.std.specs.Cmp.Lexicographic.{pointwise}
-use Rattle.tl_types.specs.Bodies.{body_bytes, body_kind}
+use Rattle.tl_types.specs.Bodies.{body_bytes, body_kind, has_data}
 use Rattle.tl_types.specs.Codes.{code_of}
 use Rattle.tl_types.specs.Count.{count_below}
 use Rattle.tl_types.specs.declared.channel.Channel.TheVariants.{C}
@@ -21,7 +21,7 @@ use Rattle.tl_trace.specs.NetworkState.{NetworkState}
 use Rattle.tl_trace.specs.Would.{WouldComeTo}
 use Rattle.tl_embed.specs.Calls.{IsPlayed, IsStarved}
 use Rattle.tl_embed.specs.Events.{Reserves}
-use Rattle.tl_embed.specs.Seen.{bytes_seen, carries_bytes, seen_asks}
+use Rattle.tl_embed.specs.Seen.{bytes_seen, seen_asks}
 use Rattle.tl_embed.specs.Told.{bytes_or_none, message_told, only}
 use Rattle.tl_embed.specs.Views.{bank_for, home_of}
 use Rattle.tl_embed.specs.declared.answer.Answer.{Answer}
@@ -102,7 +102,7 @@ copy_in (Some v) s = copy_at v s.client s.block
 abbrev pub inferred : NetworkState → Kind → Seen → Result Message Refusal → Option Inferred
 inferred network kind s (Err refusal) = None
 inferred network kind s (Ok message) =
-    if (s.options == 1) && (carries_bytes kind && ((code_of (body_kind message.body)).1 == (code_of kind).1))
+    if (s.options == 1) && (has_data kind && ((code_of (body_kind message.body)).1 == (code_of kind).1))
     then inferred_of (copy_in (bank_for network s.client s.block) s) (s.block * network.geometry.block_bytes) (bytes_seen s)
     else None
 

@@ -1,7 +1,9 @@
 -- What a message that was seen asks of the banks (this project's own; codes by TileLink 1.8, section 6).
-use Rattle.std.specs.Prelude.{ℕ, ◌==◌, ◌||◌, Bool, true, false, List, take, min, nat_lt, Option, Some, None, Result, Ok, Err, if◌then◌else◌}
+use Rattle.std.specs.Prelude.{ℕ, ◌==◌, ◌||◌, Bool, List, take, min, nat_lt, Option, Some, None, Result, Ok, Err, if◌then◌else◌}
 use Rattle.std.specs.List.{list_any}
 use Rattle.std.specs.Option.{option_map}
+use Rattle.tl_types.specs.declared.limits.TheConstants.{BLOCK_BYTES, MESSAGES}
+use Rattle.tl_types.specs.Bodies.{has_data}
 use Rattle.tl_types.specs.Decoding.{grow_at, kind_on_c, kind_on_e}
 use Rattle.tl_types.specs.Parameters.{dirty_prune}
 use Rattle.tl_types.specs.declared.channel.Channel.{Channel}
@@ -36,32 +38,15 @@ kind_seen s =
     else if s.opcode == 6 then option_map kind.AcquireBlock (grow_at s.param)
     else None
 
--- whether a message of a kind carries the bytes of a block
-abbrev pub carries_bytes : Kind → Bool
-carries_bytes kind.PutFullData = true
-carries_bytes kind.Get = false
-carries_bytes (kind.AcquireBlock grow) = false
-carries_bytes (kind.ProbeBlock cap) = false
-carries_bytes (kind.ProbeAck report) = false
-carries_bytes (kind.ProbeAckData prune) = true
-carries_bytes (kind.Release prune) = false
-carries_bytes (kind.ReleaseData prune) = true
-carries_bytes kind.AccessAck = false
-carries_bytes kind.AccessAckData = true
-carries_bytes (kind.Grant cap) = false
-carries_bytes (kind.GrantData cap) = true
-carries_bytes kind.ReleaseAck = false
-carries_bytes kind.GrantAck = false
-
--- the bytes that it came with, 64 at most
+-- the bytes that it came with, `BLOCK_BYTES` at most
 abbrev pub bytes_seen : Seen → List ℕ
-bytes_seen s = take (min s.len 64) s.bytes
+bytes_seen s = take (min s.len BLOCK_BYTES) s.bytes
 
 -- ## The message that it answers
 
--- whether a message of the block is among those that wait on a channel, which are 64 at most
+-- whether a message of the block is among those that wait on a channel, which are `MESSAGES` at most
 abbrev pub waits_there : View → Seen → Channel → Bool
-waits_there v s channel = list_any (λ (m : Message). m.block == s.block) (take 64 (lane_at v s.client channel).messages)
+waits_there v s channel = list_any (λ (m : Message). m.block == s.block) (take MESSAGES (lane_at v s.client channel).messages)
 
 -- the first message of a channel, where that is of the block; 4 where none of it waits there, 5 where one waits behind another
 abbrev pub first_or_not : View → Seen → Channel → Option (Ticket × Message) → Result Ticket ℕ
@@ -111,7 +96,7 @@ kind_asks kind.GrantAck network s = takes_grant (first_of_block network s D)
 abbrev pub message_asks : Option Kind → NetworkState → Seen → SeenAsks
 message_asks None network s = Tells 30
 message_asks (Some seen) network s =
-    if s.len == (if carries_bytes seen then network.geometry.block_bytes else 0) then kind_asks seen network s else Tells 17
+    if s.len == (if has_data seen then network.geometry.block_bytes else 0) then kind_asks seen network s else Tells 17
 
 -- what a message that was seen asks; 17 of another channel, or an option that there is not
 abbrev pub seen_asks : NetworkState → Seen → SeenAsks

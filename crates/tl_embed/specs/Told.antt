@@ -1,5 +1,6 @@
 -- What an answer in plain numbers says.
 use Rattle.std.specs.Prelude.{ℕ, ◌-◌, ◌*◌, List, [], ◌++◌, drop, length, replicate, slice_get, Option, Some, None}
+use Rattle.tl_types.specs.declared.limits.TheConstants.{BLOCK_BYTES}
 use Rattle.tl_types.specs.Channel.{channel_index}
 use Rattle.tl_types.specs.Codes.{code_of}
 use Rattle.tl_types.specs.Bodies.{body_bytes, body_kind}
@@ -47,12 +48,12 @@ only status = record {
   stores = 0;
   reserved = 0;
   serial = 0;
-  bytes = replicate 64 0;
+  bytes = replicate BLOCK_BYTES 0;
 }
 
--- the same answer with these bytes, at most 64, and 0 past them
+-- the same answer with these bytes, at most `BLOCK_BYTES`, and 0 past them
 abbrev pub with_bytes : List ℕ → Answer → Answer
-with_bytes bytes told = record told { len = length bytes; bytes = bytes ++ replicate (64 - length bytes) 0 }
+with_bytes bytes told = record told { len = length bytes; bytes = bytes ++ replicate (BLOCK_BYTES - length bytes) 0 }
 
 -- a request again: each of its fields in one of an answer
 abbrev pub echoed : Request → Answer

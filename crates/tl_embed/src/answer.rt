@@ -2,7 +2,7 @@
 ghost use Rattle.std.specs.Prelude.{◌≡◌, ◌≤◌, ◌-◌, ◌++◌, length, replicate};
 ghost use Rattle.tl_embed.specs.Told.{loaded_told, number_told, number_wide, only, wide, with_bytes};
 
-use tl_types::AccessBytes;
+use tl_types::{AccessBytes, BLOCK_BYTES};
 
 /// What a call answers. What is not told is 0.
 #[repr(C)]
@@ -44,7 +44,7 @@ pub struct Answer {
     /// The ticket's serial, a number, or the stamp of an access.
     pub serial: u64,
     /// The bytes, and 0 past them.
-    pub bytes: [u8; 64],
+    pub bytes: [u8; BLOCK_BYTES],
 }
 
 impl Answer {
@@ -68,13 +68,13 @@ impl Answer {
             stores: 0,
             reserved: 0,
             serial: 0,
-            bytes: [0; 64],
+            bytes: [0; BLOCK_BYTES],
         }
     }
 
     /// This answer with these bytes.
     pub fn with_bytes(self, bytes: &[u8]) -> Answer
-        requires { length bytes.now ≤ 64 }
+        requires { length bytes.now ≤ BLOCK_BYTES }
         ensures { result ≡ with_bytes bytes.now self }
     {
         let mut told = self;
@@ -91,10 +91,10 @@ impl Answer {
 
     /// Tells these bytes.
     pub fn set_bytes(&mut self, bytes: &[u8])
-        requires { length bytes.now ≤ 64 }
+        requires { length bytes.now ≤ BLOCK_BYTES }
         ensures { self.new ≡ with_bytes bytes.now self.old }
     {
-        self.bytes = [0; 64];
+        self.bytes = [0; BLOCK_BYTES];
         self.bytes[..bytes.len()].copy_from_slice(bytes);
         self.len = bytes.len() as u32;
     }

@@ -1,12 +1,11 @@
 //! What a caller asks, in plain numbers.
 ghost use Rattle.std.specs.Prelude.{◌≡◌, Some};
-ghost use Rattle.tl_types.specs.Decoding.{grow_at, prune_at};
 ghost use Rattle.tl_embed.specs.Asked.{channel_at, load_asked, store_asked, acquire_asked, release_asked, ticket_asked, block_asked, asked, of_step, ticket_named};
 ghost use Rattle.tl_embed.specs.Told.{echoed};
 
 use crate::answer::Answer;
 use tl_script_words::{BlockCall, Step, TicketCall};
-use tl_types::{AccessBytes, BankNo, BlockNo, Channel, ClientId, Grow, Prune, Ticket};
+use tl_types::{AccessBytes, BankNo, BlockNo, Channel, ClientId, Ticket, grow_at, prune_at};
 
 /// A call with all that any call takes; a call takes no notice of what it does not use.
 #[repr(C)]
@@ -194,30 +193,6 @@ pub fn channel_at(number: u32) -> Option<Channel>
         2 => Some(Channel::C),
         3 => Some(Channel::D),
         4 => Some(Channel::E),
-        _ => None,
-    }
-}
-
-/// The grow value with a number: 0 to 2 for NtoB, NtoT, BtoT.
-pub fn grow_at(param: u32) -> Option<Grow>
-    ensures { result ≡ grow_at param }
-{
-    match param {
-        0 => Some(Grow::NtoB),
-        1 => Some(Grow::NtoT),
-        2 => Some(Grow::BtoT),
-        _ => None,
-    }
-}
-
-/// The prune value with a number: 0 to 2 for TtoB, TtoN, BtoN.
-pub fn prune_at(param: u32) -> Option<Prune>
-    ensures { result ≡ prune_at param }
-{
-    match param {
-        0 => Some(Prune::TtoB),
-        1 => Some(Prune::TtoN),
-        2 => Some(Prune::BtoN),
         _ => None,
     }
 }

@@ -1,17 +1,16 @@
 //! A message that was seen on a client's link, and what it asks.
 ghost use Rattle.std.specs.Prelude.{◌≡◌, ◌<◌, Some};
-ghost use Rattle.tl_types.specs.Decoding.{dirty_at, kind_on_c, kind_on_e, report_at};
-ghost use Rattle.tl_embed.specs.Seen.{bytes_seen, carries_bytes, first_in, first_of_block, first_or_not, is_of_client, kind_asks, kind_seen, message_asks, seen_asks, waits_there};
+ghost use Rattle.tl_embed.specs.Seen.{bytes_seen, first_in, first_of_block, first_or_not, is_of_client, kind_asks, kind_seen, message_asks, seen_asks, waits_there};
 ghost use Rattle.tl_embed.specs.Told.{seen_echoed};
 
 use crate::answer::Answer;
-use crate::request::{grow_at, prune_at};
 use crate::views::bank_for;
 use tl_bank::Bank;
 use tl_script_words::{Step, TicketCall};
 use tl_trace::Network;
 use tl_types::{
-    BlockNo, Channel, ClientId, DirtyPrune, Kind, MESSAGES, Message, ProbeReport, Prune, Ticket,
+    BLOCK_BYTES, BlockNo, Channel, ClientId, Kind, MESSAGES, Message, Prune, Ticket, grow_at,
+    kind_on_c, kind_on_e,
 };
 
 /// A message that a device sent.
@@ -35,7 +34,7 @@ pub struct Seen {
     /// The index of the stores that are made for it.
     pub index: u32,
     /// The bytes, the first `len` of them.
-    pub bytes: [u8; 64],
+    pub bytes: [u8; BLOCK_BYTES],
 }
 
 /// A client's call that sends a message on C.
@@ -76,7 +75,7 @@ impl Seen {
     fn message_asks(&self, kind: Kind, network: &Network) -> SeenAsks
         ensures { result ≡ message_asks (Some kind) network.now self.now }
     {
-        let carried = if carries_bytes(kind) {
+        let carried = if kind.has_data() {
             network.geometry().block_bytes()
         } else {
             0
@@ -182,11 +181,11 @@ impl Seen {
         false
     }
 
-    /// The bytes that it came with, 64 at most.
+    /// The bytes that it came with, `BLOCK_BYTES` at most.
     pub fn bytes(&self) -> &[u8]
         ensures { result.now ≡ bytes_seen self.now }
     {
-        &self.bytes[..(self.len as usize).min(64)]
+        &self.bytes[..(self.len as usize).min(BLOCK_BYTES)]
     }
 
     /// The kind of message that it is, if this profile has one.
@@ -227,70 +226,4 @@ fn is_of_client(channel: u32) -> bool
     ensures { result ≡ is_of_client channel }
 {
     channel == 0 || channel == 2 || channel == 4
-}
-
-/// Whether a message of a kind carries the bytes of a block.
-pub fn carries_bytes(kind: Kind) -> bool
-    ensures { result ≡ carries_bytes kind }
-{
-    match kind {
-        Kind::PutFullData
-        | Kind::ProbeAckData(_)
-        | Kind::ReleaseData(_)
-        | Kind::AccessAckData
-        | Kind::GrantData(_) => true,
-        Kind::Get
-        | Kind::AcquireBlock(_)
-        | Kind::ProbeBlock(_)
-        | Kind::ProbeAck(_)
-        | Kind::Release(_)
-        | Kind::AccessAck
-        | Kind::Grant(_)
-        | Kind::ReleaseAck
-        | Kind::GrantAck => false,
-    }
-}
-
-fn kind_on_c(opcode: u32, param: u32) -> Option<Kind>
-    ensures { result ≡ kind_on_c opcode param }
-{
-    match opcode {
-        4 => Some(Kind::ProbeAck(report_at(param)?)),
-        5 => Some(Kind::ProbeAckData(dirty_at(param)?)),
-        6 => Some(Kind::Release(prune_at(param)?)),
-        7 => Some(Kind::ReleaseData(dirty_at(param)?)),
-        _ => None,
-    }
-}
-
-fn kind_on_e(opcode: u32, param: u32) -> Option<Kind>
-    ensures { result ≡ kind_on_e opcode param }
-{
-    match (opcode, param) {
-        (0, 0) => Some(Kind::GrantAck),
-        _ => None,
-    }
-}
-
-fn report_at(param: u32) -> Option<ProbeReport>
-    ensures { result ≡ report_at param }
-{
-    match param {
-        0 => Some(ProbeReport::TtoB),
-        1 => Some(ProbeReport::TtoN),
-        2 => Some(ProbeReport::BtoN),
-        4 => Some(ProbeReport::BtoB),
-        5 => Some(ProbeReport::NtoN),
-        _ => None,
-    }
-}
-
-fn dirty_at(param: u32) -> Option<DirtyPrune>
-    ensures { result ≡ dirty_at param }
-{
-    match param {
-        0 => Some(DirtyPrune::TtoB),
-        1 => Some(DirtyPrune::TtoN),
-        _ => None,
-    }
 }

@@ -8,7 +8,7 @@ ghost use Rattle.tl_embed.specs.Views.{bank_for};
 
 use crate::answer::Answer;
 use crate::cache::played;
-use crate::seen::{Seen, carries_bytes};
+use crate::seen::Seen;
 use crate::views::bank_for;
 use tl_bank::Refusal;
 use tl_protocol::CachedCopy;
@@ -40,7 +40,7 @@ pub fn stores_before(
     match would {
         Ok(message) => {
             let own = message.body.kind();
-            if seen.options == 1 && carries_bytes(kind) && code(own).1 == code(kind).1 {
+            if seen.options == 1 && kind.has_data() && code(own).1 == code(kind).1 {
                 of_copy(network, seen)
             } else {
                 None

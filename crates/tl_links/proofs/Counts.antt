@@ -10,6 +10,7 @@ use Rattle.tl_types.specs.Lane.{Lane, bodies_of, empty_lane, first_taken, with_m
 use Rattle.tl_types.specs.declared.channel.Channel.{Channel}
 use Rattle.tl_types.specs.declared.channel.Channel.TheVariants.{A, B, C, D, E}
 use Rattle.tl_types.specs.declared.message.Message.{Message}
+use Rattle.tl_types.specs.declared.limits.TheConstants.{CLIENTS, MESSAGES}
 use Rattle.tl_links.specs.declared.wanted.Wanted.{Wanted}
 use Rattle.tl_links.specs.Table.{LinkTable, lane_in, some_has, waiting_below, IsCounted}
 use Rattle.tl_links.specs.Wanted.{is_wanted}
@@ -44,10 +45,10 @@ waiting-some t l (suc n) x h =
       | inr e ↦ let before = waiting-some t l n x (omega arith) in omega arith
     ]
 
--- no more than 64 wait at each client
-waiting-most : (t : LinkTable) (l : Channel) → ((x : ℕ) (k : Channel) → waits_at t x k ≤ 64) → (n : ℕ) → waiting_below t l n ≤ 64 * n
+-- no more than `MESSAGES` wait at each client
+waiting-most : (t : LinkTable) (l : Channel) → ((x : ℕ) (k : Channel) → waits_at t x k ≤ MESSAGES) → (n : ℕ) → waiting_below t l n ≤ MESSAGES * n
 waiting-most t l m zero = omega arith
-waiting-most t l m (suc n) = let before = waiting-most t l m n in let here : waits_at t n l ≤ 64 = m n l in omega arith
+waiting-most t l m (suc n) = let before = waiting-most t l m n in let here : waits_at t n l ≤ MESSAGES = m n l in omega arith
 
 -- where none waits, none is found
 none-found : (messages : List Message) (block : ℕ) (wanted : Wanted) → length messages ≡ 0
@@ -164,9 +165,9 @@ module _ (t : LinkTable) (c : ℕ) (k : Channel) (lane : Lane) where
             omega arith
       ]
 
-  -- no channel has more than 64
-  most-placed : c * 5 + channel_index k < length t.lanes → length lane.messages ≤ 64 → ((x : ℕ) (l : Channel) → waits_at t x l ≤ 64)
-      → (x : ℕ) (l : Channel) → waits_at (placed t c k lane) x l ≤ 64
+  -- no channel has more than `MESSAGES`
+  most-placed : c * 5 + channel_index k < length t.lanes → length lane.messages ≤ MESSAGES → ((x : ℕ) (l : Channel) → waits_at t x l ≤ MESSAGES)
+      → (x : ℕ) (l : Channel) → waits_at (placed t c k lane) x l ≤ MESSAGES
   most-placed inside few most x l =
       elim (cases_eq x c) [
         | inl same ↦
@@ -191,7 +192,7 @@ module _ {t : LinkTable} {numbers : List ℕ} (counted : IsCounted t numbers) wh
   number-some c k h = omega (arith, counted.numbered k, waiting-some t k t.clients c h)
 
   -- and at most 1,024
-  pub number-most : (k : Channel) → slice_index numbers (channel_index k) ≤ 1024
+  pub number-most : (k : Channel) → slice_index numbers (channel_index k) ≤ MESSAGES * CLIENTS
   number-most k = omega (arith, counted.numbered k, waiting-most t k counted.most t.clients, counted.few)
 
   -- where all that wait are passed, no client has one that is looked for but those before
@@ -199,12 +200,12 @@ module _ {t : LinkTable} {numbers : List ℕ} (counted : IsCounted t numbers) wh
       → some_has t k block wanted n ≡ false → some_has t k block wanted t.clients ≡ false
   none-has k block wanted n h all none = none-later t k block wanted n t.clients h (all ∙ counted.numbered k) none
 
-  -- no more than 64 wait at each client
-  pub waiting-few : (k : Channel) (n : ℕ) → waiting_below t k n ≤ 64 * n
+  -- no more than `MESSAGES` wait at each client
+  pub waiting-few : (k : Channel) (n : ℕ) → waiting_below t k n ≤ MESSAGES * n
   waiting-few k n = waiting-most t k counted.most n
 
   -- a channel changes, and its number with it
-  pub IsCounted-placed : (c : ℕ) (k : Channel) (lane : Lane) (number : ℕ) → c < t.clients → length lane.messages ≤ 64
+  pub IsCounted-placed : (c : ℕ) (k : Channel) (lane : Lane) (number : ℕ) → c < t.clients → length lane.messages ≤ MESSAGES
       → number + waits_at t c k ≡ slice_index numbers (channel_index k) + length lane.messages
       → IsCounted (placed t c k lane) (slice_set numbers (channel_index k) number)
   IsCounted-placed c k lane number h few sum =
@@ -242,10 +243,10 @@ module _ {t : LinkTable} {numbers : List ℕ} (counted : IsCounted t numbers) wh
 
   -- one message more
   pub IsCounted-sent : (c : ℕ) (k : Channel) (message : Message) (new : Lane) → c < t.clients
-      → new ≡ with_message (lane_in t c k) message → waits_at t c k ≢ 64
+      → new ≡ with_message (lane_in t c k) message → waits_at t c k ≢ MESSAGES
       → IsCounted (placed t c k new) (slice_set numbers (channel_index k) (slice_index numbers (channel_index k) + 1))
   IsCounted-sent c k message new h e room =
-      let most : waits_at t c k ≤ 64 = counted.most c k in
+      let most : waits_at t c k ≤ MESSAGES = counted.most c k in
       let more : length new.messages ≡ waits_at t c k + 1 =
       ap (λ (l : Lane). length l.messages) e ∙ length_push (lane_in t c k).messages message in
       IsCounted-placed c k new (slice_index numbers (channel_index k) + 1) h (omega arith) (omega arith)
@@ -255,7 +256,7 @@ module _ {t : LinkTable} {numbers : List ℕ} (counted : IsCounted t numbers) wh
       → new ≡ without_first (lane_in t c k) → (lane_in t c k).messages ≢ []
       → IsCounted (placed t c k new) (slice_set numbers (channel_index k) (slice_index numbers (channel_index k) - 1))
   IsCounted-taken c k new h e waits =
-      let most : waits_at t c k ≤ 64 = counted.most c k in
+      let most : waits_at t c k ≤ MESSAGES = counted.most c k in
       let some : 1 ≤ waits_at t c k = length-some (lane_in t c k).messages waits in
       let all : waits_at t c k ≤ slice_index numbers (channel_index k) = number-some c k h in
       let fewer : length new.messages + 1 ≡ waits_at t c k =
@@ -263,7 +264,7 @@ module _ {t : LinkTable} {numbers : List ℕ} (counted : IsCounted t numbers) wh
       IsCounted-placed c k new (slice_index numbers (channel_index k) - 1) h (omega arith) (omega arith)
 
 -- the numbers at the start
-pub IsCounted-empty : (t : LinkTable) → length t.lanes ≡ t.clients * 5 → t.clients ≤ 16
+pub IsCounted-empty : (t : LinkTable) → length t.lanes ≡ t.clients * 5 → t.clients ≤ CLIENTS
     → ((x : ℕ) (k : Channel) → lane_in t x k ≡ empty_lane) → IsCounted t (0 ∷ 0 ∷ 0 ∷ 0 ∷ 0 ∷ [])
 IsCounted-empty t all few e =
     record {

@@ -1,4 +1,4 @@
--- How many messages wait whose blocks' numbers end alike, as one channel of one client changes.
+-- How many messages wait by the last four bits of their blocks' numbers, as one channel of one client changes.
 use Rattle.std.proofs.Common.{◌≡◌, ◌≢◌, ℕ, zero, suc, ◌+◌, ◌-◌, ◌*◌, ◌%◌, ◌<◌, ◌≤◌, ◌==◌, Bool, false, true, List, [], ◌∷◌, ◌++◌, length, replicate, refl, sym, ◌∙◌, ap, arith, eq-eqb, inl, inr}
 use Rattle.std.specs.Prelude.{slice_index, slice_set, if◌then◌else◌}
 use Rattle.std.proofs.lemmas.Bool.{cases_eq, ne_eqb}
@@ -7,8 +7,9 @@ use Rattle.tl_types.specs.Channel.{channel_index}
 use Rattle.tl_types.specs.Lane.{Lane, bodies_of, empty_lane, first_taken, with_message, without_first}
 use Rattle.tl_types.specs.declared.channel.Channel.{Channel}
 use Rattle.tl_types.specs.declared.message.Message.{Message}
+use Rattle.tl_types.specs.declared.limits.TheConstants.{CLIENTS, MESSAGES}
 use Rattle.tl_links.specs.declared.wanted.Wanted.{Wanted}
-use Rattle.tl_links.specs.Table.{LinkTable, lane_in, some_has, waiting_below, alike_in, alike_below, IsCounted, IsCountedByEnding}
+use Rattle.tl_links.specs.Table.{LinkTable, lane_in, some_has, waiting_below, ending_in, ending_below, IsCounted, IsCountedByEnding}
 use Rattle.tl_links.proofs.Counts.{placed, place-few, at-here, other-client, other-channel, waiting-few}
 
 -- ## The messages of one channel
@@ -18,110 +19,110 @@ one-most : (test : Bool) → (if test then 1 else 0) ≤ 1
 one-most true = omega arith
 one-most false = omega arith
 
--- no more are alike than wait
-alike-few : (ending : ℕ) (messages : List Message) → alike_in ending messages ≤ length messages
-alike-few ending [] = omega arith
-alike-few ending (x ∷ rest) =
-    let before = alike-few ending rest in
+-- no more have an ending than there are
+ending-few : (ending : ℕ) (messages : List Message) → ending_in ending messages ≤ length messages
+ending-few ending [] = omega arith
+ending-few ending (x ∷ rest) =
+    let before = ending-few ending rest in
     let here = one-most (x.block % 16 == ending) in
     omega (arith, before, here)
 
 -- one message more
-alike-push : (ending : ℕ) (messages : List Message) (message : Message)
-    → alike_in ending (messages ++ message ∷ []) ≡ alike_in ending messages + (if message.block % 16 == ending then 1 else 0)
-alike-push ending [] message = omega arith
-alike-push ending (x ∷ rest) message = let before = alike-push ending rest message in omega (arith, before)
+ending-push : (ending : ℕ) (messages : List Message) (message : Message)
+    → ending_in ending (messages ++ message ∷ []) ≡ ending_in ending messages + (if message.block % 16 == ending then 1 else 0)
+ending-push ending [] message = omega arith
+ending-push ending (x ∷ rest) message = let before = ending-push ending rest message in omega (arith, before)
 
 -- where no block's number ends like this one's, no message is of this block
-none-alike : (block : ℕ) (messages : List Message) → alike_in (block % 16) messages ≡ 0 → bodies_of block messages ≡ []
-none-alike block [] none = refl
-none-alike block (x ∷ rest) none =
+none-ending : (block : ℕ) (messages : List Message) → ending_in (block % 16) messages ≡ 0 → bodies_of block messages ≡ []
+none-ending block [] none = refl
+none-ending block (x ∷ rest) none =
     elim (cases_eq x.block block) [
       | inl same ↦
           let test : (x.block % 16 == block % 16) ≡ true = eq-eqb (x.block % 16) (block % 16) (ap (λ n. n % 16) same) in
-          let more : 1 + alike_in (block % 16) rest ≡ 0 = rw test at none in
+          let more : 1 + ending_in (block % 16) rest ≡ 0 = rw test at none in
           absurd (omega (arith, more))
       | inr apart ↦
           let test : (x.block == block) ≡ false = ne_eqb x.block block apart in
-          let later : bodies_of block rest ≡ [] = none-alike block rest (omega (arith, none)) in
+          let later : bodies_of block rest ≡ [] = none-ending block rest (omega (arith, none)) in
           rw test later
     ]
 
 -- ## All clients
 
--- where none is alike, no client has one that is looked for
-pub some-none : (t : LinkTable) (l : Channel) (block : ℕ) (wanted : Wanted) (n : ℕ) → alike_below t l (block % 16) n ≡ 0
+-- where none has a block's ending, no client has one that is looked for
+pub some-none : (t : LinkTable) (l : Channel) (block : ℕ) (wanted : Wanted) (n : ℕ) → ending_below t l (block % 16) n ≡ 0
     → some_has t l block wanted n ≡ false
 some-none t l block wanted zero none = refl
 some-none t l block wanted (suc n) none =
     let before : some_has t l block wanted n ≡ false = some-none t l block wanted n (omega (arith, none)) in
-    let here : bodies_of block (lane_in t n l).messages ≡ [] = none-alike block (lane_in t n l).messages (omega (arith, none)) in
+    let here : bodies_of block (lane_in t n l).messages ≡ [] = none-ending block (lane_in t n l).messages (omega (arith, none)) in
     rw (before, here) refl
 
--- no more are alike than wait
-below-few : (t : LinkTable) (l : Channel) (ending n : ℕ) → alike_below t l ending n ≤ waiting_below t l n
+-- no more have an ending than wait
+below-few : (t : LinkTable) (l : Channel) (ending n : ℕ) → ending_below t l ending n ≤ waiting_below t l n
 below-few t l ending zero = omega arith
 below-few t l ending (suc n) =
     let before = below-few t l ending n in
-    let here = alike-few ending (lane_in t n l).messages in
+    let here = ending-few ending (lane_in t n l).messages in
     omega (arith, before, here)
 
--- at one client at most as many are alike as at all
-below-some : (t : LinkTable) (l : Channel) (ending n x : ℕ) → x < n → alike_in ending (lane_in t x l).messages ≤ alike_below t l ending n
+-- at one client at most as many have an ending as at all
+below-some : (t : LinkTable) (l : Channel) (ending n x : ℕ) → x < n → ending_in ending (lane_in t x l).messages ≤ ending_below t l ending n
 below-some t l ending zero x h = absurd (omega arith)
 below-some t l ending (suc n) x h =
     elim (cases_eq x n) [
       | inl e ↦
-          let here : alike_in ending (lane_in t x l).messages ≡ alike_in ending (lane_in t n l).messages =
-          ap (λ y. alike_in ending (lane_in t y l).messages) e in
+          let here : ending_in ending (lane_in t x l).messages ≡ ending_in ending (lane_in t n l).messages =
+          ap (λ y. ending_in ending (lane_in t y l).messages) e in
           omega (arith, here)
       | inr e ↦ let before = below-some t l ending n x (omega arith) in omega (arith, before)
     ]
 
--- where only empty channels stand, none is alike
+-- where only empty channels stand, none has an ending
 below-none : (t : LinkTable) (l : Channel) (ending : ℕ) → ((x : ℕ) (k : Channel) → lane_in t x k ≡ empty_lane) → (n : ℕ)
-    → alike_below t l ending n ≡ 0
+    → ending_below t l ending n ≡ 0
 below-none t l ending e zero = refl
 below-none t l ending e (suc n) = rw (below-none t l ending e n, e n l) refl
 
 module _ (t : LinkTable) (c : ℕ) (k : Channel) (lane : Lane) (ending : ℕ) where
-  -- as many are alike on another channel
+  -- as many have an ending on another channel
   below-other : (l : Channel) → channel_index l ≢ channel_index k → (n : ℕ)
-      → alike_below (placed t c k lane) l ending n ≡ alike_below t l ending n
+      → ending_below (placed t c k lane) l ending n ≡ ending_below t l ending n
   below-other l apart zero = refl
   below-other l apart (suc n) = rw (below-other l apart n, other-channel t c k lane n l apart) refl
 
   -- and at the clients before
-  below-before : (l : Channel) (n : ℕ) → n ≤ c → alike_below (placed t c k lane) l ending n ≡ alike_below t l ending n
+  below-before : (l : Channel) (n : ℕ) → n ≤ c → ending_below (placed t c k lane) l ending n ≡ ending_below t l ending n
   below-before l zero h = refl
   below-before l (suc n) h =
       rw (below-before l n (omega arith), other-client t c k lane n l (λ e. absurd (omega arith))) refl
 
   -- a channel of the same number is the same channel
-  was-alike : (l : Channel) → channel_index l ≡ channel_index k
-      → alike_in ending (lane_in t c l).messages ≡ alike_in ending (lane_in t c k).messages
+  was-ending : (l : Channel) → channel_index l ≡ channel_index k
+      → ending_in ending (lane_in t c l).messages ≡ ending_in ending (lane_in t c k).messages
   unfolding lane_in
-  was-alike l e = rw e refl
+  was-ending l e = rw e refl
 
-  -- on the channel itself as many more or fewer are alike as on the one that changed
+  -- on the channel itself as many more or fewer have an ending as on the one that changed
   below-changed : c * 5 + channel_index k < length t.lanes → (l : Channel) → channel_index l ≡ channel_index k → (n : ℕ) → c < n
-      → alike_below (placed t c k lane) l ending n + alike_in ending (lane_in t c k).messages
-      ≡ alike_below t l ending n + alike_in ending lane.messages
+      → ending_below (placed t c k lane) l ending n + ending_in ending (lane_in t c k).messages
+      ≡ ending_below t l ending n + ending_in ending lane.messages
   below-changed inside l e zero h = absurd (omega arith)
   below-changed inside l e (suc n) h =
       elim (cases_eq c n) [
         | inl same ↦
             let before = below-before l n (omega arith) in
-            let now : alike_in ending (lane_in (placed t c k lane) n l).messages ≡ alike_in ending lane.messages =
-            ap (λ y. alike_in ending (lane_in (placed t c k lane) y l).messages) (sym same)
-            ∙ ap (λ (a : Lane). alike_in ending a.messages) (at-here t c k lane inside l e) in
-            let earlier : alike_in ending (lane_in t n l).messages ≡ alike_in ending (lane_in t c k).messages =
-            ap (λ y. alike_in ending (lane_in t y l).messages) (sym same) ∙ was-alike l e in
+            let now : ending_in ending (lane_in (placed t c k lane) n l).messages ≡ ending_in ending lane.messages =
+            ap (λ y. ending_in ending (lane_in (placed t c k lane) y l).messages) (sym same)
+            ∙ ap (λ (a : Lane). ending_in ending a.messages) (at-here t c k lane inside l e) in
+            let earlier : ending_in ending (lane_in t n l).messages ≡ ending_in ending (lane_in t c k).messages =
+            ap (λ y. ending_in ending (lane_in t y l).messages) (sym same) ∙ was-ending l e in
             omega (arith, before, now, earlier)
         | inr apart ↦
             let before = below-changed inside l e n (omega arith) in
-            let stays : alike_in ending (lane_in (placed t c k lane) n l).messages ≡ alike_in ending (lane_in t n l).messages =
-            ap (λ (a : Lane). alike_in ending a.messages) (other-client t c k lane n l (λ same. apart (sym same))) in
+            let stays : ending_in ending (lane_in (placed t c k lane) n l).messages ≡ ending_in ending (lane_in t n l).messages =
+            ap (λ (a : Lane). ending_in ending a.messages) (other-client t c k lane n l (λ same. apart (sym same))) in
             omega (arith, before, stays)
       ]
 
@@ -134,13 +135,13 @@ module _ {t : LinkTable} {waiting numbers : List ℕ} (counted : IsCounted t wai
   inside-lanes c k h = let few = place-few k in omega (arith, counted.all, few)
 
   -- a number is at most 1,024
-  pub ending-most : (k : Channel) (ending : ℕ) → ending < 16 → slice_index numbers (channel_index k * 16 + ending) ≤ 1024
+  pub ending-most : (k : Channel) (ending : ℕ) → ending < 16 → slice_index numbers (channel_index k * 16 + ending) ≤ MESSAGES * CLIENTS
   ending-most k ending h =
       omega (arith, ended.numbered k ending h, below-few t k ending t.clients, waiting-few counted k t.clients, counted.few)
 
-  -- and no less than what is alike at one client
+  -- and no less than those of one client that have the ending
   ending-some : (c : ℕ) (k : Channel) (ending : ℕ) → c < t.clients → ending < 16
-      → alike_in ending (lane_in t c k).messages ≤ slice_index numbers (channel_index k * 16 + ending)
+      → ending_in ending (lane_in t c k).messages ≤ slice_index numbers (channel_index k * 16 + ending)
   ending-some c k ending h few = omega (arith, ended.numbered k ending few, below-some t k ending t.clients c h)
 
   -- where a block's number is 0, no client has a message of it
@@ -152,9 +153,9 @@ module _ {t : LinkTable} {waiting numbers : List ℕ} (counted : IsCounted t wai
 
   -- a channel changes, and its number with it
   IsCountedByEnding-placed : (c : ℕ) (k : Channel) (lane : Lane) (ending number : ℕ) → c < t.clients → ending < 16
-      → number + alike_in ending (lane_in t c k).messages
-      ≡ slice_index numbers (channel_index k * 16 + ending) + alike_in ending lane.messages
-      → ((other : ℕ) → other ≢ ending → alike_in other lane.messages ≡ alike_in other (lane_in t c k).messages)
+      → number + ending_in ending (lane_in t c k).messages
+      ≡ slice_index numbers (channel_index k * 16 + ending) + ending_in ending lane.messages
+      → ((other : ℕ) → other ≢ ending → ending_in other lane.messages ≡ ending_in other (lane_in t c k).messages)
       → IsCountedByEnding (placed t c k lane) (slice_set numbers (channel_index k * 16 + ending) number)
   IsCountedByEnding-placed c k lane ending number h few sum others =
       let inside = inside-lanes c k h in
@@ -175,9 +176,9 @@ module _ {t : LinkTable} {waiting numbers : List ℕ} (counted : IsCounted t wai
                         let earlier : slice_index numbers (channel_index l * 16 + q) ≡ slice_index numbers place = ap (λ p. slice_index numbers p) at in
                         let here : slice_index (slice_set numbers place number) (channel_index l * 16 + q) ≡ number =
                         ap (λ p. slice_index (slice_set numbers place number) p) at ∙ set in
-                        let was : alike_in q (lane_in t c k).messages ≡ alike_in ending (lane_in t c k).messages =
-                        ap (λ p. alike_in p (lane_in t c k).messages) same in
-                        let is : alike_in q lane.messages ≡ alike_in ending lane.messages = ap (λ p. alike_in p lane.messages) same in
+                        let was : ending_in q (lane_in t c k).messages ≡ ending_in ending (lane_in t c k).messages =
+                        ap (λ p. ending_in p (lane_in t c k).messages) same in
+                        let is : ending_in q lane.messages ≡ ending_in ending lane.messages = ap (λ p. ending_in p lane.messages) same in
                         omega (arith, here, changed, was, is, sum, old, earlier)
                     | inr apart ↦
                         let stays : slice_index (slice_set numbers place number) (channel_index l * 16 + q) ≡ slice_index numbers (channel_index l * 16 + q) =
@@ -199,15 +200,15 @@ module _ {t : LinkTable} {waiting numbers : List ℕ} (counted : IsCounted t wai
   IsCountedByEnding-sent c k message new h e =
       let ending : ℕ = message.block % 16 in
       let few : ending < 16 = omega arith in
-      let more : (q : ℕ) → alike_in q new.messages ≡ alike_in q (lane_in t c k).messages + (if ending == q then 1 else 0) =
-      λ q. ap (λ (l : Lane). alike_in q l.messages) e ∙ alike-push q (lane_in t c k).messages message in
+      let more : (q : ℕ) → ending_in q new.messages ≡ ending_in q (lane_in t c k).messages + (if ending == q then 1 else 0) =
+      λ q. ap (λ (l : Lane). ending_in q l.messages) e ∙ ending-push q (lane_in t c k).messages message in
       let one : (ending == ending) ≡ true = eq-eqb ending ending refl in
-      let here : alike_in ending new.messages ≡ alike_in ending (lane_in t c k).messages + 1 =
+      let here : ending_in ending new.messages ≡ ending_in ending (lane_in t c k).messages + 1 =
       let it = more ending in rw one at it in
       IsCountedByEnding-placed c k new ending (slice_index numbers (channel_index k * 16 + ending) + 1) h few (omega (arith, here))
       (λ q apart.
       let none : (ending == q) ≡ false = ne_eqb ending q (λ same. apart (sym same)) in
-      let same : alike_in q new.messages ≡ alike_in q (lane_in t c k).messages + 0 =
+      let same : ending_in q new.messages ≡ ending_in q (lane_in t c k).messages + 0 =
       let it = more q in rw none at it in
       omega (arith, same))
 
@@ -218,8 +219,8 @@ module _ {t : LinkTable} {waiting numbers : List ℕ} (counted : IsCounted t wai
       let ending : ℕ = message.block % 16 in
       let few : ending < 16 = omega arith in
       let one : (ending == ending) ≡ true = eq-eqb ending ending refl in
-      let here : alike_in ending (lane_in t c k).messages ≡ 1 + alike_in ending rest =
-      ap (alike_in ending) is ∙ rw one refl in
+      let here : ending_in ending (lane_in t c k).messages ≡ 1 + ending_in ending rest =
+      ap (ending_in ending) is ∙ rw one refl in
       omega (arith, here, ending-some c k ending h few)
 
   -- one message fewer
@@ -232,17 +233,17 @@ module _ {t : LinkTable} {waiting numbers : List ℕ} (counted : IsCounted t wai
       let few : ending < 16 = omega arith in
       let left : new.messages ≡ rest =
       ap (λ (l : Lane). l.messages) e ∙ ap (λ messages. (first_taken (lane_in t c k).taken messages).messages) is in
-      let was : (q : ℕ) → alike_in q (lane_in t c k).messages ≡ (if ending == q then 1 else 0) + alike_in q rest =
-      λ q. ap (alike_in q) is in
-      let now : (q : ℕ) → alike_in q new.messages ≡ alike_in q rest = λ q. ap (alike_in q) left in
+      let was : (q : ℕ) → ending_in q (lane_in t c k).messages ≡ (if ending == q then 1 else 0) + ending_in q rest =
+      λ q. ap (ending_in q) is in
+      let now : (q : ℕ) → ending_in q new.messages ≡ ending_in q rest = λ q. ap (ending_in q) left in
       let one : (ending == ending) ≡ true = eq-eqb ending ending refl in
-      let here : alike_in ending (lane_in t c k).messages ≡ 1 + alike_in ending rest =
+      let here : ending_in ending (lane_in t c k).messages ≡ 1 + ending_in ending rest =
       let it = was ending in rw one at it in
       let some = ending-first c k message rest h is in
       IsCountedByEnding-placed c k new ending (slice_index numbers (channel_index k * 16 + ending) - 1) h few (omega (arith, here, now ending, some))
       (λ q apart.
       let none : (ending == q) ≡ false = ne_eqb ending q (λ same. apart (sym same)) in
-      let same : alike_in q (lane_in t c k).messages ≡ 0 + alike_in q rest =
+      let same : ending_in q (lane_in t c k).messages ≡ 0 + ending_in q rest =
       let it = was q in rw none at it in
       omega (arith, same, now q))
 

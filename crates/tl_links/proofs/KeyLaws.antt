@@ -8,6 +8,7 @@ use Rattle.std.specs.List.{cons_option, AllByRecursion}
 use Rattle.slab.specs.Slab.{Slab, get, ContainsKey, slab_len, Updates}
 use Rattle.tl_types.specs.Lane.{Lane, message_at, sent, with_message, first_taken, without_first}
 use Rattle.tl_types.specs.declared.message.Message.{Message}
+use Rattle.tl_types.specs.declared.limits.TheConstants.{MESSAGES}
 use Rattle.tl_links.specs.Keys.{in_order, AreKeys, IsSound}
 
 -- no key of these is the key
@@ -144,12 +145,12 @@ module _ {taken : ℕ} {slab : Slab Message} {keys : List ℕ} {places : ℕ} {l
 
   pub IsSound-append : (new : Slab Message) (key : ℕ) (message : Message) → get slab key ≡ None
       → Updates slab new key (Some message)
-      → slab_len new ≡ slab_len slab + 1 → new.capacity ≡ slab.capacity → length lane.messages < 64 → sent lane < 2 ^ 64 - 1
+      → slab_len new ≡ slab_len slab + 1 → new.capacity ≡ slab.capacity → length lane.messages < MESSAGES → sent lane < 2 ^ 64 - 1
       → IsSound taken new (keys ++ key ∷ []) places
   IsSound-append new key message n u l c f t =
       let len : length (keys ++ key ∷ []) ≡ length keys + 1 = length-append keys (key ∷ []) in
       let all : slab_len slab ≡ length keys = s.all in
-      let room : 64 ≤ slab.capacity = s.messages_room in
+      let room : MESSAGES ≤ slab.capacity = s.messages_room in
       let few : length keys ≡ length lane.messages = length-keys in
       let count : taken + length keys ≡ sent lane = sent-keys in
       record {
@@ -168,8 +169,8 @@ module _ {taken : ℕ} {slab : Slab Message} {key : ℕ} {rest : List ℕ} {plac
       → IsSound (taken + 1) new rest places
   IsSound-rest new u l c =
       let all : slab_len slab ≡ length (key ∷ rest) = s.all in
-      let few : length (key ∷ rest) ≤ 64 = s.few in
-      let room : 64 ≤ slab.capacity = s.messages_room in
+      let few : length (key ∷ rest) ≤ MESSAGES = s.few in
+      let room : MESSAGES ≤ slab.capacity = s.messages_room in
       let counted : taken + length (key ∷ rest) < 2 ^ 64 = s.counted in
       record {
         apart = same_keys slab new key None rest u s.apart.1 s.apart.2;

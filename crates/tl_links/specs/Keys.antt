@@ -15,7 +15,7 @@ AreKeys slab [] = Unit {0}
 AreKeys slab (key ∷ rest) = ContainsKey slab key × AllByRecursion (λ other. key ≢ other) rest × AreKeys slab rest
 
 -- The keys in order are distinct and are the slab's: each has a message, and there are as many as messages. Both have room
--- for 64, and no more wait. The number of messages sent fits 64 bits.
+-- for `MESSAGES`, and no more wait. The number of messages sent fits 64 bits.
 pub record IsSound (taken : ℕ) (slab : Slab Message) (keys : List ℕ) (places : ℕ) : Type 0 where
   pub apart : AreKeys slab keys
   pub all : slab_len slab ≡ length keys

@@ -43,24 +43,24 @@ waiting_below table channel zero = 0
 waiting_below table channel (suc n) = waiting_below table channel n + length (lane_in table n channel).messages
 
 -- of how many messages the last four bits of the block's number are `ending`
-abbrev pub alike_in : ℕ → List Message → ℕ
-alike_in ending [] = 0
-alike_in ending (message ∷ rest) = (if message.block % 16 == ending then 1 else 0) + alike_in ending rest
+abbrev pub ending_in : ℕ → List Message → ℕ
+ending_in ending [] = 0
+ending_in ending (message ∷ rest) = (if message.block % 16 == ending then 1 else 0) + ending_in ending rest
 
 -- how many messages of such blocks wait on a channel of the clients below n
-abbrev pub alike_below : LinkTable → Channel → ℕ → ℕ → ℕ
-alike_below table channel ending zero = 0
-alike_below table channel ending (suc n) =
-    alike_below table channel ending n + alike_in ending (lane_in table n channel).messages
+abbrev pub ending_below : LinkTable → Channel → ℕ → ℕ → ℕ
+ending_below table channel ending zero = 0
+ending_below table channel ending (suc n) =
+    ending_below table channel ending n + ending_in ending (lane_in table n channel).messages
 
 -- By channel and by the last four bits of a block's number, the numbers are those of the messages that wait.
 pub record IsCountedByEnding (table : LinkTable) (numbers : List ℕ) : Type 0 where
   pub all : length numbers ≡ 80
   pub numbered : (channel : Channel) (ending : ℕ) → ending < 16
-      → slice_index numbers (channel_index channel * 16 + ending) ≡ alike_below table channel ending table.clients
+      → slice_index numbers (channel_index channel * 16 + ending) ≡ ending_below table channel ending table.clients
 
--- Each client has its five channels, with 64 messages at most on each; and by channel, the numbers are those of the messages
--- that wait on it.
+-- Each client has its five channels, with `MESSAGES` messages at most on each; and by channel, the numbers are those of the
+-- messages that wait on it.
 pub record IsCounted (table : LinkTable) (numbers : List ℕ) : Type 0 where
   pub all : length table.lanes ≡ table.clients * 5
   pub few : table.clients ≤ CLIENTS

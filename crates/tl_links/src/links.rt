@@ -15,7 +15,7 @@ use std::alloc::{AllocError, Global};
 use std::marker::Model;
 use tl_types::{BankNo, BlockNo, CLIENTS, Channel, ClientId, MESSAGES, Message, Ticket};
 
-/// The channels between a bank and its clients. Each keeps its messages in order, at most 64 at a time.
+/// The channels between a bank and its clients. Each keeps its messages in order, at most `MESSAGES` at a time.
 #[derive(Drop)]
 pub struct Links {
     bank: BankNo,
@@ -25,7 +25,7 @@ pub struct Links {
     waiting: [u32; 5],
     /// How many messages wait on each of the five channels, at all clients, by the last four bits of their blocks'
     /// numbers: mostly none is of a block like the one looked for.
-    alike: [u16; 80],
+    by_ending: [u16; 80],
 }
 
 impl Model for Links {
@@ -36,10 +36,10 @@ impl Model for Links {
     ghost view = { λ l. record { bank = l.bank; clients = l.clients; lanes = l.queues.items } };
 
     ghost invariant = { λ l. IsCounted (record { bank = l.bank; clients = l.clients; lanes = l.queues.items }) l.waiting
-        × IsCountedByEnding (record { bank = l.bank; clients = l.clients; lanes = l.queues.items }) l.alike };
+        × IsCountedByEnding (record { bank = l.bank; clients = l.clients; lanes = l.queues.items }) l.by_ending };
 }
 
-/// 64 messages wait on the channel. The message comes back.
+/// `MESSAGES` messages wait on the channel. The message comes back.
 #[derive(Debug, Drop)]
 pub struct Full {
     pub message: Message,
@@ -64,7 +64,7 @@ impl Links {
             clients,
             queues,
             waiting: [0; 5],
-            alike: [0; 80],
+            by_ending: [0; 80],
         })
     }
 
@@ -139,7 +139,7 @@ impl Links {
     pub fn some_has(&self, channel: Channel, block: BlockNo, wanted: Wanted) -> bool
         ensures { result ≡ some_has self.now channel block wanted self.now.clients }
     {
-        if self.alike[place_by_ending(channel, block)] == 0 {
+        if self.by_ending[place_by_ending(channel, block)] == 0 {
             return false;
         }
         let all = self.waiting[channel.index()] as usize;
@@ -161,8 +161,8 @@ impl Links {
         false
     }
 
-    /// Sends a message. The answer is its ticket. `Full`, with the message, where 64 wait already; nothing changes
-    /// then.
+    /// Sends a message. The answer is its ticket. `Full`, with the message, where `MESSAGES` wait already; nothing
+    /// changes then.
     #[tactic(auto, unfolding(crate::specs::Table::lane_in))]
     pub fn send(
         &mut self,
@@ -213,7 +213,7 @@ impl Links {
         let kind = place_by_ending(channel, message.block);
         self.queues[place(client, channel)].push(message);
         self.waiting[channel.index()] += 1;
-        self.alike[kind] += 1;
+        self.by_ending[kind] += 1;
         Ticket {
             bank: self.bank,
             client,
@@ -264,7 +264,7 @@ impl Links {
             return Err(TicketError::NothingThere);
         };
         self.waiting[ticket.channel.index()] -= 1;
-        self.alike[place_by_ending(ticket.channel, message.block)] -= 1;
+        self.by_ending[place_by_ending(ticket.channel, message.block)] -= 1;
         Ok(message)
     }
 

@@ -14,7 +14,7 @@ use std::collections::VecDeque;
 use std::marker::Model;
 use tl_types::{BlockNo, MESSAGES, Message};
 
-/// The messages that wait on one channel, in 64 places that are taken when this is made.
+/// The messages that wait on one channel, in `MESSAGES` places that are taken when this is made.
 #[derive(Drop)]
 pub(crate) struct Queue {
     taken: u64,

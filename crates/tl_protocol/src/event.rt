@@ -25,6 +25,19 @@ pub struct Access {
 }
 
 impl Access {
+    /// An access by itself: without its stamp and its index, which are 0.
+    pub fn bare(client: ClientId, address: u32, bytes: AccessBytes) -> Access
+        ensures { result ≡ record { client = client; address = address; stamp = 0; index = 0; bytes = bytes } }
+    {
+        Access {
+            client,
+            address,
+            stamp: 0,
+            index: 0,
+            bytes,
+        }
+    }
+
     /// Whether it is of one to eight bytes in one block.
     pub fn fits_block(&self, shape: Shape) -> bool
         requires { 0 < shape.block_bytes }

@@ -17,6 +17,6 @@ pub use event::{Access, Event};
 pub use home::{Accepted, Line, Outward};
 pub use log::Log;
 pub use queue::{AckCount, Queue};
-pub use same::Same;
+pub use same::{Same, are_same_bytes};
 pub use shape::Shape;
 pub use theorem::{every_block, every_run, some_run};

@@ -36,7 +36,8 @@ impl Same for ProbeCap {
     }
 }
 
-fn are_same_bytes(bytes: &Option<BlockBytes>, other: &Option<BlockBytes>) -> bool
+/// Whether two have equal bytes, or both have none.
+pub fn are_same_bytes(bytes: &Option<BlockBytes>, other: &Option<BlockBytes>) -> bool
     ensures { IsTrue result ↔ (bytes.now ≡ other.now) }
 {
     match (bytes, other) {

@@ -1,6 +1,7 @@
 -- A register that opens fits the state, and the others still do.
 use Rattle.std.proofs.Common.{◌≡◌, ◌≢◌, ℕ, zero, suc, ◌<◌, ◌≤◌, ◌==◌, ◌||◌, true, false, List, [], ◌∷◌, replicate, get_or, Option, Some, None, refl, sym, ◌∙◌, ap, subst, inl, inr, eqb-true, eq-eqb}
 use Rattle.std.specs.List.{AllByRecursion}
+use Rattle.tl_types.specs.declared.limits.TheConstants.{CLIENTS}
 use Rattle.tl_types.proofs.Booleans.{or-else}
 use Rattle.std.proofs.lemmas.Bool.{cases_Bool, or_parts, ne_eqb}
 use Rattle.std.specs.Prelude.{◌⊎◌}
@@ -104,7 +105,7 @@ evicting-keeps-agreement shape states registers own way steady agree few known f
       fits = each-end (Fits shape states) registers r agree.fits (record {
         known = (known, known);
         places = few;
-        task = leaves-fresh shape (states own) r (nobody 16) (agree.at_rest own free);
+        task = leaves-fresh shape (states own) r (nobody CLIENTS) (agree.at_rest own free);
       });
       at_rest = λ block none. agree.at_rest block (busy-end block registers r none).0;
       apart = apart-end registers r
@@ -203,7 +204,7 @@ free-of shape states registers own block (Some victim) free out which =
 
 -- a register that opens for an accepted Acquire fits the state after it is accepted
 acquire-fits : (shape : Shape) (states later : ℕ → Block) (registers : List Register) (c own : ℕ) (grow : Grow) (rest : List Grow)
-    (way : WayOfSet) (victim : Option ℕ) → IsSteady shape states → Agree shape states registers → shape.clients ≤ 16 → own < shape.blocks → c < shape.clients
+    (way : WayOfSet) (victim : Option ℕ) → IsSteady shape states → Agree shape states registers → shape.clients ≤ CLIENTS → own < shape.blocks → c < shape.clients
     → is_busy own registers ≡ false → IsFreeVictim shape states registers own victim
     → later own ≡ accepted-block (states own) c grow rest → ((block : ℕ) → block ≢ own → later block ≡ states block)
     → Fits shape later (opened own way (acquire_task (record { client = c; grow = grow }) victim))
@@ -214,7 +215,7 @@ acquire-fits shape states later registers c own grow rest way None steady agree 
     record {
       known = (known, tt);
       places = few;
-      task = subst P (sym is) (served-fresh shape (states own) r c grow rest (nobody 16) inside (steady.service own) (agree.at_rest own free));
+      task = subst P (sym is) (served-fresh shape (states own) r c grow rest (nobody CLIENTS) inside (steady.service own) (agree.at_rest own free));
     }
 acquire-fits shape states later registers c own grow rest way (Some victim) steady agree few known inside free out is same =
     let acquire : Accepted = record { client = c; grow = grow } in
@@ -227,9 +228,9 @@ acquire-fits shape states later registers c own grow rest way (Some victim) stea
       known = (known, out.0);
       places = few;
       task = (
-        subst P (sym is) (served-fresh shape (states own) r c grow rest (nobody 16) inside (steady.service own) (agree.at_rest own free)),
+        subst P (sym is) (served-fresh shape (states own) r c grow rest (nobody CLIENTS) inside (steady.service own) (agree.at_rest own free)),
         subst Q (sym is) (record { lacks = out.3; quiet = quiet }),
-        subst R (sym (same victim out.1)) (leaves-fresh shape (states victim) r (nobody 16) (agree.at_rest victim out.2)),
+        subst R (sym (same victim out.1)) (leaves-fresh shape (states victim) r (nobody CLIENTS) (agree.at_rest victim out.2)),
       );
     }
 

@@ -4,7 +4,7 @@ ghost use Rattle.std.specs.Prelude.{◌≡◌, ◌<◌, false, true, replicate, 
 use std::marker::Model;
 use tl_types::{CLIENTS, ClientId};
 
-/// A set of the clients with numbers below 16. Contracts see for each number whether the set has that client.
+/// A set of the clients with numbers below `CLIENTS`. Contracts see for each number whether the set has that client.
 #[derive(Clone, Debug, PartialEq, Eq)]
 pub struct ClientSet {
     members: [bool; CLIENTS],

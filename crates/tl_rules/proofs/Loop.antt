@@ -3,6 +3,7 @@ use Rattle.std.proofs.Common.{◌≡◌, ℕ, zero, suc, ◌+◌, ◌<◌, ◌�
 use native.Mathlib.Numerals.{unary_clauses}
 use Rattle.std.specs.List.{cons_option}
 use Rattle.std.specs.Borrow.{Bor}
+use Rattle.tl_types.specs.declared.limits.TheConstants.{CLIENTS}
 use Rattle.tl_protocol.specs.LogView.{LogView}
 use Rattle.tl_protocol.specs.declared.event.Access.{Access}
 use Rattle.tl_protocol.specs.declared.event.Event.{Event}
@@ -20,8 +21,8 @@ use Rattle.tl_rules.proofs.Merging.{Alike, Follows, mark_of, alike_first, alike_
 -- the clients of what is left are known, and all accesses are in order just where those that are left are
 pub record State (logs : List (List Event)) (cursors : List ℕ) (last : List (Option Mark)) : Type 0 where
   pub wide : length cursors ≡ 8
-  pub long : length last ≡ 16
-  pub known : All (λ (a : Access). a.client < 16) (all_accesses (left logs cursors))
+  pub long : length last ≡ CLIENTS
+  pub known : All (λ (a : Access). a.client < CLIENTS) (all_accesses (left logs cursors))
   pub alike : Alike last (all_accesses logs) (all_accesses (left logs cursors))
 
 -- an access, with what stands before and behind it
@@ -49,22 +50,22 @@ found logs cursors place e a s is least =
 
 -- its client is known
 pub found_known : (logs : List (List Event)) (cursors : List ℕ) (last : List (Option Mark)) (place : ℕ) (a : Access) → Found logs cursors place a
-    → State logs cursors last → a.client < 16
+    → State logs cursors last → a.client < CLIENTS
 found_known logs cursors last place a f state =
-    (all_without (λ (b : Access). b.client < 16) f.front a f.back
-    (subst (λ (xs : List Access). All (λ (b : Access). b.client < 16) xs) f.now state.known)).0
+    (all_without (λ (b : Access). b.client < CLIENTS) f.front a f.back
+    (subst (λ (xs : List Access). All (λ (b : Access). b.client < CLIENTS) xs) f.now state.known)).0
 
 -- at first
-pub state_first : (logs : List (List Event)) → length logs ≤ 8 → All (λ (a : Access). a.client < 16) (all_accesses logs)
-    → State logs (replicate 8 0) (replicate 16 None)
+pub state_first : (logs : List (List Event)) → length logs ≤ 8 → All (λ (a : Access). a.client < CLIENTS) (all_accesses logs)
+    → State logs (replicate 8 0) (replicate CLIENTS None)
 state_first logs few known =
     let n : ℕ = 8 in
-    let m : ℕ = 16 in
+    let m : ℕ = CLIENTS in
     let same : all_accesses (left logs (replicate n 0)) ≡ all_accesses logs = ap all_accesses (all_left logs n few) in
     record {
       wide = refl;
       long = refl;
-      known = subst (λ (xs : List Access). All (λ (a : Access). a.client < 16) xs) (sym same) known;
+      known = subst (λ (xs : List Access). All (λ (a : Access). a.client < CLIENTS) xs) (sym same) known;
       alike = subst (λ (xs : List Access). Alike (replicate m None) (all_accesses logs) xs) (sym same) (alike_first m (all_accesses logs));
     }
 
@@ -77,7 +78,7 @@ state_same logs cursors last place e state s is =
     record {
       wide = length-set cursors place (get_or cursors place 0 + 1) ∙ state.wide;
       long = state.long;
-      known = subst (λ (xs : List Access). All (λ (a : Access). a.client < 16) xs) same state.known;
+      known = subst (λ (xs : List Access). All (λ (a : Access). a.client < CLIENTS) xs) same state.known;
       alike = subst (λ (xs : List Access). Alike last (all_accesses logs) xs) same state.alike;
     }
 
@@ -86,18 +87,18 @@ pub state_more : (logs : List (List Event)) (cursors : List ℕ) (last : List (O
     → Found logs cursors place a → Follows last a
     → State logs (set cursors place (get_or cursors place 0 + 1)) (set last a.client (Some (mark_of a)))
 state_more logs cursors last place a state f follows =
-    let client : a.client < 16 = found_known logs cursors last place a f state in
-    let known : All (λ (b : Access). b.client < 16) (f.front ++ a ∷ f.back) =
-    subst (λ (xs : List Access). All (λ (b : Access). b.client < 16) xs) f.now state.known in
+    let client : a.client < CLIENTS = found_known logs cursors last place a f state in
+    let known : All (λ (b : Access). b.client < CLIENTS) (f.front ++ a ∷ f.back) =
+    subst (λ (xs : List Access). All (λ (b : Access). b.client < CLIENTS) xs) f.now state.known in
     let alike : Alike last (all_accesses logs) (f.front ++ a ∷ f.back) =
     subst (λ (xs : List Access). Alike last (all_accesses logs) xs) f.now state.alike in
-    let long : length last ≡ 16 = state.long in
+    let long : length last ≡ CLIENTS = state.long in
     record {
       wide = length-set cursors place (get_or cursors place 0 + 1) ∙ state.wide;
       long = length-set last a.client (Some (mark_of a)) ∙ long;
       known =
-          subst (λ (xs : List Access). All (λ (b : Access). b.client < 16) xs) (sym f.next)
-          (all_without (λ (b : Access). b.client < 16) f.front a f.back known).1;
+          subst (λ (xs : List Access). All (λ (b : Access). b.client < CLIENTS) xs) (sym f.next)
+          (all_without (λ (b : Access). b.client < CLIENTS) f.front a f.back known).1;
       alike =
           subst (λ (xs : List Access). Alike (set last a.client (Some (mark_of a))) (all_accesses logs) xs) (sym f.next)
           (alike_more last (all_accesses logs) f.front a f.back alike (omega arith) follows
@@ -122,7 +123,7 @@ state_moved logs cursors last place m n same state =
     record {
       wide = length-set cursors place n ∙ (sym (length-set cursors place m) ∙ state.wide);
       long = state.long;
-      known = subst (λ (xs : List Access). All (λ (a : Access). a.client < 16) xs) (sym is) state.known;
+      known = subst (λ (xs : List Access). All (λ (a : Access). a.client < CLIENTS) xs) (sym is) state.known;
       alike = subst (λ (xs : List Access). Alike last (all_accesses logs) xs) (sym is) state.alike;
     }
 
@@ -188,15 +189,15 @@ all_of P (log ∷ logs) each =
 
 -- the log at an index is lawful
 abbrev pub IsLawfulAt : List (List Event) → ℕ → Type 0
-IsLawfulAt logs i = All (λ (a : Access). a.client < 16) (accesses_of (get_or logs i [])) × Pairwise IsEarlier (accesses_of (get_or logs i []))
+IsLawfulAt logs i = All (λ (a : Access). a.client < CLIENTS) (accesses_of (get_or logs i [])) × Pairwise IsEarlier (accesses_of (get_or logs i []))
 
 -- a log is
 abbrev IsLawfulLog : List Event → Type 0
-IsLawfulLog log = All (λ (a : Access). a.client < 16) (accesses_of log) × Pairwise IsEarlier (accesses_of log)
+IsLawfulLog log = All (λ (a : Access). a.client < CLIENTS) (accesses_of log) × Pairwise IsEarlier (accesses_of log)
 
 -- all logs are
 abbrev AreLawful : List (List Event) → Type 0
-AreLawful logs = All (λ (a : Access). a.client < 16) (all_accesses logs) × All (λ (log : List Event). Pairwise IsEarlier (accesses_of log)) logs
+AreLawful logs = All (λ (a : Access). a.client < CLIENTS) (all_accesses logs) × All (λ (log : List Event). Pairwise IsEarlier (accesses_of log)) logs
 
 pub lawful_more : (logs : List (Bor (List Event))) (i : ℕ) (log : Bor (List Event)) → i < length logs → log ≡ get_or logs i log
     → ((k : ℕ) → k < i → IsLawfulAt (events_of logs) k) → IsLawfulLog log.now → (k : ℕ) → k < i + 1 → IsLawfulAt (events_of logs) k
@@ -207,7 +208,7 @@ pub lawful_all : (logs : List (Bor (List Event))) (i : ℕ) → length logs ≤ 
     → AreLawful (events_of logs)
 lawful_all logs i le each =
     let long = length_logs logs in (
-      all_of (λ (a : Access). a.client < 16) (events_of logs) (λ k lt. (each k (omega arith)).0),
+      all_of (λ (a : Access). a.client < CLIENTS) (events_of logs) (λ k lt. (each k (omega arith)).0),
       All-from_get_or (λ (log : List Event). Pairwise IsEarlier (accesses_of log)) (events_of logs) [] (λ k lt. (each k (omega arith)).1),
     )
 
@@ -217,7 +218,7 @@ lawful_each logs i log lt is all =
     let long = length_logs logs in
     let known : i < length (events_of logs) = omega arith in
     subst IsLawfulLog (read_log logs i log lt is) (
-      each_of (λ (a : Access). a.client < 16) (events_of logs) i all.0 known,
+      each_of (λ (a : Access). a.client < CLIENTS) (events_of logs) i all.0 known,
       All-get_or (λ (log : List Event). Pairwise IsEarlier (accesses_of log)) (events_of logs) i [] known all.1,
     )
 
@@ -271,7 +272,7 @@ module _ (logs : List (Bor (List Event))) (cursors : List ℕ) (last : List (Opt
   pub access_here : (a : Access) → access_of e ≡ Some a → Found (events_of logs) cursors place a
   access_here a some = found (events_of logs) cursors place e a here some (next_least logs cursors place log e lt is at next)
 
-  pub client_here : (a : Access) → access_of e ≡ Some a → a.client < 16
+  pub client_here : (a : Access) → access_of e ≡ Some a → a.client < CLIENTS
   client_here a some = found_known (events_of logs) cursors last place a (access_here a some) state
 
   pub not_here : (a : Access) → access_of e ≡ Some a → (i : ℕ) → i ≡ a.client → (FollowsMark (get_or last i None) a → ⊥)

@@ -3,6 +3,7 @@ use Rattle.std.proofs.Common.{◌≡◌, ℕ, ◌+◌, ◌<◌, ◌≤◌, List,
 use Rattle.std.specs.List.{cons_option}
 use Rattle.std.proofs.lemmas.List.{drop_more}
 use Rattle.std.proofs.lemmas.List.Elements.{All-nil, All-cons, All-head, All-tail, All-weaker}
+use Rattle.tl_types.specs.declared.limits.TheConstants.{CLIENTS}
 use Rattle.tl_protocol.specs.declared.event.Access.{Access}
 use Rattle.tl_protocol.specs.declared.event.Event.{Event}
 use Rattle.tl_protocol.specs.OneMemory.{access_of}
@@ -37,37 +38,37 @@ IsPast (Some last) stamp = last < stamp
 -- the clients are known and the stamps rise, from past the last one on
 abbrev pub RisesFrom : Option ℕ → List Access → Type 0
 RisesFrom last [] = Unit {0}
-RisesFrom last (a ∷ rest) = (a.client < 16) × IsPast last a.stamp × RisesFrom (Some a.stamp) rest
+RisesFrom last (a ∷ rest) = (a.client < CLIENTS) × IsPast last a.stamp × RisesFrom (Some a.stamp) rest
 
 later_past : (last : Option ℕ) (s t : ℕ) → IsPast last s → s < t → IsPast last t
 later_past None s t past lt = tt
 later_past (Some last) s t past lt = omega arith
 
 pub rises_all : (last : Option ℕ) (xs : List Access) → RisesFrom last xs
-    → All (λ (a : Access). a.client < 16) xs × Pairwise IsEarlier xs × All (λ (a : Access). IsPast last a.stamp) xs
+    → All (λ (a : Access). a.client < CLIENTS) xs × Pairwise IsEarlier xs × All (λ (a : Access). IsPast last a.stamp) xs
 rises_all last [] r = (All-nil _, tt, All-nil _)
 rises_all last (a ∷ rest) r =
     let more = rises_all (Some a.stamp) rest r.2 in (
-      All-cons (λ (a : Access). a.client < 16) a rest r.0 more.0,
+      All-cons (λ (a : Access). a.client < CLIENTS) a rest r.0 more.0,
       (more.2, more.1),
       All-cons (λ (a : Access). IsPast last a.stamp) a rest r.1
           (All-weaker (IsEarlier a) (λ (b : Access). IsPast last b.stamp) (λ b lt. later_past last a.stamp b.stamp r.1 lt) rest more.2),
     )
 
-pub all_rises : (last : Option ℕ) (xs : List Access) → All (λ (a : Access). a.client < 16) xs → Pairwise IsEarlier xs
+pub all_rises : (last : Option ℕ) (xs : List Access) → All (λ (a : Access). a.client < CLIENTS) xs → Pairwise IsEarlier xs
     → All (λ (a : Access). IsPast last a.stamp) xs → RisesFrom last xs
 all_rises last [] known rising past = tt
 all_rises last (a ∷ rest) known rising past = (
-  All-head (λ (a : Access). a.client < 16) a rest known,
+  All-head (λ (a : Access). a.client < CLIENTS) a rest known,
   All-head (λ (a : Access). IsPast last a.stamp) a rest past,
-  all_rises (Some a.stamp) rest (All-tail (λ (a : Access). a.client < 16) a rest known) rising.1 rising.0,
+  all_rises (Some a.stamp) rest (All-tail (λ (a : Access). a.client < CLIENTS) a rest known) rising.1 rising.0,
 )
 
 -- from the start
-pub rises_is : (xs : List Access) → RisesFrom None xs → All (λ (a : Access). a.client < 16) xs × Pairwise IsEarlier xs
+pub rises_is : (xs : List Access) → RisesFrom None xs → All (λ (a : Access). a.client < CLIENTS) xs × Pairwise IsEarlier xs
 rises_is xs r = let all = rises_all None xs r in (all.0, all.1)
 
-pub is_rises : (xs : List Access) → All (λ (a : Access). a.client < 16) xs × Pairwise IsEarlier xs → RisesFrom None xs
+pub is_rises : (xs : List Access) → All (λ (a : Access). a.client < CLIENTS) xs × Pairwise IsEarlier xs → RisesFrom None xs
 is_rises xs h = all_rises None xs h.0 h.1 (λ k d lt. tt)
 
 -- ## As the loop goes
@@ -78,7 +79,7 @@ pub record Same (last : Option ℕ) (log rest : List Access) : Type 0 where
   pub from : RisesFrom last rest → RisesFrom None log
 
 pub same_more : (last : Option ℕ) (log rest more : List Access) (a : Access) → Same last log rest → rest ≡ a ∷ more
-    → a.client < 16 → IsPast last a.stamp → Same (Some a.stamp) log more
+    → a.client < CLIENTS → IsPast last a.stamp → Same (Some a.stamp) log more
 same_more last log rest more a same is known past = record {
   to = λ r. let got : RisesFrom last (a ∷ more) = subst (RisesFrom last) is (same.to r) in got.2;
   from = λ r. same.from (subst (RisesFrom last) (sym is) (known, past, r));
@@ -89,8 +90,8 @@ same_same last log rest more same is = subst (Same last log) is same
 
 -- an access that does not follow
 pub refuted : (last : Option ℕ) (log rest more : List Access) (a : Access) → Same last log rest → rest ≡ a ∷ more
-    → ((a.client < 16) × IsPast last a.stamp → ⊥)
-    → All (λ (a : Access). a.client < 16) log × Pairwise IsEarlier log → ⊥
+    → ((a.client < CLIENTS) × IsPast last a.stamp → ⊥)
+    → All (λ (a : Access). a.client < CLIENTS) log × Pairwise IsEarlier log → ⊥
 refuted last log rest more a same is never all =
     let got : RisesFrom last (a ∷ more) = subst (RisesFrom last) is (same.to (is_rises log all)) in never (got.0, got.1)
 
@@ -100,5 +101,5 @@ not_past last s t is le past = let p : IsPast (Some s) t = subst (λ (l : Option
 
 -- nothing is left
 pub all_rise : (last : Option ℕ) (log rest : List Access) → Same last log rest → rest ≡ []
-    → All (λ (a : Access). a.client < 16) log × Pairwise IsEarlier log
+    → All (λ (a : Access). a.client < CLIENTS) log × Pairwise IsEarlier log
 all_rise last log rest same none = rises_is log (same.from (subst (RisesFrom last) (sym none) tt))

@@ -29,9 +29,9 @@ abbrev pub KeepIndexes : Access → Access → Type 0
 KeepIndexes a b =
     a.client ≡ b.client → (a.stamp < b.stamp → a.index < b.index) × (b.stamp < a.stamp → b.index < a.index)
 
--- The accesses of some logs have one order by stamp and then by client, in which each client's indexes rise: there are at most
--- 8 logs, each client is below 16, the stamps of each log rise strictly, no two accesses have the same stamp and client, and
--- of two accesses of one client the one with the lower stamp has the lower index.
+-- The accesses of some logs have one order by stamp and then by client, in which each client's indexes rise: there are
+-- at most 8 logs, each client is below `CLIENTS`, the stamps of each log rise strictly, no two accesses have the same
+-- stamp and client, and of two accesses of one client the one with the lower stamp has the lower index.
 pub record IsCertified (logs : List (List Event)) : Type 0 where
   pub few : length logs ≤ 8
   pub known : All (λ (a : Access). a.client < CLIENTS) (all_accesses logs)

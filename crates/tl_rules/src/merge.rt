@@ -168,8 +168,8 @@ pub fn certify_events(logs: &[&[Event]]) -> bool
 }
 
 /// Whether the accesses that some logs keep have one order by stamp and then by client, in which the indexes of each
-/// client rise: at most 8 logs, clients below 16, stamps that rise strictly in each log, and no two accesses of one
-/// stamp and client.
+/// client rise: at most 8 logs, clients below `CLIENTS`, stamps that rise strictly in each log, and no two accesses of
+/// one stamp and client.
 pub fn certify(logs: &[&Log]) -> bool
     ensures { IsTrue result ↔ IsCertified (logs_of logs.now) }
 {

@@ -107,12 +107,12 @@ fn bank_lines(alloc: Global, banks: &[Bank], held: &[u64]) -> Result<Vec<BankLin
     Ok(lines)
 }
 
-/// The commands of a script, of at most 16 clients.
+/// The commands of a script, of at most `CLIENTS` clients.
 fn commands_of(script: &Script) -> &[Vec<Command>]
     ensures is { result.now ≡ script.now.commands.items }
     ensures few { length result.now ≤ CLIENTS }
 {
-    // For the proof alone: there is a list for each client, and a geometry has at most 16.
+    // For the proof alone: there is a list for each client, and a geometry has at most `CLIENTS`.
     let _clients = script.geometry().clients();
     script.commands.as_slice()
 }

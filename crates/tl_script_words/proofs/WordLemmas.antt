@@ -10,7 +10,7 @@ use Rattle.std.specs.List.{list_all}
 use Rattle.std.specs.Result.{result_ok, OkIff}
 use Rattle.std.specs.Str.Parse.{digits_value, ParsesUnsigned}
 use Rattle.tl_script_words.specs.Reads.{◌>>=◌}
-use Rattle.tl_script_words.specs.Words.{is_plain, number_of, byte_of, bytes_of, access_of, with_first}
+use Rattle.tl_script_words.specs.Words.{is_plain, number_of, byte_of, bytes_of, access_of, block_of, with_first}
 
 -- just the texts of decimal digits have a decimal digit at every place
 is_digits_test : IsDigitsTest (λ ds. list_all is_ascii_digit ds ≡ true)
@@ -88,3 +88,32 @@ unfolding access_of
 too_many_pairs front [] text h two e = absurd (omega (arith, two))
 too_many_pairs front (x ∷ []) text h two e = absurd (omega (arith, two))
 too_many_pairs front (high ∷ low ∷ rest) text h two e = rw (← e) (none_after_eight front (byte_of high low) (bytes_of rest) h)
+
+-- the bytes, where a block may have so many
+abbrev pub kept_of_block : List ℕ → Option (List ℕ)
+kept_of_block bytes = cond (nat_lt 64 (length bytes)) None (Some bytes)
+
+-- 64 bytes in front of one more are none of a block
+none_after_block : (front : List ℕ) (b : Option ℕ) (read : Option (List ℕ)) → 64 ≤ length front
+    → (with_front front (with_first b read) >>= kept_of_block) ≡ None
+none_after_block front None read h = refl
+none_after_block front (Some b) None h = refl
+none_after_block front (Some b) (Some bytes) h =
+    let more : 64 < length (front ++ b ∷ bytes) = omega (arith, h, length-append front (b ∷ bytes)) in
+    rw (lt-ltb 64 (length (front ++ b ∷ bytes)) more) refl
+
+-- a text that has one more pair of digits after 64 bytes has no bytes of a block
+pub too_many_of_block : (front rest text : List ℕ) → 64 ≤ length front → 2 ≤ length rest → with_front front (bytes_of rest) ≡ bytes_of text → block_of text ≡ None
+unfolding block_of
+too_many_of_block front [] text h two e = absurd (omega (arith, two))
+too_many_of_block front (x ∷ []) text h two e = absurd (omega (arith, two))
+too_many_of_block front (high ∷ low ∷ rest) text h two e = rw (← e) (none_after_block front (byte_of high low) (bytes_of rest) h)
+
+-- bytes are those of a block where they are no more than 64
+pub few_of_block : (text bytes : List ℕ) → bytes_of text ≡ Some bytes → block_of text ≡ kept_of_block bytes
+unfolding block_of
+few_of_block text bytes h = rw h refl
+
+pub none_of_block : (text : List ℕ) → bytes_of text ≡ None → block_of text ≡ None
+unfolding block_of
+none_of_block text h = rw h refl

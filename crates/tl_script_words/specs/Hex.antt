@@ -1,5 +1,5 @@
 -- How bytes and addresses print (this project's own format).
-use Rattle.std.specs.Prelude.{ℕ, ◌/◌, ◌%◌, false, List, [], ◌∷◌, ◌++◌, codes}
+use Rattle.std.specs.Prelude.{ℕ, ◌/◌, ◌%◌, false, List, [], ◌∷◌, ◌++◌, Option, Some, None, codes}
 use Rattle.std.specs.Fmt.{digit_glyph}
 use Rattle.std.specs.Int.{w32, to_be_bytes}
 use Rattle.std.specs.List.{flat_map}
@@ -11,6 +11,11 @@ pair b = digit_glyph false (b / 16) ∷ digit_glyph false (b % 16) ∷ []
 -- a pair for each byte
 abbrev pub hex_text : List ℕ → List ℕ
 hex_text bytes = flat_map pair bytes
+
+-- the bytes that a message carries, with a space before them, or nothing
+abbrev pub carried_text : Option (List ℕ) → List ℕ
+carried_text (Some bytes) = codes " " ++ hex_text bytes
+carried_text None = []
 
 -- `0x` and eight digits, the highest first
 abbrev pub address_text : ℕ → List ℕ

@@ -61,6 +61,12 @@ bytes_of [] = Some []
 bytes_of (high ∷ []) = None
 bytes_of (high ∷ low ∷ rest) = with_first (byte_of high low) (bytes_of rest)
 
+-- HEX: the bytes of a block, at most 64
+unfoldable pub block_of : List ℕ → Option (List ℕ)
+block_of text = do
+  bytes ← bytes_of text
+  if nat_lt 64 (length bytes) then None else Some bytes
+
 -- HEX: the bytes of an access, one to eight
 unfoldable pub access_of : List ℕ → Option (List ℕ)
 access_of text = do

@@ -2,10 +2,12 @@
 
 ghost use Rattle.std.specs.Prelude.{◌≡◌, ◌++◌, ◌+◌, ◌*◌, ◌<◌, ◌≤◌, false, codes, length, take, IsAscii, OnOk, Some, string_bytes};
 ghost use Rattle.std.specs.Fmt.{digit_glyph};
-ghost use Rattle.tl_script_words.specs.Hex.{pair, hex_text, address_text};
+ghost use Rattle.std.specs.Option.{option_map};
+ghost use Rattle.tl_script_words.specs.Hex.{pair, hex_text, carried_text, address_text};
 
 use std::alloc::AllocError;
 use std::fmt;
+use tl_types::BlockBytes;
 
 // A lower-case hexadecimal digit.
 #[inline(always)]
@@ -120,6 +122,21 @@ impl fmt::Display for Hex<'_> {
             write!(f, "{}", Pair(*byte))?;
         }
         Ok(())
+    }
+}
+
+/// The bytes that a message carries, with a space before them, or nothing.
+#[derive(Clone, Copy, Debug)]
+pub struct Carried<'a>(pub Option<&'a BlockBytes>);
+
+impl fmt::Display for Carried<'_> {
+    ghost output = { λ c. Some (carried_text (option_map (λ b. b.now) c.0)) };
+
+    fn fmt<W: fmt::Write>(&self, f: &mut fmt::Formatter<W>) -> fmt::Result {
+        match self.0 {
+            Some(bytes) => write!(f, " {}", Hex(bytes.as_slice())),
+            None => Ok(()),
+        }
     }
 }
 

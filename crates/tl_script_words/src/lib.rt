@@ -12,11 +12,11 @@ mod words;
 
 pub use command::Command;
 pub use error::ParseError;
-pub use hex::{Address, Hex, push_address, push_bytes_at, push_hex};
+pub use hex::{Address, Carried, Hex, push_address, push_bytes_at, push_hex};
 pub use laws::{
     addresses_are_read_back, bytes_are_read_back, numbers_are_printed, tickets_are_read_back,
 };
 pub use limits::{COMMANDS, STEPS};
 pub use step::{BlockCall, Step, TicketCall};
 pub use ticket::{parse_grow, parse_prune};
-pub use words::{parse_access, parse_address, parse_bytes, parse_number, split_words};
+pub use words::{parse_access, parse_address, parse_block, parse_bytes, parse_number, split_words};

@@ -5,12 +5,12 @@ ghost use Rattle.std.specs.Char.{is_ascii_digit, digit_value};
 ghost use Rattle.std.specs.List.{list_all, position_or_len, slice_split};
 ghost use Rattle.std.specs.Str.Parse.{digits_value};
 ghost use Rattle.tl_script_words.specs.Reads.{Reads};
-ghost use Rattle.tl_script_words.specs.Words.{words_of, words_in, texts, is_plain, number_of, is_lower_hex, address_of, len_of, byte_of, bytes_of, access_of};
+ghost use Rattle.tl_script_words.specs.Words.{words_of, words_in, texts, is_plain, number_of, is_lower_hex, address_of, len_of, byte_of, bytes_of, block_of, access_of};
 
 use crate::error::ParseError;
 use arrayvec::ArrayVec;
 use std::alloc::{AllocError, Global};
-use tl_types::{ACCESS_BYTES, AccessBytes};
+use tl_types::{ACCESS_BYTES, AccessBytes, BLOCK_BYTES, BlockBytes};
 
 /// The words of a text, which stand apart by one space each. The error is want of memory.
 pub fn split_words(alloc: Global, text: &str) -> Result<Vec<&str>, AllocError>
@@ -61,10 +61,49 @@ fn is_plain(text: &str) -> bool
     are_digits(text)
 }
 
+fn parse_decimal(digit: u8) -> u8
+    requires { is_ascii_digit digit ≡ true }
+    ensures value { result ≡ digit_value digit }
+    ensures small { result < 10 }
+{
+    digit - b'0'
+}
+
+/// The number that at most nine decimal digits write. None where there is another byte.
+fn parse_decimals(digits: &[u8]) -> Option<u32>
+    requires { length digits.now ≤ 9 }
+    ensures { result ≡ (if list_all is_ascii_digit digits.now then Some (digits_value 10 digits.now) else None) }
+{
+    let mut value: u32 = 0;
+    let mut rest = digits;
+    while let [digit, after @ ..] = rest {
+        if !digit.is_ascii_digit() {
+            return None;
+        }
+        value = value * 10 + u32::from(parse_decimal(*digit));
+        rest = after;
+    }
+    Some(value)
+}
+
+/// The number of a text of at most nine bytes: it has 32 bits.
+fn parse_short(text: &[u8]) -> Option<u32>
+    requires { length text.now ≤ 9 }
+    ensures { result ≡ number_of text.now }
+{
+    if text.is_empty() || (text.len() > 1 && text[0] == b'0') {
+        return None;
+    }
+    parse_decimals(text)
+}
+
 /// A number of 32 bits in decimal digits, with no leading 0.
 pub fn parse_number(text: &str) -> Option<u32>
     ensures { result ≡ number_of text.now }
 {
+    if text.len() <= 9 {
+        return parse_short(text.as_bytes());
+    }
     if is_plain(text) {
         text.parse().ok()
     } else {
@@ -186,4 +225,23 @@ pub(crate) fn access_in(word: &[u8]) -> Option<AccessBytes>
         return None;
     }
     AccessBytes::from_slice(&bytes)
+}
+
+/// The bytes of a block: at most 64.
+#[tactic(auto, unfolding(crate::specs::Words::block_of))]
+pub fn parse_block(text: &str) -> Option<BlockBytes>
+    ensures { result ≡ block_of text.now }
+{
+    let mut bytes = ArrayVec::<u8, BLOCK_BYTES>::new();
+    let mut rest = text.as_bytes();
+    while let [high, low, after @ ..] = rest {
+        if bytes.try_push(parse_byte(*high, *low)?).is_err() {
+            return None;
+        }
+        rest = after;
+    }
+    if !rest.is_empty() {
+        return None;
+    }
+    BlockBytes::from_slice(&bytes)
 }

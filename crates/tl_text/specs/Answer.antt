@@ -1,11 +1,11 @@
 -- What a step answers, as text (this project's own format).
-use Rattle.std.specs.Prelude.{ℕ, List, [], ◌++◌, Option, Some, None, codes, decimal}
+use Rattle.std.specs.Prelude.{ℕ, List, ◌++◌, codes, decimal}
 use Rattle.tl_types.specs.Codes.{code_of}
 use Rattle.tl_types.specs.Bodies.{body_kind, body_bytes}
 use Rattle.tl_types.specs.Text.{kind_text}
 use Rattle.tl_types.specs.Ticket.{ticket_text}
 use Rattle.tl_types.specs.declared.kind.Kind.{Kind}
-use Rattle.tl_script_words.specs.Hex.{hex_text}
+use Rattle.tl_script_words.specs.Hex.{hex_text, carried_text}
 use Rattle.tl_bank_spec.specs.Refusal.{refusal_number}
 use Rattle.tl_text.specs.Memory.{log_of_size, memory_kind, operands_text}
 use Rattle.tl_text.specs.declared.answer.Answer.{Answer}
@@ -14,11 +14,6 @@ use Rattle.tl_text.specs.declared.answer.Answer.TheVariants.{Sent, Memory, Dropp
 -- a kind's opcode and parameter, with a dot between them, and then its name
 abbrev pub coded_text : Kind → List ℕ
 coded_text kind = decimal (code_of kind).0 ++ codes "." ++ decimal (code_of kind).1 ++ codes " " ++ kind_text kind
-
--- the bytes that a message carries, with a space before them, or nothing
-abbrev pub carried_text : Option (List ℕ) → List ℕ
-carried_text (Some bytes) = codes " " ++ hex_text bytes
-carried_text None = []
 
 -- what a step's answer prints as
 abbrev pub answer_text : Answer → List ℕ

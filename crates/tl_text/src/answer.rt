@@ -1,14 +1,13 @@
 //! What a step of a trace answers.
 
 ghost use Rattle.std.specs.Prelude.{Some};
-ghost use Rattle.std.specs.Option.{option_map};
-ghost use Rattle.tl_text.specs.Answer.{coded_text, carried_text, answer_text};
+ghost use Rattle.tl_text.specs.Answer.{coded_text, answer_text};
 
 use crate::memory::{BlockSize, MemoryMessage, Operands};
 use std::fmt;
 use tl_bank_spec::Refusal;
-use tl_script_words::Hex;
-use tl_types::{AccessBytes, BlockBytes, BlockNo, Body, Kind, Ticket, code};
+use tl_script_words::{Carried, Hex};
+use tl_types::{AccessBytes, BlockNo, Body, Kind, Ticket, code};
 
 /// What a step answered. It prints as the rest of the step's line, after its index.
 #[derive(Debug, Drop)]
@@ -44,21 +43,6 @@ impl fmt::Display for Coded {
     fn fmt<W: fmt::Write>(&self, f: &mut fmt::Formatter<W>) -> fmt::Result {
         let (opcode, param) = code(self.0);
         write!(f, "{opcode}.{param} {}", self.0)
-    }
-}
-
-// The bytes that a message carries, with a space before them, or nothing.
-#[derive(Clone, Copy)]
-struct Carried<'a>(Option<&'a BlockBytes>);
-
-impl fmt::Display for Carried<'_> {
-    ghost output = { λ c. Some (carried_text (option_map (λ b. b.now) c.0)) };
-
-    fn fmt<W: fmt::Write>(&self, f: &mut fmt::Formatter<W>) -> fmt::Result {
-        match self.0 {
-            Some(bytes) => write!(f, " {}", Hex(bytes.as_slice())),
-            None => Ok(()),
-        }
     }
 }
 

@@ -7,7 +7,7 @@ ghost use Rattle.tl_text.specs.Closing.{perm_letter, recorded_letters, held_lett
 use arrayvec::ArrayVec;
 use std::default::Default;
 use std::fmt;
-use tl_types::{BlockNo, Perm};
+use tl_types::{BlockNo, CLIENTS, Perm};
 
 /// A client's permission to a block: as home records it, and as the client's copy has it.
 #[derive(Clone, Copy, Debug, PartialEq, Eq)]
@@ -28,12 +28,12 @@ impl Default for Standing {
 }
 
 /// A block that home holds: whether home's copy is dirty, and the permission of each client from client 0 on, at most
-/// 16 of them. It prints as its closing line, without the line feed.
+/// `CLIENTS` of them. It prints as its closing line, without the line feed.
 #[derive(Debug, Drop)]
 pub struct BlockLine {
     pub block: BlockNo,
     pub dirty: bool,
-    pub clients: ArrayVec<Standing, 16>,
+    pub clients: ArrayVec<Standing, CLIENTS>,
 }
 
 /// What a bank shows at the end: the blocks that home holds, by rising number; the number of copies that the clients
@@ -46,9 +46,9 @@ pub struct BankClosing {
     pub events: u64,
 }
 
-// A permission as one letter.
+/// A permission as one letter.
 #[derive(Clone, Copy)]
-struct Letter(Perm);
+pub struct Letter(pub Perm);
 
 impl fmt::Display for Letter {
     ghost output = { λ l. Some (perm_letter l.0) };

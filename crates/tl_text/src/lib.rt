@@ -11,7 +11,7 @@ mod trace;
 mod trace_lines;
 
 pub use answer::Answer;
-pub use closing::{BankClosing, BlockLine, Standing};
+pub use closing::{BankClosing, BlockLine, Letter, Standing};
 pub use memory::{BlockSize, MemoryMessage};
 pub use report::{Answered, BankLine, Report};
 pub use trace::Trace;

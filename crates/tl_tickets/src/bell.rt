@@ -1,10 +1,11 @@
 //! A bell that threads ring and hear without waiting: one word, and a seat for each thread.
-ghost use Rattle.std.specs.Prelude.{◌≡◌, ◌==◌, ◌+◌, ◌*◌, ◌<◌, ◌≤◌, ◌↔◌, ℕ, [], length, count_by, IfOk, IsTrue, MatchBool, MatchResult};
+ghost use Rattle.std.specs.Prelude.{◌≡◌, ◌+◌, ◌*◌, ◌<◌, ◌≤◌, ℕ, [], length, IfOk, MatchBool, MatchResult};
 ghost use Rattle.std.specs.List.{All};
 ghost use Rattle.tl_tickets.specs.Bell.{IsSeatOf, IsSameSeat, most_rings, after_ring, after_hearing, IsEachSeatOnce, rings_of, fresh_seats};
 ghost use Rattle.tl_tickets.specs.Ringing.{gathered_tallies};
 
 use crate::error::Missing;
+use crate::numbered::{Numbered, is_each_once};
 use crate::ringing::{BothSeats, Hear, HearAll, OneSeat, Ring, Ringing};
 use crate::tally::Tally;
 use atomic_table::Table;
@@ -58,30 +59,12 @@ impl Model for Seat {
         × (s.rung ≤ most_rings) };
 }
 
-impl Seat {
-    fn number(&self) -> usize
-        ensures { result ≡ self.now.number }
-    {
+impl Numbered for Seat {
+    ghost number_of = { λ s. s.number };
+
+    fn number(&self) -> usize {
         self.number
     }
-}
-
-fn count_of(seats: &[Seat], number: usize) -> usize
-    ensures { result ≡ count_by (λ s. s.number == number) seats.now }
-{
-    seats.iter().filter(|s| s.number() == number).count()
-}
-
-// Whether each seat of a bell with this many seats is there once.
-fn is_each_once(list: &[Seat], seats: usize) -> bool
-    ensures { IsTrue result ↔ IsEachSeatOnce seats list.now }
-{
-    for number in 0..seats {
-        if count_of(list, number) != 1 {
-            return false;
-        }
-    }
-    list.len() == seats
 }
 
 // All seats made one, and how often they rang.

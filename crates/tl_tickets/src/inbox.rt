@@ -1,5 +1,5 @@
 //! A bounded inbox: each sender puts tickets with a pass of its own, and one receiver takes them.
-ghost use Rattle.std.specs.Prelude.{◌≡◌, ◌+◌, ◌==◌, ◌<◌, ◌≤◌, ◌↔◌, ℕ, [], length, count_by, IfOk, IsTrue, MatchResult, MatchOption};
+ghost use Rattle.std.specs.Prelude.{◌≡◌, ◌+◌, ◌<◌, ◌≤◌, ℕ, [], length, IfOk, MatchResult, MatchOption};
 ghost use Rattle.std.specs.List.{All};
 ghost use Rattle.crossbeam_queue.specs.Passes.{view as learned, IsPassOf as IsQueuePassOf};
 ghost use Rattle.tl_tickets.specs.Inbox.{IsPassOf, IsSenderOf, IsReceiverOf, IsSamePass, after_put, after_take, WasFull, IsEachOnce, Settles, fresh_passes};
@@ -7,6 +7,7 @@ ghost use Rattle.tl_tickets.specs.Delivery.{gathered, known, pass_with, first_ti
 
 use crate::delivery::{Counted, Delivery, OneMore, PutOne, TakeOne, Together};
 use crate::error::{Full, Missing};
+use crate::numbered::{Numbered, is_each_once};
 use crate::sent::{Known, Sent};
 use crossbeam_queue::RuledArrayQueue;
 use std::alloc::{AllocError, Global};
@@ -88,23 +89,12 @@ impl Pass {
     }
 }
 
-fn count_of(passes: &[Pass], number: usize) -> usize
-    ensures { result ≡ count_by (λ p. p.number == number) passes.now }
-{
-    passes.iter().filter(|p| p.number() == number).count()
-}
+impl Numbered for Pass {
+    ghost number_of = { λ p. p.number };
 
-// Whether each pass of an inbox with this many senders is there once.
-fn is_each_once(passes: &[Pass], senders: usize) -> bool
-    requires { senders ≤ 64 }
-    ensures { IsTrue result ↔ IsEachOnce senders passes.now }
-{
-    for number in 0..senders + 1 {
-        if count_of(passes, number) != 1 {
-            return false;
-        }
+    fn number(&self) -> usize {
+        self.number
     }
-    passes.len() == senders + 1
 }
 
 // All passes made one, and the total of their balances.
@@ -211,7 +201,7 @@ impl Inbox {
             (λ waiting. IsEachOnce self.senders passes.items × Settles self.senders passes.items waiting)
             (λ _. ¬ IsEachOnce self.senders passes.items) }
     {
-        if !is_each_once(&passes, self.senders) {
+        if !is_each_once(&passes, self.senders + 1) {
             return Err(Missing);
         }
         let (mut all, waiting) = gather(&self.queue, passes);

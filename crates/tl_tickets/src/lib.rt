@@ -7,6 +7,7 @@ mod delivery;
 mod ends;
 mod error;
 mod inbox;
+mod numbered;
 mod ringing;
 mod sent;
 mod shares;

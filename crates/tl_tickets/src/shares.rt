@@ -37,7 +37,7 @@ fn held_by_client(bank: &Bank)
     let _log = bank.log();
 }
 
-/// The sum of at most 16 shares.
+/// The sum of at most `CLIENTS` shares.
 fn sum(shares: &[Share]) -> u64
     requires { length shares.now ≤ CLIENTS }
     ensures { result ≡ sum_of shares.now }

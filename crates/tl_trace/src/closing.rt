@@ -7,7 +7,7 @@ use arrayvec::ArrayVec;
 use std::alloc::{AllocError, Global};
 use tl_bank::Bank;
 use tl_text::{BankClosing, BlockLine, Standing};
-use tl_types::{BlockNo, ClientId};
+use tl_types::{BlockNo, CLIENTS, ClientId};
 
 /// The blocks that home holds, by rising number, and the bank's counts.
 pub(crate) fn closing(alloc: Global, bank: &Bank) -> Result<BankClosing, AllocError>
@@ -42,7 +42,7 @@ fn lines(alloc: Global, bank: &Bank) -> Result<Vec<BlockLine>, AllocError>
 }
 
 /// What home records of each client, and what each holds.
-fn standings(bank: &Bank, block: BlockNo) -> ArrayVec<Standing, 16>
+fn standings(bank: &Bank, block: BlockNo) -> ArrayVec<Standing, CLIENTS>
     ensures { result.items ≡ standings bank.now block bank.now.geometry.clients }
 {
     let mut clients = ArrayVec::new();

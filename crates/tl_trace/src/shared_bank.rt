@@ -17,13 +17,15 @@ use tl_bank::{Bank, Refusal, Share};
 use tl_map::Geometry;
 use tl_script_words::Step;
 use tl_text::Answer;
-use tl_types::{AccessBytes, BankNo, BlockNo, Body, ClientId, Message, Prune, Ticket, Upward};
+use tl_types::{
+    AccessBytes, BankNo, BlockNo, Body, CLIENTS, ClientId, Message, Prune, Ticket, Upward,
+};
 
 /// A bank, and the share of each client in it.
 #[derive(Drop)]
 pub(crate) struct SharedBank {
     bank: Bank,
-    shares: ArrayVec<Share, 16>,
+    shares: ArrayVec<Share, CLIENTS>,
 }
 
 impl Model for SharedBank {

@@ -1,5 +1,5 @@
 -- The kinds of messages and the bytes that they carry, for their codes and their text (TileLink 1.8, section 9).
-use Rattle.std.specs.Prelude.{ℕ, Bool, false, List, Option, Some, None}
+use Rattle.std.specs.Prelude.{ℕ, Bool, true, false, List, Option, Some, None}
 use Rattle.tl_types.specs.Permission.{prune_from}
 use Rattle.tl_types.specs.Parameters.{report_from}
 use Rattle.tl_types.specs.declared.permission.Perm.{Perm}
@@ -19,6 +19,23 @@ use Rattle.tl_types.specs.declared.message.Body.TheVariants.{AcquireBlock, Probe
 use Rattle.tl_types.specs.declared.kind.Kind.{Kind}
 use Rattle.tl_types.specs.declared.kind.Kind.TheVariants as kind
 use Rattle.tl_types.specs.Message.{answer_report, surrender_prune, surrender, upward_bytes, is_grant}
+
+-- a message of the kind carries a block's bytes
+abbrev pub has_data : Kind → Bool
+has_data kind.PutFullData = true
+has_data kind.Get = false
+has_data (kind.AcquireBlock grow) = false
+has_data (kind.ProbeBlock cap) = false
+has_data (kind.ProbeAck report) = false
+has_data (kind.ProbeAckData prune) = true
+has_data (kind.Release prune) = false
+has_data (kind.ReleaseData prune) = true
+has_data kind.AccessAck = false
+has_data kind.AccessAckData = true
+has_data (kind.Grant cap) = false
+has_data (kind.GrantData cap) = true
+has_data kind.ReleaseAck = false
+has_data kind.GrantAck = false
 
 -- the kind of an answer: ProbeAckData where bytes go along, else ProbeAck
 abbrev pub answer_kind : ProbeAnswer → Kind

@@ -1,5 +1,5 @@
 -- The table of codes read backward, as `decode` goes through it: the kind that a channel, an opcode and a parameter stand for.
--- No public clause of this crate cites this file: `decode` is stated by the table itself.
+-- `decode` is stated by the table itself.
 use Rattle.std.specs.Prelude.{◌==◌, ℕ, Option, Some, None, if◌then◌else◌}
 use Rattle.std.specs.Option.{option_map}
 use Rattle.tl_types.specs.declared.channel.Channel.{Channel}

@@ -1,6 +1,7 @@
 //! The kinds of message, and their codes. All opcodes and parameters are this project's profile of TileLink 1.8,
 //! section 6 ("Operations and messages").
 ghost use Rattle.std.specs.Prelude.{◌≡◌, Some};
+ghost use Rattle.tl_types.specs.Bodies.{has_data};
 ghost use Rattle.tl_types.specs.Codes.{channel_of, code_of, grow_param, probe_param, grant_param, prune_param, dirty_param, report_param, HasCode};
 ghost use Rattle.tl_types.specs.Decoding.{kind_at, kind_on_a, kind_on_b, kind_on_c, kind_on_d, kind_on_e, plain_at, grow_at, probe_at, grant_at, prune_at, dirty_at, report_at};
 ghost use Rattle.tl_types.specs.Text.{kind_text};
@@ -47,6 +48,28 @@ impl Kind {
             Kind::GrantAck => Channel::E,
         }
     }
+
+    /// Whether a message of the kind carries a block's bytes.
+    pub fn has_data(self) -> bool
+        ensures { result ≡ has_data self }
+    {
+        match self {
+            Kind::PutFullData
+            | Kind::ProbeAckData(_)
+            | Kind::ReleaseData(_)
+            | Kind::AccessAckData
+            | Kind::GrantData(_) => true,
+            Kind::Get
+            | Kind::AcquireBlock(_)
+            | Kind::ProbeBlock(_)
+            | Kind::ProbeAck(_)
+            | Kind::Release(_)
+            | Kind::AccessAck
+            | Kind::Grant(_)
+            | Kind::ReleaseAck
+            | Kind::GrantAck => false,
+        }
+    }
 }
 
 impl fmt::Display for Kind {
@@ -73,13 +96,14 @@ impl fmt::Display for Kind {
 }
 
 // A kind that has no parameter has 0 in its place.
-fn plain_at(param: u8, kind: Kind) -> Option<Kind>
+fn plain_at(param: u32, kind: Kind) -> Option<Kind>
     ensures { result ≡ plain_at param kind }
 {
     if param == 0 { Some(kind) } else { None }
 }
 
-fn grow_at(param: u8) -> Option<Grow>
+/// What the parameter of an AcquireBlock stands for.
+pub fn grow_at(param: u32) -> Option<Grow>
     ensures { result ≡ grow_at param }
 {
     match param {
@@ -90,7 +114,8 @@ fn grow_at(param: u8) -> Option<Grow>
     }
 }
 
-fn probe_at(param: u8) -> Option<ProbeCap>
+/// What the parameter of a ProbeBlock stands for.
+pub fn probe_at(param: u32) -> Option<ProbeCap>
     ensures { result ≡ probe_at param }
 {
     match param {
@@ -100,7 +125,8 @@ fn probe_at(param: u8) -> Option<ProbeCap>
     }
 }
 
-fn grant_at(param: u8) -> Option<GrantCap>
+/// What the parameter of a Grant or a GrantData stands for.
+pub fn grant_at(param: u32) -> Option<GrantCap>
     ensures { result ≡ grant_at param }
 {
     match param {
@@ -110,7 +136,8 @@ fn grant_at(param: u8) -> Option<GrantCap>
     }
 }
 
-fn prune_at(param: u8) -> Option<Prune>
+/// What the parameter of a Release stands for.
+pub fn prune_at(param: u32) -> Option<Prune>
     ensures { result ≡ prune_at param }
 {
     match param {
@@ -121,7 +148,7 @@ fn prune_at(param: u8) -> Option<Prune>
     }
 }
 
-fn dirty_at(param: u8) -> Option<DirtyPrune>
+fn dirty_at(param: u32) -> Option<DirtyPrune>
     ensures { result ≡ dirty_at param }
 {
     match param {
@@ -131,7 +158,7 @@ fn dirty_at(param: u8) -> Option<DirtyPrune>
     }
 }
 
-fn report_at(param: u8) -> Option<ProbeReport>
+fn report_at(param: u32) -> Option<ProbeReport>
     ensures { result ≡ report_at param }
 {
     match param {
@@ -144,7 +171,7 @@ fn report_at(param: u8) -> Option<ProbeReport>
     }
 }
 
-fn kind_on_a(opcode: u8, param: u8) -> Option<Kind>
+fn kind_on_a(opcode: u32, param: u32) -> Option<Kind>
     ensures { result ≡ kind_on_a opcode param }
 {
     match opcode {
@@ -155,7 +182,8 @@ fn kind_on_a(opcode: u8, param: u8) -> Option<Kind>
     }
 }
 
-fn kind_on_b(opcode: u8, param: u8) -> Option<Kind>
+/// The kind on channel B that an opcode and a parameter stand for.
+pub fn kind_on_b(opcode: u32, param: u32) -> Option<Kind>
     ensures { result ≡ kind_on_b opcode param }
 {
     match opcode {
@@ -164,7 +192,8 @@ fn kind_on_b(opcode: u8, param: u8) -> Option<Kind>
     }
 }
 
-fn kind_on_c(opcode: u8, param: u8) -> Option<Kind>
+/// The kind on channel C that an opcode and a parameter stand for.
+pub fn kind_on_c(opcode: u32, param: u32) -> Option<Kind>
     ensures { result ≡ kind_on_c opcode param }
 {
     match opcode {
@@ -176,7 +205,7 @@ fn kind_on_c(opcode: u8, param: u8) -> Option<Kind>
     }
 }
 
-fn kind_on_d(opcode: u8, param: u8) -> Option<Kind>
+fn kind_on_d(opcode: u32, param: u32) -> Option<Kind>
     ensures { result ≡ kind_on_d opcode param }
 {
     match opcode {
@@ -189,7 +218,8 @@ fn kind_on_d(opcode: u8, param: u8) -> Option<Kind>
     }
 }
 
-fn kind_on_e(opcode: u8, param: u8) -> Option<Kind>
+/// The kind on channel E that an opcode and a parameter stand for.
+pub fn kind_on_e(opcode: u32, param: u32) -> Option<Kind>
     ensures { result ≡ kind_on_e opcode param }
 {
     match opcode {
@@ -204,11 +234,12 @@ pub fn decode(channel: Channel, opcode: u8, param: u8) -> Option<Kind>
     ensures own { (kind : Kind) → HasCode kind channel opcode param → result ≡ Some kind }
     ensures each { (kind : Kind) → result ≡ Some kind → HasCode kind channel opcode param }
 {
-    kind_at(channel, opcode, param)
+    kind_at(channel, opcode as u32, param as u32)
 }
 
+/// The same, of numbers that may be above a byte's.
 #[tactic(auto, unfolding(crate::specs::Decoding::kind_at))]
-fn kind_at(channel: Channel, opcode: u8, param: u8) -> Option<Kind>
+pub fn kind_at(channel: Channel, opcode: u32, param: u32) -> Option<Kind>
     ensures { result ≡ kind_at channel opcode param }
 {
     match channel {

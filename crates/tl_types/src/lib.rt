@@ -14,7 +14,10 @@ mod wait;
 
 pub use bytes::{AccessBytes, BlockBytes};
 pub use channel::Channel;
-pub use kind::{Kind, code, decode};
+pub use kind::{
+    Kind, code, decode, grant_at, grow_at, kind_at, kind_on_b, kind_on_c, kind_on_e, probe_at,
+    prune_at,
+};
 pub use limits::{
     ACCESS_BYTES, BANKS, BLOCK_BYTES, BLOCKS, CLIENTS, COPIES, MESSAGES, REGISTERS, WAYS,
 };

@@ -10,6 +10,7 @@ use Rattle.std.proofs.lemmas.Nat.Bits.{bit_at-zero, bit_at-trailing_zeros, shr_a
 use Rattle.tl_types.specs.Permission.{rank}
 use Rattle.tl_types.specs.declared.permission.Perm.{Perm}
 use Rattle.tl_types.specs.declared.permission.Perm.TheVariants.{None as NoAccess, Branch, Tip}
+use Rattle.tl_types.specs.declared.limits.TheConstants.{CLIENTS}
 use Rattle.tl_ways.specs.Entries.{Entry, IsEntry, IsOfClients, is_owner, perm_by, entry_perm}
 
 -- the owner passes the test, and no other does
@@ -108,10 +109,10 @@ shared entry test h fails = (
 )
 
 -- a client past the mask has nothing
-pub perm_of-past : (entry : Entry) (client : ℕ) → IsEntry entry → 16 ≤ client → (entry.owner ≡ Some client → ⊥)
+pub perm_of-past : (entry : Entry) (client : ℕ) → IsEntry entry → CLIENTS ≤ client → (entry.owner ≡ Some client → ⊥)
     → entry_perm entry client ≡ NoAccess
 perm_of-past entry client kept past other =
-    perm_of-bit entry client other ∙ ap (perm_by false) (bit_at_above entry.branches 16 client kept.branches past)
+    perm_of-bit entry client other ∙ ap (perm_by false) (bit_at_above entry.branches CLIENTS client kept.branches past)
 
 -- a bit that is not 1
 zero_bit : (bit : ℕ) → bit < 2 → (bit ≡ 1 → ⊥) → bit ≡ 0
@@ -135,7 +136,7 @@ not-zero : (n : ℕ) → (n ≡ 0 → ⊥) → 0 < n
 not-zero n other = omega (arith, other)
 
 -- the lowest bit that is set
-pub first-bit : (branches first : ℕ) → branches < 2 ^ 16 → (branches ≡ 0 → ⊥) → first ≡ trailing_zeros w16 branches
+pub first-bit : (branches first : ℕ) → branches < 2 ^ CLIENTS → (branches ≡ 0 → ⊥) → first ≡ trailing_zeros w16 branches
     → (bit_at branches first ≡ 1) × ((client : ℕ) → client < first → bit_at branches client ≡ 0)
 first-bit branches first small some is =
     let lowest = bit_at-trailing_zeros w16 branches (not-zero branches some) small in
@@ -208,14 +209,14 @@ above-nothing entry perm (Some first) none is lowest =
 -- ## Recording a permission
 
 -- a mask without a client's bit keeps the others
-cleared : (branches client other : ℕ) → branches < 2 ^ 16 → client < 16 → other ≢ client
+cleared : (branches client other : ℕ) → branches < 2 ^ CLIENTS → client < CLIENTS → other ≢ client
     → bit_at (bit_and branches (bit_not w16 (1 * 2 ^ client % 2 ^ bits w16))) other ≡ bit_at branches other
 cleared branches client other small known apart =
-    elim (cases_lt other 16) [
+    elim (cases_lt other CLIENTS) [
       | inl below ↦ bit_at_clear_other w16 branches client known other below apart
       | inr past ↦
           let less = and_le_l branches (bit_not w16 (1 * 2 ^ client % 2 ^ bits w16)) in
-          bit_at_above _ 16 other (omega (arith, less)) past ∙ sym (bit_at_above branches 16 other small past)
+          bit_at_above _ CLIENTS other (omega (arith, less)) past ∙ sym (bit_at_above branches CLIENTS other small past)
     ]
 
 -- what is recorded for a client and for the others
@@ -246,7 +247,7 @@ perm_of-tip entry client none =
     (λ other apart. beside entry client other apart ∙ sym (none other apart))
 
 -- Branch for a client beside which none has Tip
-pub perm_of-branch : (entry : Entry) (client : ℕ) → client < 16 → ((other : ℕ) → other ≢ client → entry_perm entry other ≢ Tip) → (other : ℕ)
+pub perm_of-branch : (entry : Entry) (client : ℕ) → client < CLIENTS → ((other : ℕ) → other ≢ client → entry_perm entry other ≢ Tip) → (other : ℕ)
     → entry_perm (record entry { owner = None; branches = bit_or entry.branches (1 * 2 ^ client % 2 ^ bits w16) }) other
     ≡ (if other == client then Branch else entry_perm entry other)
 perm_of-branch entry client known none =
@@ -257,7 +258,7 @@ perm_of-branch entry client known none =
     ∙ sym (perm_of-bit entry other (λ owner. none other apart (perm_of-owner entry other owner))))
 
 -- no permission for the owner
-pub perm_of-ended : (entry : Entry) (client : ℕ) → IsEntry entry → client < 16 → entry.owner ≡ Some client → (other : ℕ)
+pub perm_of-ended : (entry : Entry) (client : ℕ) → IsEntry entry → client < CLIENTS → entry.owner ≡ Some client → (other : ℕ)
     → entry_perm (record entry { owner = None; branches = bit_and entry.branches (bit_not w16 (1 * 2 ^ client % 2 ^ bits w16)) }) other
     ≡ (if other == client then NoAccess else entry_perm entry other)
 perm_of-ended entry client kept known owner =
@@ -276,7 +277,7 @@ unfolding entry_perm
 same_bit entry branches client bit = ap (perm_by (is_owner entry.owner client)) bit
 
 -- no permission for another client
-pub perm_of-cleared : (entry : Entry) (client : ℕ) → IsEntry entry → client < 16 → (entry.owner ≡ Some client → ⊥) → (other : ℕ)
+pub perm_of-cleared : (entry : Entry) (client : ℕ) → IsEntry entry → client < CLIENTS → (entry.owner ≡ Some client → ⊥) → (other : ℕ)
     → entry_perm (record entry { branches = bit_and entry.branches (bit_not w16 (1 * 2 ^ client % 2 ^ bits w16)) }) other
     ≡ (if other == client then NoAccess else entry_perm entry other)
 perm_of-cleared entry client kept known no_owner =

@@ -34,9 +34,6 @@ impl Model for Entry {
 impl Copy for Entry {}
 
 impl Entry {
-    /// How many clients an entry can record: the bits of its mask.
-    pub const CLIENTS: u32 = 16;
-
     /// An entry that records no permission.
     pub fn new(tag: Tag, dirty: bool) -> Entry
         ensures tag { result.tag ≡ tag }
@@ -97,7 +94,7 @@ impl Entry {
         if self.owner == Some(client) {
             return Perm::Tip;
         }
-        if number >= Entry::CLIENTS {
+        if number >= CLIENTS as u32 {
             return Perm::None;
         }
         if self.branches >> number & 1 == 1 {

@@ -1,6 +1,7 @@
 -- What the page shows of a bank, part by part, in the words of `Words`: just what the bank's views answer (this project's own).
 use Rattle.std.specs.Prelude.{ℕ, zero, suc, List, [], ◌∷◌, ◌++◌, Option, Some, None, codes, decimal, map}
 use Rattle.std.specs.List.{flat_map}
+use Rattle.tl_types.specs.declared.limits.TheConstants.{MESSAGES}
 use Rattle.tl_types.specs.declared.channel.Channel.{Channel}
 use Rattle.tl_registers.specs.declared.register.Register.{Register}
 use Rattle.tl_text.specs.Closing.{perm_letter}
@@ -46,12 +47,12 @@ abbrev pub ways_below : View → ℕ → ℕ → List ℕ
 ways_below v set zero = []
 ways_below v set (suc n) = ways_below v set n ++ slot_text (slot_shown v set n)
 
--- a part of a bank; a channel has room for 64 messages
+-- a part of a bank; a channel has room for `MESSAGES` messages
 abbrev pub part_text : View → Part → List ℕ
 part_text v (part.Client client block) = client_text v client block
 part_text v (part.Home block) = home_text v block
 part_text v (part.Memory block) = bytes_text (memory_at v block)
-part_text v (part.Channel client channel) = waiting_below v client channel 64
+part_text v (part.Channel client channel) = waiting_below v client channel MESSAGES
 part_text v (part.Set set) = ways_below v set v.geometry.ways
 part_text v part.Registers = flat_map (register_text v) v.registers
 

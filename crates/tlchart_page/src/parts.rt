@@ -5,12 +5,13 @@ ghost use Rattle.tl_bank.specs.Contents.{message_waiting};
 ghost use Rattle.tlchart_page.specs.Words.{members_below, message_text};
 ghost use Rattle.tlchart_page.specs.Parts.{cell_text, client_text, head_text, home_text, part_text, register_text, tail_text, waiting_below, ways_below};
 
-use crate::words::{AtHome, Bytes, Held, Letter, Next, Passing, Slot, Waiting, Waits, Work};
+use crate::words::{AtHome, Bytes, Held, Next, Passing, Slot, Waiting, Waits, Work};
 use std::alloc::AllocError;
 use std::fmt::Write;
 use tl_bank::Bank;
 use tl_map::Set;
 use tl_registers::{ClientSet, Register};
+use tl_text::Letter;
 use tl_trace::Network;
 use tl_types::{BankNo, BlockNo, CLIENTS, Channel, ClientId, MESSAGES};
 use tl_ways::Way;

@@ -1,14 +1,13 @@
 //! The words of what a bank shows.
 ghost use Rattle.std.specs.Prelude.{Some};
 ghost use Rattle.std.specs.Option.{option_map};
-ghost use Rattle.tl_text.specs.Closing.{perm_letter};
 ghost use Rattle.tlchart_page.specs.Words.{bytes_text, copy_text, due_text, line_text, outward_text, slot_text, task_text, tip_letter, line_letter, wait_text, waiting_text, words_text};
 
 use std::fmt;
 use tl_protocol::{CachedCopy, Line, Outward};
 use tl_registers::{Due, Task};
 use tl_script_words::Hex;
-use tl_types::{Awaited, BlockBytes, BlockNo, Kind, Message, Perm, Ticket};
+use tl_types::{Awaited, BlockBytes, BlockNo, Kind, Message, Ticket};
 
 /// A client's copy.
 #[derive(Clone, Copy)]
@@ -54,22 +53,6 @@ impl fmt::Display for Waits {
             Some(Awaited::ForGrant) => f.write_str("G"),
             Some(Awaited::ForReleaseAck) => f.write_str("R"),
             None => Ok(()),
-        }
-    }
-}
-
-/// A permission, as its letter.
-#[derive(Clone, Copy)]
-pub(crate) struct Letter(pub(crate) Perm);
-
-impl fmt::Display for Letter {
-    ghost output = { λ x. Some (perm_letter x.0) };
-
-    fn fmt<W: fmt::Write>(&self, f: &mut fmt::Formatter<W>) -> fmt::Result {
-        match self.0 {
-            Perm::None => f.write_str("N"),
-            Perm::Branch => f.write_str("B"),
-            Perm::Tip => f.write_str("T"),
         }
     }
 }

@@ -1,6 +1,7 @@
 -- The entries of a record that a page shows (this project's own).
 use Rattle.std.specs.Prelude.{◌≡◌, ℕ, ◌+◌, ◌<◌, ◌≤◌, Bool, true, false, List, [], ◌∷◌, ◌++◌, length, take, drop, Result, Ok, Err}
 use Rattle.std.specs.Io.BufRead.{strip_last}
+use Rattle.tl_types.specs.declared.limits.TheConstants.{BLOCKS, BLOCK_BYTES}
 use Rattle.tl_protocol.specs.declared.event.Event.{Event}
 use Rattle.tl_protocol.specs.declared.shape.Shape.{Shape}
 use Rattle.tlcheck_rules.specs.Judged.{Follows}
@@ -106,7 +107,7 @@ LeadsTo text before then_ (Err Memory) = Unit {0}
 -- the numbers that were read are in the range of a judge
 abbrev pub IsFit : Progress → Type 0
 IsFit Fresh = Unit {0}
-IsFit (Shaped shape) = (0 < shape.block_bytes) × (shape.block_bytes ≤ 64) × (shape.blocks ≤ 65536)
+IsFit (Shaped shape) = (0 < shape.block_bytes) × (shape.block_bytes ≤ BLOCK_BYTES) × (shape.blocks ≤ BLOCKS)
 IsFit (Going window count) = Unit {0}
 
 -- why a line is not taken that could not be read

@@ -1,6 +1,8 @@
 -- The entry that plain numbers stand for (this project's own numbers of events, which a log is told by too).
 use Rattle.std.specs.Prelude.{ℕ, ◌==◌, ◌&&◌, Bool, take, nat_lt, Option, Some, None, if◌then◌else◌}
 use Rattle.std.specs.Option.{option_map}
+use Rattle.tl_types.specs.declared.limits.TheConstants.{BLOCK_BYTES}
+use Rattle.tl_types.specs.Bodies.{has_data}
 use Rattle.tl_types.specs.Decoding.{grow_at, probe_at, prune_at}
 use Rattle.tl_types.specs.declared.kind.Kind.{Kind}
 use Rattle.tl_protocol.specs.declared.event.Access.{Access}
@@ -8,7 +10,7 @@ use Rattle.tl_protocol.specs.declared.event.Event.{Event}
 use Rattle.tl_protocol.specs.declared.event.Event.TheVariants as event
 use Rattle.tlcheck_rules.specs.declared.entry.Entry.{Entry}
 use Rattle.tlcheck_rules.specs.declared.entry.Shown.{Shown}
-use Rattle.tlcheck_embed.specs.Kinds.{has_data, kind_shown}
+use Rattle.tlcheck_embed.specs.Kinds.{kind_shown}
 use Rattle.tlcheck_embed.specs.declared.entry.BenchEntry.{BenchEntry}
 
 -- the access of a load or a store: the first bytes, at most eight
@@ -44,10 +46,10 @@ event_of e =
 abbrev pub is_shown_of : ℕ → Bool
 is_shown_of number = nat_lt 1 number && nat_lt number 12
 
--- a message of a kind, with its bytes where it carries some, at most 64, and with none else
+-- a message of a kind, with its bytes where it carries some, at most `BLOCK_BYTES`, and with none else
 abbrev pub message_in : BenchEntry → Kind → Option Shown
 message_in e kind =
-    if has_data kind then (if nat_lt 64 e.len then None else Some (record { kind = kind; bytes = Some (take e.len e.bytes) }))
+    if has_data kind then (if nat_lt BLOCK_BYTES e.len then None else Some (record { kind = kind; bytes = Some (take e.len e.bytes) }))
     else if e.len == 0 then Some (record { kind = kind; bytes = None })
     else None
 

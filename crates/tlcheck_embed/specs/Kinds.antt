@@ -1,7 +1,7 @@
 -- The messages of a client's link in numbers (TileLink 1.8, section 6).
-use Rattle.std.specs.Prelude.{ℕ, ◌==◌, Bool, true, false, Option, None, if◌then◌else◌}
+use Rattle.std.specs.Prelude.{ℕ, ◌==◌, Option, None, if◌then◌else◌}
 use Rattle.std.specs.Option.{option_map}
-use Rattle.tl_types.specs.Decoding.{grant_at, grow_at, kind_on_b, kind_on_c, plain_at}
+use Rattle.tl_types.specs.Decoding.{grant_at, grow_at, kind_on_b, kind_on_c, kind_on_e, plain_at}
 use Rattle.tl_types.specs.declared.kind.Kind.{Kind}
 use Rattle.tl_types.specs.declared.kind.Kind.TheVariants as kind
 
@@ -17,10 +17,6 @@ kind_to_client opcode param =
     else if opcode == 6 then plain_at param kind.ReleaseAck
     else None
 
--- the kind on E, if any
-abbrev pub grant_ack_at : ℕ → ℕ → Option Kind
-grant_ack_at opcode param = if opcode == 0 then plain_at param kind.GrantAck else None
-
 -- the kind of message of a client's link with a channel, an opcode and a param, if this profile has one
 abbrev pub kind_shown : ℕ → ℕ → ℕ → Option Kind
 kind_shown channel opcode param =
@@ -28,22 +24,5 @@ kind_shown channel opcode param =
     else if channel == 1 then kind_on_b opcode param
     else if channel == 2 then kind_on_c opcode param
     else if channel == 3 then kind_to_client opcode param
-    else if channel == 4 then grant_ack_at opcode param
+    else if channel == 4 then kind_on_e opcode param
     else None
-
--- whether a message of a kind carries the bytes of a block
-abbrev pub has_data : Kind → Bool
-has_data kind.PutFullData = true
-has_data kind.Get = false
-has_data (kind.AcquireBlock grow) = false
-has_data (kind.ProbeBlock cap) = false
-has_data (kind.ProbeAck report) = false
-has_data (kind.ProbeAckData prune) = true
-has_data (kind.Release prune) = false
-has_data (kind.ReleaseData prune) = true
-has_data kind.AccessAck = false
-has_data kind.AccessAckData = true
-has_data (kind.Grant cap) = false
-has_data (kind.GrantData cap) = true
-has_data kind.ReleaseAck = false
-has_data kind.GrantAck = false

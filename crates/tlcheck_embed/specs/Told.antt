@@ -1,5 +1,6 @@
 -- What is told of an entry (this project's own numbers).
 use Rattle.std.specs.Prelude.{ℕ, ◌-◌, List, ◌++◌, length, replicate, is_some, if◌then◌else◌}
+use Rattle.tl_types.specs.declared.limits.TheConstants.{BLOCK_BYTES}
 use Rattle.tl_types.specs.Codes.{code_of}
 use Rattle.tl_types.specs.declared.kind.Kind.{Kind}
 use Rattle.tl_types.specs.declared.permission.Perm.{Perm}
@@ -27,7 +28,7 @@ only status = record {
   perm = 0;
   is_at_home = 0;
   why = 0;
-  bytes = replicate 64 0;
+  bytes = replicate BLOCK_BYTES 0;
 }
 
 -- the number of a permission
@@ -90,7 +91,7 @@ kind_told rule sent = record (only 31) { rule = rule; opcode = (code_of sent).0;
 -- not permitted, by a rule and the bytes that are sent
 abbrev pub other_bytes_told : ℕ → List ℕ → Verdict
 other_bytes_told rule sent =
-    record (only 31) { rule = rule; len = length sent; bytes = sent ++ replicate (64 - length sent) 0 }
+    record (only 31) { rule = rule; len = length sent; bytes = sent ++ replicate (BLOCK_BYTES - length sent) 0 }
 
 -- how what is shown differs, with what is sent
 abbrev pub difference_told : Difference → Verdict

@@ -1,11 +1,12 @@
 //! An entry in plain numbers.
 ghost use Rattle.std.specs.Prelude.{◌≡◌};
-ghost use Rattle.tl_types.specs.Decoding.{grow_at, probe_at, prune_at};
 ghost use Rattle.tlcheck_embed.specs.Asked.{access_in, entry_in, entry_of, event_of, is_shown_of, message_in, message_of, shown_of};
 
-use crate::kinds::{grow_at, has_data, kind_shown, probe_at, prune_at};
+use crate::kinds::kind_shown;
 use tl_rules::{Access, Event};
-use tl_types::{AccessBytes, BlockBytes, BlockNo, ClientId, Kind};
+use tl_types::{
+    AccessBytes, BLOCK_BYTES, BlockBytes, BlockNo, ClientId, Kind, grow_at, probe_at, prune_at,
+};
 use tlcheck_rules::{Entry, Shown};
 
 /// An event, and the message that was seen to be sent by it; what an event does not use it takes no notice of.
@@ -33,7 +34,7 @@ pub struct BenchEntry {
     /// How many bytes an access has, or the message that is shown.
     pub len: u32,
     /// The bytes, the first `len` of them.
-    pub bytes: [u8; 64],
+    pub bytes: [u8; BLOCK_BYTES],
 }
 
 impl BenchEntry {
@@ -92,13 +93,7 @@ impl BenchEntry {
             return None;
         }
         let bytes = AccessBytes::from_slice(&self.bytes[..self.len as usize]).unwrap();
-        Some(Access {
-            client: ClientId::new(self.client),
-            address: self.place,
-            stamp: 0,
-            index: 0,
-            bytes,
-        })
+        Some(Access::bare(ClientId::new(self.client), self.place, bytes))
     }
 
     /// What is shown: nothing, or a message of a client's link.
@@ -129,8 +124,8 @@ impl BenchEntry {
     fn message_of(&self, kind: Kind) -> Option<Shown>
         ensures { result ≡ message_in self.now kind }
     {
-        if has_data(kind) {
-            if self.len > 64 {
+        if kind.has_data() {
+            if self.len > BLOCK_BYTES as u32 {
                 return None;
             }
             let bytes = BlockBytes::from_slice(&self.bytes[..self.len as usize]).unwrap();

@@ -12,7 +12,7 @@ mod verdict;
 pub use bench::Bench;
 pub use entry::BenchEntry;
 pub use history::every_judging;
-pub use kinds::{has_data, kind_shown};
+pub use kinds::kind_shown;
 pub use number::perm_number;
 pub use room::{JudgeNumbers, JudgeRoom, opened, see, shape_of, shape_refusal};
 pub use verdict::{Verdict, breach_told};

@@ -4,7 +4,7 @@ ghost use Rattle.tlcheck_embed.specs.Told.{breach_told, difference_told, kind_to
 
 use crate::number::{difference_number, perm_number, rule_number};
 use tl_rules::Event;
-use tl_types::{BlockNo, Kind, code};
+use tl_types::{BLOCK_BYTES, BlockNo, Kind, code};
 use tlcheck_rules::{Breach, Difference, Judge, client_of};
 
 /// A verdict in plain numbers; what is not told is 0.
@@ -28,7 +28,7 @@ pub struct Verdict {
     /// Of 18, why it is closed.
     pub why: u32,
     /// The bytes that the event sends, where others are shown.
-    pub bytes: [u8; 64],
+    pub bytes: [u8; BLOCK_BYTES],
 }
 
 impl Verdict {
@@ -45,7 +45,7 @@ impl Verdict {
             perm: 0,
             is_at_home: 0,
             why: 0,
-            bytes: [0; 64],
+            bytes: [0; BLOCK_BYTES],
         }
     }
 }
@@ -100,7 +100,7 @@ fn kind_told(rule: u32, sent: Kind) -> Verdict
 
 /// The bytes that are sent.
 fn other_bytes_told(rule: u32, sent: &[u8]) -> Verdict
-    requires { length sent.now ≤ 64 }
+    requires { length sent.now ≤ BLOCK_BYTES }
     ensures { result ≡ other_bytes_told rule sent.now }
 {
     Verdict {
@@ -111,12 +111,12 @@ fn other_bytes_told(rule: u32, sent: &[u8]) -> Verdict
     }
 }
 
-/// At most 64 bytes, and 0 past them.
-fn padded(bytes: &[u8]) -> [u8; 64]
-    requires { length bytes.now ≤ 64 }
-    ensures { result ≡ bytes.now ++ replicate (64 - length bytes.now) 0 }
+/// At most `BLOCK_BYTES` bytes, and 0 past them.
+fn padded(bytes: &[u8]) -> [u8; BLOCK_BYTES]
+    requires { length bytes.now ≤ BLOCK_BYTES }
+    ensures { result ≡ bytes.now ++ replicate (BLOCK_BYTES - length bytes.now) 0 }
 {
-    let mut all = [0; 64];
+    let mut all = [0; BLOCK_BYTES];
     all[..bytes.len()].copy_from_slice(bytes);
     all
 }

@@ -1,5 +1,6 @@
 -- What a check of a record's text answers.
 use Rattle.std.specs.Prelude.{◌≡◌, ℕ, ◌+◌, ◌<◌, ◌≤◌, List, [], ◌∷◌, ◌++◌, length, Option, Some, None, Result, Ok, Err}
+use Rattle.tl_types.specs.declared.limits.TheConstants.{BLOCKS, BLOCK_BYTES}
 use Rattle.tl_protocol.specs.declared.shape.Shape.{Shape}
 use Rattle.tl_protocol.specs.Protocol.{block_of}
 use Rattle.tlcheck_rules.specs.Judged.{Breaks, Follows, IsLawful, JudgeState, events_of}
@@ -53,7 +54,7 @@ pub record BreaksHere (then_ : Result Reading Cause) (broken : BrokenEntry) : Ty
 -- the geometry that was read is in the range of a judge
 abbrev pub IsFit : Stage → Type 0
 IsFit Fresh = Unit {0}
-IsFit (Shaped shape) = (0 < shape.block_bytes) × (shape.block_bytes ≤ 64) × (shape.blocks ≤ 65536)
+IsFit (Shaped shape) = (0 < shape.block_bytes) × (shape.block_bytes ≤ BLOCK_BYTES) × (shape.blocks ≤ BLOCKS)
 IsFit (Judging judge count) = Unit {0}
 
 -- what a line is that could not be read

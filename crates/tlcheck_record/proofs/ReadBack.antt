@@ -4,6 +4,7 @@ use Rattle.std.proofs.lemmas.Bool.{le-ltb}
 use Rattle.std.proofs.lemmas.Bool.Decides.{nat_tests}
 use Rattle.std.proofs.lemmas.List.{append-nil}
 use Rattle.std.specs.List.{list_all}
+use Rattle.tl_types.specs.declared.limits.TheConstants.{BLOCK_BYTES}
 use Rattle.tl_types.specs.Text.{dirty_prune_text, grant_cap_text, grow_text, probe_cap_text, probe_report_text, prune_text, kind_text}
 use Rattle.tl_types.specs.declared.kind.Kind.{Kind}
 use Rattle.tl_types.specs.declared.kind.Kind.TheVariants as kind
@@ -115,9 +116,9 @@ access_read a h =
     let few : (eqb (length a.bytes) 0 || nat_lt 8 (length a.bytes)) ≡ false = let lo = h.some in let hi = h.most in grind (arith, nat_tests) in
     rw (bytes_read a.bytes h.bytes, few) refl
 
-block_read : (bytes : List ℕ) → length bytes ≤ 64 → All (λ b. b < 256) bytes → block_bytes_in (hex_text bytes) ≡ Ok bytes
+block_read : (bytes : List ℕ) → length bytes ≤ BLOCK_BYTES → All (λ b. b < 256) bytes → block_bytes_in (hex_text bytes) ≡ Ok bytes
 unfolding block_bytes_in
-block_read bytes few h = rw (bytes_read bytes h, le-ltb 64 (length bytes) few) refl
+block_read bytes few h = rw (bytes_read bytes h, le-ltb BLOCK_BYTES (length bytes) few) refl
 
 -- ## What is shown
 
@@ -151,7 +152,7 @@ plain name param k same word param_word read = record {
 }
 
 data_ : (name param bytes : List ℕ) (k : Kind) → kind_text k ≡ name ++ 32 ∷ param → IsWord name → IsWord param → data_kind name param ≡ Ok k
-    → length bytes ≤ 64 → All (λ b. b < 256) bytes → Shows (with_ k (Some bytes))
+    → length bytes ≤ BLOCK_BYTES → All (λ b. b < 256) bytes → Shows (with_ k (Some bytes))
 unfolding shown_of
 data_ name param bytes k same word param_word read few h = record {
   words = name ∷ param ∷ hex_text bytes ∷ [];

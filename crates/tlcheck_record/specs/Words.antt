@@ -1,6 +1,7 @@
 -- What both formats of records have: lines as texts, numbers, addresses, bytes, the image (this project's own formats).
 use Rattle.std.specs.Prelude.{ℕ, ◌-◌, ◌*◌, ◌==◌, ◌&&◌, ◌||◌, nat_le, nat_lt, Bool, List, [], ◌∷◌, length, slice_index, Result, Ok, Err, ok_or, if◌then◌else◌}
 use Rattle.std.specs.Str.{is_utf8}
+use Rattle.tl_types.specs.declared.limits.TheConstants.{BLOCK_BYTES}
 use Rattle.tl_types.specs.declared.permission.Grow.{Grow}
 use Rattle.tl_types.specs.declared.permission.Prune.{Prune}
 use Rattle.tl_protocol.specs.declared.shape.Shape.{Shape}
@@ -46,10 +47,10 @@ address_in text = ok_or (address_of text) cause.Number
 abbrev pub access_bytes_in : List ℕ → Result (List ℕ) Cause
 access_bytes_in text = ok_or (access_of text) cause.Bytes
 
--- HEX: the bytes of a block, at most 64
+-- HEX: the bytes of a block, at most `BLOCK_BYTES`
 unfoldable pub block_bytes_in : List ℕ → Result (List ℕ) Cause
 block_bytes_in text =
-    ok_or (bytes_of text) cause.Bytes >>= (λ bytes. if nat_lt 64 (length bytes) then Err cause.Bytes else Ok bytes)
+    ok_or (bytes_of text) cause.Bytes >>= (λ bytes. if nat_lt BLOCK_BYTES (length bytes) then Err cause.Bytes else Ok bytes)
 
 -- GROW
 abbrev pub grow_in : List ℕ → Result Grow Cause

@@ -1,9 +1,10 @@
 -- How an entry prints: the line of a record that stands for it (this project's own format; the words are those of a trace).
 use Rattle.std.specs.Prelude.{◌≡◌, ℕ, ◌^◌, ◌<◌, ◌≤◌, List, [], ◌++◌, length, All, Option, Some, None, codes, decimal}
+use Rattle.tl_types.specs.declared.limits.TheConstants.{BLOCK_BYTES}
 use Rattle.tl_types.specs.Text.{grow_text, kind_text, probe_cap_text, prune_text}
 use Rattle.tl_types.specs.declared.kind.Kind.{Kind}
 use Rattle.tl_types.specs.declared.kind.Kind.TheVariants as kind
-use Rattle.tl_script_words.specs.Hex.{address_text, hex_text}
+use Rattle.tl_script_words.specs.Hex.{address_text, carried_text, hex_text}
 use Rattle.tl_protocol.specs.declared.event.Access.{Access}
 use Rattle.tl_protocol.specs.declared.event.Event.{Event}
 use Rattle.tl_protocol.specs.declared.event.Event.TheVariants.{Load, Store, SendAcquire, SendRelease, AnswerProbe, TakeGrant, TakeReleaseAck, AcceptAcquire, SendProbe, TakeC, SendGrant, TakeGrantAck, SendGet, Serve, TakeData, Drop, SendPut, TakePutAck}
@@ -40,11 +41,6 @@ event_text (TakeData block) = codes "take_data " ++ decimal block
 event_text (Drop block) = codes "drop " ++ decimal block
 event_text (SendPut block) = codes "put " ++ decimal block
 event_text (TakePutAck block) = codes "take_put_ack " ++ decimal block
-
--- bytes with a space before them, or nothing
-abbrev pub carried_text : Option (List ℕ) → List ℕ
-carried_text None = []
-carried_text (Some bytes) = codes " " ++ hex_text bytes
 
 -- a message's kind, and its bytes where it carries some
 abbrev pub message_text : Kind → Option (List ℕ) → List ℕ
@@ -94,10 +90,10 @@ HasLine (Drop block) = block < 2 ^ 32
 HasLine (SendPut block) = block < 2 ^ 32
 HasLine (TakePutAck block) = block < 2 ^ 32
 
--- at most 64 bytes
+-- at most `BLOCK_BYTES` bytes
 abbrev pub AreBlockBytes : Option (List ℕ) → Type 0
 AreBlockBytes None = ⊥
-AreBlockBytes (Some bytes) = (length bytes ≤ 64) × All (λ b. b < 256) bytes
+AreBlockBytes (Some bytes) = (length bytes ≤ BLOCK_BYTES) × All (λ b. b < 256) bytes
 
 -- a message between home and a client, with bytes exactly where its kind has them
 abbrev pub IsMessage : Kind → Option (List ℕ) → Type 0

@@ -4,11 +4,10 @@ ghost use Rattle.std.specs.List.{flat_map, list_any};
 ghost use Rattle.tl_types.specs.Message.{is_probe_ack};
 ghost use Rattle.tlcheck_record.specs.State.{client_line, copy_text, is_at_rest, is_probed, is_still, on_a, on_ab, on_b, on_c, on_cde, on_d, on_e, perm_text, probe_text, standing_text, wait_text};
 
-use crate::written::Carried;
 use std::fmt;
 use tl_protocol::AckCount;
 use tl_rules::{CachedCopy, Client};
-use tl_script_words::Hex;
+use tl_script_words::{Carried, Hex};
 use tl_types::{Awaited, ClientId, Downward, Grow, Perm, ProbeCap, Upward};
 
 fn has_answer(client: &Client) -> bool

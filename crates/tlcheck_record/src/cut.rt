@@ -6,9 +6,6 @@ ghost use Rattle.tlcheck_record.specs.Parts.{parts_in, parts_of};
 
 use arrayvec::ArrayVec;
 
-/// As many words as an entry may have.
-const FEW: usize = 7;
-
 /// How many bytes are looked at one by one, before a text is searched: most parts are no longer.
 const NEAR: usize = 24;
 
@@ -64,13 +61,13 @@ pub fn cut_at(text: &str, mark: u8) -> (&str, Option<&str>)
     }
 }
 
-/// The words of a line, where they are no more than an entry has.
-pub(crate) fn few_words(line: &str) -> Option<ArrayVec<&str, FEW>>
+/// The words of a line, where they are no more than `N`.
+pub fn few_words<const N: usize>(line: &str) -> Option<ArrayVec<&str, N>>
     ensures { IfSome result (λ words. texts words.items ≡ words_of line.now) }
 {
     let mut words = ArrayVec::new();
     let mut rest = line;
-    for number in 0..FEW {
+    for number in 0..N {
         let (word, after) = cut_at(rest, b' ');
         if words.try_push(word).is_err() {
             return None;

@@ -15,6 +15,9 @@ use tl_script_words::split_words;
 use tl_types::{BlockNo, ClientId};
 use tlcheck_rules::Entry;
 
+/// As many words as an entry may have.
+const FEW: usize = 7;
+
 /// A verb of a client and a block.
 #[derive(Clone, Copy, Debug, PartialEq, Eq)]
 pub enum ClientCall {
@@ -89,13 +92,7 @@ fn access(arguments: &[&str]) -> Result<Access, LineError>
                 let client = client(who)?;
                 let address = read_address(address)?;
                 let bytes = read_access(bytes)?;
-                Ok(Access {
-                    client,
-                    address,
-                    bytes,
-                    stamp: 0,
-                    index: 0,
-                })
+                Ok(Access::bare(client, address, bytes))
             }
             _ => Err(LineError::Wrong(Cause::MoreWords)),
         },
@@ -103,7 +100,7 @@ fn access(arguments: &[&str]) -> Result<Access, LineError>
 }
 
 #[tactic(auto, unfolding(crate::specs::Entry::client_entry))]
-fn client_entry(alloc: Global, verb: ClientCall, arguments: &[&str]) -> Result<Entry, LineError>
+fn client_entry(verb: ClientCall, arguments: &[&str]) -> Result<Entry, LineError>
     ensures { Gives (λ x. x) result (client_entry verb (texts arguments.now)) }
 {
     match arguments {
@@ -111,7 +108,7 @@ fn client_entry(alloc: Global, verb: ClientCall, arguments: &[&str]) -> Result<E
         [who, place, rest @ ..] => {
             let c = client(who)?;
             let b = block(place)?;
-            let shown = parse_shown(alloc, rest)?;
+            let shown = parse_shown(rest)?;
             Ok(Entry {
                 event: client_event(verb, c, b),
                 shown,
@@ -138,7 +135,7 @@ fn home_entry(verb: HomeCall, arguments: &[&str]) -> Result<Entry, LineError>
 }
 
 #[tactic(auto, unfolding(crate::specs::Entry::acquire_in))]
-fn acquire(alloc: Global, arguments: &[&str]) -> Result<Entry, LineError>
+fn acquire(arguments: &[&str]) -> Result<Entry, LineError>
     ensures { Gives (λ x. x) result (acquire_in (texts arguments.now)) }
 {
     match arguments {
@@ -147,7 +144,7 @@ fn acquire(alloc: Global, arguments: &[&str]) -> Result<Entry, LineError>
             let c = client(who)?;
             let b = block(place)?;
             let param = read_grow(word)?;
-            let shown = parse_shown(alloc, rest)?;
+            let shown = parse_shown(rest)?;
             Ok(Entry {
                 event: Event::SendAcquire(c, b, param),
                 shown,
@@ -157,7 +154,7 @@ fn acquire(alloc: Global, arguments: &[&str]) -> Result<Entry, LineError>
 }
 
 #[tactic(auto, unfolding(crate::specs::Entry::release_in))]
-fn release(alloc: Global, arguments: &[&str]) -> Result<Entry, LineError>
+fn release(arguments: &[&str]) -> Result<Entry, LineError>
     ensures { Gives (λ x. x) result (release_in (texts arguments.now)) }
 {
     match arguments {
@@ -166,7 +163,7 @@ fn release(alloc: Global, arguments: &[&str]) -> Result<Entry, LineError>
             let c = client(who)?;
             let b = block(place)?;
             let param = read_prune(word)?;
-            let shown = parse_shown(alloc, rest)?;
+            let shown = parse_shown(rest)?;
             Ok(Entry {
                 event: Event::SendRelease(c, b, param),
                 shown,
@@ -176,7 +173,7 @@ fn release(alloc: Global, arguments: &[&str]) -> Result<Entry, LineError>
 }
 
 #[tactic(auto, unfolding(crate::specs::Entry::probe_in))]
-fn probe(alloc: Global, arguments: &[&str]) -> Result<Entry, LineError>
+fn probe(arguments: &[&str]) -> Result<Entry, LineError>
     ensures { Gives (λ x. x) result (probe_in (texts arguments.now)) }
 {
     match arguments {
@@ -185,7 +182,7 @@ fn probe(alloc: Global, arguments: &[&str]) -> Result<Entry, LineError>
             let c = client(who)?;
             let b = block(place)?;
             let param = parse_probe_cap(word)?;
-            let shown = parse_shown(alloc, rest)?;
+            let shown = parse_shown(rest)?;
             Ok(Entry {
                 event: Event::SendProbe(c, b, param),
                 shown,
@@ -201,22 +198,22 @@ fn quiet(event: Event) -> Entry
 }
 
 #[tactic(auto, unfolding(crate::specs::Entry::entry_by))]
-fn entry_by(alloc: Global, verb: &str, arguments: &[&str]) -> Result<Entry, LineError>
+fn entry_by(verb: &str, arguments: &[&str]) -> Result<Entry, LineError>
     ensures { Gives (λ x. x) result (entry_by verb.now (texts arguments.now)) }
 {
     match verb {
         "load" => Ok(quiet(Event::Load(access(arguments)?))),
         "store" => Ok(quiet(Event::Store(access(arguments)?))),
-        "acquire" => acquire(alloc, arguments),
-        "release" => release(alloc, arguments),
-        "probe" => probe(alloc, arguments),
-        "answer_probe" => client_entry(alloc, ClientCall::AnswerProbe, arguments),
-        "take_grant" => client_entry(alloc, ClientCall::TakeGrant, arguments),
-        "take_release_ack" => client_entry(alloc, ClientCall::TakeReleaseAck, arguments),
-        "accept" => client_entry(alloc, ClientCall::AcceptAcquire, arguments),
-        "take_c" => client_entry(alloc, ClientCall::TakeC, arguments),
-        "grant" => client_entry(alloc, ClientCall::SendGrant, arguments),
-        "take_grant_ack" => client_entry(alloc, ClientCall::TakeGrantAck, arguments),
+        "acquire" => acquire(arguments),
+        "release" => release(arguments),
+        "probe" => probe(arguments),
+        "answer_probe" => client_entry(ClientCall::AnswerProbe, arguments),
+        "take_grant" => client_entry(ClientCall::TakeGrant, arguments),
+        "take_release_ack" => client_entry(ClientCall::TakeReleaseAck, arguments),
+        "accept" => client_entry(ClientCall::AcceptAcquire, arguments),
+        "take_c" => client_entry(ClientCall::TakeC, arguments),
+        "grant" => client_entry(ClientCall::SendGrant, arguments),
+        "take_grant_ack" => client_entry(ClientCall::TakeGrantAck, arguments),
         "get" => home_entry(HomeCall::SendGet, arguments),
         "serve" => home_entry(HomeCall::Serve, arguments),
         "take_data" => home_entry(HomeCall::TakeData, arguments),
@@ -228,12 +225,12 @@ fn entry_by(alloc: Global, verb: &str, arguments: &[&str]) -> Result<Entry, Line
 }
 
 #[tactic(auto, unfolding(crate::specs::Entry::entry_in))]
-fn entry_in(alloc: Global, words: &[&str]) -> Result<Entry, LineError>
+fn entry_in(words: &[&str]) -> Result<Entry, LineError>
     ensures { Gives (λ x. x) result (entry_in (texts words.now)) }
 {
     match words {
         [] => Err(LineError::Wrong(Cause::Words)),
-        [verb, arguments @ ..] => entry_by(alloc, verb, arguments),
+        [verb, arguments @ ..] => entry_by(verb, arguments),
     }
 }
 
@@ -242,15 +239,15 @@ fn entry_of_any(alloc: Global, line: &str) -> Result<Entry, LineError>
     ensures { Gives (λ x. x) result (entry_of line.now) }
 {
     let words = split_words(alloc, line)?;
-    entry_in(alloc, &words)
+    entry_in(&words)
 }
 
 /// The entry that a line writes. `Wrong` with the cause where it writes none, `Memory` where memory is refused.
 pub fn read_entry(alloc: Global, line: &str) -> Result<Entry, LineError>
     ensures { Gives (λ x. x) result (entry_of line.now) }
 {
-    match few_words(line) {
-        Some(words) => entry_in(alloc, &words),
+    match few_words::<FEW>(line) {
+        Some(words) => entry_in(&words),
         None => entry_of_any(alloc, line),
     }
 }

@@ -17,7 +17,7 @@ mod written;
 
 pub use cause::{Cause, LineError};
 pub use client::{Held, Waits};
-pub use cut::cut_at;
+pub use cut::{cut_at, few_words};
 pub use entries::read_entry;
 pub use header::{read_image_line, read_shape};
 pub use message_name::MessageName;

@@ -6,7 +6,6 @@ ghost use Rattle.tlcheck_record.specs.Shown.{bare_kind, data_kind, dirty_of, gra
 
 use crate::cause::{Cause, LineError};
 use crate::words::{read_block_bytes, read_grow, read_prune};
-use std::alloc::Global;
 use tl_types::{DirtyPrune, GrantCap, Kind, ProbeCap, ProbeReport};
 use tlcheck_rules::Shown;
 
@@ -97,7 +96,7 @@ fn data_kind(name: &str, param: &str) -> Result<Kind, Cause>
 
 /// What the rest of a line shows: nothing, or a message.
 #[tactic(auto, unfolding(crate::specs::Shown::shown_of))]
-pub(crate) fn parse_shown(alloc: Global, words: &[&str]) -> Result<Option<Shown>, LineError>
+pub(crate) fn parse_shown(words: &[&str]) -> Result<Option<Shown>, LineError>
     ensures { Gives (λ x. x) result (shown_of (texts words.now)) }
 {
     match words {
@@ -115,7 +114,7 @@ pub(crate) fn parse_shown(alloc: Global, words: &[&str]) -> Result<Option<Shown>
                 let kind = data_kind(name, param)?;
                 Ok(Some(Shown {
                     kind,
-                    bytes: Some(read_block_bytes(alloc, bytes)?),
+                    bytes: Some(read_block_bytes(bytes)?),
                 }))
             }
             _ => Err(LineError::Wrong(Cause::MoreWords)),

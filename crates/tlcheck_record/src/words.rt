@@ -8,7 +8,8 @@ use crate::cause::{Cause, LineError};
 use std::alloc::Global;
 use tl_rules::Shape;
 use tl_script_words::{
-    ParseError, parse_access, parse_address, parse_bytes, parse_grow, parse_number, parse_prune,
+    ParseError, parse_access, parse_address, parse_block, parse_bytes, parse_grow, parse_number,
+    parse_prune,
 };
 use tl_types::{AccessBytes, BlockBytes, Grow, Prune};
 
@@ -71,16 +72,11 @@ pub fn read_access(text: &str) -> Result<AccessBytes, Cause>
     parse_access(text).ok_or(Cause::Bytes)
 }
 
-/// The bytes of a block. `Wrong` with the cause where the text is none, `Memory` where memory is refused.
-#[tactic(auto, unfolding(crate::specs::Words::block_bytes_in))]
-pub fn read_block_bytes(alloc: Global, text: &str) -> Result<BlockBytes, LineError>
-    ensures { Gives (λ x. x) result (block_bytes_in text.now) }
+/// The bytes of a block, at most 64; `Bytes` where the text is none.
+pub fn read_block_bytes(text: &str) -> Result<BlockBytes, Cause>
+    ensures { result ≡ block_bytes_in text.now }
 {
-    let bytes = parse_bytes(alloc, text)?;
-    match BlockBytes::from_slice(&bytes) {
-        Some(bytes) => Ok(bytes),
-        None => Err(LineError::Wrong(Cause::Bytes)),
-    }
+    parse_block(text).ok_or(Cause::Bytes)
 }
 
 /// What an Acquire asks for.

@@ -1,16 +1,15 @@
 //! An entry as the line that stands for it.
 ghost use Rattle.std.specs.Prelude.{◌≡◌, ◌++◌, Some, None, Ok};
-ghost use Rattle.std.specs.Option.{option_map};
 ghost use Rattle.tl_protocol.specs.declared.event.Event.{Event};
 ghost use Rattle.tlcheck_rules.specs.declared.entry.Entry.{Entry};
 ghost use Rattle.tlcheck_record.specs.Carries.{event_words, words_text};
 ghost use Rattle.tlcheck_record.specs.Entry.{entry_of};
-ghost use Rattle.tlcheck_record.specs.Written.{HasLine, MayShow, access_text, carried_text, entry_text, event_text, plain_entry, plain_event, shown_text};
+ghost use Rattle.tlcheck_record.specs.Written.{HasLine, MayShow, access_text, entry_text, event_text, plain_entry, plain_event, shown_text};
 
 use std::fmt;
 use tl_rules::{Access, Event};
-use tl_script_words::{Address, Hex};
-use tl_types::{BlockBytes, BlockNo, ClientId, Grow, ProbeCap, Prune};
+use tl_script_words::{Address, Carried, Hex};
+use tl_types::{BlockNo, ClientId, Grow, ProbeCap, Prune};
 use tlcheck_rules::{Entry, Shown};
 
 // A client, an address and bytes.
@@ -119,21 +118,6 @@ impl fmt::Display for EventLine<'_> {
 
     fn fmt<W: fmt::Write>(&self, f: &mut fmt::Formatter<W>) -> fmt::Result {
         write!(f, "{}{}", verb(self.0), words_after(self.0))
-    }
-}
-
-/// The bytes that a message carries, with a space before them, or nothing.
-#[derive(Clone, Copy)]
-pub(crate) struct Carried<'a>(pub(crate) Option<&'a BlockBytes>);
-
-impl fmt::Display for Carried<'_> {
-    ghost output = { λ x. Some (carried_text (option_map (λ b. b.now) x.0)) };
-
-    fn fmt<W: fmt::Write>(&self, f: &mut fmt::Formatter<W>) -> fmt::Result {
-        match self.0 {
-            Some(bytes) => write!(f, " {}", Hex(bytes.as_slice())),
-            None => Ok(()),
-        }
     }
 }
 

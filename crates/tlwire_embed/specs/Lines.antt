@@ -2,10 +2,11 @@
 -- TileLink 1.8, section 6).
 use Rattle.std.specs.Prelude.{ℕ, List, ◌==◌, ◌/◌, take, nat_lt, Option, Some, None, if◌then◌else◌}
 use Rattle.std.specs.Option.{option_map}
+use Rattle.tl_types.specs.Bodies.{has_data}
 use Rattle.tl_types.specs.declared.kind.Kind.{Kind}
 use Rattle.tl_protocol.specs.declared.shape.Shape.{Shape}
 use Rattle.tlcheck_rules.specs.declared.entry.Shown.{Shown}
-use Rattle.tlcheck_embed.specs.Kinds.{has_data, kind_shown}
+use Rattle.tlcheck_embed.specs.Kinds.{kind_shown}
 use Rattle.tlwire_search.specs.declared.seen.Seen.{Seen}
 use Rattle.tlwire_search.specs.declared.seen.Seen.TheVariants as seen
 use Rattle.tlwire_pins.specs.declared.view.Cores.{Cores}

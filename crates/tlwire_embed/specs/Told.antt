@@ -1,5 +1,6 @@
 -- What is told of a line (this project's own numbers).
 use Rattle.std.specs.Prelude.{ℕ, replicate}
+use Rattle.tl_types.specs.declared.limits.TheConstants.{BLOCK_BYTES}
 use Rattle.tl_types.specs.declared.permission.Perm.{Perm}
 use Rattle.tl_types.specs.declared.wait.Awaited.{Awaited}
 use Rattle.tl_types.specs.declared.wait.Awaited.TheVariants.{Nothing, ForGrant, ForReleaseAck}
@@ -21,7 +22,7 @@ only status = record {
   perm = 0;
   wait = 0;
   why = 0;
-  bytes = replicate 64 0;
+  bytes = replicate BLOCK_BYTES 0;
 }
 
 -- the number of an answer that a client waits for

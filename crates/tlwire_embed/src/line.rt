@@ -4,7 +4,7 @@ ghost use Rattle.tlwire_embed.specs.Lines.{access_of, line_of, message_in, messa
 
 use tl_rules::Shape;
 use tl_types::{AccessBytes, BLOCK_BYTES, BlockBytes, BlockNo, ClientId, Kind};
-use tlcheck_embed::{has_data, kind_shown};
+use tlcheck_embed::kind_shown;
 use tlcheck_rules::Shown;
 use tlwire_pins::Cores;
 use tlwire_search::Seen;
@@ -28,7 +28,7 @@ pub struct PinsLine {
     /// How many bytes it has, or the access.
     pub len: u32,
     /// The bytes, the first `len` of them.
-    pub bytes: [u8; 64],
+    pub bytes: [u8; BLOCK_BYTES],
 }
 
 impl PinsLine {
@@ -93,7 +93,7 @@ impl PinsLine {
         requires { shape.block_bytes ≤ BLOCK_BYTES }
         ensures { result ≡ message_in shape self.now kind }
     {
-        if has_data(kind) {
+        if kind.has_data() {
             if self.len != shape.block_bytes {
                 return None;
             }

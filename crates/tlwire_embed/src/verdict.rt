@@ -3,7 +3,7 @@ ghost use Rattle.std.specs.Prelude.{◌≡◌, replicate};
 ghost use Rattle.tl_protocol.specs.Copy.{perm_of};
 ghost use Rattle.tlwire_embed.specs.Told.{broken_told, only, told_of, wait_number, with_state, with_view};
 
-use tl_types::{Awaited, Perm};
+use tl_types::{Awaited, BLOCK_BYTES, Perm};
 use tlcheck_embed::{Verdict, breach_told, perm_number};
 use tlwire_pins::{Broken, View};
 
@@ -28,7 +28,7 @@ pub struct PinsVerdict {
     /// Of 18, why it is closed.
     pub why: u32,
     /// The bytes that the client sends, where others are shown.
-    pub bytes: [u8; 64],
+    pub bytes: [u8; BLOCK_BYTES],
 }
 
 impl PinsVerdict {
@@ -45,7 +45,7 @@ impl PinsVerdict {
             perm: 0,
             wait: 0,
             why: 0,
-            bytes: [0; 64],
+            bytes: [0; BLOCK_BYTES],
         }
     }
 }

@@ -9,7 +9,7 @@ use Rattle.tlcheck_record.specs.declared.cause.Cause.{Cause}
 use Rattle.tlcheck_record.specs.declared.cause.Cause.TheVariants as cause
 use Rattle.tlcheck_record.specs.declared.cause.LineError.{LineError}
 use Rattle.tlcheck_record.specs.declared.cause.LineError.TheVariants.{Wrong, Memory}
-use Rattle.tlwire_record.specs.Fields.{field_by, field_in, field_of, fields_in, pair_of, with_field, with_pair, with_word}
+use Rattle.tlwire_record.specs.Fields.{field_by, field_in, field_of, fields_in, pair_of, with_field, with_word}
 use Rattle.tlwire_record.specs.declared.fields.Field.{Field}
 use Rattle.tlwire_record.specs.declared.fields.Fields.{Fields}
 
@@ -58,13 +58,6 @@ module _ (have : Fields) (rest : List (List ℕ)) where
   unfolding fields_in
   stops (Wrong c) word h = ends c (field_of word) h
   stops Memory word h = tt
-
--- a key and a value add what their word does
-pub by_parts :
-    (have new : Fields) (word key value : List ℕ) (r : Result (Unit {0}) LineError) → pair_of word ≡ key ∷ value ∷ []
-    → Gives {X = Unit {0}} (λ _. new) r (with_pair have key value) → Gives {X = Unit {0}} (λ _. new) r (with_word have word)
-by_parts have new word key value r parts h =
-    subst (λ (o : Result Field Cause). Gives {X = Unit {0}} (λ _. new) r (o >>= (λ f. with_field have f))) (sym (two_parts word key value parts)) h
 
 -- ## One word after another
 

@@ -1,5 +1,5 @@
-pub mod Codes
 pub mod DigitLaws
 pub mod FieldWords
+pub mod ValueWords
 pub mod Lines
 pub mod Offsets

@@ -110,15 +110,6 @@ is_on_link AccessAck link = is_memory link
 is_on_link AccessAckData link = is_memory link
 is_on_link _ link = not (is_memory link)
 
--- a message of the kind carries a block's bytes
-abbrev pub has_data : Kind → Bool
-has_data PutFullData = true
-has_data (ProbeAckData prune) = true
-has_data (ReleaseData prune) = true
-has_data AccessAckData = true
-has_data (GrantData cap) = true
-has_data _ = false
-
 -- what a message does to what is open on its link
 abbrev pub role_of : Kind → Role
 role_of PutFullData = role.Request

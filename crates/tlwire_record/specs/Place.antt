@@ -1,11 +1,11 @@
 -- Where a message or an access is, and whether its size and its bytes are a block's.
 use Rattle.std.specs.Prelude.{ℕ, ◌+◌, ◌-◌, ◌/◌, ◌%◌, ◌==◌, ◌&&◌, ◌||◌, nat_lt, Bool, true, false, not, List, length, Option, Some, None, Result, Ok, Err, if◌then◌else◌}
 use Rattle.std.specs.Option.{is_some}
+use Rattle.tl_types.specs.Bodies.{has_data}
 use Rattle.tl_types.specs.declared.channel.Channel.{Channel}
 use Rattle.tl_types.specs.declared.channel.Channel.TheVariants.{A, B, C, D, E}
 use Rattle.tl_types.specs.declared.kind.Kind.{Kind}
 use Rattle.tl_protocol.specs.declared.shape.Shape.{Shape}
-use Rattle.tlwire_record.specs.Code.{has_data}
 use Rattle.tlcheck_record.specs.declared.cause.Cause.{Cause}
 use Rattle.tlcheck_record.specs.declared.cause.Cause.TheVariants as cause
 use Rattle.tlwire_record.specs.declared.fields.Fields.{Fields}

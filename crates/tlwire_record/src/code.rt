@@ -1,10 +1,9 @@
 //! The kind of a message, by its codes.
 ghost use Rattle.std.specs.Prelude.{◌≡◌};
-ghost use Rattle.tl_types.specs.Decoding.{kind_at};
-ghost use Rattle.tlwire_record.specs.Code.{has_data, is_on_link, kind_of, name_at, name_both_ways, name_from_client, name_from_home, name_if, name_of, role_of};
+ghost use Rattle.tlwire_record.specs.Code.{is_on_link, kind_of, name_at, name_both_ways, name_from_client, name_from_home, name_if, name_of, role_of};
 
 use crate::line::Link;
-use tl_types::{Channel, Kind, decode};
+use tl_types::{Channel, Kind, kind_at};
 use tlcheck_record::{Cause, MessageName};
 
 /// A name, where a test is met.
@@ -112,13 +111,6 @@ pub(crate) fn name_of(kind: &Kind) -> MessageName
     }
 }
 
-// What the table of codes has.
-fn kind_at(channel: Channel, opcode: u8, param: u8) -> Option<Kind>
-    ensures { result ≡ kind_at channel opcode param }
-{
-    decode(channel, opcode, param)
-}
-
 /// The kind that a channel, an opcode and a parameter stand for. Code where TileLink has no such message, Profile where
 /// it has one that this project leaves out.
 #[tactic(auto, unfolding(crate::specs::Code::kind_of))]
@@ -128,7 +120,7 @@ pub(crate) fn kind_of(channel: Channel, opcode: u32, param: u32) -> Result<Kind,
     if opcode > 7 || param > 7 {
         return Err(Cause::Code);
     }
-    match kind_at(channel, opcode as u8, param as u8) {
+    match kind_at(channel, opcode, param) {
         Some(kind) => Ok(kind),
         None => match name_at(channel, opcode, param) {
             Some(name) => Err(Cause::Profile(name, param)),
@@ -149,20 +141,6 @@ pub(crate) fn is_on_link(kind: &Kind, link: &Link) -> bool
         Kind::Get | Kind::PutFullData | Kind::AccessAck | Kind::AccessAckData => is_memory,
         _ => !is_memory,
     }
-}
-
-/// Whether a message of a kind carries a block's bytes.
-pub(crate) fn has_data(kind: &Kind) -> bool
-    ensures { result ≡ has_data kind.now }
-{
-    matches!(
-        kind,
-        Kind::PutFullData
-            | Kind::ProbeAckData(_)
-            | Kind::ReleaseData(_)
-            | Kind::AccessAckData
-            | Kind::GrantData(_)
-    )
 }
 
 /// What a message does to what is open on its link.

@@ -1,14 +1,15 @@
 //! The fields of a message: words KEY=VALUE.
-ghost use Rattle.std.specs.Prelude.{◌≡◌, IfOk};
+ghost use Rattle.std.specs.Prelude.{◌≡◌, ◌∷◌, IfOk, List, ℕ};
 ghost use Rattle.tl_script_words.specs.Words.{texts};
-ghost use Rattle.tlcheck_record.specs.Cause.{Gives};
+ghost use Rattle.tlcheck_record.specs.Cause.{Gives, Refuses};
+ghost use Rattle.tlwire_record.specs.declared.fields.Fields.{Fields};
 ghost use Rattle.tlwire_record.specs.Fields.{fields_in, no_fields, pair_of, with_pair, with_word};
 
 use crate::address::read_wide_address;
 use crate::cut::cut_pair;
 use std::alloc::{AllocError, Global};
 use tl_types::BlockBytes;
-use tlcheck_record::{Cause, LineError, read_block_bytes, read_number};
+use tlcheck_record::{Cause, LineError, cut_at, read_block_bytes, read_number};
 
 /// A field of a message, as the definitions of `Fields` name it: a line's fields are read into their places without it.
 #[derive(Drop)]
@@ -64,7 +65,7 @@ pub(crate) fn no_fields() -> Fields
 
 /// One field more, of a key and a value, unless it is there.
 #[tactic(auto, unfolding(crate::specs::Fields::field_by))]
-fn add_field(alloc: Global, fields: &mut Fields, key: &str, value: &str) -> Result<(), LineError>
+fn add_field(fields: &mut Fields, key: &str, value: &str) -> Result<(), LineError>
     ensures { Gives (λ _. fields.new) result (with_pair fields.old key.now value.now) }
 {
     let was_there = match key {
@@ -73,10 +74,7 @@ fn add_field(alloc: Global, fields: &mut Fields, key: &str, value: &str) -> Resu
         "source" => fields.source.replace(read_number(value)?).is_some(),
         "sink" => fields.sink.replace(read_number(value)?).is_some(),
         "address" => fields.address.replace(read_wide_address(value)?).is_some(),
-        "data" => fields
-            .bytes
-            .replace(read_block_bytes(alloc, value)?)
-            .is_some(),
+        "data" => fields.bytes.replace(read_block_bytes(value)?).is_some(),
         "denied" => fields.denied.replace(read_number(value)?).is_some(),
         "corrupt" => fields.corrupt.replace(read_number(value)?).is_some(),
         "mask" => fields.mask.replace(read_number(value)?).is_some(),
@@ -89,34 +87,57 @@ fn add_field(alloc: Global, fields: &mut Fields, key: &str, value: &str) -> Resu
     }
 }
 
-/// One field more, that a word writes.
-fn add_word(alloc: Global, fields: &mut Fields, word: &str) -> Result<(), LineError>
-    ensures { Gives (λ _. fields.new) result (with_word fields.old word.now) }
+/// Why a word adds no field, where for this reason its key and what stands behind its first `=` add none.
+fn refused(word: &str, error: LineError) -> LineError
+    ensures { (have : Fields) (key value : List ℕ) → pair_of word.now ≡ key ∷ pair_of value
+        → Refuses error (with_pair have key value) → Refuses result (with_word have word.now) }
 {
     match cut_pair(word) {
-        Some((key, value)) => add_field(alloc, fields, key, value),
-        None => Err(LineError::Wrong(Cause::Key)),
+        Some(_) => error,
+        None => LineError::Wrong(Cause::Key),
+    }
+}
+
+/// One field more, of a word's key and of what stands behind its first `=`. A value that was read has no second one, so
+/// that is looked for only where none was read.
+fn add_value(fields: &mut Fields, word: &str, key: &str, value: &str) -> Result<(), LineError>
+    requires { pair_of word.now ≡ key.now ∷ pair_of value.now }
+    ensures { Gives (λ _. fields.new) result (with_word fields.old word.now) }
+{
+    match add_field(fields, key, value) {
+        Ok(()) => Ok(()),
+        Err(error) => Err(refused(word, error)),
+    }
+}
+
+/// One field more, that a word writes.
+fn add_word(fields: &mut Fields, word: &str) -> Result<(), LineError>
+    ensures { Gives (λ _. fields.new) result (with_word fields.old word.now) }
+{
+    match cut_at(word, b'=') {
+        (key, Some(value)) => add_value(fields, word, key, value),
+        (_, None) => Err(LineError::Wrong(Cause::Key)),
     }
 }
 
 /// The fields that some words write, beside those that are there. It stands apart, so that the fields stay in place.
 #[inline(never)]
-fn add_words(alloc: Global, fields: &mut Fields, words: &[&str]) -> Result<(), LineError>
+fn add_words(fields: &mut Fields, words: &[&str]) -> Result<(), LineError>
     ensures { Gives (λ _. fields.new) result (fields_in fields.old (texts words.now)) }
 {
     let mut rest = words;
     while let [word, after @ ..] = rest {
-        add_word(alloc, fields, word)?;
+        add_word(fields, word)?;
         rest = after;
     }
     Ok(())
 }
 
 /// The fields that some words write.
-pub(crate) fn parse_fields(alloc: Global, words: &[&str]) -> Result<Fields, LineError>
+pub(crate) fn parse_fields(words: &[&str]) -> Result<Fields, LineError>
     ensures { Gives (λ x. x) result (fields_in no_fields (texts words.now)) }
 {
     let mut fields = no_fields();
-    add_words(alloc, &mut fields, words)?;
+    add_words(&mut fields, words)?;
     Ok(fields)
 }

@@ -33,6 +33,7 @@ pub struct Setting {
 
 impl Model for Setting {
     ghost use Rattle.std.specs.Prelude.{◌<◌, ◌≤◌};
+    ghost use Rattle.tl_types.specs.declared.limits.TheConstants.{BLOCKS, BLOCK_BYTES};
     ghost use Rattle.tlwire_record.specs.Header.{SettingState};
 
     ghost Value = { SettingState };
@@ -40,7 +41,8 @@ impl Model for Setting {
     ghost view = { λ s.
         record { shape = s.shape; base = s.base; sources = s.sources.items; premises = s.premises.items } };
 
-    ghost invariant = { λ s. (0 < s.shape.block_bytes) × (s.shape.block_bytes ≤ 64) × (s.shape.blocks ≤ 65536) };
+    ghost invariant = { λ s. (0 < s.shape.block_bytes) × (s.shape.block_bytes ≤ BLOCK_BYTES)
+        × (s.shape.blocks ≤ BLOCKS) };
 }
 
 impl Sources {

@@ -6,7 +6,6 @@ ghost use Rattle.tlwire_record.specs.Line.{access_in, channel_of_word, client_of
 
 use crate::address::read_wide_address;
 use crate::fields::{Fields, parse_fields};
-use std::alloc::Global;
 use tl_script_words::parse_number;
 use tl_types::{AccessBytes, Channel, ClientId};
 use tlcheck_record::{Cause, LineError, read_access, read_number};
@@ -123,21 +122,21 @@ fn parse_words_of_access(words: &[&str]) -> Result<(u64, AccessBytes), LineError
 
 /// A message's opcode and fields.
 #[tactic(auto, unfolding(crate::specs::Line::message_in))]
-fn message(alloc: Global, channel: Channel, words: &[&str]) -> Result<Said, LineError>
+fn message(channel: Channel, words: &[&str]) -> Result<Said, LineError>
     ensures { Gives (λ x. x) result (message_in channel (texts words.now)) }
 {
     match words {
         [] => Err(LineError::Wrong(Cause::Words)),
         [opcode, rest @ ..] => {
             let opcode = read_number(opcode)?;
-            let fields = parse_fields(alloc, rest)?;
+            let fields = parse_fields(rest)?;
             Ok(Said::Message(channel, opcode, fields))
         }
     }
 }
 
 #[tactic(auto, unfolding(crate::specs::Line::said_in))]
-fn parse_said(alloc: Global, verb: &str, words: &[&str]) -> Result<Said, LineError>
+fn parse_said(verb: &str, words: &[&str]) -> Result<Said, LineError>
     ensures { Gives (λ x. x) result (said_in verb.now (texts words.now)) }
 {
     match verb {
@@ -151,36 +150,30 @@ fn parse_said(alloc: Global, verb: &str, words: &[&str]) -> Result<Said, LineErr
         }
         _ => {
             let channel = parse_channel(verb)?;
-            message(alloc, channel, words)
+            message(channel, words)
         }
     }
 }
 
 /// The line with this cycle, this link, this verb and these words behind it.
 #[tactic(auto, unfolding(crate::specs::Line::line_in))]
-fn line_of(
-    alloc: Global,
-    when: &str,
-    place: &str,
-    verb: &str,
-    rest: &[&str],
-) -> Result<Line, LineError>
+fn line_of(when: &str, place: &str, verb: &str, rest: &[&str]) -> Result<Line, LineError>
     ensures { Gives (λ x. x) result (line_in (when.now ∷ place.now ∷ verb.now ∷ texts rest.now)) }
 {
     let cycle = read_number(when)?;
     let link = parse_link(place)?;
-    let said = parse_said(alloc, verb, rest)?;
+    let said = parse_said(verb, rest)?;
     Ok(Line { cycle, link, said })
 }
 
 /// The line that some words write: `CYCLE LINK CHANNEL OPCODE FIELD..`, `CYCLE LINK load ADDR HEX` or
 /// `CYCLE LINK store ADDR HEX`.
 #[tactic(auto, unfolding(crate::specs::Line::line_in))]
-pub(crate) fn parse_line(alloc: Global, words: &[&str]) -> Result<Line, LineError>
+pub(crate) fn parse_line(words: &[&str]) -> Result<Line, LineError>
     ensures { Gives (λ x. x) result (line_in (texts words.now)) }
 {
     match words {
         [] | [_] | [_, _] => Err(LineError::Wrong(Cause::Words)),
-        [when, place, verb, rest @ ..] => line_of(alloc, when, place, verb, rest),
+        [when, place, verb, rest @ ..] => line_of(when, place, verb, rest),
     }
 }

@@ -3,7 +3,6 @@ ghost use Rattle.std.specs.Prelude.{◌≡◌, ◌<◌, ◌≤◌};
 ghost use Rattle.tl_types.specs.declared.kind.Kind.{Kind};
 ghost use Rattle.tlwire_record.specs.Place.{block_at, has_its_data, has_more_than_a_sink, has_other_fields, is_set, is_size, offset_of};
 
-use crate::code::has_data;
 use crate::fields::Fields;
 use tl_rules::Shape;
 use tl_types::{AccessBytes, BLOCK_BYTES, BLOCKS, BlockBytes, BlockNo, Channel, Kind};
@@ -75,8 +74,8 @@ pub(crate) fn has_its_data(shape: Shape, kind: &Kind, bytes: &Option<BlockBytes>
     ensures { result ≡ has_its_data shape kind.now bytes.now }
 {
     match bytes {
-        None => !has_data(kind),
-        Some(bytes) => { has_data(kind) && bytes.as_slice().len() == shape.block_bytes as usize }
+        None => !kind.has_data(),
+        Some(bytes) => { kind.has_data() && bytes.as_slice().len() == shape.block_bytes as usize }
     }
 }
 

@@ -5,7 +5,6 @@ ghost use Rattle.tl_script_words.specs.Words.{texts};
 ghost use Rattle.tlcheck_record.specs.Cause.{Gives};
 ghost use Rattle.tlwire_record.specs.Reading.{after_text, going, next, next_shaped, shaped_by, text_taken};
 
-use crate::cut::few_words;
 use crate::header::{Setting, is_title, parse_setting, take_sources};
 use crate::line::parse_line;
 use crate::messages::Messages;
@@ -13,7 +12,10 @@ use crate::premise::{is_premise_word, take_premise};
 use std::alloc::Global;
 use std::mem;
 use tl_script_words::split_words;
-use tlcheck_record::{Cause, LineError, is_blank, read_image, read_text};
+use tlcheck_record::{Cause, LineError, few_words, is_blank, read_image, read_text};
+
+/// As many words as a line may have that is in the format: a message's, with each field.
+const FEW: usize = 13;
 
 /// Where a reader of a record is.
 #[derive(Drop)]
@@ -29,28 +31,18 @@ pub enum Stage {
 }
 
 /// One line more of what was seen.
-fn take_seen(
-    alloc: Global,
-    messages: &mut Messages,
-    number: u64,
-    words: &[&str],
-) -> Result<(), LineError>
+fn take_seen(messages: &mut Messages, number: u64, words: &[&str]) -> Result<(), LineError>
     ensures { Gives (λ _. Stage.Going messages.new) result (going messages.old number (texts words.now)) }
 {
-    let line = parse_line(alloc, words)?;
+    let line = parse_line(words)?;
     messages.take(number, line)
 }
 
 /// The same, behind the shape.
-fn going(
-    alloc: Global,
-    mut messages: Messages,
-    number: u64,
-    words: &[&str],
-) -> Result<Stage, LineError>
+fn going(mut messages: Messages, number: u64, words: &[&str]) -> Result<Stage, LineError>
     ensures { Gives (λ s. s) result (going messages number (texts words.now)) }
 {
-    take_seen(alloc, &mut messages, number, words)?;
+    take_seen(&mut messages, number, words)?;
     Ok(Stage::Going(messages))
 }
 
@@ -74,7 +66,7 @@ fn shaped_by(
         }
         _ => {
             let messages = Messages::begin(alloc, setting, Vec::new(alloc));
-            going(alloc, messages, number, words)
+            going(messages, number, words)
         }
     }
 }
@@ -108,7 +100,7 @@ fn next(alloc: Global, stage: Stage, number: u64, words: &[&str]) -> Result<Stag
         }
         Stage::Titled => Ok(Stage::Shaped(parse_setting(alloc, words)?)),
         Stage::Shaped(setting) => next_shaped(alloc, setting, number, words),
-        Stage::Going(messages) => going(alloc, messages, number, words),
+        Stage::Going(messages) => going(messages, number, words),
     }
 }
 
@@ -122,7 +114,7 @@ fn take_words(
     ensures { Gives (λ _. stage.new) result (next stage.old number (texts words.now)) }
 {
     match stage {
-        Stage::Going(messages) => take_seen(alloc, messages, number, words),
+        Stage::Going(messages) => take_seen(messages, number, words),
         _ => {
             let before = mem::replace(stage, Stage::Fresh);
             *stage = next(alloc, before, number, words)?;
@@ -143,7 +135,7 @@ fn any_text(alloc: Global, stage: &mut Stage, number: u64, text: &str) -> Result
 fn text_taken(alloc: Global, stage: &mut Stage, number: u64, text: &str) -> Result<(), LineError>
     ensures { Gives (λ _. stage.new) result (text_taken stage.old number text.now) }
 {
-    match few_words(text) {
+    match few_words::<FEW>(text) {
         Some(words) => take_words(alloc, stage, number, &words),
         None => any_text(alloc, stage, number, text),
     }

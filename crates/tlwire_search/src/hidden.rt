@@ -16,13 +16,8 @@ fn store(
     bytes: AccessBytes,
 ) -> Option<Event> {
     let first = block.number().checked_mul(shape.block_bytes)?;
-    Some(Event::Store(Access {
-        client,
-        address: first.checked_add(offset)?,
-        stamp: 0,
-        index: 0,
-        bytes,
-    }))
+    let address = first.checked_add(offset)?;
+    Some(Event::Store(Access::bare(client, address, bytes)))
 }
 
 /// The next store that makes a client's copy at Tip what the client gives up: where the two differ, or anywhere where

@@ -1,7 +1,6 @@
 //! Whose Acquire home accepts last of a block, where no Grant says whose.
 use crate::seen::Seen;
 use std::alloc::{AllocError, Global};
-use std::collections::HashMap;
 use tl_rules::Shape;
 use tl_types::{BlockNo, ClientId, Kind};
 
@@ -10,9 +9,6 @@ const CHOICES: usize = 8192;
 
 /// How many Acquires of a client may have to be accepted before the one that is wanted.
 const BEFORE: usize = 64;
-
-/// Two to the power of 32.
-const HALF: u64 = 4_294_967_296;
 
 /// An Acquire that was seen.
 #[derive(Clone, Copy)]
@@ -39,13 +35,45 @@ struct Asks {
     gets: Vec<Option<usize>>,
 }
 
-/// The places of Acquires that are not granted, by client and block.
-type Open = HashMap<u64, usize>;
+/// An Acquire that is not granted yet: whose it is, and its number among the client's.
+#[derive(Clone, Copy)]
+struct Waiting {
+    client: ClientId,
+    at: usize,
+}
 
-fn key(c: ClientId, block: BlockNo) -> u64 {
-    u64::from(c.number())
-        .wrapping_mul(HALF)
-        .wrapping_add(u64::from(block.number()))
+/// Of each block the last Acquire of each client that is not granted yet.
+type Open = Vec<Vec<Waiting>>;
+
+/// One more waits, in place of the client's last one, if that waits.
+fn wait(waiting: &mut Vec<Waiting>, one: Waiting) -> Result<(), AllocError> {
+    for place in 0..waiting.len() {
+        if waiting[place].client == one.client {
+            waiting[place] = one;
+            return Ok(());
+        }
+    }
+    waiting.push(one)?;
+    Ok(())
+}
+
+/// A client's waits no more; its number, if there was one.
+fn end_wait(waiting: &mut Vec<Waiting>, client: ClientId) -> Option<usize> {
+    for place in 0..waiting.len() {
+        if waiting[place].client == client {
+            return Some(waiting.swap_remove(place).at);
+        }
+    }
+    None
+}
+
+/// None waits.
+fn nothing_open(alloc: Global, shape: Shape) -> Result<Open, AllocError> {
+    let mut open = Vec::new(alloc);
+    for _ in 0..shape.blocks {
+        open.push(Vec::new(alloc))?;
+    }
+    Ok(open)
 }
 
 /// Notes a place for a block.
@@ -95,7 +123,10 @@ impl Asks {
         let Some(queue) = self.queues.get_mut(c.index()) else {
             return Ok(());
         };
-        open.insert(key(c, block), queue.len())?;
+        if let Some(waiting) = open.get_mut(block.index()) {
+            let at = queue.len();
+            wait(waiting, Waiting { client: c, at })?;
+        }
         queue.push(Acquire {
             place,
             block,
@@ -105,13 +136,16 @@ impl Asks {
     }
 
     /// A Grant.
-    fn grant(&mut self, open: &Open, c: ClientId, block: BlockNo, place: usize) {
+    fn grant(&mut self, open: &mut Open, c: ClientId, block: BlockNo, place: usize) {
         note(&mut self.grants, block, place);
-        let Some(at) = open.get(&key(c, block)) else {
+        let Some(waiting) = open.get_mut(block.index()) else {
+            return;
+        };
+        let Some(at) = end_wait(waiting, c) else {
             return;
         };
         if let Some(queue) = self.queues.get_mut(c.index()) {
-            if let Some(asked) = queue.get_mut(*at) {
+            if let Some(asked) = queue.get_mut(at) {
                 asked.is_granted = true;
             }
         }
@@ -139,38 +173,31 @@ impl Asks {
     /// What was seen.
     fn of(alloc: Global, shape: Shape, seen: &[Seen]) -> Result<Asks, AllocError> {
         let mut asks = Asks::new(alloc, shape)?;
-        let mut open = HashMap::new(alloc);
+        let mut open = nothing_open(alloc, shape)?;
         for (place, line) in seen.iter().enumerate() {
             asks.line(&mut open, place, line)?;
         }
         Ok(asks)
     }
 
-    /// Whether a line is the last Get of its block, and no Grant of the block follows.
-    fn need(&self, place: usize, line: &Seen) -> Option<Need> {
-        let Seen::OnMemory(block, message) = line else {
-            return None;
-        };
-        if message.kind != Kind::Get || noted(&self.gets, *block) != Some(place) {
-            return None;
-        }
-        match noted(&self.grants, *block) {
+    /// The last Get of a block, where no Grant of it follows.
+    fn need(&self, block: BlockNo) -> Option<Need> {
+        let place = noted(&self.gets, block)?;
+        match noted(&self.grants, block) {
             Some(grant) if grant > place => None,
-            _ => Some(Need {
-                place,
-                block: *block,
-            }),
+            _ => Some(Need { place, block }),
         }
     }
 
-    /// The Gets that no Grant follows.
-    fn needs(&self, alloc: Global, seen: &[Seen]) -> Result<Vec<Need>, AllocError> {
+    /// The Gets that no Grant follows, in their order.
+    fn needs(&self, alloc: Global, blocks: u32) -> Result<Vec<Need>, AllocError> {
         let mut needs = Vec::new(alloc);
-        for (place, line) in seen.iter().enumerate() {
-            if let Some(need) = self.need(place, line) {
+        for number in 0..blocks {
+            if let Some(need) = self.need(BlockNo::new(number)) {
                 needs.push(need)?;
             }
         }
+        needs.sort_unstable_by_key(|need| need.place);
         Ok(needs)
     }
 
@@ -449,7 +476,7 @@ impl LastAccepts {
     /// What is chosen by what was seen. The error is want of memory.
     pub fn of(alloc: Global, shape: Shape, seen: &[Seen]) -> Result<LastAccepts, AllocError> {
         let asks = Asks::of(alloc, shape, seen)?;
-        let needs = asks.needs(alloc, seen)?;
+        let needs = asks.needs(alloc, shape.blocks)?;
         let mut last = LastAccepts::forced(alloc, shape, &asks)?;
         if last.choose(alloc, &asks, &needs, false)? {
             return Ok(last);

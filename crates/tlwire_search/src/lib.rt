@@ -4,15 +4,15 @@
 
 mod answer;
 mod clients;
+mod enabling;
 mod hidden;
 mod last;
 mod marks;
+mod preceding;
 mod premise;
-mod remedy;
 mod search;
 mod seen;
 mod sight;
-mod sooner;
 mod sought;
 mod target;
 mod walk;

@@ -4,12 +4,12 @@ ghost use Rattle.tl_protocol.specs.Protocol.{May};
 ghost use Rattle.tlcheck_rules.specs.Judged.{Allows, own_block};
 
 use crate::clients::{Which, in_way};
+use crate::enabling::{Preferred, enabling_event};
 use crate::last::LastAccepts;
+use crate::preceding::preceding_event;
 use crate::premise::{Premise, is_seen_at_home, is_seen_at_pins, may_have_more};
-use crate::remedy::{Preferred, remedy};
 use crate::seen::{Seen, Wire};
 use crate::sight::seen_of;
-use crate::sooner::sooner;
 use crate::target::{target, wire_of};
 use crate::wires::Wires;
 use std::alloc::{AllocError, Global};
@@ -121,7 +121,7 @@ fn ready_for(
     let mut event = wanted;
     for _ in 0..DEPTH {
         event = in_order(judge, wires, record, event).ok_or(Limit::NoWay)?;
-        if let Some(first) = sooner(judge, wires, seen, &event) {
+        if let Some(first) = preceding_event(judge, wires, seen, &event) {
             event = first;
             continue;
         }
@@ -130,7 +130,7 @@ fn ready_for(
         if breach.is_none() && is_next(judge, wires, record, &entry.event) {
             return Ok(entry);
         }
-        event = remedy(
+        event = enabling_event(
             judge,
             wires,
             record.premises,

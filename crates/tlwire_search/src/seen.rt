@@ -2,7 +2,8 @@
 ghost use Rattle.std.specs.Prelude.{◌≡◌, ◌↔◌, IsTrue};
 ghost use Rattle.tlwire_search.specs.Explained.{wire_of};
 
-use tl_types::{AccessBytes, BlockBytes, BlockNo, Channel, ClientId};
+use tl_protocol::are_same_bytes;
+use tl_types::{AccessBytes, BlockNo, Channel, ClientId};
 use tlcheck_rules::Shown;
 
 /// A message, a load or a store that a monitor saw, with the client and the block that its ids stand for.
@@ -27,16 +28,6 @@ pub enum Wire {
     Memory(Channel),
     /// A client's core.
     Core(ClientId),
-}
-
-fn are_same_bytes(bytes: &Option<BlockBytes>, other: &Option<BlockBytes>) -> bool
-    ensures { IsTrue result ↔ (bytes.now ≡ other.now) }
-{
-    match (bytes, other) {
-        (None, None) => true,
-        (Some(bytes), Some(other)) => bytes.as_slice() == other.as_slice(),
-        (None, Some(_)) | (Some(_), None) => false,
-    }
 }
 
 fn are_same_messages(message: &Shown, other: &Shown) -> bool

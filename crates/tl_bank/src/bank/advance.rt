@@ -25,8 +25,8 @@ impl Bank {
     /// Carries out what the miss register of a block does next, and says what that was.
     ///
     /// The first of these that holds: `OutOfRange` where the block is not there; `WrongBank` where it is another
-    /// bank's; `NotYet` where its register waits or it has none; `LinkFull` where 64 messages are on the channel of a
-    /// Probe or Grant that is next; `Memory` where the log can't grow. Nothing changes then.
+    /// bank's; `NotYet` where its register waits or it has none; `LinkFull` where `MESSAGES` messages are on the
+    /// channel of a Probe or Grant that is next; `Memory` where the log can't grow. Nothing changes then.
     pub fn advance(&mut self, block: BlockNo) -> Result<Action, Refusal>
         ensures refused { IfErr result (λ r. IsRefused (first_of (advance_cases self.old block)) self.old.room r) }
         ensures unchanged { OnErr result (self.new ≡ self.old) }
@@ -66,7 +66,7 @@ impl Bank {
         Ok(due)
     }
 
-    /// Whether 64 messages are on the channel that an action of the register of a block sends on.
+    /// Whether `MESSAGES` messages are on the channel that an action of the register of a block sends on.
     fn is_due_full(&self, block: BlockNo, due: &Due) -> bool
         requires own { IsOwn self.now.geometry self.now.number block }
         requires due { due_at self.now block ≡ Some due.now }

@@ -129,8 +129,8 @@ impl Bank {
     /// The first of these that holds: `OutOfRange` where the client or the block is not there; `WrongBank` where the
     /// block is another bank's; `Waiting` where an Acquire or a Release of the block by the client is unanswered;
     /// `WrongFrom` where `grow` does not start from the copy's permission; `CopiesFull` where the client's table is
-    /// full and has no entry of the block; `LinkFull` where 64 messages are on channel A; `Memory` where the log can't
-    /// grow. Nothing changes then.
+    /// full and has no entry of the block; `LinkFull` where channel A is full; `Memory` where the log can't grow.
+    /// Nothing changes then.
     pub fn acquire(
         &mut self,
         client: ClientId,
@@ -160,8 +160,8 @@ impl Bank {
     /// The first of these that holds: `OutOfRange` where the client or the block is not there, or the share is another
     /// client's or counts otherwise than the client's copies here; `WrongBank` where the block or the share is another
     /// bank's; `Waiting` where an Acquire or a Release of the block by the client is unanswered; `WrongFrom` where
-    /// `prune` does not start from the copy's permission; `LinkFull` where 64 messages are on channel C; `Memory` where
-    /// the log can't grow. Nothing changes then, nor does the share.
+    /// `prune` does not start from the copy's permission; `LinkFull` where channel C is full; `Memory` where the log
+    /// can't grow. Nothing changes then, nor does the share.
     pub fn release(
         &mut self,
         client: ClientId,
@@ -228,8 +228,8 @@ impl Bank {
     /// counts otherwise than the client's copies here; `WrongBank` where the ticket or the share is another bank's;
     /// `NotHead` where the ticket names another channel than B; `NothingThere` where no message waits; `NotHead` where
     /// it names another message than the first; `ReleasePending` where a Release of the block by the client is
-    /// unanswered; `LinkFull` where 64 messages are on channel C; `Memory` where the log can't grow. Nothing changes
-    /// then, nor does the share.
+    /// unanswered; `LinkFull` where channel C is full; `Memory` where the log can't grow. Nothing changes then, nor
+    /// does the share.
     pub fn answer_probe(&mut self, ticket: Ticket, share: &mut Share) -> Result<Ticket, Refusal>
         ensures refused { IfErr result
             (λ r. IsRefused (first_of (answer_probe_cases self.old ticket share.old)) self.old.room r) }
@@ -279,8 +279,8 @@ impl Bank {
     /// The first of these that holds: `OutOfRange` where the client is not there, or the share is another client's or
     /// counts otherwise than the client's copies here; `WrongBank` where the ticket or the share is another bank's;
     /// `NotHead` where the ticket names another channel; `NothingThere` where no message waits; `NotHead` where it
-    /// names another message than the first, or that is no Grant; `LinkFull` where 64 messages are on channel E;
-    /// `Memory` where the log can't grow. Nothing changes then, nor does the share.
+    /// names another message than the first, or that is no Grant; `LinkFull` where channel E is full; `Memory` where
+    /// the log can't grow. Nothing changes then, nor does the share.
     pub fn take_grant(&mut self, ticket: Ticket, share: &mut Share) -> Result<Ticket, Refusal>
         ensures refused { IfErr result
             (λ r. IsRefused (first_of (take_grant_cases self.old ticket share.old)) self.old.room r) }

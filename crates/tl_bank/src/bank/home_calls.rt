@@ -31,8 +31,8 @@ impl Bank {
     ///
     /// The first of these that holds: `OutOfRange` where the client is not there; `WrongBank` where the ticket is
     /// another bank's; `NotHead` where it names another channel; `NothingThere` where no message waits; `NotHead` where
-    /// it names another message than the first; `LinkFull` where a Release is first and 64 messages are on channel D;
-    /// `Memory` where the log can't grow. Nothing changes then.
+    /// it names another message than the first; `LinkFull` where a Release is first and channel D is full; `Memory`
+    /// where the log can't grow. Nothing changes then.
     pub fn take_c(&mut self, ticket: Ticket) -> Result<Option<Ticket>, Refusal>
         ensures refused { IfErr result (λ r. IsRefused (first_of (take_c_cases self.old ticket)) self.old.room r) }
         ensures unchanged { OnErr result (self.new ≡ self.old) }

@@ -120,7 +120,7 @@ impl Bank {
         self.entries(client) >= self.geometry.copies()
     }
 
-    /// Whether 64 messages are on a channel.
+    /// Whether `MESSAGES` messages are on a channel.
     pub(super) fn is_link_full(&self, client: ClientId, channel: Channel) -> bool
         requires { client < self.now.geometry.clients }
         ensures { result ≡ link_full self.now client channel }

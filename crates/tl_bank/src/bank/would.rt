@@ -11,7 +11,7 @@ ghost use Rattle.tl_bank_spec.specs.Clock.{latest};
 ghost use Rattle.tl_bank_spec.specs.Refusal.{first_of};
 
 use crate::bank::Bank;
-use crate::bank::settle::{PlannedAnswer, PlannedRelease};
+use crate::bank::checks::{PlannedAnswer, PlannedRelease};
 use crate::share::Share;
 use tl_bank_spec::Refusal;
 use tl_types::{BlockNo, ClientId, ProbeAnswer, Prune, Surrender, Ticket};

@@ -1,7 +1,8 @@
 use Rattle.std.proofs.Common.{rules}
-use Rattle.tlwire_record.proofs.FieldWords.{by_parts}
+use Rattle.tlwire_record.proofs.FieldWords.{one_part}
+use Rattle.tlwire_record.proofs.ValueWords.{refused_word}
 use Rattle.tlwire_record.proofs.fields.add_word.Goals as goal
 
-pub returns-in-Some : goal.returns-in-Some
-returns-in-Some c =
-    by_parts c.args.fields.now c.add_field.new.fields c.args.word.now c.in-Some.key.now c.in-Some.value.now c.add_field.result (search rules) c.add_field.ensures
+-- it has no `=`
+pub returns-in_default-None : goal.returns-in_default-None
+returns-in_default-None c = refused_word c.args.fields.now c.args.word.now (one_part c.args.word.now c.cut_at.result.0.now (search rules))

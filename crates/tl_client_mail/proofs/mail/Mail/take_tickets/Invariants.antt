@@ -3,12 +3,13 @@ use Rattle.std.specs.List.{filter}
 use Rattle.tl_types.specs.declared.ticket.Ticket.{Ticket}
 use Rattle.tl_tickets.specs.declared.sent.Sent.{Sent}
 use Rattle.tl_client_mail.specs.Lanes.{brings}
+use Rattle.tl_client_mail.specs.declared.mail.TheConstants.{BATCH}
 use Rattle.tl_client_mail.proofs.mail.Mail.take_tickets.Given as goal
 
 -- so many more tickets as may come have room; of those taken so far the worker's joined the list
 abbrev pub invariant-loop : goal.invariant-loop
 invariant-loop g l = record {
-  room : vec_len l.taken + 64 ≤ vec_capacity l.taken + l.counter;
+  room : vec_len l.taken + BATCH ≤ vec_capacity l.taken + l.counter;
   few : length l.taken.items ≤ length l.fn.taken.items + l.counter;
   sending : l.self-inside.sending ≡ l.initial.self-inside.sending;
   known : l.self-inside.has_room ≡ l.initial.self-inside.has_room;

@@ -7,7 +7,7 @@ use Rattle.tl_copies.specs.Entries.{Entry}
 use Rattle.tl_copies.specs.Slots.{entry_at, entries_of}
 use Rattle.tl_copies.proofs.EntryLaws.{entry}
 use Rattle.tl_copies.proofs.SlotLaws.{free-inside, entries-taken, sound-taken, entries-added, sound-added, refill-set}
-use Rattle.tl_copies.proofs.SharingLaws.{shared-added, shared-few}
+use Rattle.tl_copies.proofs.HintLaws.{counted-added, counted-few}
 use Rattle.tl_copies.proofs.table.Table.add.Goals as goal
 
 pub bounds-deref_mut-slot : goal.bounds-deref_mut-slot
@@ -18,14 +18,14 @@ overflow_add-self-2 c =
     let long = length-map c.self.inside.keys.items (λ (key : Key). entry_at c.self.inside.slots.items key) in
     let shown : length (entries_of c.self.inside.slots.items c.self.inside.keys.items) ≡ length c.args.self.now =
     ap (λ (es : List Entry). length es) c.self.view_is in
-    rw c.hint_of.ensures (omega (arith, shared-few c.self.invariant.1 c.args.block, c.requires, long, shown))
+    rw c.hint_of.ensures (omega (arith, counted-few c.self.invariant.1 c.args.block, c.requires, long, shown))
 
 pub invariant_of-self : goal.invariant_of-self
 invariant_of-self c =
     let written = refill-set c.self.inside.slots.items c.deref_mut.result.now c.in-Some.slot c.in-Some.slot c.args.held c.deref_mut.ensures.value refl in
     rw (c.push.ensures.items, written, c.copies.ensures, c.hint_of.ensures) (
       sound-taken c.self.invariant.0 c.pop.new.self.items c.in-Some.slot c.in-Some.ensures.items c.args.block c.args.held,
-      shared-added c.self.invariant.1 (record { block = c.args.block; slot = c.in-Some.slot }),
+      counted-added c.self.invariant.1 (record { block = c.args.block; slot = c.in-Some.slot }),
     )
 
 pub invariant_of-self-in_default : goal.invariant_of-self-in_default
@@ -38,7 +38,7 @@ invariant_of-self-in_default c =
     let free : c.pop.new.self.items ≡ c.self.inside.free.items = sym (c.in_default.ensures.items ∙ append-nil c.pop.new.self.items) in
     rw (c.push-in_default-2.ensures.items, c.push-in_default.ensures.items, c.len-slot.ensures.value, c.copies.ensures, free, c.hint_of.ensures) (
       sound-added c.self.invariant.0 c.args.block c.args.held (omega (arith, none, c.requires, c.self.invariant.0.all, long, shown)),
-      shared-added c.self.invariant.1 (record { block = c.args.block; slot = length c.self.inside.slots.items }),
+      counted-added c.self.invariant.1 (record { block = c.args.block; slot = length c.self.inside.slots.items }),
     )
 
 pub returns-in-Some : goal.returns-in-Some

@@ -7,7 +7,7 @@ use Rattle.tl_copies.specs.Entries.{Entry}
 use Rattle.tl_copies.specs.Slots.{blank, entries_of}
 use Rattle.tl_copies.proofs.CountLaws.{one_if}
 use Rattle.tl_copies.proofs.SlotLaws.{slot-inside, entries-removed, copies-removed, sound-removed, key_at, held-read}
-use Rattle.tl_copies.proofs.SharingLaws.{shared-removed, shared-some}
+use Rattle.tl_copies.proofs.HintLaws.{counted-removed, counted-some}
 use Rattle.tl_copies.proofs.table.Table.remove.Goals as goal
 
 pub bounds-deref-key : goal.bounds-deref-key
@@ -43,7 +43,7 @@ invariant_of-self c =
     let change = copies-removed c.self.invariant.0 c.args.place k at in
     rw (c.remove-key.ensures.items, c.push.ensures.items, c.hint_of.ensures) (
       sound-removed c.self.invariant.0 c.args.place k (c.self.inside.copies - c.copies.result) at (omega (arith, fewer, change)),
-      shared-removed c.self.invariant.1 c.args.place k at,
+      counted-removed c.self.invariant.1 c.args.place k at,
     )
 
 pub overflow_sub-self-2 : goal.overflow_sub-self-2
@@ -51,7 +51,7 @@ overflow_sub-self-2 c =
     let k = c.remove-key.result in
     let at = key_at c.self.inside.keys.items c.self.inside.keys.items c.self.inside.slots.items c.args.self.now c.args.place k c.self.view_is
     c.requires refl c.remove-key.ensures.value in
-    rw c.hint_of.ensures (shared-some c.self.invariant.1 c.args.place k at)
+    rw c.hint_of.ensures (counted-some c.self.invariant.1 c.args.place k at)
 
 pub returns : goal.returns
 returns c =

@@ -4,7 +4,7 @@ use Rattle.tl_copies.specs.declared.table.Key.{Key}
 use Rattle.tl_copies.specs.Entries.{Entry}
 use Rattle.tl_copies.specs.Slots.{entries_of}
 use Rattle.tl_copies.proofs.SlotLaws.{entries-renewed, sound-renewed, key_at}
-use Rattle.tl_copies.proofs.SharingLaws.{shared-renewed}
+use Rattle.tl_copies.proofs.HintLaws.{counted-renewed}
 use Rattle.tl_copies.proofs.table.Table.renew.Goals as goal
 
 pub push-requires : goal.push-requires
@@ -16,7 +16,7 @@ invariant_of-self c =
     let at = key_at c.self.inside.keys.items c.self.inside.keys.items c.self.inside.slots.items c.args.self.now c.args.place k c.self.view_is
     c.requires refl c.remove-key.ensures.value in
     rw (c.push.ensures.items, c.remove-key.ensures.items)
-    (sound-renewed c.self.invariant.0 c.args.place k at, shared-renewed c.self.invariant.1 c.args.place k at)
+    (sound-renewed c.self.invariant.0 c.args.place k at, counted-renewed c.self.invariant.1 c.args.place k at)
 
 pub returns : goal.returns
 returns c e =

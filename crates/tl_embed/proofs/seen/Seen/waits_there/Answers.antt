@@ -1,6 +1,7 @@
 use Rattle.std.proofs.Common.{◌≡◌, ◌≢◌, ℕ, suc, ◌+◌, ◌==◌, Bool, false, List, take, Some, None, sym, ◌∙◌, ap, subst, arith, eq-eqb}
 use Rattle.std.specs.List.{list_any}
 use Rattle.std.proofs.lemmas.Bool.Decides.{nat_tests}
+use Rattle.tl_types.specs.declared.limits.TheConstants.{MESSAGES}
 use Rattle.tl_types.specs.declared.message.Message.{Message}
 use Rattle.tl_bank.specs.Contents.{message_waiting}
 use Rattle.tl_bank_spec.specs.Channels.{lane_at}
@@ -17,7 +18,7 @@ returns-in-None c =
     let p : Message → Bool = λ m. m.block == c.args.self.now.block in
     let none : message_waiting c.args.bank.now c.args.self.now.client c.args.channel c.loop-place.place ≡ None =
     ap (λ n. message_waiting c.args.bank.now n c.args.channel c.loop-place.place) (sym c.new.ensures) ∙ sym c.waiting.ensures ∙ c.in-None.is in
-    sym (any-no-more p (lane_at c.args.bank.now c.args.self.now.client c.args.channel).messages c.loop-place.place 64
+    sym (any-no-more p (lane_at c.args.bank.now c.args.self.now.client c.args.channel).messages c.loop-place.place MESSAGES
     (none-waits c.args.bank.now c.args.self.now.client c.args.channel c.loop-place.place c.requires none) c.loop-place.invariant)
 
 -- this one is of the block
@@ -26,7 +27,7 @@ returns-then-number-self c =
     let p : Message → Bool = λ m. m.block == c.args.self.now.block in
     let found : message_waiting c.args.bank.now c.args.self.now.client c.args.channel c.loop-place.place ≡ Some c.in-Some.waiting =
     ap (λ n. message_waiting c.args.bank.now n c.args.channel c.loop-place.place) (sym c.new.ensures) ∙ sym c.waiting.ensures ∙ c.in-Some.is in
-    sym (any-next p (lane_at c.args.bank.now c.args.self.now.client c.args.channel).messages c.loop-place.place 64 c.in-Some.waiting.1
+    sym (any-next p (lane_at c.args.bank.now c.args.self.now.client c.args.channel).messages c.loop-place.place MESSAGES c.in-Some.waiting.1
     (one-waits c.args.bank.now c.args.self.now.client c.args.channel c.loop-place.place c.in-Some.waiting c.requires found)
     (eq-eqb _ _ (sym c.number.ensures ∙ c.if-number-self.true)) c.loop-place-test.true)
 
@@ -44,10 +45,10 @@ loop-place-preserved c =
     (subst (λ n. (n == c.args.self.now.block) ≡ false) c.number.ensures (apart c.number.result c.args.self.now.block c.if-number-self.false))
     c.loop-place.invariant)
 
--- there were 64
+-- there were `MESSAGES`
 pub returns : goal.returns
 returns c =
     let p : Message → Bool = λ m. m.block == c.args.self.now.block in
     let messages : List Message = (lane_at c.args.bank.now c.args.self.now.client c.args.channel).messages in
-    let all : c.loop-place.place ≡ 64 = omega (arith, c.loop-place-test.false, c.loop-place.auto.place-end) in
+    let all : c.loop-place.place ≡ MESSAGES = omega (arith, c.loop-place-test.false, c.loop-place.auto.place-end) in
     sym (subst (λ n. list_any p (take n messages) ≡ false) all c.loop-place.invariant)

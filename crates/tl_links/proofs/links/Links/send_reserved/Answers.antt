@@ -1,5 +1,6 @@
 use Rattle.std.proofs.Common.{◌≡◌, ◌≢◌, ◌<◌, ◌%◌, ◌∙◌, ℕ, length, ap, arith}
 use Rattle.tl_types.specs.Lane.{Lane, with_message}
+use Rattle.tl_types.specs.declared.limits.TheConstants.{MESSAGES}
 use Rattle.tl_links.specs.Table.{LinkTable, lane_in}
 use Rattle.tl_links.proofs.Counts.{IsCounted-sent, lane-read, number-most}
 use Rattle.tl_links.proofs.Endings.{IsCountedByEnding-sent, ending-most}
@@ -18,8 +19,8 @@ invariant_of-self c =
     let lane : c.index_mut.result.now ≡ lane_in t x k =
     lane-read c.self.invariant.0 x k c.place.result c.index_mut.result.now known c.place.ensures
     c.index_mut.ensures.value in
-    let below : length (lane_in t x k).messages < 64 = rw (← c.self.view_is) at c.requires.room in
-    let room : length (lane_in t x k).messages ≢ 64 = λ full. omega (arith, below, full) in
+    let below : length (lane_in t x k).messages < MESSAGES = rw (← c.self.view_is) at c.requires.room in
+    let room : length (lane_in t x k).messages ≢ MESSAGES = λ full. omega (arith, below, full) in
     let new : c.push.new.self ≡ with_message (lane_in t x k) c.args.message =
     c.push.ensures ∙ ap (λ (l : Lane). with_message l c.args.message) lane in
     rw (c.place.ensures, c.index.ensures.value, c.place_by_ending-kind.ensures) (

@@ -30,18 +30,18 @@ few-passed s t numbers k n e counted below =
     omega (arith, waiting-few sound k n, sound.few)
 
 -- none that waits is of a block like this one
-none-alike : (s t : LinkTable) (waiting numbers : List ℕ) (k : Channel) (block : ℕ) (wanted : Wanted) → s ≡ t
+none-ending : (s t : LinkTable) (waiting numbers : List ℕ) (k : Channel) (block : ℕ) (wanted : Wanted) → s ≡ t
     → IsCounted s waiting → IsCountedByEnding s numbers → slice_index numbers (channel_index k * 16 + block % 16) ≡ 0
     → false ≡ some_has t k block wanted t.clients
-none-alike s t waiting numbers k block wanted e counted ended zero =
+none-ending s t waiting numbers k block wanted e counted ended zero =
     subst (λ (w : LinkTable). false ≡ some_has w k block wanted w.clients) e
     (sym (none-wanted counted ended k block wanted zero))
 
 pub returns-then-self-place_by_ending-eq0 : goal.returns-then-self-place_by_ending-eq0
 returns-then-self-place_by_ending-eq0 c =
-    none-alike _ c.args.self.now c.self.inside.waiting c.self.inside.alike c.args.channel c.args.block c.args.wanted
+    none-ending _ c.args.self.now c.self.inside.waiting c.self.inside.by_ending c.args.channel c.args.block c.args.wanted
     c.self.view_is c.self.invariant.0 c.self.invariant.1
-    (ap (λ p. slice_index c.self.inside.alike p) (sym c.place_by_ending.ensures) ∙ c.if-self-place_by_ending-eq0.true)
+    (ap (λ p. slice_index c.self.inside.by_ending p) (sym c.place_by_ending.ensures) ∙ c.if-self-place_by_ending-eq0.true)
 
 pub returns-then-passed-all : goal.returns-then-passed-all
 returns-then-passed-all c =

@@ -1,6 +1,7 @@
 use Rattle.std.proofs.Common.{◌≡◌, ◌*◌, ◌<◌, ◌≤◌, ℕ, List, length, sym, ◌∙◌, ap, arith}
 use Rattle.std.proofs.Math.Nat.{mul-le-mul}
 use Rattle.std.specs.Int.{div_ceil}
+use Rattle.tl_types.specs.declared.limits.TheConstants.{BLOCKS, BLOCK_BYTES}
 use Rattle.tl_types.specs.Bytes.{image_bytes}
 use Rattle.tl_types.proofs.Image.{length-image_bytes}
 use Rattle.tl_map.specs.Numbers.{Numbers}
@@ -43,7 +44,7 @@ overflow_mul-from c =
     rw (← bytes, ← c.div_ceil-number-end.ensures) c.loop-number-test.true in
     let below = ceil_below (length c.args.image.now) c.args.geometry.block_bytes c.loop-number.number some end in
     let lawful = c.block_bytes-block_bytes.ensures.lawful in
-    let most : c.args.geometry.memory_blocks * c.args.geometry.block_bytes ≤ 65536 * 64 = mul-le-mul lawful.memory_blocks.most lawful.block_bytes.most in
+    let most : c.args.geometry.memory_blocks * c.args.geometry.block_bytes ≤ BLOCKS * BLOCK_BYTES = mul-le-mul lawful.memory_blocks.most lawful.block_bytes.most in
     rw bytes (omega (arith, below, c.requires, most))
 
 pub write-requires-clause-inside : goal.write-requires-clause-inside

@@ -1,6 +1,7 @@
 use Rattle.std.proofs.Common.{◌≡◌, rules, sym, ap, ◌∙◌, ◌≤◌, false, arith}
 use Rattle.std.specs.Prelude.{Some}
 use Rattle.std.specs.Int.{bit_at}
+use Rattle.tl_types.specs.declared.limits.TheConstants.{CLIENTS}
 use Rattle.tl_ways.specs.Entries.{perm_by}
 use Rattle.tl_ways.proofs.EntryLaws.{perm_of-owner, perm_of-beside, perm_of-bit, perm_of-past, bit_set, bit_clear}
 use Rattle.tl_ways.proofs.entry.Entry.perm.Goals as goal
@@ -15,10 +16,10 @@ returns-then-eq-clause-alone c = λ tip other apart.
     let owner : c.self.inside.owner ≡ Some c.args.client = search rules in
     rw (← c.self.view_is) (perm_of-beside _ c.args.client other c.self.invariant owner apart)
 
-pub returns-then-number-ge-CLIENTS-clause-is : goal.returns-then-number-ge-CLIENTS-clause-is
-returns-then-number-ge-CLIENTS-clause-is c =
+pub returns-then-number-clause-is : goal.returns-then-number-clause-is
+returns-then-number-clause-is c =
     let no_owner : c.self.inside.owner ≡ Some c.args.client → ⊥ = search rules in
-    let past : 16 ≤ c.args.client = omega (arith, c.number-number.ensures) in
+    let past : CLIENTS ≤ c.args.client = omega (arith, c.number-number.ensures) in
     rw (← c.self.view_is) (sym (perm_of-past _ c.args.client c.self.invariant past no_owner))
 
 pub returns-then-self-number-eq1-clause-is : goal.returns-then-self-number-eq1-clause-is

@@ -294,7 +294,7 @@ fn first_taken(judge: &Judge, event: &Event) -> Option<Event> {
 }
 
 /// An event that has to come before one that breaks something, or that is not seen as it would be.
-pub(crate) fn remedy(
+pub(crate) fn enabling_event(
     judge: &Judge,
     wires: &Wires<'_>,
     premises: &[Premise],

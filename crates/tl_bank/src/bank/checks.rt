@@ -1,4 +1,4 @@
-//! What the calls of clients settle before they change anything: the first reason to refuse them, but for want of
+//! What the calls of clients check before they change anything: the first reason to refuse them, but for want of
 //! memory, or all that they need to know.
 ghost use Rattle.std.specs.Prelude.{◌≡◌, ◌+◌, None, Some, IfErr, IfOk, OnOk, slice_range};
 ghost use Rattle.tl_types.specs.Message.{surrender};

@@ -1,4 +1,4 @@
--- How many keys are of the blocks that share a hint, as an entry is put last, added or taken out.
+-- How many keys have a hint, as an entry is put last, added or taken out.
 use Rattle.std.proofs.Common.{◌≡◌, ◌≢◌, ℕ, ◌+◌, ◌-◌, ◌%◌, ◌<◌, ◌≤◌, ◌==◌, Bool, true, false, List, [], ◌∷◌, ◌++◌, length, if◌then◌else◌, replicate, refl, sym, ◌∙◌, None, ap, arith, eq-eqb, count_by, inl, inr}
 use Rattle.std.specs.Prelude.{slice_index, slice_set}
 use Rattle.std.specs.List.{remove}
@@ -8,7 +8,7 @@ use Rattle.std.proofs.lemmas.List.Sums.{sum_by-append, sum_by-cons, sum_by-remov
 use Rattle.tl_copies.specs.declared.held.Held.{Held}
 use Rattle.tl_copies.specs.declared.table.Key.{Key}
 use Rattle.tl_copies.specs.Entries.{found}
-use Rattle.tl_copies.specs.Slots.{entries_of, IsShared}
+use Rattle.tl_copies.specs.Slots.{entries_of, AreCountedByHint}
 use Rattle.tl_copies.proofs.SlotLaws.{IsKeyAt}
 
 -- one for a key of a block that has a hint
@@ -49,26 +49,26 @@ none-hinted slots block (k ∷ rest) none =
     ]
 
 -- Keys with their numbers.
-module _ {keys : List Key} {numbers : List ℕ} (shared : IsShared keys numbers) where
+module _ {keys : List Key} {numbers : List ℕ} (counts : AreCountedByHint keys numbers) where
   -- where a block's number is 0, it has no entry
-  pub none-shared : (slots : List Held) (block : ℕ) → slice_index numbers (block % 64) ≡ 0 → found block (entries_of slots keys) ≡ None
-  none-shared slots block none =
+  pub none-counted : (slots : List Held) (block : ℕ) → slice_index numbers (block % 64) ≡ 0 → found block (entries_of slots keys) ≡ None
+  none-counted slots block none =
       let few : block % 64 < 64 = omega arith in
-      none-hinted slots block keys (sym (shared.numbered (block % 64) few) ∙ none)
+      none-hinted slots block keys (sym (counts.numbered (block % 64) few) ∙ none)
 
   -- no number is above that of the keys
-  pub shared-few : (block : ℕ) → slice_index numbers (block % 64) ≤ length keys
-  shared-few block =
+  pub counted-few : (block : ℕ) → slice_index numbers (block % 64) ≤ length keys
+  counted-few block =
       let few : block % 64 < 64 = omega arith in
-      omega (arith, shared.numbered (block % 64) few, hinted-few (block % 64) keys)
+      omega (arith, counts.numbered (block % 64) few, hinted-few (block % 64) keys)
 
   -- a key counts
-  pub shared-some : (place : ℕ) (k : Key) → IsKeyAt keys place k → 1 ≤ slice_index numbers (k.block % 64)
-  shared-some place k at =
+  pub counted-some : (place : ℕ) (k : Key) → IsKeyAt keys place k → 1 ≤ slice_index numbers (k.block % 64)
+  counted-some place k at =
       let few : k.block % 64 < 64 = omega arith in
       omega (
         arith,
-        shared.numbered (k.block % 64) few,
+        counts.numbered (k.block % 64) few,
         sum_by-remove (λ key. has_hint (k.block % 64) key) keys place k at.inside,
         ap (λ key. has_hint (k.block % 64) key) at.key,
         own-hint k (k.block % 64) refl,
@@ -77,50 +77,50 @@ module _ {keys : List Key} {numbers : List ℕ} (shared : IsShared keys numbers)
   -- one number changes as its keys do
   changed : (later : List Key) (block number : ℕ) → number ≡ hinted (block % 64) later
       → ((hint : ℕ) → block % 64 ≢ hint → hinted hint later ≡ hinted hint keys)
-      → IsShared later (slice_set numbers (block % 64) number)
+      → AreCountedByHint later (slice_set numbers (block % 64) number)
   changed later block number here others =
       let few : block % 64 < 64 = omega arith in
       record {
-        all = length-set numbers (block % 64) number ∙ shared.all;
+        all = length-set numbers (block % 64) number ∙ counts.all;
         numbered = λ hint small.
             elim (cases_eq (block % 64) hint) [
               | inl same ↦
                   ap (λ h. slice_index (slice_set numbers (block % 64) number) h) (sym same)
-                  ∙ get_or-set_same numbers (block % 64) number 0 (omega (arith, shared.all, few)) ∙ here ∙ ap (λ h. hinted h later) same
+                  ∙ get_or-set_same numbers (block % 64) number 0 (omega (arith, counts.all, few)) ∙ here ∙ ap (λ h. hinted h later) same
               | inr apart ↦
-                  get_or-set_other numbers (block % 64) hint number 0 (λ same. apart (sym same)) ∙ shared.numbered hint small ∙ sym (others hint apart)
+                  get_or-set_other numbers (block % 64) hint number 0 (λ same. apart (sym same)) ∙ counts.numbered hint small ∙ sym (others hint apart)
             ];
       }
 
   -- an entry added
-  pub shared-added : (k : Key) → IsShared (keys ++ k ∷ []) (slice_set numbers (k.block % 64) (slice_index numbers (k.block % 64) + 1))
-  shared-added k =
+  pub counted-added : (k : Key) → AreCountedByHint (keys ++ k ∷ []) (slice_set numbers (k.block % 64) (slice_index numbers (k.block % 64) + 1))
+  counted-added k =
       let few : k.block % 64 < 64 = omega arith in
       let more : (hint : ℕ) → hinted hint (keys ++ k ∷ []) ≡ hinted hint keys + has_hint hint k =
       λ hint. omega (arith, sum_by-append (λ key. has_hint hint key) keys (k ∷ []), sum_by-cons (λ key. has_hint hint key) k []) in
       changed (keys ++ k ∷ []) k.block (slice_index numbers (k.block % 64) + 1)
-      (omega (arith, more (k.block % 64), own-hint k (k.block % 64) refl, shared.numbered (k.block % 64) few))
+      (omega (arith, more (k.block % 64), own-hint k (k.block % 64) refl, counts.numbered (k.block % 64) few))
       (λ hint apart. omega (arith, more hint, other-hint k hint apart))
 
   -- an entry taken out
-  pub shared-removed : (place : ℕ) (k : Key) → IsKeyAt keys place k
-      → IsShared (remove keys place) (slice_set numbers (k.block % 64) (slice_index numbers (k.block % 64) - 1))
-  shared-removed place k at =
+  pub counted-removed : (place : ℕ) (k : Key) → IsKeyAt keys place k
+      → AreCountedByHint (remove keys place) (slice_set numbers (k.block % 64) (slice_index numbers (k.block % 64) - 1))
+  counted-removed place k at =
       let few : k.block % 64 < 64 = omega arith in
       let less : (hint : ℕ) → hinted hint (remove keys place) + has_hint hint k ≡ hinted hint keys =
       λ hint. omega (arith, sum_by-remove (λ key. has_hint hint key) keys place k at.inside, ap (λ key. has_hint hint key) at.key) in
       changed (remove keys place) k.block (slice_index numbers (k.block % 64) - 1)
-      (omega (arith, less (k.block % 64), own-hint k (k.block % 64) refl, shared.numbered (k.block % 64) few))
+      (omega (arith, less (k.block % 64), own-hint k (k.block % 64) refl, counts.numbered (k.block % 64) few))
       (λ hint apart. omega (arith, less hint, other-hint k hint apart))
 
   -- an entry put last
-  pub shared-renewed : (place : ℕ) (k : Key) → IsKeyAt keys place k → IsShared (remove keys place ++ k ∷ []) numbers
-  shared-renewed place k at =
+  pub counted-renewed : (place : ℕ) (k : Key) → IsKeyAt keys place k → AreCountedByHint (remove keys place ++ k ∷ []) numbers
+  counted-renewed place k at =
       record {
-        all = shared.all;
+        all = counts.all;
         numbered = λ hint small. omega (
           arith,
-          shared.numbered hint small,
+          counts.numbered hint small,
           sum_by-append (λ key. has_hint hint key) (remove keys place) (k ∷ []),
           sum_by-cons (λ key. has_hint hint key) k [],
           sum_by-remove (λ key. has_hint hint key) keys place k at.inside,
@@ -129,6 +129,6 @@ module _ {keys : List Key} {numbers : List ℕ} (shared : IsShared keys numbers)
       }
 
 -- no key
-pub shared-empty : IsShared [] (replicate 64 0)
-shared-empty =
+pub counted-empty : AreCountedByHint [] (replicate 64 0)
+counted-empty =
     record { all = length-replicate {A = ℕ} 64 0; numbered = λ hint small. get_or-replicate 64 hint 0 0 small }

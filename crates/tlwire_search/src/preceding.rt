@@ -143,7 +143,7 @@ fn grant_before(
 }
 
 /// An event that has to come before this one, if one has.
-pub(crate) fn sooner(
+pub(crate) fn preceding_event(
     judge: &Judge,
     wires: &Wires<'_>,
     seen: &[Seen],
