@@ -1,10 +1,13 @@
--- The order of a run's lines at the pins.
-use Rattle.std.proofs.Common.{◌≡◌, ℕ, Bool, List, Result, Ok, Err, IfOk, IsTrue, true, false, sym, ap, subst, ◌∙◌}
+-- What is said of a record, of its own shape, image and lines.
+use Rattle.std.proofs.Common.{◌≡◌, ℕ, Bool, List, Option, Some, None, Result, Ok, Err, IfOk, IfSome, IsSome, IsTrue, refl, ap, subst, ◌∙◌}
 use Rattle.tl_protocol.specs.Runs.{IsRun, at_reset}
 use Rattle.tl_protocol.specs.declared.event.Event.{Event}
 use Rattle.tl_protocol.specs.declared.shape.Shape.{Shape}
 use Rattle.tlwire_search.specs.Explained.{Explains}
 use Rattle.tlwire_search.specs.declared.seen.Seen.{Seen}
+use Rattle.tlwire_orders.specs.Misplaced.{IsFirstMisplaced}
+use Rattle.tlwire_orders.specs.Orders.{IsUnexplained}
+use Rattle.tlwire_orders.specs.declared.order.Misplaced.{Misplaced}
 use Rattle.tlwire_pins.specs.Pins.{KeepsOrder, lines_from}
 use Rattle.tlwire_pins.specs.declared.view.Cores.{Cores}
 use Rattle.tlwire_closed.specs.Along.{IsSeenSo}
@@ -12,7 +15,7 @@ use Rattle.tlwire_closed.specs.declared.premise.Premise.{Premise as SetPremise}
 use Rattle.tlwire_closed.specs.declared.premise.Way.{Way}
 use Rattle.tlwire_closed.specs.declared.premise.Way.TheVariants.{Between, AtSending, AtHome, AtClients}
 use Rattle.tlwire_record.specs.Messages.{MessagesState}
-use Rattle.tlwire_answer.specs.Answer.{ClientKeepsOrder, EachKeepsOrder, IsExplained, IsInOrder, Meets, cores_of}
+use Rattle.tlwire_answer.specs.Answer.{ClientKeepsOrder, EachKeepsOrder, IsExplained, IsInOrder, IsOutOfOrder, Meets, cores_of}
 use Rattle.tlwire_answer.specs.Named.{premise_of}
 
 -- of a client
@@ -64,3 +67,17 @@ pub explained_then : (m : MessagesState) (run given : List Event) → given ≡ 
 explained_then m run given is wires told =
     let both = subst (λ (es : List Event). IsRun m.setting.shape m.image es → IsInOrder m es × ((way : Way) → Meets m es way)) is told wires.lawful.run in
     record { wires = wires; pins = both.0; ways = both.1 }
+
+-- an answer stands in another order
+pub out_of_order_then : {E : Type 0} (r : Result (Option Misplaced) E) (m : MessagesState) (shape : Shape) (seen : List Seen) → shape ≡ m.setting.shape → seen ≡ m.seen
+    → IfOk r (λ found. IfSome found (IsFirstMisplaced shape.clients seen)) → IfOk r (λ found. IsSome found → IsUnexplained shape seen)
+    → IfOk r (λ found. IfSome found (IsOutOfOrder m))
+out_of_order_then (Ok (Some x)) m shape seen s e first none = record {
+  first =
+      subst (λ (sh : Shape). IsFirstMisplaced sh.clients m.seen x) s
+      (subst (λ (lines : List Seen). IsFirstMisplaced shape.clients lines x) e first);
+  unexplained =
+      subst (λ (sh : Shape). IsUnexplained sh m.seen) s (subst (λ (lines : List Seen). IsUnexplained shape lines) e (none refl));
+}
+out_of_order_then (Ok None) m shape seen s e first none = tt
+out_of_order_then (Err x) m shape seen s e first none = tt

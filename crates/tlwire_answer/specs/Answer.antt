@@ -1,5 +1,5 @@
 -- What the answer to a record of messages ends with.
-use Rattle.std.specs.Prelude.{◌≡◌, ◌<◌, ℕ, Bool, true, false, List, length, Option, Some, Ok, Err, if◌then◌else◌}
+use Rattle.std.specs.Prelude.{◌≡◌, ◌<◌, ℕ, true, false, List, length, Ok, Err, if◌then◌else◌}
 use Rattle.std.specs.List.{list_any}
 use Rattle.tlwire_search.specs.Explained.{Explains}
 use Rattle.tlwire_search.specs.Premises.{is_seen_at_pins, is_unseen_on}
@@ -8,7 +8,9 @@ use Rattle.tlwire_search.specs.declared.seen.Wire.TheVariants.{Core}
 use Rattle.tl_protocol.specs.Runs.{at_reset}
 use Rattle.tl_protocol.specs.declared.event.Event.{Event}
 use Rattle.tlwire_search.specs.declared.seen.Seen.{Seen}
+use Rattle.tlwire_orders.specs.Misplaced.{IsFirstMisplaced}
 use Rattle.tlwire_orders.specs.Orders.{IsUnexplained}
+use Rattle.tlwire_orders.specs.declared.order.Misplaced.{Misplaced as MisplacedAnswer}
 use Rattle.tlwire_pins.specs.Impossible.{IsImpossible}
 use Rattle.tlwire_pins.specs.Pins.{KeepsOrder, lines_from}
 use Rattle.tlwire_pins.specs.Walk.{IsWrong}
@@ -31,6 +33,12 @@ use Rattle.tlwire_answer.specs.declared.verdict.Verdict.TheVariants.{Explained, 
 -- whether the header says that nobody watched a client's core
 abbrev pub cores_of : List Premise → ℕ → Cores
 cores_of premises client = if list_any (is_unseen_on (Core client)) premises then Unseen else Watched
+
+-- This is the first answer that stands in another order than what it answers, and no run explains the record, over any image and however
+-- it was seen.
+pub record IsOutOfOrder (m : MessagesState) (x : MisplacedAnswer) : Type 0 where
+  pub first : IsFirstMisplaced m.setting.shape.clients m.seen x
+  pub unexplained : IsUnexplained m.setting.shape m.seen
 
 -- The header says that a client's link was seen at the client's pins, its core too or not; there this is the first line
 -- of the client's that may not be seen, and no lawful run over any image is seen so.
@@ -78,7 +86,7 @@ pub record IsExplained (m : MessagesState) (run : List Event) : Type 0 where
 -- What may be said of what was seen: a run that explains it; or that there is none; or a place in it, of which nothing else is claimed.
 abbrev pub IsVerdict : MessagesState → Verdict → Type 0
 IsVerdict m (Explained run) = IsExplained m run.items
-IsVerdict m (Misplaced x) = IsUnexplained m.setting.shape m.seen
+IsVerdict m (Misplaced x) = IsOutOfOrder m x
 IsVerdict m (Impossible w) = IsNo m w
 IsVerdict m (RuledOut stuck) = IsRuledOut m
 IsVerdict m (NotDecided place limit sets) = place < length m.seen

@@ -1,10 +1,9 @@
 //! What is said of what was seen.
 ghost use Rattle.std.specs.List.{list_any};
-ghost use Rattle.std.specs.Prelude.{◌≡◌, ◌⊎◌, None, IfOk, IfSome, IsNone, IsSome, IsTrue};
-ghost use Rattle.tlwire_orders.specs.Orders.{IsUnexplained};
+ghost use Rattle.std.specs.Prelude.{◌≡◌, ◌⊎◌, None, IfOk, IfSome, IsNone, IsTrue};
 ghost use Rattle.std.specs.Bool.{OnFalse};
 ghost use Rattle.tlwire_answer.specs.Named.{is_at_clients, is_between, is_skew, least_of, least_with, names, or_zero, premise_of};
-ghost use Rattle.tlwire_answer.specs.Answer.{ClientKeepsOrder, EachKeepsOrder, IsInOrder, IsNo, IsSets, IsVerdict, Meets, NobodyIsTold, cores_of};
+ghost use Rattle.tlwire_answer.specs.Answer.{ClientKeepsOrder, EachKeepsOrder, IsInOrder, IsNo, IsOutOfOrder, IsSets, IsVerdict, Meets, NobodyIsTold, cores_of};
 ghost use Rattle.tl_protocol.specs.Runs.{IsRun};
 ghost use Rattle.tlwire_closed.specs.declared.premise.Way.{Way};
 ghost use Rattle.tlwire_record.specs.Messages.{MessagesState};
@@ -359,7 +358,7 @@ fn explained_in_rounds(alloc: Global, messages: &Messages) -> Result<Verdict, Al
 
 /// The first answer of a client's link that stands in another order than what it answers.
 fn misplaced_in(alloc: Global, messages: &Messages) -> Result<Option<Misplaced>, AllocError>
-    ensures { IfOk result (λ found. IsSome found → IsUnexplained messages.now.setting.shape messages.now.seen) }
+    ensures { IfOk result (λ found. IfSome found (IsOutOfOrder messages.now)) }
 {
     first_misplaced(alloc, messages.setting().shape(), messages.seen())
 }

@@ -2,11 +2,10 @@
 use Rattle.std.proofs.Common.{◌≡◌, ◌==◌, ◌&&◌, ℕ, Bool, true, false, cond, List, [], ◌∷◌, ◌++◌, map, Option, Some, None, refl, sym, ap, ◌∙◌, subst}
 use Rattle.std.proofs.lemmas.Bool.{eqb-true, false≢true}
 use Rattle.std.proofs.lemmas.List.Elements.{filter_map-append}
-use Rattle.std.specs.List.{cons_option, filter_map}
-use Rattle.tl_types.specs.Bodies.{answer_kind, body_kind, downward_kind, surrender_kind}
-use Rattle.tl_types.specs.Channel.{same_channel}
+use Rattle.std.specs.List.{cons_option}
+use Rattle.tl_types.specs.Bodies.{answer_kind, downward_kind, surrender_kind}
 use Rattle.tl_types.specs.Message.{probe_answer, surrender}
-use Rattle.tl_types.specs.declared.channel.Channel.TheVariants.{A, B, C, D, E}
+use Rattle.tl_types.specs.declared.channel.Channel.TheVariants.{B, C, D}
 use Rattle.tl_types.specs.declared.message.Body.TheVariants as body
 use Rattle.tl_types.specs.declared.message.Downward.{Downward}
 use Rattle.tl_types.specs.declared.message.Downward.TheVariants.{Grant, ReleaseAck}
@@ -32,7 +31,7 @@ use Rattle.tl_protocol.specs.declared.home.Outward.{Outward}
 use Rattle.tl_protocol.specs.declared.home.Outward.TheVariants.{Quiet, Get, Data, Put, PutAck}
 use Rattle.tl_protocol.specs.declared.shape.Shape.{Shape}
 use Rattle.tl_protocol_lanes.specs.Delivery.{first_as, message_taken, taken_along}
-use Rattle.tl_protocol_lanes.specs.Lanes.{Post, ack_post, answer_post, grant_post, post_of, take_of}
+use Rattle.tl_protocol_lanes.specs.Lanes.{ack_post, answer_post, grant_post, take_of}
 use Rattle.tl_protocol_lanes.specs.Lists.{list_in}
 use Rattle.tlwire_search.specs.Explained.{answer_seen, as_list, link_seen, seen_from, seen_of}
 use Rattle.tlwire_search.specs.declared.seen.Seen.{Seen}

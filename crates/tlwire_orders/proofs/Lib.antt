@@ -2,3 +2,4 @@ pub mod Links
 pub mod Answers
 pub mod Orders
 pub mod Parting
+pub mod Messages

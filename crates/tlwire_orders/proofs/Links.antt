@@ -6,13 +6,11 @@ use Rattle.std.specs.List.{cons_option, filter_map}
 use Rattle.tl_types.specs.Bodies.{answer_kind, body_kind, downward_kind, surrender_kind}
 use Rattle.tl_types.specs.Channel.{same_channel}
 use Rattle.tl_types.specs.Codes.{channel_of}
-use Rattle.tl_types.specs.Lane.{is_here}
 use Rattle.tl_types.specs.Message.{probe_answer, surrender}
 use Rattle.tl_types.specs.declared.channel.Channel.{Channel}
-use Rattle.tl_types.specs.declared.channel.Channel.TheVariants.{A, B, C, D, E}
+use Rattle.tl_types.specs.declared.channel.Channel.TheVariants.{B, C, D}
 use Rattle.tl_types.specs.declared.kind.Kind.{Kind}
 use Rattle.tl_types.specs.declared.kind.Kind.TheVariants as kind
-use Rattle.tl_types.specs.declared.message.Body.TheVariants as body
 use Rattle.tl_types.specs.declared.message.Downward.{Downward}
 use Rattle.tl_types.specs.declared.message.Downward.TheVariants.{Grant, ReleaseAck}
 use Rattle.tl_types.specs.declared.message.Message.{Message}
@@ -36,7 +34,7 @@ use Rattle.tl_protocol.specs.declared.home.Outward.TheVariants.{Quiet, Get, Data
 use Rattle.tl_protocol.specs.declared.shape.Shape.{Shape}
 use Rattle.tl_protocol_lanes.specs.Delivery.{message_sent, sent_from}
 use Rattle.tl_protocol_lanes.specs.Lanes.{Post, ack_post, answer_post, grant_post, post_of}
-use Rattle.tlwire_search.specs.Explained.{answer_seen, as_list, link_seen, seen_from, seen_of, shown_as}
+use Rattle.tlwire_search.specs.Explained.{answer_seen, as_list, link_seen, seen_from, seen_of}
 use Rattle.tlwire_search.specs.declared.seen.Seen.{Seen}
 use Rattle.tlwire_orders.specs.Orders.{asked, block_if, block_in, is_asked}
 use Rattle.tlwire_orders.specs.declared.pair.Pair.{Pair}

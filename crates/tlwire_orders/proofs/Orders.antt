@@ -9,7 +9,7 @@ use Rattle.tl_types.specs.Channel.{same_channel}
 use Rattle.tl_types.specs.Codes.{channel_of}
 use Rattle.tl_types.specs.Lane.{is_here}
 use Rattle.tl_types.specs.declared.channel.Channel.{Channel}
-use Rattle.tl_types.specs.declared.channel.Channel.TheVariants.{A, B, C, D, E}
+use Rattle.tl_types.specs.declared.channel.Channel.TheVariants.{C, D, E}
 use Rattle.tl_types.specs.declared.kind.Kind.{Kind}
 use Rattle.tl_types.specs.declared.kind.Kind.TheVariants as kind
 use Rattle.tl_types.specs.declared.message.Message.{Message}
@@ -22,7 +22,6 @@ use Rattle.tlwire_search.specs.Explained.{IsSeenOn, on, same_wire, seen_along, w
 use Rattle.tlwire_search.specs.Premises.{may_have_more}
 use Rattle.tlwire_search.specs.declared.seen.Seen.{Seen}
 use Rattle.tlwire_search.specs.declared.seen.Seen.TheVariants.{OnLink, OnMemory, Load, Store}
-use Rattle.tlwire_search.specs.declared.seen.Wire.{Wire}
 use Rattle.tlwire_search.specs.declared.seen.Wire.TheVariants.{Link}
 use Rattle.tlwire_orders.specs.Orders.{IsUnexplained, PartAt, answered, asked, block_if, block_in, is_answer, is_asked}
 use Rattle.tlwire_orders.specs.declared.pair.Pair.{Pair}

@@ -1,6 +1,7 @@
 //! The order that each client's link keeps over all blocks: a record whose answers stand in another one has no run.
 #![tactic(auto)]
 
+mod message;
 mod order;
 mod pair;
 

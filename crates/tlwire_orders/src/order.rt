@@ -1,9 +1,11 @@
 //! The first answer on a client's link that stands in another order than what it answers.
 ghost use Rattle.std.specs.Prelude.{◌≡◌, ◌<◌, ◌≤◌, ◌*◌, ◌↔◌, ℕ, IfOk, IfSome, IsNone, IsSome, IsTrue, MatchOption, length};
 ghost use Rattle.tlwire_orders.specs.declared.order.TheConstants.{LINES_OF_CLIENTS};
-ghost use Rattle.tlwire_orders.specs.Misplaced.{AreInOrder, IsAnswerAt, IsFirstParting, IsMisplaced, KeepsOrder, KeepsOrders};
-ghost use Rattle.tlwire_orders.specs.Orders.{IsUnexplained, answered, asked};
+ghost use Rattle.tlwire_orders.specs.Messages.{messages_in, on_link, answers_of, asks_of};
+ghost use Rattle.tlwire_orders.specs.Misplaced.{AreInOrder, IsAnswerAt, IsFirstMisplaced, IsFirstOf, IsFirstOn, IsFirstParting, KeepsOrder, KeepsOrders};
+ghost use Rattle.tlwire_orders.specs.Orders.{IsUnexplained, answered};
 
+use crate::message::Message;
 use crate::pair::Pair;
 use std::alloc::{AllocError, Global};
 use tl_rules::Shape;
@@ -28,31 +30,44 @@ pub struct Misplaced {
     pub first: BlockNo,
 }
 
-/// The blocks of the lines on a client's link that are answered.
-fn asked(
-    alloc: Global,
-    pair: Pair,
-    client: ClientId,
-    seen: &[Seen],
-) -> Result<Vec<BlockNo>, AllocError>
-    ensures { IfOk result (λ blocks. blocks.items ≡ asked pair client seen.now) }
+/// The messages that were seen on clients' links.
+fn messages_in(alloc: Global, seen: &[Seen]) -> Result<Vec<Message>, AllocError>
+    ensures { IfOk result (λ messages. messages.items ≡ messages_in seen.now) }
 {
     seen.iter()
-        .filter_map(|line| pair.asked_in(client, line))
+        .filter_map(|line| Message::of(line))
         .collect(alloc)
 }
 
-/// The blocks of the answers on a client's link.
-fn answered(
+/// Those on a client's link.
+fn on_link(
     alloc: Global,
-    pair: Pair,
     client: ClientId,
-    seen: &[Seen],
-) -> Result<Vec<BlockNo>, AllocError>
-    ensures { IfOk result (λ blocks. blocks.items ≡ answered pair client seen.now) }
+    messages: &[Message],
+) -> Result<Vec<Message>, AllocError>
+    ensures { IfOk result (λ own. own.items ≡ on_link client messages.now) }
 {
-    seen.iter()
-        .filter_map(|line| pair.answered_in(client, line))
+    messages
+        .iter()
+        .filter_map(|message| message.on(client))
+        .collect(alloc)
+}
+
+/// The blocks of the messages of a link that are answered.
+fn asks_of(alloc: Global, pair: Pair, own: &[Message]) -> Result<Vec<BlockNo>, AllocError>
+    ensures { IfOk result (λ blocks. blocks.items ≡ asks_of pair own.now) }
+{
+    own.iter()
+        .filter_map(|message| pair.ask(message))
+        .collect(alloc)
+}
+
+/// The blocks of the answers of a link.
+fn answers_of(alloc: Global, pair: Pair, own: &[Message]) -> Result<Vec<BlockNo>, AllocError>
+    ensures { IfOk result (λ blocks. blocks.items ≡ answers_of pair own.now) }
+{
+    own.iter()
+        .filter_map(|message| pair.answer(message))
         .collect(alloc)
 }
 
@@ -94,12 +109,15 @@ fn misplaced_in(
     pair: Pair,
     client: ClientId,
     seen: &[Seen],
+    own: &[Message],
 ) -> Result<Option<Misplaced>, AllocError>
-    ensures found { IfOk result (λ found. MatchOption found (KeepsOrder pair client seen.now) (IsMisplaced seen.now)) }
+    requires { own.now ≡ on_link client (messages_in seen.now) }
+    ensures found { IfOk result
+        (λ found. MatchOption found (KeepsOrder pair client seen.now) (IsFirstOf pair client seen.now)) }
     ensures unexplained { IfOk result (λ found. IsSome found → IsUnexplained shape seen.now) }
 {
-    let answers = answered(alloc, pair, client, seen)?;
-    let asks = asked(alloc, pair, client, seen)?;
+    let answers = answers_of(alloc, pair, own)?;
+    let asks = asks_of(alloc, pair, own)?;
     match parting(&answers, &asks) {
         Some(number) => Ok(Some(Misplaced {
             place: place_of(pair, client, seen, number),
@@ -118,19 +136,22 @@ fn misplaced_at(
     shape: Shape,
     client: ClientId,
     seen: &[Seen],
+    own: &[Message],
 ) -> Result<Option<Misplaced>, AllocError>
-    ensures found { IfOk result (λ found. MatchOption found (KeepsOrders client seen.now) (IsMisplaced seen.now)) }
+    requires { own.now ≡ on_link client (messages_in seen.now) }
+    ensures found { IfOk result
+        (λ found. MatchOption found (KeepsOrders client seen.now) (IsFirstOn client seen.now)) }
     ensures unexplained { IfOk result (λ found. IsSome found → IsUnexplained shape seen.now) }
 {
-    let probes = misplaced_in(alloc, shape, Pair::Probes, client, seen)?;
+    let probes = misplaced_in(alloc, shape, Pair::Probes, client, seen, own)?;
     if probes.is_some() {
         return Ok(probes);
     }
-    let releases = misplaced_in(alloc, shape, Pair::Releases, client, seen)?;
+    let releases = misplaced_in(alloc, shape, Pair::Releases, client, seen, own)?;
     if releases.is_some() {
         return Ok(releases);
     }
-    misplaced_in(alloc, shape, Pair::Grants, client, seen)
+    misplaced_in(alloc, shape, Pair::Grants, client, seen, own)
 }
 
 /// Whether so many lines are few enough for so many clients that orders are asked.
@@ -140,15 +161,15 @@ fn are_few(lines: usize, clients: u32) -> bool
     lines.saturating_mul(clients as usize) <= LINES_OF_CLIENTS
 }
 
-/// The first answer on a client's link that stands in another order than what it answers. Where there is one, no run
-/// explains the record, over any image and however it was seen. A record with more than 1,600,000 lines, each counted
-/// once for each client, is not looked at. Err is a refused request for memory.
+/// The first answer on a client's link that stands in another order than what it answers: of the first client that has
+/// one. Where there is one, no run explains the record, over any image and however it was seen. A record with more than
+/// 1,600,000 lines, each counted once for each client, is not looked at. Err is a refused request for memory.
 pub fn first_misplaced(
     alloc: Global,
     shape: Shape,
     seen: &[Seen],
 ) -> Result<Option<Misplaced>, AllocError>
-    ensures found { IfOk result (λ found. IfSome found (IsMisplaced seen.now)) }
+    ensures found { IfOk result (λ found. IfSome found (IsFirstMisplaced shape.clients seen.now)) }
     ensures none { IfOk result (λ found. IsNone found → length seen.now * shape.clients ≤ LINES_OF_CLIENTS
         → (client : ℕ) → client < shape.clients → KeepsOrders client seen.now) }
     ensures unexplained { IfOk result (λ found. IsSome found → IsUnexplained shape seen.now) }
@@ -156,8 +177,11 @@ pub fn first_misplaced(
     if !are_few(seen.len(), shape.clients) {
         return Ok(None);
     }
+    let messages = messages_in(alloc, seen)?;
     for number in 0..shape.clients {
-        let found = misplaced_at(alloc, shape, ClientId::new(number), seen)?;
+        let client = ClientId::new(number);
+        let own = on_link(alloc, client, &messages)?;
+        let found = misplaced_at(alloc, shape, client, seen, &own)?;
         if found.is_some() {
             return Ok(found);
         }

@@ -1,7 +1,9 @@
 //! Which messages of a client's link are answered, and by which.
 ghost use Rattle.std.specs.Prelude.{◌≡◌};
+ghost use Rattle.tlwire_orders.specs.Messages.{answer_of, ask_of};
 ghost use Rattle.tlwire_orders.specs.Orders.{block_if, block_in, is_answer, is_asked, is_grant, is_grant_ack, is_probe, is_probe_ack, is_release, is_release_ack};
 
+use crate::message::Message;
 use tl_types::{BlockNo, ClientId, Kind};
 use tlwire_search::Seen;
 
@@ -42,16 +44,18 @@ impl Pair {
         }
     }
 
-    /// The block of a line on a client's link that is answered.
-    pub(crate) fn asked_in(self, client: ClientId, line: &Seen) -> Option<BlockNo>
-        ensures { result ≡ block_in (is_asked self) client line.now }
+    /// The block of a message that is answered.
+    pub(crate) fn ask(self, message: &Message) -> Option<BlockNo>
+        ensures { result ≡ ask_of self message.now }
     {
-        match line {
-            Seen::OnLink(c, block, shown) => {
-                block_if(client == *c && self.is_asked(&shown.kind), *block)
-            }
-            Seen::OnMemory(_, _) | Seen::Load(_, _, _) | Seen::Store(_, _, _) => None,
-        }
+        block_if(self.is_asked(&message.kind), message.block)
+    }
+
+    /// The block of a message that is an answer.
+    pub(crate) fn answer(self, message: &Message) -> Option<BlockNo>
+        ensures { result ≡ answer_of self message.now }
+    {
+        block_if(self.is_answer(&message.kind), message.block)
     }
 
     /// The block of a line on a client's link that is an answer.

@@ -1,4 +1,4 @@
-use Rattle.std.proofs.Common.{◌≡◌, length, refl, sym, ap, ◌∙◌, inl, inr, arith, rules}
+use Rattle.std.proofs.Common.{length, refl, arith, rules}
 use Rattle.std.proofs.lemmas.Option.{slice_get_read}
 use Rattle.tlwire_orders.proofs.Parting.{passed-none, passed-one}
 use Rattle.tlwire_orders.proofs.order.place_of.Goals.{then-is_some+else-left-eq0, else-is_some}
