@@ -1,12 +1,17 @@
 pub mod Alike
+pub mod Asks
 pub mod Buckets
 pub mod Closed
 pub mod Counts
+pub mod Early
 pub mod Groups
+pub mod Hears
 pub mod Levels
 pub mod Lifts
 pub mod Lists
 pub mod Looks
+pub mod Reaching
 pub mod Runs
+pub mod Settled
 pub mod Tries
 pub mod Wires

@@ -1,5 +1,6 @@
 pub mod Alike
 pub mod Along
+pub mod Asks
 pub mod Blocks
 pub mod Buckets
 pub mod Closed
