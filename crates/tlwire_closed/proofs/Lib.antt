@@ -15,3 +15,5 @@ pub mod Runs
 pub mod Settled
 pub mod Tries
 pub mod Wires
+pub mod InTurn
+pub mod Unwatched

@@ -13,3 +13,5 @@ pub mod Premise
 pub mod States
 pub mod Tables
 pub mod Verdict
+pub mod Turns
+pub mod Unwatched

@@ -102,7 +102,7 @@ impl Way {
 
 impl Premise {
     /// Whether nobody watched a wire.
-    fn is_free(self, wire: &Wire) -> bool
+    pub(crate) fn is_free(self, wire: &Wire) -> bool
         ensures { result ≡ is_free self wire.now }
     {
         match wire {
