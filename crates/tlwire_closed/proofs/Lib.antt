@@ -6,14 +6,15 @@ pub mod Counts
 pub mod Early
 pub mod Groups
 pub mod Hears
+pub mod InTurn
 pub mod Levels
 pub mod Lifts
 pub mod Lists
 pub mod Looks
 pub mod Reaching
+pub mod Rests
 pub mod Runs
 pub mod Settled
 pub mod Tries
 pub mod Wires
-pub mod InTurn
 pub mod Unwatched

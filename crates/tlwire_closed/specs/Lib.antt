@@ -1,6 +1,7 @@
 pub mod Alike
 pub mod Along
 pub mod Asks
+pub mod AtRest
 pub mod Blocks
 pub mod Buckets
 pub mod Closed
