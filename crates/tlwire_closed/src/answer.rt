@@ -1,4 +1,7 @@
 //! What is answered of a record.
+ghost use Rattle.std.specs.Prelude.{◌≡◌};
+ghost use Rattle.tlwire_closed.specs.declared.answer.Halt.TheVariants as because;
+
 use std::alloc::AllocError;
 use tl_rules::CachedCopy;
 use tl_types::{Awaited, ClientId};
@@ -25,6 +28,8 @@ pub(crate) enum Halt {
 }
 
 impl From<AllocError> for Halt {
+    ghost from_gives = { λ _ halt. halt ≡ because.Memory };
+
     fn from(_error: AllocError) -> Halt {
         Halt::Memory
     }
