@@ -184,6 +184,39 @@ def number_of_call(call):
     return number
 
 
+class Opened:
+    """What a library keeps from its opening until it is closed: a cache, a judge, a home of links."""
+
+    at = None  # where it stands, while it is open
+
+    def lend(self, path, prefix):
+        """Memory for what the function with this prefix opens: PREFIX_size bytes, at an address that PREFIX_align divides."""
+        self.lib = library(path or library_file())
+        align = getattr(self.lib, f"{prefix}_align")()
+        self.room = c.create_string_buffer(getattr(self.lib, f"{prefix}_size")() + align)
+        begin = c.addressof(self.room)
+        self.at = c.c_void_p(begin + -begin % align)
+
+    def end(self):
+        """The call that closes it."""
+        raise NotImplementedError
+
+    def close(self):
+        """Gives all that it holds back; a closed one is closed again without harm."""
+        if self.at:
+            self.end()
+            self.at = None
+
+    def __enter__(self):
+        return self
+
+    def __exit__(self, *_):
+        self.close()
+
+    def __del__(self):
+        self.close()
+
+
 class Batch:
     """Calls and views that are made at once (jv_calls), as often as `run` is called.
 
@@ -199,15 +232,11 @@ class Batch:
         self.run = functools.partial(cache.lib.jv_calls, cache.at, c.byref(self.requests), many, c.byref(self.answers), many)
 
 
-class Cache:
+class Cache(Opened):
     """A cache at reset over an image. Its numbers are those of jv_numbers; the version is 2 where none is given."""
 
     def __init__(self, image=b"", path=None, **numbers):
-        self.at = None
-        self.lib = library(path or library_file())
-        self.room = c.create_string_buffer(self.lib.jv_size() + self.lib.jv_align())
-        begin = c.addressof(self.room)
-        self.at = c.c_void_p(begin + -begin % self.lib.jv_align())
+        self.lend(path, "jv")
         self.lib.jv_open(Numbers(**{"version": 2, **numbers}), bytes(image), len(image), self.at)
         why = self.ask("room")
         if why.status == enums()["jv_status"]["JV_CLOSED"]:
@@ -255,31 +284,15 @@ class Cache:
             yield from read[:count]
             request.serial += count
 
-    def close(self):
-        """Gives all that the cache holds back; a closed one is closed again without harm."""
-        if self.at:
-            self.ask("close")
-            self.at = None
-
-    def __enter__(self):
-        return self
-
-    def __exit__(self, *_):
-        self.close()
-
-    def __del__(self):
-        self.close()
+    def end(self):
+        self.ask("close")
 
 
-class Judge:
+class Judge(Opened):
     """A judge of events at reset over an image: clients, block_bytes, memory_blocks (jj_numbers)."""
 
     def __init__(self, image=b"", path=None, **numbers):
-        self.at = None
-        self.lib = library(path or library_file())
-        self.room = c.create_string_buffer(self.lib.jj_size() + self.lib.jj_align())
-        begin = c.addressof(self.room)
-        self.at = c.c_void_p(begin + -begin % self.lib.jj_align())
+        self.lend(path, "jj")
         self.lib.jj_open(JudgeNumbers(**numbers), bytes(image), len(image), self.at)
         why = self.see(event=254)  # no entry: an open judge answers JV_BAD_ARGUMENT
         if why.status == enums()["jv_status"]["JV_CLOSED"]:
@@ -291,31 +304,15 @@ class Judge:
         held = (c.c_uint8 * 64)(*bytes[:64])
         return self.lib.jj_see(self.at, Entry(event=number, len=len(bytes), bytes=held, **words))
 
-    def close(self):
-        """Gives all that the judge holds back; a closed one is closed again without harm."""
-        if self.at:
-            self.see(event=255)
-            self.at = None
-
-    def __enter__(self):
-        return self
-
-    def __exit__(self, *_):
-        self.close()
-
-    def __del__(self):
-        self.close()
+    def end(self):
+        self.see(event=255)
 
 
-class PinsJudge:
+class PinsJudge(Opened):
     """A judge of messages at a client's pins: client, clients, block_bytes, memory_blocks, cores_unseen (jp_numbers)."""
 
     def __init__(self, client, cores_unseen=0, path=None, **numbers):
-        self.at = None
-        self.lib = library(path or library_file())
-        self.room = c.create_string_buffer(self.lib.jp_size() + self.lib.jp_align())
-        begin = c.addressof(self.room)
-        self.at = c.c_void_p(begin + -begin % self.lib.jp_align())
+        self.lend(path, "jp")
         self.lib.jp_open(PinsNumbers(JudgeNumbers(**numbers), client, cores_unseen), self.at)
         why = self.see(254)  # no line: an open judge answers JV_BAD_ARGUMENT
         if why.status == enums()["jv_status"]["JV_CLOSED"]:
@@ -327,20 +324,8 @@ class PinsJudge:
         held = (c.c_uint8 * 64)(*bytes[:64])
         return self.lib.jp_see(self.at, Line(what=number, len=len(bytes), bytes=held, **words))
 
-    def close(self):
-        """Gives all that the judge holds back; a closed one is closed again without harm."""
-        if self.at:
-            self.see(255)
-            self.at = None
-
-    def __enter__(self):
-        return self
-
-    def __exit__(self, *_):
-        self.close()
-
-    def __del__(self):
-        self.close()
+    def end(self):
+        self.see(255)
 
 
 from .links import Down, Home, Link  # noqa: E402, F401

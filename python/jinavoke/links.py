@@ -16,6 +16,8 @@ import os
 import pathlib
 import typing
 
+from . import Opened
+
 # The numbers of a home in the order in which the library takes them, each with what it is where nobody says it.
 NUMBERS = dict(clients=2, banks=1, block_bytes=64, sets=16, ways=4, registers=8, copies=64, blocks=4096, base=0,
                beat_bytes=8, sources=16, sinks=16, has_taps=1, pace=3, memory_cycles=20, evict_every=0, patience=20000,
@@ -57,11 +59,10 @@ def library_file():
     return os.environ.get("JINAVOKE_DPI") or str(pathlib.Path(__file__).resolve().parents[2] / "libjinavoke_dpi.so")
 
 
-class Home:
-    """A home of `clients` links. `image` is the memory's first bytes; `wire` and `events` name files for records."""
+class Home(Opened):
+    """A home of `clients` links. `image` is the memory's first bytes; `wire` and `events` name files for records, which `close` ends."""
 
     def __init__(self, image=b"", wire="", events="", path=None, **numbers):
-        self.at = None
         unknown = set(numbers) - set(NUMBERS)
         if unknown:
             raise TypeError(f"a home has no number {', '.join(sorted(unknown))}")
@@ -95,20 +96,8 @@ class Home:
         """What came of the last fault's block, as a script for `tlchart`; empty where it is too long."""
         return self.lib.jvh_script(self.at).decode()
 
-    def close(self):
-        """Ends it, and the files of its records."""
-        if self.at:
-            self.lib.jvh_free(self.at)
-            self.at = None
-
-    def __enter__(self):
-        return self
-
-    def __exit__(self, *_):
-        self.close()
-
-    def __del__(self):
-        self.close()
+    def end(self):
+        self.lib.jvh_free(self.at)
 
 
 class Link:
