@@ -1,5 +1,5 @@
 -- A value that writes a field has no `=`.
-use Rattle.std.proofs.Common.{◌≡◌, ◌&&◌, ◌||◌, ◌^◌, ℕ, not, Bool, true, false, cond, eqb, nat_lt, List, [], ◌∷◌, ◌++◌, length, take, drop, codes, bytes_eq, Option, Some, None, is_some, Result, Ok, Err, ok_or, refl, sym, ◌∙◌, ap, subst, arith}
+use Rattle.std.proofs.Common.{◌≡◌, ◌&&◌, ◌||◌, ◌^◌, ℕ, not, Bool, true, false, cond, eqb, nat_lt, List, [], ◌∷◌, length, drop, codes, bytes_eq, Option, Some, None, is_some, Result, Ok, Err, ok_or, refl, sym, ◌∙◌, ap, subst, arith}
 use Rattle.std.proofs.lemmas.Bool.{and_parts, eqb-true, false≢true}
 use Rattle.std.proofs.lemmas.Bool.Decides.{nat_tests}
 use Rattle.std.proofs.lemmas.List.Splits.{join_with_byte-slice_split}
@@ -7,13 +7,12 @@ use Rattle.std.specs.Char.{is_ascii_digit}
 use Rattle.std.specs.List.{join_with_byte, list_all, starts_with}
 use Rattle.std.specs.Str.Parse.{digits_value}
 use Rattle.tl_script_words.proofs.WordLemmas.{chosen_false}
-use Rattle.tl_script_words.specs.Words.{byte_of, bytes_of, is_lower_hex, is_plain, number_of, with_first}
-use Rattle.tlcheck_record.specs.Cause.{◌>>=◌, Gives, Refuses}
+use Rattle.tl_script_words.specs.Words.{bytes_of, is_lower_hex, is_plain, with_first}
+use Rattle.tlcheck_record.specs.Cause.{◌>>=◌, Refuses}
 use Rattle.tlcheck_record.specs.Words.{block_bytes_in, number_in}
 use Rattle.tlcheck_record.specs.declared.cause.Cause.{Cause}
 use Rattle.tlcheck_record.specs.declared.cause.Cause.TheVariants as cause
 use Rattle.tlcheck_record.specs.declared.cause.LineError.{LineError}
-use Rattle.tlcheck_record.specs.declared.cause.LineError.TheVariants.{Wrong, Memory}
 use Rattle.tlwire_record.specs.Address.{wide_address_in}
 use Rattle.tlwire_record.specs.Fields.{field_by, field_of, pair_of, with_field, with_pair, with_word}
 use Rattle.tlwire_record.specs.declared.fields.Field.{Field}

@@ -1,5 +1,5 @@
 -- A line of a message, of a load or of a store (this project's own format; channels and opcodes are TileLink's).
-use Rattle.std.specs.Prelude.{ℕ, ◌==◌, Bool, true, false, List, [], ◌∷◌, drop, codes, bytes_eq, Option, None, Result, Ok, Err, ok_or, if◌then◌else◌}
+use Rattle.std.specs.Prelude.{ℕ, ◌==◌, List, [], ◌∷◌, drop, codes, bytes_eq, Option, None, Result, Ok, Err, ok_or, if◌then◌else◌}
 use Rattle.std.specs.List.{starts_with}
 use Rattle.tl_types.specs.declared.channel.Channel.{Channel}
 use Rattle.tl_types.specs.declared.channel.Channel.TheVariants as channel
@@ -15,13 +15,6 @@ use Rattle.tlwire_record.specs.declared.line.Link.{Link}
 use Rattle.tlwire_record.specs.declared.line.Link.TheVariants.{Client, Memory}
 use Rattle.tlwire_record.specs.declared.line.Said.{Said}
 use Rattle.tlwire_record.specs.declared.line.Said.TheVariants as said
-
--- two links are the same
-abbrev pub same_link : Link → Link → Bool
-same_link (Client one) (Client other) = one == other
-same_link (Client one) Memory = false
-same_link Memory (Client other) = false
-same_link Memory Memory = true
 
 -- `c` and a client's number
 abbrev pub client_of_word : List ℕ → Option ℕ

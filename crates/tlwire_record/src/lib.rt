@@ -22,4 +22,4 @@ pub use line::{Line, Link, Said};
 pub use messages::Messages;
 pub use record::{ReadFault, read, split_lines};
 pub use stage::Stage;
-pub use tables::{Open, Tables};
+pub use tables::{Id, Tables};

@@ -2,7 +2,7 @@
 ghost use Rattle.std.specs.Prelude.{◌≡◌, [], ◌∷◌};
 ghost use Rattle.tl_script_words.specs.Words.{texts};
 ghost use Rattle.tlcheck_record.specs.Cause.{Gives};
-ghost use Rattle.tlwire_record.specs.Line.{access_in, channel_of_word, client_of_word, line_in, link_of, message_in, said_in, same_link};
+ghost use Rattle.tlwire_record.specs.Line.{access_in, channel_of_word, client_of_word, line_in, link_of, message_in, said_in};
 
 use crate::address::read_wide_address;
 use crate::fields::{Fields, parse_fields};
@@ -17,34 +17,6 @@ pub enum Link {
     Client(ClientId),
     /// The memory's.
     Memory,
-}
-
-impl Link {
-    /// Whether it is the same link.
-    pub(crate) fn is(&self, other: &Link) -> bool
-        ensures { result ≡ same_link self.now other.now }
-    {
-        match self {
-            Link::Client(one) => match other {
-                Link::Client(two) => one == two,
-                Link::Memory => false,
-            },
-            Link::Memory => match other {
-                Link::Client(_) => false,
-                Link::Memory => true,
-            },
-        }
-    }
-
-    /// The same link again.
-    pub(crate) fn copied(&self) -> Link
-        ensures { result ≡ self.now }
-    {
-        match self {
-            Link::Client(client) => Link::Client(*client),
-            Link::Memory => Link::Memory,
-        }
-    }
 }
 
 /// What a line says of its link.

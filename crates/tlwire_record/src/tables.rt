@@ -1,7 +1,7 @@
 //! What is open on the links: requests and releases by their sources, grants by their sinks.
 ghost use Rattle.std.specs.Prelude.{◌≡◌};
 ghost use Rattle.tlcheck_record.specs.Cause.{Gives};
-ghost use Rattle.tlwire_record.specs.Tables.{at_address, block_of, closed, is_at, needed, opened};
+ghost use Rattle.tlwire_record.specs.Tables.{at_address, closed, id_on, needed, opened};
 
 use crate::code::Role;
 use crate::fields::Fields;
@@ -9,62 +9,56 @@ use crate::header::Setting;
 use crate::line::Link;
 use crate::place::block_at;
 use std::alloc::Global;
+use std::collections::BTreeMap;
 use std::marker::Model;
 use tl_types::BlockNo;
 use tlcheck_record::{Cause, LineError};
 
-/// What is open on a link under a source or a sink, and its block.
-#[derive(Clone, Copy, Debug, PartialEq, Eq)]
-pub struct Open {
-    pub link: Link,
-    pub id: u32,
-    pub block: BlockNo,
+/// A source or a sink in use, on the link of a client, by its number, or with no client on the memory's.
+#[derive(Clone, Copy, Debug, PartialEq, Eq, PartialOrd, Ord)]
+pub struct Id {
+    pub client: Option<u32>,
+    pub number: u32,
 }
 
-impl Open {
-    /// Whether it is open on that link under that number.
-    fn is_at(&self, link: &Link, id: u32) -> bool
-        ensures { result ≡ is_at link.now id self.now }
+impl Id {
+    /// That number on that link.
+    fn on(link: &Link, number: u32) -> Id
+        ensures { result ≡ id_on link.now number }
     {
-        self.link.is(link) && self.id == id
+        let client = match link {
+            Link::Client(client) => Some(client.number()),
+            Link::Memory => None,
+        };
+        Id { client, number }
     }
 }
 
-/// The block of what is open on a link under a number.
-fn block_of(list: &[Open], link: &Link, id: u32) -> Option<BlockNo>
-    ensures { result ≡ block_of link.now id list.now }
-{
-    match list.iter().find(|one| one.is_at(link, id)) {
-        Some(one) => Some(one.block),
-        None => None,
-    }
-}
+/// The block of each exchange that is open, by its source or its sink.
+type Exchanges = BTreeMap<Id, BlockNo>;
 
-/// One more is open, unless its number is in use on its link.
-fn open_one(list: &mut Vec<Open>, one: Open, in_use: Cause) -> Result<(), LineError>
-    ensures { Gives (λ _. list.new.items) result (opened list.old.items one in_use) }
+/// One more is open, unless its id is in use.
+fn open_one(
+    exchanges: &mut Exchanges,
+    id: Id,
+    block: BlockNo,
+    in_use: Cause,
+) -> Result<(), LineError>
+    ensures { Gives (λ _. exchanges.new.entries) result (opened id block in_use exchanges.old.entries) }
 {
-    if block_of(list, &one.link, one.id).is_some() {
+    if exchanges.contains_key(&id) {
         return Err(LineError::Wrong(in_use));
     }
-    list.push(one)?;
+    exchanges.insert(id, block)?;
     Ok(())
 }
 
-/// What is open on a link under a number closes; its block.
-fn close_one(
-    list: &mut Vec<Open>,
-    link: &Link,
-    id: u32,
-    unknown: Cause,
-) -> Result<BlockNo, LineError>
-    ensures { Gives (λ block. (block, list.new.items)) result (closed link.now id unknown list.old.items) }
+/// What is open under an id closes; its block.
+fn close_one(exchanges: &mut Exchanges, id: Id, unknown: Cause) -> Result<BlockNo, LineError>
+    ensures { Gives (λ block. (block, exchanges.new.entries)) result (closed id unknown exchanges.old.entries) }
 {
-    match block_of(list, link, id) {
-        Some(block) => {
-            list.retain(|one| !one.is_at(link, id));
-            Ok(block)
-        }
+    match exchanges.remove(&id) {
+        Some(block) => Ok(block),
         None => Err(LineError::Wrong(unknown)),
     }
 }
@@ -86,9 +80,9 @@ fn at_address(setting: &Setting, fields: &Fields) -> Result<BlockNo, Cause>
 /// What is open on all links.
 #[derive(Drop)]
 pub struct Tables {
-    requests: Vec<Open>,
-    releases: Vec<Open>,
-    grants: Vec<Open>,
+    requests: Exchanges,
+    releases: Exchanges,
+    grants: Exchanges,
 }
 
 impl Model for Tables {
@@ -96,7 +90,7 @@ impl Model for Tables {
 
     ghost Value = { TableState };
 
-    ghost view = { λ t. record { requests = t.requests.items; releases = t.releases.items; grants = t.grants.items } };
+    ghost view = { λ t. record { requests = t.requests.entries; releases = t.releases.entries; grants = t.grants.entries } };
 }
 
 impl Tables {
@@ -107,9 +101,9 @@ impl Tables {
         ensures { result ≡ no_tables }
     {
         Tables {
-            requests: Vec::new(alloc),
-            releases: Vec::new(alloc),
-            grants: Vec::new(alloc),
+            requests: BTreeMap::new(alloc),
+            releases: BTreeMap::new(alloc),
+            grants: BTreeMap::new(alloc),
         }
     }
 
@@ -123,16 +117,8 @@ impl Tables {
         ensures { Gives (λ block. (block, self.new)) result (request_taken setting.now self.old link.now fields.now) }
     {
         let block = at_address(setting, fields)?;
-        let id = needed(fields.source)?;
-        open_one(
-            &mut self.requests,
-            Open {
-                link: link.copied(),
-                id,
-                block,
-            },
-            Cause::SourceInUse,
-        )?;
+        let id = Id::on(link, needed(fields.source)?);
+        open_one(&mut self.requests, id, block, Cause::SourceInUse)?;
         Ok(block)
     }
 
@@ -146,16 +132,8 @@ impl Tables {
         ensures { Gives (λ block. (block, self.new)) result (release_taken setting.now self.old link.now fields.now) }
     {
         let block = at_address(setting, fields)?;
-        let id = needed(fields.source)?;
-        open_one(
-            &mut self.releases,
-            Open {
-                link: link.copied(),
-                id,
-                block,
-            },
-            Cause::SourceInUse,
-        )?;
+        let id = Id::on(link, needed(fields.source)?);
+        open_one(&mut self.releases, id, block, Cause::SourceInUse)?;
         Ok(block)
     }
 
@@ -170,31 +148,28 @@ impl Tables {
     fn answer(&mut self, link: &Link, fields: &Fields) -> Result<BlockNo, LineError>
         ensures { Gives (λ block. (block, self.new)) result (answer_taken self.old link.now fields.now) }
     {
-        let source = needed(fields.source)?;
-        close_one(&mut self.requests, link, source, Cause::NoRequest)
+        let id = Id::on(link, needed(fields.source)?);
+        close_one(&mut self.requests, id, Cause::NoRequest)
     }
 
     #[tactic(auto, unfolding(crate::specs::Tables::release_answer_taken))]
     fn release_answer(&mut self, link: &Link, fields: &Fields) -> Result<BlockNo, LineError>
         ensures { Gives (λ block. (block, self.new)) result (release_answer_taken self.old link.now fields.now) }
     {
-        let source = needed(fields.source)?;
-        close_one(&mut self.releases, link, source, Cause::NoRequest)
+        let id = Id::on(link, needed(fields.source)?);
+        close_one(&mut self.releases, id, Cause::NoRequest)
     }
 
     #[tactic(auto, unfolding(crate::specs::Tables::grant_taken))]
     fn grant(&mut self, link: &Link, fields: &Fields) -> Result<BlockNo, LineError>
         ensures { Gives (λ block. (block, self.new)) result (grant_taken self.old link.now fields.now) }
     {
-        let (source, id) = fields.source.zip(fields.sink).ok_or(Cause::Missing)?;
-        let block = close_one(&mut self.requests, link, source, Cause::NoRequest)?;
+        let (source, sink) = fields.source.zip(fields.sink).ok_or(Cause::Missing)?;
+        let block = close_one(&mut self.requests, Id::on(link, source), Cause::NoRequest)?;
         open_one(
             &mut self.grants,
-            Open {
-                link: link.copied(),
-                id,
-                block,
-            },
+            Id::on(link, sink),
+            block,
             Cause::SinkInUse,
         )?;
         Ok(block)
@@ -204,8 +179,8 @@ impl Tables {
     fn end(&mut self, link: &Link, fields: &Fields) -> Result<BlockNo, LineError>
         ensures { Gives (λ block. (block, self.new)) result (end_taken self.old link.now fields.now) }
     {
-        let sink = needed(fields.sink)?;
-        close_one(&mut self.grants, link, sink, Cause::NoGrant)
+        let id = Id::on(link, needed(fields.sink)?);
+        close_one(&mut self.grants, id, Cause::NoGrant)
     }
 
     /// The block of a message, by its address, its source or its sink; what it opens is open then, and what it closes
