@@ -4,6 +4,7 @@ pub mod Buckets
 pub mod Closed
 pub mod Counts
 pub mod Early
+pub mod Elsewhere
 pub mod Groups
 pub mod Hears
 pub mod InTurn
@@ -13,8 +14,10 @@ pub mod Lists
 pub mod Looks
 pub mod Reaching
 pub mod Rests
+pub mod Retold
 pub mod Runs
 pub mod Settled
 pub mod Tries
 pub mod Wires
 pub mod Unwatched
+pub mod Writebacks

@@ -16,3 +16,4 @@ pub mod Tables
 pub mod Verdict
 pub mod Turns
 pub mod Unwatched
+pub mod Writebacks
