@@ -1,5 +1,6 @@
 //! Tests of records by the public calls: whole records and their verdicts, each damage of one, entries and states as
-//! lines, messages that are explained or not, readers that fail, judges beside a bench, and what records reached.
+//! lines, messages that are explained or not, readers that fail, judges beside a bench, what records and homes reached,
+//! and the names of refusals in a chart.
 #![tactic(auto)]
 
 #[cfg(test)]
@@ -14,6 +15,10 @@ mod damages;
 mod examples;
 #[cfg(test)]
 mod explained;
+#[cfg(test)]
+mod home;
+#[cfg(test)]
+mod names;
 #[cfg(test)]
 mod orders;
 #[cfg(test)]

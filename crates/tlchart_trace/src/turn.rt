@@ -2,9 +2,6 @@
 ghost use Rattle.std.specs.Prelude.{◌≡◌, IfOk};
 ghost use Rattle.tlchart_trace.specs.Turn.{mark_of, mark_of_done, place_named, place_taken, turn_of, turns_of};
 
-#[cfg(test)]
-mod names;
-
 use crate::lifeline::lifeline_of;
 use crate::message::message_by;
 use std::alloc::{AllocError, Global};

@@ -1,10 +1,10 @@
-//! How many situations such a home reaches, and that each has moves that lead into it.
+//! How many situations a home by the rule of miss registers reaches, and that each has moves that lead into it.
 ghost use Rattle.std.specs.Prelude.{◌≤◌, ◌<◌};
 
-use crate::table::HomeTable;
 use std::alloc::Global;
 use std::test::Fail;
 use tl_types::CLIENTS;
+use tlcheck_home::HomeTable;
 use tlcheck_situations::TableError;
 
 /// How many situations home reaches with so many clients, if moves into each of them are answered.
