@@ -1,5 +1,5 @@
-//! Tests of the turns of agents and homes by public calls, where no script leads: what they ask, in which order, and
-//! what a gate sees.
+//! Tests of the turns of agents and homes by public calls, where no script leads: what they ask, in which order, what a
+//! gate sees, and after which they make no other.
 #![tactic(auto)]
 
 #[cfg(test)]
@@ -24,5 +24,7 @@ mod ports;
 mod recorder;
 #[cfg(test)]
 mod silent;
+#[cfg(test)]
+mod stops;
 #[cfg(test)]
 mod turns;

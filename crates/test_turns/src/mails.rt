@@ -34,7 +34,7 @@ fn next_seat(bell: &Bell, seats: &mut Vec<Seat>) -> Option<Seat>
 }
 
 /// A bell and its two seats.
-fn open_bell(alloc: Global) -> Option<(Bell, Seat, Seat)>
+pub fn open_bell(alloc: Global) -> Option<(Bell, Seat, Seat)>
     ensures { IfSome result (λ made. IsSeatOf made.0 made.1 × IsSeatOf made.0 made.2) }
 {
     let (bell, mut seats) = Bell::new(alloc, 2).ok()?;

@@ -1,4 +1,4 @@
--- How a thread goes from turn to turn, and how that ends (this project's own). No public clause cites this module.
+-- How a thread goes from turn to turn, and how that ends (this project's own).
 use Rattle.std.specs.Prelude.{◌≡◌, ◌+◌, ◌<◌, ℕ, zero, suc, None}
 use Rattle.tl_client.specs.declared.turn.Turn.{Turn}
 use Rattle.tl_client.specs.declared.turn.Turn.TheVariants.{Finished as LastTurn, Memory as NoMemory}

@@ -1,4 +1,4 @@
--- The courses of a client's thread and of a home's (this project's own). No public clause cites this module.
+-- The courses of a client's thread and of a home's (this project's own).
 use Rattle.std.specs.Prelude.{◌≡◌, ◌≢◌, ◌⊎◌, ◌≤◌, ℕ, List, Some, slice_get}
 use Rattle.tl_client.specs.Agents.{Works as WorksAsAgent}
 use Rattle.tl_client.specs.Answers.{AgentView}

@@ -1,4 +1,4 @@
--- How a run's threads end. No public clause cites this module.
+-- How a run's threads end.
 use Rattle.std.specs.Prelude.{Bool, true, false, Option, Some, None}
 use Rattle.tl_client.specs.declared.turn.Turn.{Turn}
 use Rattle.tl_client.specs.declared.turn.Turn.TheVariants.{Worked, Idle, Finished as LastTurn, Memory as NoMemory}

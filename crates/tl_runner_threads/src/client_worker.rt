@@ -25,7 +25,7 @@ pub(crate) struct ClientWorker<'s, 'x> {
 
 /// An agent's turns, until one is the last, a ring of the stop bell is heard, or none is left. Where that bell was rung
 /// before, it makes none.
-pub(crate) fn client_turns<P: Port, R: Wait + Clock, G: Gate>(
+pub fn client_turns<P: Port, R: Wait + Clock, G: Gate>(
     rt: &R,
     shared: &Shared<'_, G>,
     port: &mut P,

@@ -7,14 +7,14 @@ use tl_tickets::Ringer;
 
 /// What a thread may still do: so many turns, and none once it hears a ring of the stop bell, at which it has a seat.
 #[derive(Drop)]
-pub(crate) struct Course<'x> {
-    stop: Ringer<'x>,
-    left: u32,
+pub struct Course<'x> {
+    pub stop: Ringer<'x>,
+    pub left: u32,
 }
 
 impl<'x> Course<'x> {
     /// So many turns, as long as the stop bell is not rung.
-    pub(crate) fn new(stop: Ringer<'x>, turns: u32) -> Course<'x>
+    pub fn new(stop: Ringer<'x>, turns: u32) -> Course<'x>
         ensures { result ≡ record { stop = stop.entry; left = turns } }
     {
         Course { stop, left: turns }

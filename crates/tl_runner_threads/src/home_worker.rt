@@ -25,7 +25,7 @@ pub(crate) struct HomeWorker<'x> {
 
 /// A home's turns, until one is the last, a ring of the stop bell is heard, or none is left. Where that bell was rung
 /// before, it makes none.
-pub(crate) fn home_turns<P: HomePort, R: Wait + Clock, G: Gate>(
+pub fn home_turns<P: HomePort, R: Wait + Clock, G: Gate>(
     rt: &R,
     shared: &Shared<'_, G>,
     port: &mut P,

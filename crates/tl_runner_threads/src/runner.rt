@@ -181,7 +181,7 @@ fn run_posts<'s, 'x, R: Threads + Wait + Clock + Sync, G: Gate + Sync>(
 }
 
 /// The worker of a client, with its commands and shares.
-pub(crate) fn client_worker<'s, 'x>(
+fn client_worker<'s, 'x>(
     alloc: Global,
     geometry: Geometry,
     client: ClientId,
@@ -226,7 +226,7 @@ fn client_workers<'s, 'x>(
 }
 
 /// The worker of a bank's home.
-pub(crate) fn home_worker<'x>(
+fn home_worker<'x>(
     alloc: Global,
     bank: BankNo,
     post: Post<'x>,

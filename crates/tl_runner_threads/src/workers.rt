@@ -7,7 +7,7 @@ use tl_client::{Locked, Turn};
 
 /// How a thread ended.
 #[derive(Clone, Copy, Debug, PartialEq, Eq)]
-pub(crate) enum End {
+pub enum End {
     /// All clients were done.
     Finished,
     /// It heard the stop bell.
@@ -42,12 +42,12 @@ impl End {
 
 /// What all threads share.
 #[derive(Drop)]
-pub(crate) struct Shared<'y, G> {
-    pub(crate) alloc: Global,
-    pub(crate) locked: &'y Locked,
-    pub(crate) gate: &'y G,
-    pub(crate) clients: u32,
-    pub(crate) turns: u32,
+pub struct Shared<'y, G> {
+    pub alloc: Global,
+    pub locked: &'y Locked,
+    pub gate: &'y G,
+    pub clients: u32,
+    pub turns: u32,
 }
 
 /// What a turn comes to, for the thread that made it: its end, if it was the last.

@@ -1,19 +1,15 @@
 //! A worker makes no turn after one in which the stop bell was rung.
-use crate::banks::{Opened, open_banks};
-use crate::client_worker::{ClientWorker, client_turns};
-use crate::course::Course;
-use crate::deal::Post;
-use crate::home_worker::{HomeWorker, home_turns};
-use crate::mailroom::{Posts, deal_out, open_mailroom};
-use crate::runner::{client_worker, home_worker};
-use crate::workers::{End, Shared};
+
+use crate::mails::{open_bell, open_two, two_mails};
+use crate::turns::lock_up;
 use arrayvec::ArrayVec;
 use std::alloc::Global;
 use std::sync::Wait;
 use std::time::Clock;
-use tl_bank::{Action, Loaded, Refusal, Reply, Share, When};
-use tl_client::{Command, Free, HomePort, Locked, Port, Success};
+use tl_bank::{Action, Bank, Loaded, Refusal, Reply, Share, When};
+use tl_client::{Agent, Command, Free, Home, HomePort, Locked, Mail, Port, Success};
 use tl_map::{Geometry, GeometryNumbers};
+use tl_runner_threads::{Course, End, Shared, client_turns, home_turns};
 use tl_tickets::Ringer;
 use tl_types::{BankNo, BlockNo, ClientId, Grow, Perm, Prune, Ticket};
 
@@ -172,68 +168,32 @@ impl<'x> HomePort for Rings<'x> {
 /// What is seen of a worker's turns: how they end, and how many there were.
 type Seen = (End, u32);
 
-/// What is seen of the turns of a client's worker at such a port.
+/// What is seen of the turns of a client's agent at such a port.
 fn client_seen<R: Wait + Clock>(
     rt: &R,
     shared: &Shared<'_, Free>,
     mut port: Rings<'_>,
-    worker: Option<ClientWorker<'_, '_>>,
+    stop: Ringer<'_>,
+    own: Option<(Agent<'_>, Mail<'_>)>,
 ) -> Option<Seen> {
-    let ClientWorker {
-        client: _,
-        mut agent,
-        mut mail,
-        stop,
-        end: _,
-    } = worker?;
+    let (mut agent, mut mail) = own?;
     let mut course = Course::new(stop, shared.turns);
     let end = client_turns(rt, shared, &mut port, &mut agent, &mut mail, &mut course);
     Some((end, port.turns))
 }
 
-/// The same of a client that has two drops to do, each of which takes a turn.
-fn client_at_post<R: Wait + Clock>(
-    rt: &R,
-    shared: &Shared<'_, Free>,
-    geometry: Geometry,
-    port: Rings<'_>,
-    own: Option<(Post<'_>, Vec<Share>)>,
-) -> Option<Seen> {
-    let (post, shares) = own?;
-    let drops = [Command::Drop { address: 0 }, Command::Drop { address: 0 }];
-    let client = ClientId::new(0);
-    let worker = client_worker(shared.alloc, geometry, client, &drops, post, shares).ok();
-    client_seen(rt, shared, port, worker)
-}
-
-/// What is seen of the turns of a home's worker at such a port.
+/// What is seen of the turns of a home at such a port.
 fn home_seen<R: Wait + Clock>(
     rt: &R,
     shared: &Shared<'_, Free>,
     mut port: Rings<'_>,
-    worker: Option<HomeWorker<'_>>,
+    stop: Ringer<'_>,
+    own: Option<(Home, Mail<'_>)>,
 ) -> Option<Seen> {
-    let HomeWorker {
-        number: _,
-        mut home,
-        mut mail,
-        stop,
-        end: _,
-    } = worker?;
+    let (mut home, mut mail) = own?;
     let mut course = Course::new(stop, shared.turns);
     let end = home_turns(rt, shared, &mut port, &mut home, &mut mail, &mut course);
     Some((end, port.turns))
-}
-
-/// The same with what the home uses.
-fn home_at_post<R: Wait + Clock>(
-    rt: &R,
-    shared: &Shared<'_, Free>,
-    port: Rings<'_>,
-    own: Option<Post<'_>>,
-) -> Option<Seen> {
-    let worker = home_worker(shared.alloc, BankNo::new(0), own?).ok();
-    home_seen(rt, shared, port, worker)
 }
 
 /// Whose worker is looked at.
@@ -243,48 +203,62 @@ enum Whose {
     Home,
 }
 
-/// What is seen of one of the workers, with what both use.
-fn seen_at_posts<R: Wait + Clock>(
+/// What is seen of one of the workers with these mails and shares. The client has two drops to do, each of which takes a
+/// turn.
+fn seen_with<R: Wait + Clock>(
     rt: &R,
     shared: &Shared<'_, Free>,
     geometry: Geometry,
     whose: Whose,
-    posts: Option<Posts<'_>>,
-    mut shares: Vec<Vec<Share>>,
+    mails: (Option<Mail<'_>>, Option<Mail<'_>>),
+    bells: (Ringer<'_>, Ringer<'_>),
+    shares: Vec<Share>,
 ) -> Option<Seen> {
-    let Posts {
-        mut clients,
-        mut homes,
-        stop,
-    } = posts?;
-    let port = Rings { stop, turns: 0 };
+    let (rings, hears) = bells;
+    let port = Rings {
+        stop: rings,
+        turns: 0,
+    };
     match whose {
         Whose::Client => {
-            let own = clients.pop().zip(shares.pop());
-            client_at_post(rt, shared, geometry, port, own)
+            let drops = [Command::Drop { address: 0 }, Command::Drop { address: 0 }];
+            let client = ClientId::new(0);
+            let agent = Agent::new(shared.alloc, client, geometry, &drops, shares).ok();
+            client_seen(rt, shared, port, hears, agent.zip(mails.0))
         }
-        Whose::Home => home_at_post(rt, shared, port, homes.pop()),
+        Whose::Home => {
+            let home = Home::new(shared.alloc, BankNo::new(0)).ok();
+            home_seen(rt, shared, port, hears, home.zip(mails.1))
+        }
     }
 }
 
-/// The same over mailboxes of their own.
-fn seen_at_mailboxes<R: Wait + Clock>(
+/// The same over inboxes and bells of their own.
+fn seen_in<R: Wait + Clock>(
     rt: &R,
     shared: &Shared<'_, Free>,
     geometry: Geometry,
     whose: Whose,
-    shares: Vec<Vec<Share>>,
+    shares: Vec<Share>,
 ) -> Option<Seen> {
-    let (mailroom, keys) = open_mailroom(shared.alloc, geometry, 8).ok()?;
-    let posts = deal_out(shared.alloc, geometry, &mailroom, keys).ok();
-    seen_at_posts(rt, shared, geometry, whose, posts, shares)
+    let (rooms, keys) = open_two(shared.alloc)?;
+    let (bell, rings, hears) = open_bell(shared.alloc)?;
+    let bells = (Ringer::new(&bell, rings), Ringer::new(&bell, hears));
+    let mails = two_mails(shared.alloc, &rooms, keys);
+    seen_with(rt, shared, geometry, whose, mails, bells, shares)
+}
+
+/// The bank behind its lock, and the client's share.
+fn lock(alloc: Global, geometry: Geometry) -> Option<(Locked, Vec<Share>)> {
+    let (bank, mut given) = Bank::new(alloc, geometry, BankNo::new(0), &[]).ok()?;
+    let share = given.pop()?;
+    lock_up(alloc, geometry, bank, share)
 }
 
 /// The same over a bank of their own. `None` where a request for memory was refused.
 fn seen<R: Wait + Clock>(rt: &R, alloc: Global, whose: Whose) -> Option<Seen> {
     let geometry = Geometry::new(NUMBERS).ok()?;
-    let Opened { banks, shares } = open_banks(alloc, geometry, &[], 0).ok()?;
-    let locked = Locked::new(alloc, geometry, banks).ok()?;
+    let (locked, shares) = lock(alloc, geometry)?;
     let gate = Free;
     let shared = Shared {
         alloc,
@@ -293,7 +267,7 @@ fn seen<R: Wait + Clock>(rt: &R, alloc: Global, whose: Whose) -> Option<Seen> {
         clients: 1,
         turns: TURNS,
     };
-    seen_at_mailboxes(rt, &shared, geometry, whose, shares)
+    seen_in(rt, &shared, geometry, whose, shares)
 }
 
 #[test]
