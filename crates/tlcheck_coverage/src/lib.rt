@@ -6,11 +6,10 @@ mod page;
 mod reading;
 mod script;
 mod tallies;
-mod tally;
 mod text;
 
 pub use answer::{Form, Number, Way, tell_fault, tell_tables, tell_way};
 pub use reading::{Fault, cover};
 pub use script::push_script;
 pub use tallies::Tallies;
-pub use tally::{Count, Mark, Tally};
+pub use tlcheck_home::{Count, Mark, Tally};

@@ -11,10 +11,10 @@ use crate::page::look::{HEAD, TAIL};
 use crate::page::races::push_races;
 use crate::page::rows::push_rows;
 use crate::tallies::Tallies;
-use crate::tally::Tally;
 use crate::text::{Sums, Title, sums_of};
 use std::alloc::{AllocError, Global};
 use std::fmt::Write;
+use tlcheck_home::Tally;
 use tlcheck_situations::ACTIONS;
 
 /// The cells of an action's sums.

@@ -3,12 +3,12 @@ ghost use Rattle.std.specs.Prelude.{◌<◌, ◌≤◌, IfOk};
 ghost use Rattle.tlcheck_coverage.specs.Reading.{IsFit};
 
 use crate::tallies::Tallies;
-use crate::tally::Mark;
 use std::alloc::Global;
 use std::io;
 use std::io::{BufRead, ErrorKind};
 use tl_rules::Shape;
 use tl_types::{BLOCK_BYTES, BLOCKS};
+use tlcheck_home::Mark;
 use tlcheck_reader::{BrokenEntry, Outcome};
 use tlcheck_record::{LineError, is_blank, read_entry, read_image_line, read_shape, read_text};
 use tlcheck_rules::{Breach, Entry, Judge, Refusal};

@@ -1,10 +1,9 @@
 //! A tally for each number of clients that is met.
 ghost use Rattle.std.specs.Prelude.{◌<◌, ◌≤◌};
 
-use crate::tally::{Mark, Tally};
 use std::alloc::{AllocError, Global};
 use tl_types::CLIENTS;
-use tlcheck_home::HomeTable;
+use tlcheck_home::{HomeTable, Mark, Tally};
 use tlcheck_rules::{Entry, Judge, Refusal};
 use tlcheck_situations::{Table, TableError};
 

@@ -1,10 +1,10 @@
 //! A tally as text.
 
-use crate::tally::{Count, Mark, Tally};
 use std::alloc::AllocError;
 use std::fmt;
 use std::fmt::Write;
 use tl_rules::Event;
+use tlcheck_home::{Count, Mark, Tally};
 use tlcheck_record::EventLine;
 use tlcheck_situations::{ACTIONS, Action, Situation};
 

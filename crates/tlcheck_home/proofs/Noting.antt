@@ -14,8 +14,8 @@ use Rattle.tlcheck_situations.specs.Reach.{situation_after}
 use Rattle.tlcheck_situations.specs.Situation.{situation_of}
 use Rattle.tlcheck_situations.specs.declared.situation.Situation.{Situation}
 use Rattle.tlcheck_situations.proofs.Complete.{client_is_there}
-use Rattle.tlcheck_coverage.specs.Tally.{IsCountedAt, IsCountedBeyond, IsNoted, IsSeen, IsSituationIn, TallyState}
-use Rattle.tlcheck_coverage.specs.declared.tally.Mark.{Mark}
+use Rattle.tlcheck_home.specs.Tally.{IsCountedAt, IsCountedBeyond, IsNoted, IsSeen, IsSituationIn, TallyState}
+use Rattle.tlcheck_home.specs.declared.tally.Mark.{Mark}
 
 -- the situation that the judge shows is that after the log
 shown_situation :

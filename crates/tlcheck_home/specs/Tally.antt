@@ -13,8 +13,8 @@ use Rattle.tlcheck_rules.specs.declared.entry.Entry.{Entry}
 use Rattle.tlcheck_home.specs.HomeTableState.{HomeTableState}
 use Rattle.tlcheck_situations.specs.Reach.{situation_after}
 use Rattle.tlcheck_situations.specs.declared.situation.Situation.{Situation}
-use Rattle.tlcheck_coverage.specs.declared.tally.Count.{Count}
-use Rattle.tlcheck_coverage.specs.declared.tally.Mark.{Mark}
+use Rattle.tlcheck_home.specs.declared.tally.Count.{Count}
+use Rattle.tlcheck_home.specs.declared.tally.Mark.{Mark}
 
 -- the situations of a table, where it is asked for the table of what this project's home reaches, how often each
 -- situation was counted, and how many events were in none of them

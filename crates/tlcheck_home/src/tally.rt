@@ -5,13 +5,13 @@ ghost use Rattle.tl_protocol.specs.declared.shape.Shape.{Shape};
 ghost use Rattle.tlcheck_rules.specs.Judged.{Breaks, Follows};
 ghost use Rattle.tlcheck_rules.specs.declared.judge.Breach.{Breach};
 ghost use Rattle.tlcheck_rules.specs.declared.judge.Refusal.TheVariants.{Broken};
-ghost use Rattle.tlcheck_coverage.specs.Tally.{IsByHome, IsCountedAt, IsCountedBeyond, IsNoted, IsSeen};
-ghost use Rattle.tlcheck_coverage.specs.Tally.{IsSituationIn, one_more};
+ghost use Rattle.tlcheck_home.specs.Tally.{IsByHome, IsCountedAt, IsCountedBeyond, IsNoted, IsSeen};
+ghost use Rattle.tlcheck_home.specs.Tally.{IsSituationIn, one_more};
 
+use crate::table::HomeTable;
 use std::alloc::{AllocError, Global};
 use std::marker::Model;
 use tl_rules::{Event, Plain};
-use tlcheck_home::HomeTable;
 use tlcheck_rules::{Entry, Judge, Refusal, client_of};
 use tlcheck_situations::{Action, Situation, Table, situation_at};
 
@@ -40,7 +40,7 @@ pub struct Tally {
 
 impl Model for Tally {
     ghost use Rattle.std.specs.Prelude.{◌≡◌, length};
-    ghost use Rattle.tlcheck_coverage.specs.Tally.{TallyState};
+    ghost use Rattle.tlcheck_home.specs.Tally.{TallyState};
 
     ghost Value = { TallyState };
 

@@ -1,9 +1,9 @@
 //! The table of races: two messages in flight, and in how many of the situations that have both something happened.
 
 use crate::page::flight::{FLIGHTS, Flight, is_in_flight};
-use crate::tally::Tally;
 use std::alloc::AllocError;
 use std::fmt::Write;
+use tlcheck_home::Tally;
 
 /// How many situations have both in flight and were reached, of how many.
 fn reached_with(tally: &Tally, first: Flight, second: Flight) -> (usize, usize) {

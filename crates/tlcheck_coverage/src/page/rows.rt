@@ -2,10 +2,10 @@
 
 use crate::page::escape::push_escaped;
 use crate::page::flight::{FLIGHTS, is_in_flight};
-use crate::tally::{Count, Tally};
 use crate::text::{Spot, home_word};
 use std::alloc::{AllocError, Global};
 use std::fmt::Write;
+use tlcheck_home::{Count, Tally};
 use tlcheck_situations::{ACTIONS, Action, Situation};
 
 /// A situation in words, and its place in the table.

@@ -2,9 +2,9 @@ use Rattle.std.proofs.Common.{ℕ, ◌<◌, List}
 use Rattle.tl_protocol.specs.declared.event.Event.{Event}
 use Rattle.tl_protocol.specs.declared.shape.Shape.{Shape}
 use Rattle.tlcheck_rules.specs.Judged.{Follows}
-use Rattle.tlcheck_coverage.specs.Tally.{IsNoted, IsSeen}
-use Rattle.tlcheck_coverage.proofs.Noting.{never_none, on_ok, seen_as}
-use Rattle.tlcheck_coverage.proofs.tally.Tally.see.Goals as goal
+use Rattle.tlcheck_home.specs.Tally.{IsNoted, IsSeen}
+use Rattle.tlcheck_home.proofs.Noting.{never_none, on_ok, seen_as}
+use Rattle.tlcheck_home.proofs.tally.Tally.see.Goals as goal
 
 pub returns-in-None-clause-ok : goal.returns-in-None-clause-ok
 returns-in-None-clause-ok c shape image log follows some =
