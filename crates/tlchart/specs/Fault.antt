@@ -5,9 +5,9 @@ use Rattle.tl_streams.specs.declared.command_line.WordsError.{WordsError}
 use Rattle.tl_streams.specs.declared.fault.ProgramFault.TheVariants as program
 use Rattle.tl_streams.specs.declared.reading.ReadError.{ReadError}
 use Rattle.tl_script.specs.ScriptError.{script_error_status}
-use Rattle.tlchart_trace.specs.Draw.{draw_error_text}
-use Rattle.tlchart_trace.specs.declared.draw.DrawError.{DrawError}
-use Rattle.tlchart_trace.specs.declared.draw.DrawError.TheVariants as draw
+use Rattle.tlchart_page.specs.Draw.{draw_error_text}
+use Rattle.tlchart_page.specs.declared.draw.DrawError.{DrawError}
+use Rattle.tlchart_page.specs.declared.draw.DrawError.TheVariants as draw
 use Rattle.tlchart.specs.declared.fault.Fault.{Fault}
 use Rattle.tlcheck_reader.specs.Ending.{ending_text, status_of as ending_status}
 use Rattle.tlchart.specs.declared.fault.Fault.TheVariants.{Program, Draw, Record}

@@ -6,7 +6,7 @@ ghost use Rattle.tlchart.specs.Fault.{fault_of_read, fault_of_words, status_of};
 use std::fmt;
 use std::io::Write;
 use tl_streams::{ProgramFault, ReadError, WordsError, tell};
-use tlchart_trace::DrawError;
+use tlchart_page::DrawError;
 use tlcheck_reader::Ending;
 
 /// What stops the program. It prints as the one fault line.

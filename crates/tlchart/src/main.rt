@@ -11,9 +11,8 @@ use std::fs::File;
 use std::process::ExitCode;
 use tl_streams::{ProgramFault, read_whole, words, write_whole};
 use tlchart_draw::title_of;
-use tlchart_page::page_script;
+use tlchart_page::{draw_script, page_script};
 use tlchart_record::page_record;
-use tlchart_trace::draw_script;
 
 /// The bytes of the file that is asked for.
 fn bytes(rt: &HostRuntime, file: &str) -> Result<Vec<u8>, Fault> {

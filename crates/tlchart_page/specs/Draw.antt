@@ -6,8 +6,8 @@ use Rattle.tl_script.specs.ScriptError.{script_error_text}
 use Rattle.tl_script.specs.declared.script.Script.{Script as ScriptRead}
 use Rattle.tl_streams.specs.Fault.{program_fault_text}
 use Rattle.tl_streams.specs.declared.fault.ProgramFault.TheVariants as program
-use Rattle.tlchart_trace.specs.declared.draw.DrawError.{DrawError}
-use Rattle.tlchart_trace.specs.declared.draw.DrawError.TheVariants.{Script, TooMany, Memory}
+use Rattle.tlchart_page.specs.declared.draw.DrawError.{DrawError}
+use Rattle.tlchart_page.specs.declared.draw.DrawError.TheVariants.{Script, TooMany, Memory}
 
 -- the bytes write a script of so many steps
 abbrev pub Writes : List ℕ → ℕ → Type 0

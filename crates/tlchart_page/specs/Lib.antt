@@ -5,3 +5,4 @@ pub mod Told
 pub mod Reach
 pub mod Cells
 pub mod Page
+pub mod Draw

@@ -1,6 +1,6 @@
 -- Which scripts have a page (this project's own format).
 use Rattle.std.specs.Prelude.{ℕ, ◌≤◌, List}
-use Rattle.tlchart_trace.specs.Draw.{Writes}
+use Rattle.tlchart_page.specs.Draw.{Writes}
 
 -- the bytes write a script with steps
 abbrev pub IsPaged : List ℕ → Type 0

@@ -1,9 +1,8 @@
 //! From the bytes of a script to its picture.
 ghost use Rattle.std.specs.Prelude.{◌≡◌, ◌≤◌, IfErr, OnOk, length};
-ghost use Rattle.tlchart_trace.specs.Draw.{IsDrawn, IsWhy};
-ghost use Rattle.tlchart_trace.specs.declared.draw.DrawError.TheVariants as its;
+ghost use Rattle.tlchart_page.specs.Draw.{IsDrawn, IsWhy};
+ghost use Rattle.tlchart_page.specs.declared.draw.DrawError.TheVariants as its;
 
-use crate::chart::chart_of;
 use crate::closing::closings;
 use std::alloc::{AllocError, Global};
 use std::fmt;
@@ -13,6 +12,7 @@ use tl_streams::ProgramFault;
 use tl_trace::play;
 use tl_types::BlockNo;
 use tlchart_draw::{Form, Rows, Sheet, picture_of};
+use tlchart_trace::chart_of;
 
 /// The most steps that are drawn.
 const MOST: usize = 200;
@@ -30,7 +30,7 @@ pub enum DrawError {
 
 impl fmt::Display for DrawError {
     ghost use Rattle.std.specs.Prelude.{Some};
-    ghost use Rattle.tlchart_trace.specs.Draw.{draw_error_text};
+    ghost use Rattle.tlchart_page.specs.Draw.{draw_error_text};
 
     ghost output = { λ e. Some (draw_error_text e) };
 

@@ -1,9 +1,10 @@
 //! From the bytes of a script to its page.
 ghost use Rattle.std.specs.Prelude.{◌≤◌, IfErr, OnOk, length};
-ghost use Rattle.tlchart_trace.specs.Draw.{IsWhy};
+ghost use Rattle.tlchart_page.specs.Draw.{IsWhy};
 ghost use Rattle.tlchart_page.specs.Page.{IsPaged};
 
 use crate::cells::{blocks_named, cells_of};
+use crate::draw::DrawError;
 use crate::drawing::DRAWING;
 use crate::film::film_of;
 use crate::json::{Sheet, push_data};
@@ -13,7 +14,7 @@ use std::alloc::{AllocError, Global};
 use tl_script::{Script, read_script};
 use tl_text::Trace;
 use tlchart_draw::{Ink, push_title};
-use tlchart_trace::{DrawError, chart_of};
+use tlchart_trace::chart_of;
 
 /// The document before its data: the title and the style.
 pub fn push_head(ink: &mut Ink, title: &str) {

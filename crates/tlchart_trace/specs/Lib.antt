@@ -2,4 +2,3 @@ pub mod Lifeline
 pub mod Message
 pub mod Turn
 pub mod Chart
-pub mod Draw

@@ -1,12 +1,9 @@
-//! The chart of a trace: what each step did, and the picture of a script.
+//! The chart of a trace: what each step did.
 #![tactic(auto)]
 
 mod chart;
-mod closing;
-mod draw;
 mod lifeline;
 mod message;
 mod turn;
 
 pub use chart::chart_of;
-pub use draw::{DrawError, draw_script};

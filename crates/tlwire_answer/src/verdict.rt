@@ -346,12 +346,13 @@ fn explained_in_rounds(alloc: Global, messages: &Messages) -> Result<Verdict, Al
     ensures { IfOk result (IsVerdict messages.now) }
 {
     let setting = messages.setting();
+    let seen = messages.seen();
     let explanation = explain_in_rounds(
         alloc,
         setting.shape(),
         setting.premises(),
         messages.image(),
-        messages.seen(),
+        seen,
     )?;
     weighed_run(alloc, messages, explanation)
 }

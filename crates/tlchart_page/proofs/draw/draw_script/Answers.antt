@@ -1,5 +1,5 @@
 use Rattle.std.proofs.Common.{rules, arith}
-use Rattle.tlchart_trace.proofs.draw.draw_script.Goals as goal
+use Rattle.tlchart_page.proofs.draw.draw_script.Goals as goal
 
 -- the script that was read has too many steps
 pub returns-then-steps-gt-MOST-clause-why : goal.returns-then-steps-gt-MOST-clause-why
