@@ -1,5 +1,5 @@
 -- A run that goes along what was seen.
-use Rattle.std.proofs.Common.{◌≡◌, ◌≢◌, ◌⊎◌, ◌<◌, ℕ, Bool, true, false, cond, List, [], ◌∷◌, ◌++◌, Option, Some, None, refl, sym, ap, ◌∙◌, subst, append_assoc, length, arith, inl, inr}
+use Rattle.std.proofs.Common.{◌≡◌, ◌<◌, ℕ, Bool, true, false, cond, List, [], ◌∷◌, ◌++◌, Option, Some, None, refl, sym, ap, ◌∙◌, subst, append_assoc, length, arith, inl, inr}
 use Rattle.std.proofs.lemmas.List.{append-nil}
 use Rattle.tl_protocol.specs.declared.event.Event.{Event}
 use Rattle.tl_protocol.specs.declared.shape.Shape.{Shape}
@@ -11,7 +11,7 @@ use Rattle.tl_rules.specs.Plain.{state_of_plain}
 use Rattle.tl_protocol_lanes.proofs.Logs.{empty_is_lawful, lawful_grows_by_one}
 use Rattle.tlwire_search.proofs.Marking.{same_wire-true}
 use Rattle.tlwire_search.specs.Explained.{Explains, IsSeenOn, as_list, on, same_wire, seen_along, seen_from, seen_of, wire_of}
-use Rattle.tlwire_search.specs.Left.{GoesAlong, GoesAlongOn, IsDone, IsMarked, IsMarking, IsNext, MarkState, left}
+use Rattle.tlwire_search.specs.Left.{GoesAlong, GoesAlongOn, IsMarking, IsNext, MarkState, left}
 use Rattle.tlwire_search.specs.Premises.{may_have_more}
 use Rattle.tlwire_search.specs.declared.premise.Premise.{Premise}
 use Rattle.tlwire_search.specs.declared.seen.Seen.{Seen}

@@ -1,3 +1,4 @@
 pub mod Along
 pub mod Listing
 pub mod Marking
+pub mod Grants

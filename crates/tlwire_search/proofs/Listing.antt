@@ -1,13 +1,18 @@
 -- The lists of lines by wire and block: what a new line and a sent one leave of what they keep.
-use Rattle.std.proofs.Common.{◌≡◌, ◌≢◌, ◌<◌, ◌≤◌, ◌+◌, ◌-◌, ◌⊎◌, ◌++◌, ◌∷◌, ℕ, zero, suc, List, [], Option, Some, None, length, get_or, set, slice_get, replicate, refl, sym, subst, ap, ◌∙◌, inl, inr, arith, length-append}
+use Rattle.std.proofs.Common.{◌≡◌, ◌≢◌, ◌<◌, true, ◌≤◌, ◌+◌, ◌-◌, ◌⊎◌, ◌++◌, ◌∷◌, ℕ, zero, suc, List, [], Some, length, get_or, set, slice_get, replicate, refl, sym, subst, ap, ◌∙◌, inl, inr, arith}
 use Rattle.std.proofs.lemmas.List.{get_or_append_left}
 use Rattle.std.proofs.lemmas.Option.{slice_get_within}
 use Rattle.std.proofs.Math.Seq.{get_or-append_seam}
+use Rattle.tl_types.specs.Codes.{channel_of}
+use Rattle.tl_types.specs.declared.channel.Channel.{Channel}
+use Rattle.tl_types.specs.declared.channel.Channel.TheVariants.{A, B, C, D, E}
 use Rattle.tlwire_search.specs.Explained.{wire_of}
 use Rattle.tlwire_search.specs.Lists.{AreOfTheirWires, BeginInTime, IsMovedOn, IsOnWire, block_of, gap_at, list_at, list_of, number_of}
-use Rattle.tlwire_search.specs.Sought.{IsLike}
+use Rattle.tlwire_search.specs.Sought.{IsLike, is_grant}
 use Rattle.tlwire_search.specs.declared.seen.Seen.{Seen}
+use Rattle.tlwire_search.specs.declared.seen.Seen.TheVariants.{OnLink, OnMemory, Load, Store}
 use Rattle.tlwire_search.specs.declared.seen.Wire.{Wire}
+use Rattle.tlwire_search.specs.declared.seen.Wire.TheVariants.{Link}
 use Rattle.tlwire_search.specs.declared.sought.Sought.{Sought}
 
 -- ## Lists of numbers
@@ -44,17 +49,30 @@ written_within (x ∷ xs) (suc i) zero v bound new old = old
 written_within (x ∷ xs) (suc i) (suc k) v bound new old = written_within xs i k v bound (λ e. new (ap suc e)) old
 
 -- a number from another one on is that, or behind it
-two_cases : (a b : ℕ) → a ≤ b → (a ≡ b) ⊎ (a < b)
+pub two_cases : (a b : ℕ) → a ≤ b → (a ≡ b) ⊎ (a < b)
 two_cases zero zero le = inl refl
 two_cases zero (suc b) le = inr (omega arith)
 two_cases (suc a) zero le = absurd (omega arith)
 two_cases (suc a) (suc b) le = elim (two_cases a b (omega arith)) [ inl e ↦ inl (ap suc e) | inr lt ↦ inr (omega arith) ]
 
 -- a number is at most another one, or behind it
-at_most : (a b : ℕ) → (a ≤ b) ⊎ (b < a)
+pub at_most : (a b : ℕ) → (a ≤ b) ⊎ (b < a)
 at_most zero b = inl (omega arith)
 at_most (suc a) zero = inr (omega arith)
 at_most (suc a) (suc b) = elim (at_most a b) [ inl le ↦ inl (omega arith) | inr lt ↦ inr (omega arith) ]
+
+-- each of these numbers is at most this
+abbrev pub AreWithin : List ℕ → ℕ → Type 0
+AreWithin xs most = (k x : ℕ) → slice_get xs k ≡ Some x → x ≤ most
+
+pub within_alike : (n v : ℕ) → AreWithin (replicate n v) v
+within_alike n v k x is = omega (arith, read_alike n v k x is)
+
+pub within_set : (xs : List ℕ) (i v most : ℕ) → AreWithin xs most → v ≤ most → AreWithin (set xs i v) most
+within_set xs i v most old new k x is = elim (read_back xs i k v x is) [
+  | inl h ↦ omega (arith, h.1)
+  | inr h ↦ old k x h.1
+]
 
 -- ## A line before those behind it
 
@@ -185,3 +203,19 @@ pub list_like : (width bytes : ℕ) (wire : Wire) (block : ℕ) (sought : Sought
     → IsLike bytes wire block sought s → list_at width bytes s ≡ list_of width wire block
 list_like width bytes wire block sought s like =
     ap (λ (w : Wire). list_of width w (block_of bytes s)) like.0 ∙ ap (λ (n : ℕ). list_of width wire n) like.1
+
+-- ## Grants
+
+link_same : (x c : ℕ) (channel : Channel) → number_of (Link x channel) ≡ number_of (Link c D) → Link x channel ≡ Link c D
+link_same x c A e = absurd (omega arith)
+link_same x c B e = absurd (omega arith)
+link_same x c C e = absurd (omega arith)
+link_same x c D e = ap (λ (n : ℕ). Link n D) (omega arith)
+link_same x c E e = absurd (omega arith)
+
+-- a Grant on the wire of this number is on the client's channel D
+pub granted_on : (s : Seen) (c : ℕ) → number_of (wire_of s) ≡ number_of (Link c D) → is_grant s ≡ true → wire_of s ≡ Link c D
+granted_on (OnLink x block message) c on grants = link_same x c (channel_of message.kind) on
+granted_on (OnMemory block message) c on grants = cc
+granted_on (Load x address read) c on grants = cc
+granted_on (Store x address written) c on grants = cc

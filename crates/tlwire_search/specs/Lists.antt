@@ -70,3 +70,10 @@ PassNoLine list seen gaps =
     (place later : ℕ) (s t : Seen)
     → place < later → slice_get seen place ≡ Some s → slice_get seen later ≡ Some t → list s ≡ list t
     → place + gap_at gaps (length seen) place < later
+
+-- what stands at this place is the first on the wire of this number from another place on; behind all, where none is
+pub record IsNextOn (seen : List Seen) (wire from place : ℕ) : Type 0 where
+  pub on : from ≤ place
+  pub within : place ≤ length seen
+  pub there : IsOnWire seen wire place
+  pub first : (k : ℕ) (s : Seen) → from ≤ k → k < place → slice_get seen k ≡ Some s → number_of (wire_of s) ≢ wire

@@ -4,7 +4,7 @@ use Rattle.std.specs.List.{list_any}
 use Rattle.tlwire_search.specs.declared.premise.Premise.{Premise}
 use Rattle.tlwire_search.specs.declared.premise.Premise.TheVariants.{AtClient, AtClients, AtHome, Whole, MemoryUnseen, CoresUnseen}
 use Rattle.tlwire_search.specs.declared.seen.Wire.{Wire}
-use Rattle.tlwire_search.specs.declared.seen.Wire.TheVariants.{Link, Memory, Core}
+use Rattle.tlwire_search.specs.declared.seen.Wire.TheVariants.{Memory, Core}
 
 -- it is `whole`
 abbrev pub is_whole_line : Premise → Bool

@@ -1,14 +1,9 @@
 //! What was seen on each wire, and how much of it a run has sent.
-ghost use Rattle.std.specs.Prelude.{◌≡◌, ◌<◌, ◌≤◌, ◌+◌, ◌-◌, ◌^◌, ◌↔◌, ℕ, IfSome, IfNone, IsTrue, Some, length, min};
+ghost use Rattle.std.specs.Prelude.{◌≡◌, ◌<◌, ◌≤◌, ◌+◌, ◌-◌, ◌^◌, ◌↔◌, ℕ, IfOk, IfSome, IfNone, IsTrue, Some, length};
 ghost use Rattle.std.specs.Prelude.{slice_get, slice_index, slice_set};
-ghost use Rattle.tlwire_search.specs.Lists.{AreOfTheirWires, BeginInTime, HasNoneBetween, IsMovedOn, IsOnWire, PassNoLine};
+ghost use Rattle.tlwire_search.specs.Lists.{AreOfTheirWires, BeginInTime, HasNoneBetween, IsMovedOn, IsNextOn, PassNoLine};
 ghost use Rattle.tlwire_search.specs.Explained.{wire_of};
 ghost use Rattle.tlwire_search.specs.Lists.{block_of, gap_at, list_at, list_of, number_of};
-
-#[cfg(test)]
-mod scanned;
-#[cfg(test)]
-mod scans;
 
 use crate::seen::{Seen, Wire};
 use crate::sought::{Sought, granted_block};
@@ -40,6 +35,7 @@ pub(crate) struct Wires<'a> {
     ghost on_wires: { AreOfTheirWires seen.now next.items },
     ghost in_time: { BeginInTime (list_at width shape.block_bytes) seen.now next.items first.items },
     ghost past_none: { PassNoLine (list_at width shape.block_bytes) seen.now in_list.items },
+    ghost past_no_other: { PassNoLine (λ s. number_of (wire_of s)) seen.now on_wire.items },
 }
 
 /// A wire's number: the memory's two, then six of each client.
@@ -94,8 +90,8 @@ fn list_at(shape: Shape, width: u16, line: &Seen) -> usize
     list_of(width, &line.wire(), block_of(shape, line))
 }
 
-/// Makes a place the beginning of a list; how many lines stand between it and the one so far, at most this many.
-fn put_before(heads: &mut Vec<usize>, list: usize, place: usize, far: u32) -> u32
+/// Makes a place the beginning of a list; how many lines stand between it and the one so far, or fewer.
+fn put_before(heads: &mut Vec<usize>, list: usize, place: usize) -> u32
     ensures heads { heads.new.items ≡ slice_set heads.old.items list place }
     ensures gap { result ≤ slice_index heads.old.items list - place - 1 }
 {
@@ -104,7 +100,7 @@ fn put_before(heads: &mut Vec<usize>, list: usize, place: usize, far: u32) -> u3
     }
     let gap = heads[list].saturating_sub(place).saturating_sub(1);
     heads[list] = place;
-    gap.min(far as usize) as u32
+    gap.min(u32::MAX as usize) as u32
 }
 
 /// Writes a number, where there is one.
@@ -137,7 +133,11 @@ fn gap_at(gaps: &[u32], lines: usize, place: usize) -> usize
 
 impl<'a> Wires<'a> {
     ghost use Rattle.tlwire_search.specs.Sought.{IsLike};
-    ghost use Rattle.tlwire_search.specs.Unsent.{IsUnsentAt};
+    ghost use Rattle.tlwire_search.specs.Unsent.{IsAdvanced, IsFirstUnsent, IsFresh, IsGrantedFirst, IsNextGranted};
+    ghost use Rattle.tlwire_search.specs.Unsent.{IsSentAt};
+    ghost use Rattle.tl_types.specs.declared.channel.Channel.TheVariants.{A, D};
+    ghost use Rattle.tlwire_search.specs.declared.seen.Wire.TheVariants.{Link, Memory};
+    ghost use Rattle.tlwire_search.specs.declared.sought.Sought.TheVariants.{Get, Grant, Line};
 
     /// Nothing is sent.
     pub(crate) fn new(
@@ -146,18 +146,7 @@ impl<'a> Wires<'a> {
         seen: &'a [Seen],
     ) -> Result<Wires<'a>, AllocError>
         requires { 0 < shape.block_bytes }
-    {
-        Wires::up_to(alloc, shape, seen, u32::MAX)
-    }
-
-    /// Nothing is sent, and no gap is kept that is longer than this.
-    fn up_to(
-        alloc: Global,
-        shape: Shape,
-        seen: &'a [Seen],
-        far: u32,
-    ) -> Result<Wires<'a>, AllocError>
-        requires { 0 < shape.block_bytes }
+        ensures { IfOk result (IsFresh shape seen.now) }
     {
         let wires = 2 + shape.clients as usize * 6;
         let width = width_of(shape, wires, seen.len());
@@ -167,8 +156,8 @@ impl<'a> Wires<'a> {
         let mut in_list = Vec::with_capacity(alloc, seen.len())?;
         for place in (0..seen.len()).rev() {
             let line = &seen[place];
-            on_wire.push(put_before(&mut next, number(&line.wire()), place, far))?;
-            in_list.push(put_before(&mut first, list_at(shape, width, line), place, far))?;
+            on_wire.push(put_before(&mut next, number(&line.wire()), place))?;
+            in_list.push(put_before(&mut first, list_at(shape, width, line), place))?;
         }
         Ok(Wires {
             shape,
@@ -198,7 +187,9 @@ impl<'a> Wires<'a> {
     }
 
     /// Whether what was seen at a place is sent.
-    pub(crate) fn is_sent(&self, place: usize) -> bool {
+    pub(crate) fn is_sent(&self, place: usize) -> bool
+        ensures { IsTrue result ↔ IsSentAt self.now place }
+    {
         match self.seen.get(place) {
             Some(line) => match self.next(line.wire()) {
                 Some(next) => place < next,
@@ -210,8 +201,8 @@ impl<'a> Wires<'a> {
 
     /// The place of the first on a wire of this number from one on, behind all where there is none.
     fn first_on(&self, wire: usize, from: usize) -> usize
-        ensures on { min from (length self.now.seen.now) ≤ result }
-        ensures there { IsOnWire self.now.seen.now wire result }
+        requires { from ≤ length self.now.seen.now }
+        ensures { IsNextOn self.now.seen.now wire from result }
     {
         for place in from..self.seen.len() {
             if number(&self.seen[place].wire()) == wire {
@@ -223,12 +214,12 @@ impl<'a> Wires<'a> {
 
     /// The place of the next on a line's wire, behind all where there is none.
     fn behind_on_wire(&self, place: usize, line: &Seen) -> usize
-        requires { place < length self.now.seen.now }
-        ensures on { place < result }
-        ensures there { IsOnWire self.now.seen.now (number_of (wire_of line.now)) result }
+        requires { slice_get self.now.seen.now place ≡ Some line.now }
+        ensures { IsNextOn self.now.seen.now (number_of (wire_of line.now)) (place + 1) result }
     {
         let gap = gap_at(&self.on_wire, self.seen.len(), place);
-        self.first_on(number(&line.wire()), (place + 1).saturating_add(gap))
+        let from = (place + 1).saturating_add(gap).min(self.seen.len());
+        self.first_on(number(&line.wire()), from)
     }
 
     /// A place behind a line up to which its list has no other line.
@@ -243,7 +234,9 @@ impl<'a> Wires<'a> {
     }
 
     /// One more is sent on a wire.
-    pub(crate) fn advance(&mut self, wire: Wire) {
+    pub(crate) fn advance(&mut self, wire: Wire)
+        ensures { IsAdvanced self.old self.new wire }
+    {
         let Some(place) = self.next(wire) else {
             return;
         };
@@ -274,10 +267,7 @@ impl<'a> Wires<'a> {
 
     /// The place of the next that is sought of a block on a wire.
     fn next_like(&self, wire: Wire, block: BlockNo, sought: Sought) -> Option<usize>
-        ensures found { IfSome result (IsUnsentAt self.now wire block sought) }
-        ensures first { IfSome result
-            (λ place. (earlier : ℕ) → earlier < place → ¬ IsUnsentAt self.now wire block sought earlier) }
-        ensures none { IfNone result ((place : ℕ) → ¬ IsUnsentAt self.now wire block sought place) }
+        ensures { IsFirstUnsent self.now wire block sought result }
     {
         let next = self.next(wire)?;
         let list = list_of(self.width, &wire, block.number());
@@ -297,28 +287,37 @@ impl<'a> Wires<'a> {
     }
 
     /// The place of what is next of a block on a wire.
-    pub(crate) fn next_of(&self, wire: Wire, block: BlockNo) -> Option<usize> {
+    pub(crate) fn next_of(&self, wire: Wire, block: BlockNo) -> Option<usize>
+        ensures { IsFirstUnsent self.now wire block Line result }
+    {
         self.next_like(wire, block, Sought::Line)
     }
 
     /// The place of the next Grant of a block to a client.
-    pub(crate) fn next_grant(&self, c: ClientId, block: BlockNo) -> Option<usize> {
+    pub(crate) fn next_grant(&self, c: ClientId, block: BlockNo) -> Option<usize>
+        ensures { IsFirstUnsent self.now (Link c D) block Grant result }
+    {
         self.next_like(Wire::Link(c, Channel::D), block, Sought::Grant)
     }
 
     /// The place of the next Get of a block.
-    pub(crate) fn next_get(&self, block: BlockNo) -> Option<usize> {
+    pub(crate) fn next_get(&self, block: BlockNo) -> Option<usize>
+        ensures { IsFirstUnsent self.now (Memory A) block Get result }
+    {
         self.next_like(Wire::Memory(Channel::A), block, Sought::Get)
     }
 
     /// The block of the next Grant to a client.
-    pub(crate) fn next_granted(&self, c: ClientId) -> Option<BlockNo> {
-        let mut place = self.next(Wire::Link(c, Channel::D))?;
+    pub(crate) fn next_granted(&self, c: ClientId) -> Option<BlockNo>
+        ensures { IsNextGranted self.now c result }
+    {
+        let wire = Wire::Link(c, Channel::D);
+        let next = self.next(wire)?;
+        let mut place = next;
         while place < self.seen.len() {
             let line = &self.seen[place];
-            let granted = granted_block(line);
-            if granted.is_some() {
-                return granted;
+            if let Some(block) = granted_block(line) {
+                return Some(block);
             }
             place = self.behind_on_wire(place, line);
         }
@@ -326,7 +325,9 @@ impl<'a> Wires<'a> {
     }
 
     /// The client whose Grant of a block is seen first.
-    pub(crate) fn granted_first(&self, block: BlockNo) -> Option<ClientId> {
+    pub(crate) fn granted_first(&self, block: BlockNo) -> Option<ClientId>
+        ensures { IsGrantedFirst self.now self.now.shape.clients block result }
+    {
         let mut first = None;
         let mut least = self.seen.len();
         for number in 0..self.shape.clients {

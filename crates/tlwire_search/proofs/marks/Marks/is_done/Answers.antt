@@ -1,4 +1,4 @@
-use Rattle.std.proofs.Common.{◌≡◌, ◌∙◌, sym, subst, ap, List, Bool, ℕ, ◌++◌, ◌∷◌, []}
+use Rattle.std.proofs.Common.{◌∙◌, sym, subst, ap, ◌++◌, ◌∷◌, []}
 use Rattle.tlwire_search.specs.Explained.{wire_of}
 use Rattle.tlwire_search.specs.Left.{IsDone, MarkState}
 use Rattle.tlwire_search.specs.declared.seen.Wire.{Wire}

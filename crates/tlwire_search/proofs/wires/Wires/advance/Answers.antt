@@ -1,4 +1,4 @@
-use Rattle.std.proofs.Common.{◌≡◌, ℕ, List, Some, get_or, set, slice_get, sym, subst, ap, ◌∙◌}
+use Rattle.std.proofs.Common.{arith, ◌≡◌, ℕ, List, Some, get_or, set, slice_get, sym, subst, ap, ◌∙◌}
 use Rattle.std.proofs.lemmas.Option.{slice_get-get_or}
 use Rattle.tlwire_search.specs.Lists.{AreOfTheirWires, BeginInTime, IsMovedOn, IsOnWire, list_at, number_of}
 use Rattle.tlwire_search.specs.declared.seen.Seen.{Seen}
@@ -26,7 +26,8 @@ invariant_of-self c =
           (of_wires_on seen c.args.self.now.next.items wire c.behind_on_wire-next.result c.args.self.now.on_wires there);
       in_time = subst (λ (xs : List ℕ). BeginInTime list seen xs c.move_on.new.heads.items) (sym next)
           (begun_on list seen c.args.self.now.next.items c.args.self.now.first.items c.move_on.new.heads.items wire place c.behind_on_wire-next.result
-          c.behind_in_list-behind.result line c.args.self.now.on_wires c.args.self.now.in_time c.in-Some.ensures.next at c.behind_on_wire-next.ensures.on
+          c.behind_in_list-behind.result line c.args.self.now.on_wires c.args.self.now.in_time c.in-Some.ensures.next at (omega (arith, c.behind_on_wire-next.ensures.on))
           (λ later t behind within is. c.behind_in_list-behind.ensures.passed later line t behind within at is) moved);
       past_none = c.args.self.now.past_none;
+      past_no_other = c.args.self.now.past_no_other;
     }

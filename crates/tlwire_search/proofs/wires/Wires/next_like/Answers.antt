@@ -36,8 +36,8 @@ loop-place-preserved c =
           (λ later s behind within is like. absurd (omega arith));
     }
 
-pub returns-clause-none : goal.returns-clause-none
-returns-clause-none c = λ place u.
+pub returns : goal.returns
+returns c = λ place u.
     let same : Some u.next ≡ Some c.in_ok-next.next = sym u.is_next ∙ c.in_ok-next.ensures.next in
     let one : u.next ≡ c.in_ok-next.next = cc in
     let inside : place < length c.args.self.now.seen.now = slice_get_within c.args.self.now.seen.now place u.line u.at in
@@ -57,12 +57,18 @@ loop-place-init c = record {
       omega (arith, c.max-place.ensures, c.beginning.ensures);
 }
 
-pub returns-then-is_sought-clause-found : goal.returns-then-is_sought-clause-found
-returns-then-is_sought-clause-found c = record {
-  line = get_or c.args.self.now.seen.now c.loop-place.place c.index-self-place.result;
-  next = c.in_ok-next.next;
-  at = slice_get-get_or c.args.self.now.seen.now c.loop-place.place c.index-self-place.result c.loop-place-test.true;
-  is_next = c.in_ok-next.ensures.next;
-  unsent = c.loop-place.invariant.unsent;
-  like = c.is_sought.ensures.0 c.if-is_sought.true;
-}
+pub returns-then-is_sought : goal.returns-then-is_sought
+returns-then-is_sought c = (
+  record {
+    line = get_or c.args.self.now.seen.now c.loop-place.place c.index-self-place.result;
+    next = c.in_ok-next.next;
+    at = slice_get-get_or c.args.self.now.seen.now c.loop-place.place c.index-self-place.result c.loop-place-test.true;
+    is_next = c.in_ok-next.ensures.next;
+    unsent = c.loop-place.invariant.unsent;
+    like = c.is_sought.ensures.0 c.if-is_sought.true;
+  },
+  λ earlier before u.
+      let same : Some u.next ≡ Some c.in_ok-next.next = sym u.is_next ∙ c.in_ok-next.ensures.next in
+      let one : u.next ≡ c.in_ok-next.next = cc in
+      c.loop-place.invariant.passed earlier u.line (omega (arith, u.unsent)) before u.at u.like,
+)
