@@ -33,3 +33,5 @@ mod scripts;
 mod situations;
 #[cfg(test)]
 mod states;
+#[cfg(test)]
+mod unseen;

@@ -2,11 +2,9 @@
 //! met, no where something is missing, or where the key of one leads to another.
 ghost use Rattle.std.specs.Prelude.{◌<◌};
 
-use super::{Found, STATES, Searched};
-use crate::closed::is_known_closed;
-use crate::key::{situation_key, state_key};
 use std::alloc::{AllocError, Global};
 use std::test::Fail;
+use tlcheck_situations::{Found, STATES, Searched, is_known_closed, situation_key, state_key};
 
 /// Whether a search of so many states sees that nothing is missing, and whether that is known after the test.
 fn outcome(alloc: Global, found: Found, most: usize) -> Result<(bool, bool), AllocError> {
@@ -94,7 +92,7 @@ fn where_a_key_is_taken(rt: HostRuntime) -> Result<(), Fail> {
 /// Whether all that one client comes to is known to be closed, where the key of the state at a place leads to the next.
 fn is_closed_with_one_key(alloc: Global, place: usize) -> Result<bool, AllocError> {
     let mut found = all_of_one(alloc)?;
-    if let Some(state) = found.states.get(place) {
+    if let Some(state) = found.states().get(place) {
         let key = state_key(state, 1);
         found.state_places.insert(key, place.saturating_add(1))?;
     }
