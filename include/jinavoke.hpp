@@ -492,7 +492,7 @@ class Home {
         take(me, Held{*m, std::nullopt, cycle_, cycle_, JV_OK});
     }
     // `raised`: the cycle in which valid rose for this beat, where it is known. A BtoT that waited since before its
-    // copy was probed away is lawful: it is granted with data.
+    // copy was probed away is legal: it is granted with data.
     void a(uint32_t k, const Beat &beat, std::optional<uint64_t> raised = std::nullopt) {
         Client &me = clients_.at(k);
         Message m;

@@ -27,7 +27,8 @@ run() { # NAME COMMAND..
     fi
 }
 
-# Runs what ends with a line 'N passed, M failed', and adds its counts; a status that says otherwise is one more failure.
+# Runs what ends with a line 'N passed, M failed', and adds its counts; a status that says otherwise is one more
+# failure.
 add() { # COMMAND..
     local status line said
     said=$(mktemp) || exit 1

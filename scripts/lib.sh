@@ -11,7 +11,8 @@ library=tl_embed
 # What ./prove and ./install make where no name is given, one a line.
 products() { printf '%s\n' "${programs[@]}" "$library"; }
 
-# A crate of crates.txt and those of this repository that it stands on, in one line; without a name a line for each crate.
+# A crate of crates.txt and those of this repository that it stands on, in one line; without a name a line for each
+# crate.
 crates_below() { # [NAME]
     awk -v only="${1:-}" '
         function walk(name,    i, n, names) {
@@ -64,8 +65,8 @@ kit_folder() {
 # Which interface the header has: it rises with each change of a struct, a number or a meaning.
 interface() { sed -n 's/^#define JV_VERSION \([0-9]*\).*/\1/p' "$top/include/jinavoke.h"; }
 
-# The documents with their pictures and pages, and the examples: what ./install lays below share/ at the same paths, so that
-# their links hold (scripts/links.py).
+# The documents with their pictures and pages, and the examples: what ./install lays below share/ at the same paths, so
+# that their links hold (scripts/links.py).
 shared_files() (
     cd "$top" || exit 1
     find README.md CONTRIBUTING.md docs examples -type f ! -name check ! -name '*.pyc'

@@ -1,7 +1,7 @@
 #!/usr/bin/env python3
-"""links.py FOLDER ..: each link of each document (*.md) below a folder leads somewhere in it: to a file or folder that is there
-and, behind a '#', to a heading of a document. Links to other hosts are not followed. It prints those that do not, and how many
-there are; status 1 where there is one, or no link at all.
+"""links.py FOLDER ..: each link of each document (*.md) below a folder leads somewhere in it: to a file or folder that
+is there and, behind a '#', to a heading of a document. Links to other hosts are not followed. It prints those that do
+not, and how many there are; status 1 where there is one, or no link at all.
 """
 import os
 import re

@@ -1,8 +1,9 @@
 #!/usr/bin/env python3
-"""page_files.py [--check]: writes the page's style and script, which lie in crates/tlchart_page/page, into the constants of that crate.
+"""page_files.py [--check]: writes the page's style and script, which lie in crates/tlchart_page/page, into the
+constants of that crate.
 
-The script is cut in two at a heading, so that no made file grows too long. With --check it writes nothing, and ends with
-status 1 where a constant is not its file.
+The script is cut in two at a heading, so that no made file grows too long. With --check it writes nothing, and ends
+with status 1 where a constant is not its file.
 """
 import os
 import sys

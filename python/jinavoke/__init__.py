@@ -8,9 +8,9 @@
 A design's links have a home of their own, `jv.Home` (links.py).
 
 Each JV_, JJ_ and JP_ name of the header is a name of this module; `jv.Judge` judges events as a bench runs, and
-`jv.PinsJudge` messages at a client's pins. To import it opens no file: the header is read where a number is first needed, and the shared library is loaded by the first cache. Both are
-those that were installed with this file, or, in a checkout, the repository's header. JINAVOKE_HEADER and JINAVOKE_LIBRARY
-name others.
+`jv.PinsJudge` messages at a client's pins. To import it opens no file: the header is read where a number is first
+needed, and the shared library is loaded by the first cache. Both are those that were installed with this file, or, in a
+checkout, the repository's header. JINAVOKE_HEADER and JINAVOKE_LIBRARY name others.
 """
 import ctypes as c
 import functools
@@ -190,7 +190,8 @@ class Opened:
     at = None  # where it stands, while it is open
 
     def lend(self, path, prefix):
-        """Memory for what the function with this prefix opens: PREFIX_size bytes, at an address that PREFIX_align divides."""
+        """Memory for what the function with this prefix opens: PREFIX_size bytes, at an address that PREFIX_align
+        divides."""
         self.lib = library(path or library_file())
         align = getattr(self.lib, f"{prefix}_align")()
         self.room = c.create_string_buffer(getattr(self.lib, f"{prefix}_size")() + align)
@@ -220,8 +221,9 @@ class Opened:
 class Batch:
     """Calls and views that are made at once (jv_calls), as often as `run` is called.
 
-    `requests` and `answers` are arrays of as many as there are: change a request's fields between two runs. `run` answers how many
-    were made: it ends at the first that is answered with another status than 0, whose answer is the last one.
+    `requests` and `answers` are arrays of as many as there are: change a request's fields between two runs. `run`
+    answers how many were made: it ends at the first that is answered with another status than 0, whose answer is the
+    last one.
     """
 
     def __init__(self, cache, requests):
@@ -243,7 +245,8 @@ class Cache(Opened):
             raise Refused("the cache is not opened", why.serial)
 
     def ask(self, call, bytes=b"", **words):
-        """The answer of a call or a view, named as in the header (JV_CALL_.., JV_VIEW_..) in small letters, refused or not."""
+        """The answer of a call or a view, named as in the header (JV_CALL_.., JV_VIEW_..) in small letters, refused or
+        not."""
         return self.lib.jv_call(self.at, asked(call, bytes, **words))
 
     def batch(self, *calls):
@@ -256,7 +259,8 @@ class Cache(Opened):
         return batch.answers[:batch.run()]
 
     def saw(self, bytes=b"", **words):
-        """The answer to a message that was seen on A, C or E (jv_saw): channel, opcode, param, client, block, and options (JV_STORES)."""
+        """The answer to a message that was seen on A, C or E (jv_saw): channel, opcode, param, client, block, and
+        options (JV_STORES)."""
         return self.lib.jv_saw(self.at, Seen(len=len(bytes), bytes=(c.c_uint8 * 64)(*bytes[:64]), **words))
 
     def step(self, call, **words):
@@ -299,7 +303,8 @@ class Judge(Opened):
             raise Refused("the judge is not opened", why.why)
 
     def see(self, event, bytes=b"", **words):
-        """The verdict on the next entry: its event by number, or named as in the header (JV_EVENT_..), in small letters."""
+        """The verdict on the next entry: its event by number, or named as in the header (JV_EVENT_..), in small
+        letters."""
         number = event if isinstance(event, int) else enums()["jv_event_kind"]["JV_EVENT_" + event.upper()]
         held = (c.c_uint8 * 64)(*bytes[:64])
         return self.lib.jj_see(self.at, Entry(event=number, len=len(bytes), bytes=held, **words))
@@ -309,7 +314,8 @@ class Judge(Opened):
 
 
 class PinsJudge(Opened):
-    """A judge of messages at a client's pins: client, clients, block_bytes, memory_blocks, cores_unseen (jp_numbers)."""
+    """A judge of messages at a client's pins: client, clients, block_bytes, memory_blocks, cores_unseen
+    (jp_numbers)."""
 
     def __init__(self, client, cores_unseen=0, path=None, **numbers):
         self.lend(path, "jp")

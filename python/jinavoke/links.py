@@ -60,7 +60,8 @@ def library_file():
 
 
 class Home(Opened):
-    """A home of `clients` links. `image` is the memory's first bytes; `wire` and `events` name files for records, which `close` ends."""
+    """A home of `clients` links. `image` is the memory's first bytes; `wire` and `events` name files for records, which
+    `close` ends."""
 
     def __init__(self, image=b"", wire="", events="", path=None, **numbers):
         unknown = set(numbers) - set(NUMBERS)

@@ -4,7 +4,8 @@
 page.py has PAGE                standard input stands in the page, as lines of one block; `..` in the page is any text
 page.py code PAGE FROM TO       prints the blocks between the first line with the text FROM and the next one with TO
 page.py steps PAGE SCRIPT       the page's table of steps and answers: standard input, the trace of the script, has them
-page.py plants PAGE PLANTED BENCH   the page's table of plants, in the order of the file PLANTED: what BENCH tells of each
+page.py plants PAGE PLANTED BENCH   the page's table of plants, in the order of the file PLANTED: what BENCH tells of
+                                    each
 
 A block is lines that begin with four spaces. Status 1 where the page is otherwise, which is told.
 """

@@ -1,11 +1,13 @@
 #!/usr/bin/env python3
-"""explain.py TLWIRE [RECORDS] [SEED] [LINES..]: lawful records of messages, in each way of seeing, and how many of them tlwire explains.
+"""explain.py TLWIRE [RECORDS] [SEED] [LINES..]: lawful records of messages, in each way of seeing, and how many of them
+tlwire explains.
 
-Random walks of the protocol, by the plain program of closed.py, are written as records of 100, 1,000 and 10,000 lines (or as many as is said),
-of 1 to 16 clients and 1 to 64 blocks: as they are sent, between sending and taking, at the clients' pins, at home's pins, and with lines that
-stand up to 20 behind a later one, with and without a header that says so. All are cut at the end. Prints a table of the answers, with the
-longest time of each row, and ends with status 1 where tlwire calls one impossible, or explains fewer than 99.5 percent of a row (95 with a
-skew of 20). RECORDS is the number of records of each row.
+Random walks of the protocol, by the plain program of closed.py, are written as records of 100, 1,000 and 10,000 lines
+(or as many as is said), of 1 to 16 clients and 1 to 64 blocks: as they are sent, between sending and taking, at the
+clients' pins, at home's pins, and with lines that stand up to 20 behind a later one, with and without a header that
+says so. All are cut at the end. Prints a table of the answers, with the longest time of each row, and ends with status
+1 where tlwire calls one impossible, or explains fewer than 99.5 percent of a row (95 with a skew of 20). RECORDS is the
+number of records of each row.
 """
 import os
 import random
@@ -18,7 +20,8 @@ from concurrent.futures import ThreadPoolExecutor
 import closed
 
 SKEW = 20
-# A row: its name, how closed.py sees the walk, by how many lines one stands behind a later one, the header, and the share that is asked for.
+# A row: its name, how closed.py sees the walk, by how many lines one stands behind a later one, the header, and the
+# share that is asked for.
 ROWS = [
     ("at the sending", "sent", 0, ["skew 0"], 0.995),
     ("between", "between", 0, ["seen between"], 0.995),
@@ -30,7 +33,8 @@ ROWS = [
 
 
 def record(seed, way, skew, header, lines):
-    """A lawful record of at most so many lines, cut at its end; None where the walk gives fewer than half of them, or none that can be written."""
+    """A lawful record of at most so many lines, cut at its end; None where the walk gives fewer than half of them, or
+    none that can be written."""
     rng = random.Random(seed)
     clients = rng.choice([1, 2, 3, 4, 6, 8, 12, 16])
     walk = closed.Walk(rng, clients, rng.choice([1, 2, 4, 8, 16, 64]), 8, lines * 13 // 10 + 10, rng.random() < 0.5)

@@ -1,5 +1,6 @@
 #!/usr/bin/env python3
-"""sets.py TLWIRE [LINES] [RECORDS] [SEED] [CLIENTS,..]: longer records of messages of many clients, given to tlwire under each premise.
+"""sets.py TLWIRE [LINES] [RECORDS] [SEED] [CLIENTS,..]: longer records of messages of many clients, given to tlwire
+under each premise.
 
 Random walks of the plain protocol of closed.py are written as records of about so many lines (60,000 at most: a source
 has 70,000 numbers), of 1 to 16 clients over one to four blocks, in three ways of seeing: between sending and taking, at

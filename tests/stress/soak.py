@@ -1,14 +1,16 @@
 #!/usr/bin/env python3
-"""soak.py TLCACHE TLCHECK [RUNS] [TRACES] [SEED] [--tlgen TLGEN]: plays random scripts through `run` and `trace`, and checks each answer by itself.
+"""soak.py TLCACHE TLCHECK [RUNS] [TRACES] [SEED] [--tlgen TLGEN]: plays random scripts through `run` and `trace`, and
+checks each answer by itself.
 
-A run: status 0; each client's lines are its commands, in order; a client sees its own last store to a byte, where no other stores there; of the
-stores of one writer it never sees an older one after a newer one; with one client each load is exact; each bank's held equals its recorded.
-A trace: random steps, each next one made of the answers before, a share of them refused; the events that the answers tell are given to tlcheck,
-bank by bank, which must call them lawful. Prints the figures, and ends with status 1 where an answer was another.
+A run: status 0; each client's lines are its commands, in order; a client sees its own last store to a byte, where no
+other stores there; of the stores of one writer it never sees an older one after a newer one; with one client each load
+is exact; each bank's held equals its recorded. A trace: random steps, each next one made of the answers before, a share
+of them refused; the events that the answers tell are given to tlcheck, bank by bank, which must call them lawful.
+Prints the figures, and ends with status 1 where an answer was another.
 
-With --tlgen the scripts are those that TLGEN, a built tlgen, prints. Their stores are of any bytes: of a run each byte of a load is the
-image's or was stored there by somebody, and where nobody else stores there, the client's own last one; of a trace as many steps are refused
-as the script's first line says.
+With --tlgen the scripts are those that TLGEN, a built tlgen, prints. Their stores are of any bytes: of a run each byte
+of a load is the image's or was stored there by somebody, and where nobody else stores there, the client's own last one;
+of a trace as many steps are refused as the script's first line says.
 """
 import os
 import random
@@ -60,7 +62,8 @@ def wrong_report(run, banks, status, output, fault):
 
 
 class Run:
-    """A random script of commands, and the check of its report. Each byte has at most one writer: the client of its address's place."""
+    """A random script of commands, and the check of its report. Each byte has at most one writer: the client of its
+    address's place."""
 
     def __init__(self, seed):
         rng = self.rng = random.Random(f"run {seed}")

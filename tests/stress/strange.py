@@ -1,12 +1,12 @@
 #!/usr/bin/env python3
-"""strange.py PROGRAM [OTHER ..]: strange scripts, files, outputs and words. PROGRAM is a built tlcache; the others are built tlchart,
-tlcheck, tlwire and tlgen.
+"""strange.py PROGRAM [OTHER ..]: strange scripts, files, outputs and words. PROGRAM is a built tlcache; the others are
+built tlchart, tlcheck, tlwire and tlgen.
 
-Each script gives its one fault line and nothing else, or its report; so do a directory, a file that may not be read, a full device and a
-closed pipe. Each program answers words that it does not take, and a word that is no UTF-8, with `error usage` and status 2, and want of
-memory with `error 41 memory` and status 4, also while it reads its words (a C compiler, cc, builds refuse.c). Then an address-space limit
-that grows by steps from where tlcache starts: each answer is whole, or `error 41 memory`. Prints what was tried, and ends with status 1
-where an answer was another.
+Each script gives its one fault line and nothing else, or its report; so do a directory, a file that may not be read, a
+full device and a closed pipe. Each program answers words that it does not take, and a word that is no UTF-8, with
+`error usage` and status 2, and want of memory with `error 41 memory` and status 4, also while it reads its words (a C
+compiler, cc, builds refuse.c). Then an address-space limit that grows by steps from where tlcache starts: each answer
+is whole, or `error 41 memory`. Prints what was tried, and ends with status 1 where an answer was another.
 """
 import os
 import resource
@@ -99,7 +99,8 @@ WORDS = {
                                 [b"--run", b"--chart", b"a"]]),
     "tlgen": ([b"1", b"run"], [[], [b"1"], [b"x", b"run"], [b"1", b"walk"], [b"1", b"run", b"colour=1"], [b"4294967296", b"run"]]),
 }
-# Words that are no UTF-8: a byte that none begins with, a lone continuation, a surrogate, and a character that is cut off.
+# Words that are no UTF-8: a byte that none begins with, a lone continuation, a surrogate, and a character that is cut
+# off.
 NO_TEXTS = [b"\xff", b"a\x80", b"\xed\xa0\x80", b"\xe2\x82"]
 
 
@@ -171,7 +172,8 @@ class Tried:
         self.expect(f"{program}: want of memory was told", faults > 0, True)
 
     def limits(self, words):
-        """Grows the address space by steps of 64 kB from where the program starts until it has answered whole ten times in a row."""
+        """Grows the address space by steps of 64 kB from where the program starts until it has answered whole ten times
+        in a row."""
         whole, faults, unstarted, row, kilobytes = 0, 0, 0, 0, 1024
         right = self.ask(words)
         while row < 10 and kilobytes < 4_000_000:

@@ -1,9 +1,12 @@
 #!/usr/bin/env python3
-"""sweep.py PROGRAM [MOST]: refuses each request for memory and each start of a thread in turn, and each with all that follow it.
+"""sweep.py PROGRAM [MOST]: refuses each request for memory and each start of a thread in turn, and each with all that
+follow it.
 
-PROGRAM is a built tlcache. For each script, for N from 1 on until no Nth request is met, the Nth request alone is refused, and then the Nth
-and all later ones. With MOST, at most so many N are tried of a script, evenly spread. Each time the answer must be the whole output with status 0, or `error 41 memory` with status 4 and nothing
-on standard output. A C compiler (cc) builds refuse.c. Prints a line for each script, and ends with status 1 where an answer was another.
+PROGRAM is a built tlcache. For each script, for N from 1 on until no Nth request is met, the Nth request alone is
+refused, and then the Nth and all later ones. With MOST, at most so many N are tried of a script, evenly spread. Each
+time the answer must be the whole output with status 0, or `error 41 memory` with status 4 and nothing on standard
+output. A C compiler (cc) builds refuse.c. Prints a line for each script, and ends with status 1 where an answer was
+another.
 """
 import os
 import struct

@@ -1,14 +1,16 @@
 #!/usr/bin/env python3
-"""wire.py TLCACHE TLWIRE [TRACES] [SEED] [--tlgen TLGEN] [--tlcheck TLCHECK] [--damages N]: the messages of random traces, given to tlwire.
+"""wire.py TLCACHE TLWIRE [TRACES] [SEED] [--tlgen TLGEN] [--tlcheck TLCHECK] [--damages N]: the messages of random
+traces, given to tlwire.
 
-Each bank of a trace is a record of messages: each message that was sent, with a cycle, a source and a sink, and each load and store. Each
-record is given to tlwire twice as `whole`: with each message at its sending, and with each one later, as buffers would delay it: somewhere
-before it is taken, the messages of a channel in their order. Both must be explained; with --tlcheck the run that `tlwire --run` prints must
-be lawful. Then it is given as it is seen at the clients' pins (what a client has not taken is not seen), whole and cut at some line, with
-all that is seen, without the memory's link, without the cores, without both: none of these may be impossible. Then N damages (10) of the
-record that is whole, and N of the one at the clients' pins: a line dropped, a byte or a parameter changed, two lines of a channel of a
-link exchanged. Prints how many of these are explained, impossible, not decided, and faults, and ends with status 1 where an answer was
-another.
+Each bank of a trace is a record of messages: each message that was sent, with a cycle, a source and a sink, and each
+load and store. Each record is given to tlwire twice as `whole`: with each message at its sending, and with each one
+later, as buffers would delay it: somewhere before it is taken, the messages of a channel in their order. Both must be
+explained; with --tlcheck the run that `tlwire --run` prints must be lawful. Then it is given as it is seen at the
+clients' pins (what a client has not taken is not seen), whole and cut at some line, with all that is seen, without the
+memory's link, without the cores, without both: none of these may be impossible. Then N damages (10) of the record that
+is whole, and N of the one at the clients' pins: a line dropped, a byte or a parameter changed, two lines of a channel
+of a link exchanged. Prints how many of these are explained, impossible, not decided, and faults, and ends with status 1
+where an answer was another.
 """
 import os
 import random
@@ -65,7 +67,8 @@ class Numbers:
 
 
 class Monitor:
-    """The messages of one home's events: each with its link, its channel, its words, and from when to when it is on its way."""
+    """The messages of one home's events: each with its link, its channel, its words, and from when to when it is on its
+    way."""
 
     def __init__(self, numbers, rng, sources=16):
         self.numbers, self.rng, self.each = numbers, rng, sources
@@ -159,7 +162,8 @@ class Monitor:
         message["to"] = time
 
     def at_pins(self):
-        """What is seen at the clients' pins, in order of time: what comes from home as it is taken, all else as it is sent."""
+        """What is seen at the clients' pins, in order of time: what comes from home as it is taken, all else as it is
+        sent."""
         timed = []
         for place, it in enumerate(self.seen):
             at = it["to"] if it["channel"] in "BD" and it["link"] != "m" else it["from"]
@@ -314,7 +318,8 @@ class Wire:
         return said, records, messages, counts
 
     def at_pins(self, rng, head, lines, counts):
-        """What is wrong with the answers to a record at the clients' pins, cut or not, of which some may not have been seen."""
+        """What is wrong with the answers to a record at the clients' pins, cut or not, of which some may not have been
+        seen."""
         said = []
         for cut in (False, True):
             some = lines[:rng.randrange(len(lines) + 1)] if cut else lines

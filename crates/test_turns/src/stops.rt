@@ -203,8 +203,8 @@ enum Whose {
     Home,
 }
 
-/// What is seen of one of the workers with these mails and shares. The client has two drops to do, each of which takes a
-/// turn.
+/// What is seen of one of the workers with these mails and shares. The client has two drops to do, each of which takes
+/// a turn.
 fn seen_with<R: Wait + Clock>(
     rt: &R,
     shared: &Shared<'_, Free>,

@@ -1,5 +1,6 @@
-//! The banks of a cache and the judges of events and of messages for callers in C (`include/jinavoke.h`): an opaque cache
-//! and opaque judges in room that C gives, and functions that ask steps and views of them, one at a time or many at once.
+//! The banks of a cache and the judges of events and of messages for callers in C (`include/jinavoke.h`): an opaque
+//! cache and opaque judges in room that C gives, and functions that ask steps and views of them, one at a time or many
+//! at once.
 #![tactic(auto)]
 
 mod access;

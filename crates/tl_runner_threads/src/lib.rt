@@ -1,5 +1,5 @@
-//! Runs a script: a thread for each client and one for each bank's home, over inboxes, bells and locked banks. The turns
-//! of one client or one home are there for who drives it alone.
+//! Runs a script: a thread for each client and one for each bank's home, over inboxes, bells and locked banks. The
+//! turns of one client or one home are there for who drives it alone.
 #![tactic(auto)]
 
 mod banks;

@@ -32,7 +32,8 @@ fn text_beside(alloc: Global, text: &str) -> Result<String, AllocError> {
     Ok(shown)
 }
 
-/// A line of a record with its number, as far as there is room for it beside the lifelines. The error is want of memory.
+/// A line of a record with its number, as far as there is room for it beside the lifelines. The error is want of
+/// memory.
 pub fn line_beside(alloc: Global, number: u64, text: &str) -> Result<Line, AllocError>
     ensures { IfOk result (λ line. line.number ≡ number) }
 {

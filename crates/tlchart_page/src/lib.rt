@@ -1,5 +1,5 @@
-//! The picture of a script, and a page that walks through its trace: the sequence chart and, beside it, the state of all
-//! banks at the step that is chosen. The states are what the banks' views answer after each step, told as changes.
+//! The picture of a script, and a page that walks through its trace: the sequence chart and, beside it, the state of
+//! all banks at the step that is chosen. The states are what the banks' views answer after each step, told as changes.
 #![tactic(auto)]
 
 mod cells;

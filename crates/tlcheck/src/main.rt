@@ -1,7 +1,9 @@
-//! `tlcheck [--progress] [--chart] FILE`: whether a record of events is a lawful run, or where it broke, as a chart; `-`
-//! stands for standard input, and no other word that begins with a dash for a file. `tlcheck --coverage [--home] [--html] FILE ..`: which situations of the
-//! protocol records have reached, and with `--home` which of them this project's home reaches. `tlcheck --how N`: a run
-//! that reaches situation N; `tlcheck --how --script N`: a script for `tlcache trace` that does.
+//! - `tlcheck [--progress] [--chart] FILE`: whether a record of events is a lawful run, or where it broke, as a chart;
+//!   `-` stands for standard input, and no other word that begins with a dash for a file.
+//! - `tlcheck --coverage [--home] [--html] FILE ..`: which situations of the protocol records have reached, and with
+//!   `--home` which of them this project's home reaches.
+//! - `tlcheck --how N`: a run that reaches situation N; `tlcheck --how --script N`: a script for `tlcache trace` that
+//!   does.
 #![tactic(auto)]
 
 mod asked;

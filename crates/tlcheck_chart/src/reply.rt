@@ -69,8 +69,8 @@ fn tell_none<E: Write>(ending: &Ending, faults: &mut E) -> u8
 }
 
 /// Writes the chart of what a check of a text ends with to `output`, where an entry is not permitted; else a line to
-/// `faults`, which says why there is none. It answers the status of `tell_ending`: 1 with a chart, 0 where the record is
-/// lawful, 3 where it cannot be read as one, 4 for want of memory, 5 where the chart could not be written. A failing
+/// `faults`, which says why there is none. It answers the status of `tell_ending`: 1 with a chart, 0 where the record
+/// is lawful, 3 where it cannot be read as one, 4 for want of memory, 5 where the chart could not be written. A failing
 /// `faults` does not change it.
 pub fn tell_chart<W: Write, E: Write>(
     alloc: Global,

@@ -23,8 +23,8 @@ fn answered<T: Watcher>(alloc: Global, messages: Messages, watcher: &mut T) -> E
     }
 }
 
-/// What the answer to a record of these lines ends with. A watcher is told of each line that closed sets pass, as of one
-/// of so many.
+/// What the answer to a record of these lines ends with. A watcher is told of each line that closed sets pass, as of
+/// one of so many.
 pub fn judge_lines<T: Watcher>(alloc: Global, lines: &[&[u8]], watcher: &mut T) -> Ending
     ensures { MayEnd (texts lines.now) result }
 {
@@ -36,8 +36,8 @@ pub fn judge_lines<T: Watcher>(alloc: Global, lines: &[&[u8]], watcher: &mut T) 
     }
 }
 
-/// Writes what the answer to a record of these lines ends with: an answer in a form to `output`, a fault to `faults`. It
-/// answers the status: that of the ending, or 5 where the answer could not be written, or 4 for want of memory. A
+/// Writes what the answer to a record of these lines ends with: an answer in a form to `output`, a fault to `faults`.
+/// It answers the status: that of the ending, or 5 where the answer could not be written, or 4 for want of memory. A
 /// failing `faults` does not change it.
 pub fn tell_ending<W: Write, E: Write>(
     alloc: Global,

@@ -364,8 +364,8 @@ fn misplaced_in(alloc: Global, messages: &Messages) -> Result<Option<Misplaced>,
     first_misplaced(alloc, messages.setting().shape(), messages.seen())
 }
 
-/// A run that explains what was seen; else an answer in another order than what it answers, or how far the first attempt
-/// came.
+/// A run that explains what was seen; else an answer in another order than what it answers, or how far the first
+/// attempt came.
 fn explained(alloc: Global, messages: &Messages) -> Result<Verdict, AllocError>
     ensures { IfOk result (IsVerdict messages.now) }
 {

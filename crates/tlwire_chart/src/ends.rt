@@ -18,8 +18,8 @@ pub fn broken_at(verdict: &Verdict) -> Option<usize>
     }
 }
 
-/// By what the line is impossible: the order of answers, the rule that it breaks, or that no lawful run comes so far. The error is want of
-/// memory.
+/// By what the line is impossible: the order of answers, the rule that it breaks, or that no lawful run comes so far.
+/// The error is want of memory.
 pub fn words_of(alloc: Global, verdict: &Verdict) -> Result<String, AllocError>
     ensures { IfOk result (λ words. string_bytes words ≡ words_of verdict.now) }
 {

@@ -45,8 +45,8 @@ fn picture_of(
 }
 
 /// The picture, as an SVG document, of the last lines of the block of the line that is impossible, with the answer at
-/// the foot; None of a record that is explained, not decided or refused, or that is not the one that the ending was told
-/// of. The error is want of memory.
+/// the foot; None of a record that is explained, not decided or refused, or that is not the one that the ending was
+/// told of. The error is want of memory.
 pub fn picture_of_ending(
     alloc: Global,
     title: &str,

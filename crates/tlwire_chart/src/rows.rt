@@ -191,8 +191,8 @@ fn strip_at(
     })
 }
 
-/// The last lines of the block of what was seen at a place, up to its line, which is marked with these words; None where
-/// nothing was seen there. The lines are those of the record. The error is want of memory.
+/// The last lines of the block of what was seen at a place, up to its line, which is marked with these words; None
+/// where nothing was seen there. The lines are those of the record. The error is want of memory.
 pub fn strip_of(
     alloc: Global,
     lines: &[&[u8]],

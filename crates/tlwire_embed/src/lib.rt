@@ -1,5 +1,5 @@
-//! A judge of messages beside a bench, at one client's pins: lines in plain numbers, a verdict at once, and after a fault
-//! that same fault.
+//! A judge of messages beside a bench, at one client's pins: lines in plain numbers, a verdict at once, and after a
+//! fault that same fault.
 #![tactic(auto)]
 
 mod bench;
