@@ -1,1 +1,4 @@
+pub mod Covered
 pub mod Reading
+pub mod Steps
+pub mod Tallies

@@ -1,15 +1,25 @@
 //! A record, read line by line, its events counted.
-ghost use Rattle.std.specs.Prelude.{◌<◌, ◌≤◌, IfOk};
-ghost use Rattle.tlcheck_coverage.specs.Reading.{IsFit};
+ghost use Rattle.std.specs.Prelude.{◌≡◌, ◌↔◌, ◌<◌, ◌≤◌, ℕ, List, [], IfErr, IfOk, IfSome, IsTrue, Ok, length, min};
+ghost use Rattle.std.specs.Io.BufRead.{strip_last};
+ghost use Rattle.tl_protocol.specs.declared.shape.Shape.{Shape};
+ghost use Rattle.tlcheck_rules.specs.Judged.{Follows, IsLawful, events_of};
+ghost use Rattle.tlcheck_rules.specs.declared.entry.Entry.{Entry};
+ghost use Rattle.tlcheck_reader.specs.Outcome.{Agrees, IsJudged, Takes, fault_of, stopped_at};
+ghost use Rattle.tlcheck_reader.specs.Reading.{Reading, after_text, next};
+ghost use Rattle.tlcheck_reader.specs.declared.outcome.LineFault.TheVariants.{Memory};
+ghost use Rattle.tlcheck_coverage.specs.Covered.{IsCovered};
+ghost use Rattle.tlcheck_coverage.specs.Reading.{HasClient, IsEnd, IsFaultOf, IsFit, IsNoRefusal, IsShaped, IsStop, checked, checked_entry, checked_line, halted, staged};
+ghost use Rattle.tlcheck_coverage.specs.Steps.{Steps};
+ghost use Rattle.tlcheck_coverage.specs.Tallies.{Opens, SeesAt};
 
-use crate::tallies::Tallies;
+use crate::tallies::{MOST, Tallies};
 use std::alloc::Global;
 use std::io;
 use std::io::{BufRead, ErrorKind};
 use tl_rules::Shape;
 use tl_types::{BLOCK_BYTES, BLOCKS};
 use tlcheck_home::Mark;
-use tlcheck_reader::{BrokenEntry, Outcome};
+use tlcheck_reader::{BrokenEntry, LineFault, Outcome};
 use tlcheck_record::{LineError, is_blank, read_entry, read_image_line, read_shape, read_text};
 use tlcheck_rules::{Breach, Entry, Judge, Refusal};
 use tlcheck_situations::TableError;
@@ -27,9 +37,18 @@ pub enum Fault {
     NotSearched,
 }
 
+/// Why a line is not taken.
+#[derive(Drop)]
+pub(crate) enum Halt {
+    /// A check of the record stops at it.
+    Line(LineFault),
+    /// There is no table.
+    NotSearched,
+}
+
 /// Where a reading is.
 #[derive(Drop)]
-enum Stage {
+pub(crate) enum Stage {
     Fresh,
     Shaped(Shape),
     Counting(Counting),
@@ -37,39 +56,43 @@ enum Stage {
 
 /// A judge of the entries so far, how many there are, and the tally over which they are counted.
 #[derive(Drop)]
-struct Counting {
-    judge: Judge,
-    entries: u64,
-    tally: usize,
+pub(crate) struct Counting {
+    pub(crate) judge: Judge,
+    pub(crate) entries: u64,
+    pub(crate) tally: usize,
 }
 
-fn refused(line: u64, error: LineError) -> Fault {
+/// A line could not be read, or there was no memory.
+fn unread(error: LineError) -> Halt
+    ensures { halted result ≡ fault_of error }
+{
     match error {
-        LineError::Wrong(cause) => Fault::Refused(Outcome::Unreadable(line, cause)),
-        LineError::Memory => Fault::Memory,
+        LineError::Wrong(cause) => Halt::Line(LineFault::Unreadable(cause)),
+        LineError::Memory => Halt::Line(LineFault::Memory),
     }
 }
 
-fn no_table(error: TableError) -> Fault {
+/// There is no table.
+fn no_table(error: TableError) -> Halt
+    ensures { halted result ≡ Memory }
+{
     match error {
-        TableError::Memory => Fault::Memory,
-        TableError::NotClosed | TableError::NotReached => Fault::NotSearched,
+        TableError::Memory => Halt::Line(LineFault::Memory),
+        TableError::NotClosed | TableError::NotReached => Halt::NotSearched,
     }
 }
 
 /// Begins to count over a record.
-fn begin(
-    alloc: Global,
-    tallies: &mut Tallies,
-    shape: Shape,
-    image: &[u8],
-) -> Result<Counting, Fault>
+fn begin(alloc: Global, tallies: &mut Tallies, shape: Shape, image: &[u8]) -> Result<Counting, Halt>
     requires bytes { (0 < shape.block_bytes) × (shape.block_bytes ≤ BLOCK_BYTES) }
     requires blocks { shape.blocks ≤ BLOCKS }
+    requires clients { 0 < shape.clients }
+    ensures follows { IfOk result (λ counting. Follows shape image.now [] counting.judge) }
+    ensures none { IfOk result (λ counting. counting.entries ≡ 0) }
+    ensures opens { IfOk result
+        (λ counting. Opens (min shape.clients MOST) counting.tally tallies.old tallies.new) }
+    ensures halt { IfErr result (λ halt. halted halt ≡ Memory) }
 {
-    if shape.clients == 0 {
-        return Err(Fault::Refused(Outcome::Empty));
-    }
     let tally = match tallies.place_for(alloc, shape.clients) {
         Ok(place) => place,
         Err(error) => return Err(no_table(error)),
@@ -80,22 +103,21 @@ fn begin(
             entries: 0,
             tally,
         }),
-        Err(_) => Err(Fault::Memory),
+        Err(_) => Err(Halt::Line(LineFault::Memory)),
     }
 }
 
-/// What is said of an entry that breaks something.
-fn broken(line: u64, judge: Judge, entries: u64, entry: &Entry, breach: Breach) -> Fault {
+/// What is said of an entry that breaks something after those that the judge has taken.
+fn broken(judge: Judge, entry: &Entry, number: u64, breach: Breach) -> LineFault
+    ensures { result ≡ stopped_at judge entry.now number breach }
+{
     let block = entry.event.block(judge.plain().shape());
-    Fault::Refused(Outcome::Broken(
-        line,
-        BrokenEntry {
-            judge,
-            block,
-            number: entries.saturating_add(1),
-            breach,
-        },
-    ))
+    LineFault::Broken(BrokenEntry {
+        judge,
+        block,
+        number,
+        breach,
+    })
 }
 
 /// Judges and counts an entry.
@@ -104,36 +126,68 @@ fn take_entry(
     counting: Counting,
     entry: &Entry,
     mark: Mark,
-) -> Result<Counting, Fault> {
+) -> Result<Counting, LineFault>
+    requires { counting.tally < length tallies.old.tallies }
+    ensures judged { (shape : Shape) (image : List ℕ) (entries : List Entry)
+        → Follows shape image (events_of entries) counting.judge → IsLawful shape image entries
+        → length entries ≡ counting.entries → IsJudged shape image entries entry.now (checked_entry result) }
+    ensures counted { (shape : Shape) (image : List ℕ) (entries : List Entry)
+        → Follows shape image (events_of entries) counting.judge → 0 < shape.clients
+        → IfOk result
+        (λ next. SeesAt counting.tally shape image (events_of entries) entry.now mark next.judge tallies.old
+        tallies.new) }
+    ensures place { IfOk result (λ next. next.tally ≡ counting.tally) }
+    ensures size { length tallies.new.tallies ≡ length tallies.old.tallies }
+{
     let Counting {
         mut judge,
         entries,
         tally,
     } = counting;
+    if entries == u64::MAX {
+        return Err(LineFault::Memory);
+    }
+    let number = entries + 1;
     match tallies.see(tally, &mut judge, entry, mark) {
         Ok(()) => Ok(Counting {
             judge,
-            entries: entries.saturating_add(1),
+            entries: number,
             tally,
         }),
-        Err(Refusal::Memory) => Err(Fault::Memory),
-        Err(Refusal::Broken(breach)) => Err(broken(mark.line, judge, entries, entry, breach)),
+        Err(Refusal::Memory) => Err(LineFault::Memory),
+        Err(Refusal::Broken(breach)) => Err(broken(judge, entry, number, breach)),
     }
 }
 
-/// Counts the entry of a line.
-fn count(
+/// Where a reading is after an entry.
+fn staged(taken: Result<Counting, LineFault>) -> Result<Stage, Halt>
+    ensures { result ≡ staged taken }
+{
+    match taken {
+        Ok(counting) => Ok(Stage::Counting(counting)),
+        Err(fault) => Err(Halt::Line(fault)),
+    }
+}
+
+/// Takes the text of a line that has an entry.
+fn entry_line(
     alloc: Global,
     tallies: &mut Tallies,
     counting: Counting,
     text: &str,
     mark: Mark,
-) -> Result<Stage, Fault>
-    ensures { IfOk result IsFit }
+) -> Result<Stage, Halt>
+    requires { counting.tally < length tallies.old.tallies }
+    ensures takes { (reading : Reading) → Agrees reading (checked (Stage.Counting counting))
+        → Takes (next reading text.now) (checked_line result) }
+    ensures counts { (reading after : Reading) → Agrees reading (checked (Stage.Counting counting)) → HasClient reading
+        → next reading text.now ≡ Ok after
+        → IfOk result (λ stage. Steps mark reading after (Stage.Counting counting) stage tallies.old tallies.new) }
+    ensures fit { IfOk result (λ stage. IsFit stage tallies.new) }
 {
     match read_entry(alloc, text) {
-        Ok(entry) => Ok(Stage::Counting(take_entry(tallies, counting, &entry, mark)?)),
-        Err(error) => Err(refused(mark.line, error)),
+        Ok(entry) => staged(take_entry(tallies, counting, &entry, mark)),
+        Err(error) => Err(unread(error)),
     }
 }
 
@@ -144,28 +198,60 @@ fn second_line(
     shape: Shape,
     text: &str,
     mark: Mark,
-) -> Result<Stage, Fault>
-    requires bytes { (0 < shape.block_bytes) × (shape.block_bytes ≤ BLOCK_BYTES) }
-    requires blocks { shape.blocks ≤ BLOCKS }
-    ensures { IfOk result IsFit }
+) -> Result<Stage, Halt>
+    requires { IsFit (Stage.Shaped shape) tallies.old }
+    ensures takes { (reading : Reading) → Agrees reading (checked (Stage.Shaped shape))
+        → Takes (next reading text.now) (checked_line result) }
+    ensures counts { (reading after : Reading) → Agrees reading (checked (Stage.Shaped shape)) → HasClient reading
+        → next reading text.now ≡ Ok after
+        → IfOk result (λ stage. Steps mark reading after (Stage.Shaped shape) stage tallies.old tallies.new) }
+    ensures fit { IfOk result (λ stage. IsFit stage tallies.new) }
 {
     match read_image_line(alloc, shape, text) {
-        Ok(Some(image)) => Ok(Stage::Counting(begin(alloc, tallies, shape, &image)?)),
+        Ok(Some(image)) => {
+            let counting = begin(alloc, tallies, shape, &image)?;
+            Ok(Stage::Counting(counting))
+        }
         Ok(None) => {
             let counting = begin(alloc, tallies, shape, &[])?;
-            count(alloc, tallies, counting, text, mark)
+            entry_line(alloc, tallies, counting, text, mark)
         }
-        Err(error) => Err(refused(mark.line, error)),
+        Err(error) => Err(unread(error)),
     }
 }
 
 /// Takes the first line that is not blank.
-fn first_line(alloc: Global, text: &str, line: u64) -> Result<Stage, Fault>
-    ensures { IfOk result IsFit }
+fn first_line(alloc: Global, text: &str) -> Result<Stage, Halt>
+    ensures takes { (reading : Reading) → Agrees reading (checked Stage.Fresh)
+        → Takes (next reading text.now) (checked_line result) }
+    ensures shape { IfOk result IsShaped }
 {
     match read_shape(alloc, text) {
         Ok(shape) => Ok(Stage::Shaped(shape)),
-        Err(error) => Err(refused(line, error)),
+        Err(error) => Err(unread(error)),
+    }
+}
+
+/// Takes a line that is not blank.
+fn full_line(
+    alloc: Global,
+    tallies: &mut Tallies,
+    stage: Stage,
+    text: &str,
+    mark: Mark,
+) -> Result<Stage, Halt>
+    requires { IsFit stage tallies.old }
+    ensures takes { (reading : Reading) → Agrees reading (checked stage)
+        → Takes (next reading text.now) (checked_line result) }
+    ensures counts { (reading after : Reading) → Agrees reading (checked stage) → HasClient reading
+        → next reading text.now ≡ Ok after
+        → IfOk result (λ then_. Steps mark reading after stage then_ tallies.old tallies.new) }
+    ensures fit { IfOk result (λ then_. IsFit then_ tallies.new) }
+{
+    match stage {
+        Stage::Fresh => first_line(alloc, text),
+        Stage::Shaped(shape) => second_line(alloc, tallies, shape, text, mark),
+        Stage::Counting(counting) => entry_line(alloc, tallies, counting, text, mark),
     }
 }
 
@@ -176,26 +262,28 @@ fn take_line(
     stage: Stage,
     line: &[u8],
     mark: Mark,
-) -> Result<Stage, Fault>
-    requires { IsFit stage }
-    ensures { IfOk result IsFit }
+) -> Result<Stage, Halt>
+    requires { IsFit stage tallies.old }
+    ensures takes { (reading : Reading) → Agrees reading (checked stage)
+        → Takes (after_text reading line.now) (checked_line result) }
+    ensures counts { (reading after : Reading) → Agrees reading (checked stage) → HasClient reading
+        → after_text reading line.now ≡ Ok after
+        → IfOk result (λ then_. Steps mark reading after stage then_ tallies.old tallies.new) }
+    ensures fit { IfOk result (λ then_. IsFit then_ tallies.new) }
 {
     if is_blank(line) {
         return Ok(stage);
     }
-    let text = match read_text(line) {
-        Ok(text) => text,
-        Err(cause) => return Err(Fault::Refused(Outcome::Unreadable(mark.line, cause))),
-    };
-    match stage {
-        Stage::Fresh => first_line(alloc, text, mark.line),
-        Stage::Shaped(shape) => second_line(alloc, tallies, shape, text, mark),
-        Stage::Counting(counting) => count(alloc, tallies, counting, text, mark),
+    match read_text(line) {
+        Ok(text) => full_line(alloc, tallies, stage, text, mark),
+        Err(cause) => Err(Halt::Line(LineFault::Unreadable(cause))),
     }
 }
 
 /// A line without the line feed at its end.
-fn text_of(line: &[u8]) -> &[u8] {
+fn text_of(line: &[u8]) -> &[u8]
+    ensures { result.now ≡ strip_last 10 line.now }
+{
     if line.len() > 0 && line[line.len() - 1] == b'\n' {
         &line[..line.len() - 1]
     } else {
@@ -203,15 +291,40 @@ fn text_of(line: &[u8]) -> &[u8] {
     }
 }
 
+/// Nothing was read, since nothing is left.
+fn is_end(line: &[u8]) -> bool
+    ensures { IsTrue result ↔ (line.now ≡ []) }
+{
+    line.is_empty()
+}
+
 /// What is said at the end of a record: how many entries it has.
-fn at_end(stage: Stage) -> Result<u64, Fault> {
+fn at_end(stage: Stage) -> Result<u64, Fault>
+    ensures { IsEnd stage result }
+{
     match stage {
         Stage::Fresh | Stage::Shaped(_) => Err(Fault::Refused(Outcome::Empty)),
         Stage::Counting(counting) => Ok(counting.entries),
     }
 }
 
-fn unread(error: &io::Error) -> Fault {
+/// What is said where a line is not taken.
+fn stop(number: u64, halt: Halt) -> Fault
+    ensures { IsStop number halt result }
+{
+    match halt {
+        Halt::Line(LineFault::Unreadable(cause)) => {
+            Fault::Refused(Outcome::Unreadable(number, cause))
+        }
+        Halt::Line(LineFault::Broken(broken)) => Fault::Refused(Outcome::Broken(number, broken)),
+        Halt::Line(LineFault::Memory) => Fault::Memory,
+        Halt::NotSearched => Fault::NotSearched,
+    }
+}
+
+fn no_file(error: &io::Error) -> Fault
+    ensures { IsNoRefusal result }
+{
     match error.kind() {
         ErrorKind::OutOfMemory => Fault::Memory,
         _ => Fault::File,
@@ -228,23 +341,31 @@ pub fn cover<R: BufRead>(
     reader: &mut R,
     tallies: &mut Tallies,
     file: usize,
-) -> Result<u64, Fault> {
+) -> Result<u64, Fault>
+    ensures covered { IfOk result
+        (λ count. IfSome (R.remaining reader.old) (λ text. IsCovered file text count tallies.old tallies.new)) }
+    ensures refused { IfErr result
+        (λ fault. IfSome (R.remaining reader.old) (λ text. IsFaultOf text fault)) }
+{
     let mut stage = Stage::Fresh;
     let mut line = Vec::new(alloc);
     for number in 0..u64::MAX {
         line.clear();
         match reader.read_until(b'\n', &mut line) {
             Ok(_) => {}
-            Err(error) => return Err(unread(&error)),
+            Err(error) => return Err(no_file(&error)),
         }
-        if line.is_empty() {
+        if is_end(&line) {
             return at_end(stage);
         }
         let mark = Mark {
             file,
             line: number + 1,
         };
-        stage = take_line(alloc, tallies, stage, text_of(&line), mark)?;
+        stage = match take_line(alloc, tallies, stage, text_of(&line), mark) {
+            Ok(next) => next,
+            Err(halt) => return Err(stop(mark.line, halt)),
+        };
     }
     Err(Fault::File)
 }

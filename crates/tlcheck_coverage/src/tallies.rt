@@ -1,7 +1,15 @@
 //! A tally for each number of clients that is met.
-ghost use Rattle.std.specs.Prelude.{◌<◌, ◌≤◌};
+ghost use Rattle.std.specs.Prelude.{◌≡◌, ◌<◌, ◌≤◌, ◌∷◌, ◌++◌, ℕ, List, [], All, IfErr, IfOk, MatchOption, OnErr, OnOk, length, min, true, false};
+ghost use Rattle.tl_protocol.specs.declared.event.Event.{Event};
+ghost use Rattle.tl_protocol.specs.declared.shape.Shape.{Shape};
+ghost use Rattle.tlcheck_rules.specs.Judged.{Breaks, Follows, IsPermitted};
+ghost use Rattle.tlcheck_rules.specs.declared.judge.Breach.{Breach};
+ghost use Rattle.tlcheck_rules.specs.declared.judge.Refusal.TheVariants.{Broken};
+ghost use Rattle.tlcheck_home.specs.Tally.{IsUncounted};
+ghost use Rattle.tlcheck_coverage.specs.Tallies.{HasHome, HasTables, IsOf, Opens, SeesAt};
 
 use std::alloc::{AllocError, Global};
+use std::marker::Model;
 use tl_types::CLIENTS;
 use tlcheck_home::{HomeTable, Mark, Tally};
 use tlcheck_rules::{Entry, Judge, Refusal};
@@ -17,10 +25,22 @@ pub struct Tallies {
     tallies: Vec<Tally>,
 }
 
+impl Model for Tallies {
+    ghost use Rattle.std.specs.Prelude.{All};
+    ghost use Rattle.tlcheck_coverage.specs.Tallies.{HasTables, TalliesState};
+
+    ghost Value = { TalliesState };
+
+    ghost view = { λ t. record { by_home = t.by_home; tallies = t.tallies.items } };
+
+    ghost invariant = { λ t. All (HasTables t.by_home) t.tallies.items };
+}
+
 /// The table of what this project's home reaches, if it is asked for.
 fn home_asked(alloc: Global, clients: u32, by_home: bool) -> Result<Option<HomeTable>, TableError>
     requires some { 0 < clients }
     requires few { clients ≤ CLIENTS }
+    ensures { IfOk result (HasHome by_home clients) }
 {
     if !by_home {
         return Ok(None);
@@ -29,9 +49,38 @@ fn home_asked(alloc: Global, clients: u32, by_home: bool) -> Result<Option<HomeT
     Ok(Some(table))
 }
 
+/// The place of the tally of so many clients, if there is one.
+fn place_of(tallies: &[Tally], clients: u32) -> Option<usize>
+    ensures { MatchOption result ((place : ℕ) → IsOf clients place tallies.now → ⊥)
+        (λ place. IsOf clients place tallies.now) }
+{
+    for place in 0..tallies.len() {
+        if tallies[place].table().clients() == clients {
+            return Some(place);
+        }
+    }
+    None
+}
+
+/// A tally of so many clients, with nothing counted.
+fn made(alloc: Global, clients: u32, by_home: bool) -> Result<Tally, TableError>
+    requires some { 0 < clients }
+    requires few { clients ≤ CLIENTS }
+    ensures clients { IfOk result (λ tally. tally.clients ≡ clients) }
+    ensures tables { IfOk result (HasTables by_home) }
+    ensures uncounted { IfOk result IsUncounted }
+{
+    let home = home_asked(alloc, clients, by_home)?;
+    let table = Table::new(alloc, clients)?;
+    let tally = Tally::new(alloc, table, home)?;
+    Ok(tally)
+}
+
 impl Tallies {
     /// None.
-    pub fn new(alloc: Global) -> Tallies {
+    pub fn new(alloc: Global) -> Tallies
+        ensures { result ≡ record { by_home = false; tallies = [] } }
+    {
         Tallies {
             by_home: false,
             tallies: Vec::new(alloc),
@@ -39,7 +88,9 @@ impl Tallies {
     }
 
     /// None. Each that is made has the table of what this project's home reaches.
-    pub fn by_home(alloc: Global) -> Tallies {
+    pub fn by_home(alloc: Global) -> Tallies
+        ensures { result ≡ record { by_home = true; tallies = [] } }
+    {
         Tallies {
             by_home: true,
             tallies: Vec::new(alloc),
@@ -47,45 +98,76 @@ impl Tallies {
     }
 
     /// All of them, in the order in which they were met.
-    pub fn all(&self) -> &[Tally] {
+    pub fn all(&self) -> &[Tally]
+        ensures value { result.now ≡ self.now.tallies }
+        ensures tables { All (HasTables self.now.by_home) result.now }
+    {
         self.tallies.as_slice()
     }
 
-    fn place_of(&self, clients: u32) -> Option<usize> {
-        self.tallies
-            .iter()
-            .position(|tally| tally.table().clients() == clients)
+    /// Whether each has the table of what this project's home reaches.
+    fn is_by_home(&self) -> bool
+        ensures { result ≡ self.now.by_home }
+    {
+        self.by_home
     }
 
-    /// The place of the tally of so many clients, which is made where there is none. Err is why it cannot be.
+    /// One more tally, and its place. The error is want of memory; then they stay as they are.
+    fn join(&mut self, tally: Tally) -> Result<usize, AllocError>
+        requires { HasTables self.old.by_home tally }
+        ensures place { IfOk result (λ place. place ≡ length self.old.tallies) }
+        ensures joined { OnOk result (self.new.tallies ≡ self.old.tallies ++ tally ∷ []) }
+        ensures by_home { self.new.by_home ≡ self.old.by_home }
+        ensures same { OnErr result (self.new ≡ self.old) }
+    {
+        let place = self.tallies.as_slice().len();
+        self.tallies.push(tally)?;
+        Ok(place)
+    }
+
+    /// The place of the tally of so many clients, or of the most where they are more. It is made where there is none.
+    /// Err is why it cannot be; then they stay as they are.
     pub(crate) fn place_for(&mut self, alloc: Global, clients: u32) -> Result<usize, TableError>
         requires { 0 < clients }
+        ensures opens { IfOk result (λ place. Opens (min clients MOST) place self.old self.new) }
+        ensures same { OnErr result (self.new ≡ self.old) }
     {
         let meant = clients.min(MOST);
-        if let Some(place) = self.place_of(meant) {
-            return Ok(place);
-        }
-        let home = home_asked(alloc, meant, self.by_home)?;
-        let tally = Tally::new(alloc, Table::new(alloc, meant)?, home)?;
-        let place = self.tallies.len();
-        match self.tallies.push(tally) {
-            Ok(()) => Ok(place),
-            Err(_) => Err(TableError::Memory),
+        match place_of(self.all(), meant) {
+            Some(place) => Ok(place),
+            None => {
+                let tally = made(alloc, meant, self.is_by_home())?;
+                let place = self.join(tally)?;
+                Ok(place)
+            }
         }
     }
 
-    /// Judges the next entry of a record, and counts its event over the tally at a place.
+    /// Judges the next entry of a record, and counts its event over the tally at a place, as `Tally::see` does.
     pub(crate) fn see(
         &mut self,
         place: usize,
         judge: &mut Judge,
         entry: &Entry,
         mark: Mark,
-    ) -> Result<(), Refusal> {
-        if place < self.tallies.len() {
-            self.tallies[place].see(judge, entry, mark)
-        } else {
-            Err(Refusal::Memory)
-        }
+    ) -> Result<(), Refusal>
+        requires { place < length self.old.tallies }
+        ensures ok { OnOk result
+            ((shape : Shape) (image : List ℕ) (log : List Event)
+            → Follows shape image log judge.old → 0 < shape.clients
+            → SeesAt place shape image log entry.now mark judge.new self.old self.new) }
+        ensures size { length self.new.tallies ≡ length self.old.tallies }
+        ensures permitted { OnOk result
+            ((shape : Shape) (image : List ℕ) (log : List Event)
+            → Follows shape image log judge.old
+            → IsPermitted shape image log entry.now × Follows shape image (log ++ entry.now.event ∷ []) judge.new) }
+        ensures broken { IfErr result
+            (λ refusal. (breach : Breach) → refusal ≡ Broken breach
+            → (shape : Shape) (image : List ℕ) (log : List Event)
+            → Follows shape image log judge.old → Breaks shape image log entry.now breach) }
+        ensures unchanged { IfErr result
+            (λ refusal. (breach : Breach) → refusal ≡ Broken breach → judge.new ≡ judge.old) }
+    {
+        self.tallies[place].see(judge, entry, mark)
     }
 }

@@ -1,5 +1,5 @@
 -- What is counted is what was reached.
-use Rattle.std.proofs.Common.{◌≡◌, ◌≢◌, ℕ, ◌<◌, List, ◌∷◌, ◌++◌, [], Some, None, Result, Ok, Err, OnOk, inl, inr, sym, ap, ◌∙◌, subst}
+use Rattle.std.proofs.Common.{◌≡◌, ◌≢◌, ℕ, ◌<◌, List, ◌∷◌, ◌++◌, [], Some, None, Result, Ok, Err, OnOk, OnErr, inl, inr, refl, sym, ap, ◌∙◌, subst}
 use Rattle.std.specs.Prelude.{slice_get}
 use Rattle.tl_protocol.specs.declared.event.Event.{Event}
 use Rattle.tl_protocol.specs.declared.shape.Shape.{Shape}
@@ -14,7 +14,7 @@ use Rattle.tlcheck_situations.specs.Reach.{situation_after}
 use Rattle.tlcheck_situations.specs.Situation.{situation_of}
 use Rattle.tlcheck_situations.specs.declared.situation.Situation.{Situation}
 use Rattle.tlcheck_situations.proofs.Complete.{client_is_there}
-use Rattle.tlcheck_home.specs.Tally.{IsCountedAt, IsCountedBeyond, IsNoted, IsSeen, IsSituationIn, TallyState}
+use Rattle.tlcheck_home.specs.Tally.{HasTablesOf, IsCountedAt, IsCountedBeyond, IsNoted, IsSeen, IsSituationIn, TallyState}
 use Rattle.tlcheck_home.specs.declared.tally.Mark.{Mark}
 
 -- the situation that the judge shows is that after the log
@@ -75,3 +75,27 @@ never_none shape image log entry before plain same some follows permitted is =
 pub on_ok : {T E : Type 0} (r : Result T E) (P Q : Type 0) → (P → Q) → OnOk r P → OnOk r Q
 on_ok (Ok x) P Q f p = f p
 on_ok (Err e) P Q f p = p
+
+-- what holds anyway holds of a result that is Ok
+pub on_any : {T E : Type 0} (r : Result T E) (P : Type 0) → P → OnOk r P
+on_any (Ok x) P p = p
+on_any (Err e) P p = tt
+
+-- the tables of a tally that stays
+pub same_tables : (old new : TallyState) → new ≡ old → HasTablesOf old new
+same_tables old new same = record {
+  clients = ap (λ (t : TallyState). t.clients) same;
+  situations = ap (λ (t : TallyState). t.situations) same;
+  home = ap (λ (t : TallyState). t.home) same;
+}
+
+-- an event that is noted leaves the tables
+noted_leaves : (s : Situation) (mark : Mark) (old new : TallyState) → IsNoted s mark old new → HasTablesOf old new
+noted_leaves s mark old new (inl x) = x.2.tables
+noted_leaves s mark old new (inr x) = x.1.tables
+
+-- they stay whether it was noted or not
+pub tables_stay : {T E : Type 0} (r : Result T E) (s : Situation) (mark : Mark) (old new : TallyState) → OnOk r (IsNoted s mark old new)
+    → OnErr r (new ≡ old) → HasTablesOf old new
+tables_stay (Ok x) s mark old new noted same = noted_leaves s mark old new noted
+tables_stay (Err e) s mark old new noted same = same_tables old new same

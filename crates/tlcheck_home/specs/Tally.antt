@@ -1,5 +1,5 @@
 -- What is counted of the situations of a record (this project's own).
-use Rattle.std.specs.Prelude.{◌≡◌, ◌≢◌, ◌⊎◌, ◌↔◌, ℕ, ◌+◌, ◌<◌, List, [], ◌∷◌, ◌++◌, Bool, Option, Some, None, Contains, IsTrue}
+use Rattle.std.specs.Prelude.{◌≡◌, ◌≢◌, ◌⊎◌, ◌↔◌, ℕ, ◌+◌, ◌<◌, List, [], ◌∷◌, ◌++◌, length, replicate, Bool, Option, Some, None, Contains, IsTrue}
 use Rattle.std.specs.Prelude.{slice_get, slice_index_or, slice_set}
 use Rattle.tl_protocol.specs.declared.event.Event.{Event}
 use Rattle.tl_protocol.specs.declared.shape.Shape.{Shape}
@@ -16,9 +16,10 @@ use Rattle.tlcheck_situations.specs.declared.situation.Situation.{Situation}
 use Rattle.tlcheck_home.specs.declared.tally.Count.{Count}
 use Rattle.tlcheck_home.specs.declared.tally.Mark.{Mark}
 
--- the situations of a table, where it is asked for the table of what this project's home reaches, how often each
--- situation was counted, and how many events were in none of them
+-- the clients and the situations of a table, where it is asked for the table of what this project's home reaches, how
+-- often each situation was counted, and how many events were in none of them
 pub record TallyState : Type 0 where
+  pub clients : ℕ
   pub situations : List Situation
   pub home : Option HomeTableState
   pub counts : List Count
@@ -44,17 +45,26 @@ one_more count mark = record { events = count.events + 1; first = first_mark cou
 abbrev pub no_event : Count
 no_event = record { events = 0; first = None }
 
+-- Nothing is counted.
+pub record IsUncounted (t : TallyState) : Type 0 where
+  pub counts : t.counts ≡ replicate (length t.situations) no_event
+  pub beyond : t.beyond ≡ 0
+
+-- It counts over the same tables.
+pub record HasTablesOf (old new : TallyState) : Type 0 where
+  pub clients : new.clients ≡ old.clients
+  pub situations : new.situations ≡ old.situations
+  pub home : new.home ≡ old.home
+
 -- The situation at a place is counted once more.
 pub record IsCountedAt (k : ℕ) (mark : Mark) (old new : TallyState) : Type 0 where
-  pub same : new.situations ≡ old.situations
-  pub home : new.home ≡ old.home
+  pub tables : HasTablesOf old new
   pub counts : new.counts ≡ slice_set old.counts k (one_more (slice_index_or old.counts k no_event) mark)
   pub beyond : new.beyond ≡ old.beyond
 
 -- One more event is in none of the situations.
 pub record IsCountedBeyond (old new : TallyState) : Type 0 where
-  pub same : new.situations ≡ old.situations
-  pub home : new.home ≡ old.home
+  pub tables : HasTablesOf old new
   pub counts : new.counts ≡ old.counts
   pub beyond : new.beyond ≡ old.beyond + 1
 

@@ -1,12 +1,12 @@
 //! How often each situation of a table was reached.
-ghost use Rattle.std.specs.Prelude.{◌≡◌, ◌≢◌, ◌↔◌, ◌<◌, ◌+◌, ℕ, List, Some, IfErr, IfOk, IsSome, IsTrue, OnErr, OnOk, length};
+ghost use Rattle.std.specs.Prelude.{◌≡◌, ◌≢◌, ◌↔◌, ◌<◌, ◌+◌, ◌∷◌, ◌++◌, ℕ, List, [], Some, IfErr, IfOk, IsSome, IsTrue, OnErr, OnOk, length};
 ghost use Rattle.tl_protocol.specs.declared.event.Event.{Event};
 ghost use Rattle.tl_protocol.specs.declared.shape.Shape.{Shape};
-ghost use Rattle.tlcheck_rules.specs.Judged.{Breaks, Follows};
+ghost use Rattle.tlcheck_rules.specs.Judged.{Breaks, Follows, IsPermitted};
 ghost use Rattle.tlcheck_rules.specs.declared.judge.Breach.{Breach};
 ghost use Rattle.tlcheck_rules.specs.declared.judge.Refusal.TheVariants.{Broken};
-ghost use Rattle.tlcheck_home.specs.Tally.{IsByHome, IsCountedAt, IsCountedBeyond, IsNoted, IsSeen};
-ghost use Rattle.tlcheck_home.specs.Tally.{IsSituationIn, one_more};
+ghost use Rattle.tlcheck_home.specs.Tally.{HasTablesOf, IsByHome, IsCountedAt, IsCountedBeyond, IsNoted, IsSeen};
+ghost use Rattle.tlcheck_home.specs.Tally.{IsSituationIn, IsUncounted, one_more};
 
 use crate::table::HomeTable;
 use std::alloc::{AllocError, Global};
@@ -45,6 +45,7 @@ impl Model for Tally {
     ghost Value = { TallyState };
 
     ghost view = { λ t. record {
+      clients = t.table.clients;
       situations = t.table.situations;
       home = t.home;
       counts = t.counts.items;
@@ -86,8 +87,10 @@ fn situation_in(plain: &Plain, event: &Event) -> Option<Situation>
 impl Tally {
     /// Nothing is counted. The error is want of memory.
     pub fn new(alloc: Global, table: Table, home: Option<HomeTable>) -> Result<Tally, AllocError>
+        ensures clients { IfOk result (λ t. t.clients ≡ table.clients) }
         ensures situations { IfOk result (λ t. t.situations ≡ table.situations) }
         ensures home { IfOk result (λ t. t.home ≡ home) }
+        ensures uncounted { IfOk result IsUncounted }
     {
         let none = Count {
             events: 0,
@@ -104,7 +107,8 @@ impl Tally {
 
     /// The table.
     pub fn table(&self) -> &Table
-        ensures { result.now.situations ≡ self.now.situations }
+        ensures clients { result.now.clients ≡ self.now.clients }
+        ensures situations { result.now.situations ≡ self.now.situations }
     {
         &self.table
     }
@@ -188,6 +192,7 @@ impl Tally {
     fn noted(&mut self, situation: &Situation, mark: Mark) -> Result<(), Refusal>
         ensures ok { OnOk result (IsNoted situation.now mark self.old self.new) }
         ensures err { IfErr result (λ refusal. (breach : Breach) → refusal ≢ Broken breach) }
+        ensures same { OnErr result (self.new ≡ self.old) }
     {
         match self.note(situation, mark) {
             Ok(()) => Ok(()),
@@ -196,16 +201,23 @@ impl Tally {
     }
 
     /// Judges the next entry of a record, and counts its event where it is permitted. `Broken` where it is not, with
-    /// what it breaks, and all stays as it was; `Memory` where memory is refused, and nothing is claimed then.
+    /// what it breaks, and all stays as it was; `Memory` where memory is refused, and nothing is claimed of the judge
+    /// then. What is not counted leaves the tally as it was, and its tables stay in any case.
     pub fn see(&mut self, judge: &mut Judge, entry: &Entry, mark: Mark) -> Result<(), Refusal>
         ensures ok { OnOk result
             ((shape : Shape) (image : List ℕ) (log : List Event)
             → Follows shape image log judge.old → 0 < shape.clients
             → IsSeen shape image log entry.now mark judge.new self.old self.new) }
+        ensures permitted { OnOk result
+            ((shape : Shape) (image : List ℕ) (log : List Event)
+            → Follows shape image log judge.old
+            → IsPermitted shape image log entry.now × Follows shape image (log ++ entry.now.event ∷ []) judge.new) }
         ensures broken { IfErr result
             (λ refusal. (breach : Breach) → refusal ≡ Broken breach
             → (shape : Shape) (image : List ℕ) (log : List Event)
             → Follows shape image log judge.old → Breaks shape image log entry.now breach) }
+        ensures tables { HasTablesOf self.old self.new }
+        ensures uncounted { OnErr result (self.new ≡ self.old) }
         ensures unchanged { IfErr result
             (λ refusal. (breach : Breach) → refusal ≡ Broken breach → (self.new ≡ self.old) × (judge.new ≡ judge.old)) }
     {

@@ -1,0 +1,4 @@
+pub mod Covering
+pub mod Lines
+pub mod Opening
+pub mod Shape

@@ -1,0 +1,87 @@
+-- What a line leaves of a reading, and what is counted with one more.
+use Rattle.std.proofs.Common.{◌≡◌, ◌<◌, ◌≤◌, ◌+◌, ℕ, Bool, true, false, cond, List, [], ◌∷◌, ◌++◌, length, Option, Some, None, Result, Ok, Err, refl, sym, ◌∙◌, ap, subst, arith}
+use Rattle.tl_protocol.specs.declared.shape.Shape.{Shape}
+use Rattle.tlcheck_rules.specs.declared.entry.Entry.{Entry}
+use Rattle.tlcheck_record.specs.Cause.{◌>>=◌}
+use Rattle.tlcheck_record.specs.Entry.{entry_of}
+use Rattle.tlcheck_record.specs.Header.{image_of, shape_of}
+use Rattle.tlcheck_record.specs.Words.{is_blank, text_in}
+use Rattle.tlcheck_record.specs.declared.cause.Cause.{Cause}
+use Rattle.tlcheck_reader.specs.Reading.{Reading, fresh, shaped, going, after_line, after_text, image_or_entry, next, reading_of, with_entry}
+use Rattle.tlcheck_home.specs.Tally.{TallyState}
+use Rattle.tlcheck_coverage.specs.Covered.{CountsLine, CountsLines, mark_after}
+
+-- the geometry of a reading
+abbrev pub HasShape : Reading → Shape → Type 0
+HasShape fresh shape = ⊥
+HasShape (shaped s) shape = shape ≡ s
+HasShape (going s image entries) shape = shape ≡ s
+
+-- an entry leaves the geometry
+entry_keeps : (s : Shape) (image : List ℕ) (entries : List Entry) (o : Result Entry Cause) (after : Reading)
+    → (o >>= (λ (entry : Entry). Ok (going s image (entries ++ entry ∷ [])))) ≡ Ok after → HasShape after s
+entry_keeps s image entries (Err cause) after e = cc
+entry_keeps s image entries (Ok entry) after e =
+    let same : going s image (entries ++ entry ∷ []) ≡ after = cc in
+    subst (λ (r : Reading). HasShape r s) same refl
+
+-- an image, or the first entry, leaves it
+image_keeps : (s : Shape) (line : List ℕ) (o : Result (Option (List ℕ)) Cause) (after : Reading)
+    → (o >>= (λ i. image_or_entry s line i)) ≡ Ok after → HasShape after s
+image_keeps s line (Err cause) after e = cc
+image_keeps s line (Ok None) after e = entry_keeps s [] [] (entry_of line) after e
+image_keeps s line (Ok (Some image)) after e =
+    let same : going s image [] ≡ after = cc in
+    subst (λ (r : Reading). HasShape r s) same refl
+
+next_keeps : (reading : Reading) (shape : Shape) (line : List ℕ) (after : Reading) → HasShape reading shape → next reading line ≡ Ok after
+    → HasShape after shape
+next_keeps fresh shape line after h e = absurd h
+next_keeps (shaped s) shape line after h e =
+    subst (λ (x : Shape). HasShape after x) (sym h) (image_keeps s line (image_of s line) after e)
+next_keeps (going s image entries) shape line after h e =
+    subst (λ (x : Shape). HasShape after x) (sym h) (entry_keeps s image entries (entry_of line) after e)
+
+text_keeps : (reading : Reading) (shape : Shape) (o : Result (List ℕ) Cause) (after : Reading) → HasShape reading shape
+    → (o >>= (λ t. next reading t)) ≡ Ok after → HasShape after shape
+text_keeps reading shape (Err cause) after h e = cc
+text_keeps reading shape (Ok t) after h e = next_keeps reading shape t after h e
+
+blank_keeps : (reading : Reading) (shape : Shape) (text : List ℕ) (b : Bool) (after : Reading) → HasShape reading shape
+    → cond b (Ok reading) (text_in text >>= (λ t. next reading t)) ≡ Ok after → HasShape after shape
+blank_keeps reading shape text true after h e =
+    let same : reading ≡ after = cc in
+    subst (λ (r : Reading). HasShape r shape) same h
+blank_keeps reading shape text false after h e = text_keeps reading shape (text_in text) after h e
+
+-- a line leaves the geometry that was read
+pub keeps_shape : (reading : Reading) (shape : Shape) (text : List ℕ) (after : Reading) → HasShape reading shape → after_text reading text ≡ Ok after
+    → HasShape after shape
+keeps_shape reading shape text after h e = blank_keeps reading shape text (is_blank text) after h e
+
+-- ## One more line
+
+-- what is counted with one more line
+pub lines_more :
+    (file n k : ℕ) (first : Reading) (read : List (List ℕ)) (last after : Reading) (line : List ℕ) (old then_ new : TallyState)
+    → n + length read ≡ k → reading_of first read ≡ Ok last → after_line last line ≡ Ok after → CountsLines file n first read old then_
+    → CountsLine (mark_after file k) last after then_ new
+    → CountsLines file n first (read ++ line ∷ []) old new
+lines_more file n k first [] last after line old then_ new number reads leads counted more =
+    let same : first ≡ last = cc in
+    let here : after_line first line ≡ Ok after = subst (λ (r : Reading). after_line r line ≡ Ok after) (sym same) leads in
+    let at : k ≡ n = omega (arith, number) in
+    let counts : CountsLine (mark_after file n) first after old new =
+    subst (λ (r : Reading). CountsLine (mark_after file n) r after old new) (sym same)
+    (subst (λ (t : TallyState). CountsLine (mark_after file n) last after t new) counted
+    (subst (λ (i : ℕ). CountsLine (mark_after file i) last after then_ new) at more)) in
+    (after, new, here, counts, refl)
+lines_more file n k first (x ∷ rest) last after line old then_ new number reads leads counted more =
+    let on : reading_of counted.0 rest ≡ Ok last =
+    sym (ap (λ (o : Result Reading Cause). o >>= (λ (r : Reading). reading_of r rest)) counted.2) ∙ reads in (
+      counted.0,
+      counted.1,
+      counted.2,
+      counted.3,
+      lines_more file (n + 1) k counted.0 rest last after line counted.1 then_ new (omega (arith, number)) on leads counted.4 more,
+    )

@@ -1,0 +1,29 @@
+use Rattle.std.proofs.Common.{sym}
+use Rattle.tlcheck_reader.proofs.Takes.{blank, no_text, text_line}
+use Rattle.tlcheck_coverage.specs.Reading.{checked, checked_line}
+use Rattle.tlcheck_coverage.proofs.Covering.{blank_steps, text_leads}
+use Rattle.tlcheck_coverage.proofs.reading.take_line.Goals as goal
+
+-- a blank line
+pub returns-then-is_blank-clause-takes : goal.returns-then-is_blank-clause-takes
+returns-then-is_blank-clause-takes c = blank c.args.line.now (checked c.args.stage) (sym (c.if-is_blank.ensures {u = tt}))
+
+pub returns-then-is_blank-clause-counts : goal.returns-then-is_blank-clause-counts
+returns-then-is_blank-clause-counts c = λ reading after agrees client leads.
+    blank_steps c.args.mark c.args.line.now c.args.stage c.args.tallies.now (sym (c.if-is_blank.ensures {u = tt})) c.requires reading after leads
+
+-- a text
+pub returns-in-Ok-clause-takes : goal.returns-in-Ok-clause-takes
+returns-in-Ok-clause-takes c = λ reading agrees.
+    text_line c.args.line.now c.in-Ok.text.now (checked_line c.full_line.result) (sym (c.if-is_blank.ensures {u = tt}))
+    (c.in-Ok.ensures {u = tt}) reading (c.full_line.ensures.takes reading agrees)
+
+pub returns-in-Ok-clause-counts : goal.returns-in-Ok-clause-counts
+returns-in-Ok-clause-counts c = λ reading after agrees client leads.
+    c.full_line.ensures.counts reading after agrees client
+    (text_leads c.args.line.now c.in-Ok.text.now reading after (sym (c.if-is_blank.ensures {u = tt})) (c.in-Ok.ensures {u = tt}) leads)
+
+-- no text
+pub returns-in-Err-clause-takes : goal.returns-in-Err-clause-takes
+returns-in-Err-clause-takes c = λ reading agrees.
+    no_text c.args.line.now c.in-Err.cause (sym (c.if-is_blank.ensures {u = tt})) (c.in-Err.ensures {u = tt}) reading
