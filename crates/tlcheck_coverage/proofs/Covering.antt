@@ -1,21 +1,20 @@
 -- From one line to the next: what is counted, beside what was read.
-use Rattle.std.proofs.Common.{◌≡◌, ◌≢◌, ◌⊎◌, inl, inr, ◌<◌, ◌+◌, ℕ, Bool, true, false, cond, List, [], ◌∷◌, ◌++◌, length, min, Option, Some, None, IfOk, IfErr, IfSome, Result, Ok, Err, refl, sym, ◌∙◌, ap, subst, arith, append_assoc, length-append}
+use Rattle.std.proofs.Common.{◌≡◌, ◌≢◌, inl, inr, ◌<◌, ◌+◌, ℕ, Bool, true, false, cond, List, [], ◌∷◌, ◌++◌, length, min, Option, Some, None, IfOk, IfErr, IfSome, Result, Ok, Err, refl, sym, ◌∙◌, ap, subst, arith, append_assoc, length-append}
 use Rattle.std.proofs.lemmas.List.{append-nil}
 use Rattle.std.specs.Prelude.{slice_get}
 use Rattle.std.specs.Io.BufRead.{take_through, drop_through, strip_last}
-use Rattle.tl_protocol.specs.declared.event.Event.{Event}
 use Rattle.tl_protocol.specs.declared.shape.Shape.{Shape}
-use Rattle.tlcheck_rules.specs.Judged.{Follows, IsLawful, JudgeState, events_of}
+use Rattle.tlcheck_rules.specs.Judged.{Follows, events_of}
 use Rattle.tlcheck_rules.specs.declared.entry.Entry.{Entry}
 use Rattle.tlcheck_record.specs.Cause.{◌>>=◌}
 use Rattle.tlcheck_record.specs.Entry.{entry_of}
-use Rattle.tlcheck_record.specs.Header.{image_of, shape_of}
+use Rattle.tlcheck_record.specs.Header.{image_of}
 use Rattle.tlcheck_record.specs.Words.{is_blank, text_in}
 use Rattle.tlcheck_record.specs.declared.cause.Cause.{Cause}
 use Rattle.tlcheck_reader.specs.Lines.{lines_of}
 use Rattle.tlcheck_reader.specs.Entries.{IsWhere as CheckIsWhere}
 use Rattle.tlcheck_reader.specs.Outcome.{Agrees, IsAt, IsOutcome, Takes, stop_of}
-use Rattle.tlcheck_reader.specs.Reading.{Reading, fresh, shaped, going, after_line, after_text, image_or_entry, next, reading_of, with_entry}
+use Rattle.tlcheck_reader.specs.Reading.{Reading, fresh, shaped, going, after_line, after_text, image_or_entry, next, reading_of}
 use Rattle.tlcheck_reader.specs.declared.outcome.LineFault.{LineFault}
 use Rattle.tlcheck_reader.specs.declared.outcome.Outcome.{Outcome}
 use Rattle.tlcheck_reader.specs.declared.outcome.Outcome.TheVariants.{Empty}
@@ -24,9 +23,9 @@ use Rattle.tlcheck_reader.proofs.Steps.{at_end, at_eof, cut, read_more, stops}
 use Rattle.tlcheck_home.specs.Tally.{TallyState}
 use Rattle.tlcheck_home.specs.declared.tally.Mark.{Mark}
 use Rattle.tlcheck_coverage.specs.Covered.{CountsLine, CountsLines, IsCovered, entries_in, mark_after}
-use Rattle.tlcheck_coverage.specs.Reading.{HasClient, IsCounting, IsEnd, IsFaultOf, IsFit, IsFitShape, IsNoRefusal, IsRefusal, IsShaped, IsStop, checked, checked_entry, checked_line, halted, staged}
+use Rattle.tlcheck_coverage.specs.Reading.{HasClient, IsCounting, IsEnd, IsFaultOf, IsFit, IsNoRefusal, IsRefusal, IsShaped, IsStop, checked, checked_entry, checked_line, halted, staged}
 use Rattle.tlcheck_coverage.specs.Steps.{Begins, CountsAt, Steps}
-use Rattle.tlcheck_coverage.specs.Tallies.{IsChangedAt, IsOf, Opens, SeesAt, TalliesState}
+use Rattle.tlcheck_coverage.specs.Tallies.{IsChangedAt, Opens, SeesAt, TalliesState}
 use Rattle.tlcheck_coverage.specs.declared.reading.Counting.{Counting as CountingState}
 use Rattle.tlcheck_coverage.specs.declared.reading.Fault.{Fault}
 use Rattle.tlcheck_coverage.specs.declared.reading.Fault.TheVariants as fault

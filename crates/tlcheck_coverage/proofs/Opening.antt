@@ -1,17 +1,14 @@
 -- Tallies: the one that is opened, and the one that is changed.
-use Rattle.std.proofs.Common.{◌≡◌, ◌≢◌, ◌⊎◌, inl, inr, ◌<◌, ◌≤◌, ◌+◌, ℕ, Bool, true, false, cond, zero, suc, List, [], ◌∷◌, ◌++◌, length, set, get_or, Option, Some, None, IsSomeAnd, Result, Ok, Err, OnOk, refl, sym, ◌∙◌, ap, subst, arith, length-append}
-use Rattle.std.proofs.lemmas.Option.{slice_get-get_or, slice_get_within, slice_get_read}
+use Rattle.std.proofs.Common.{◌≡◌, ◌≢◌, inl, inr, ◌<◌, ℕ, zero, suc, List, [], ◌∷◌, ◌++◌, length, set, get_or, Option, Some, None, IsSomeAnd, Result, Ok, Err, OnOk, refl, ◌∙◌, ap, arith}
+use Rattle.std.proofs.lemmas.Option.{slice_get_within, slice_get_read}
 use Rattle.std.specs.Prelude.{slice_get}
 use Rattle.tl_protocol.specs.declared.event.Event.{Event}
 use Rattle.tl_protocol.specs.declared.shape.Shape.{Shape}
-use Rattle.tlcheck_situations.specs.Reach.{HasEvery}
-use Rattle.tlcheck_situations.specs.TableState.{TableState}
-use Rattle.tlcheck_home.specs.HomeTableState.{HomeTableState}
-use Rattle.tlcheck_home.specs.Tally.{HasTablesOf, IsSeen, IsUncounted, TallyState}
+use Rattle.tlcheck_home.specs.Tally.{IsSeen, IsUncounted, TallyState}
 use Rattle.tlcheck_home.specs.declared.tally.Mark.{Mark}
 use Rattle.tlcheck_rules.specs.Judged.{JudgeState}
 use Rattle.tlcheck_rules.specs.declared.entry.Entry.{Entry}
-use Rattle.tlcheck_coverage.specs.Tallies.{HasHome, HasTables, IsChangedAt, IsOf, Joins, Opens, SeesAt, TalliesState}
+use Rattle.tlcheck_coverage.specs.Tallies.{IsChangedAt, IsOf, Opens, SeesAt, TalliesState}
 
 -- ## A list with one place changed
 

@@ -1,4 +1,4 @@
--- What is counted of a record: each of its entries once, in the situation that it is in, at its line (this project's own).
+-- What is counted of a record: each entry once, in the situation that it is in, at its line (this project's own).
 use Rattle.std.specs.Prelude.{◌≡◌, ◌⊎◌, ℕ, ◌+◌, min, List, [], ◌∷◌, ◌++◌, length, Some, Ok, slice_get}
 use Rattle.tl_protocol.specs.declared.shape.Shape.{Shape}
 use Rattle.tlcheck_rules.specs.Judged.{IsLawful, events_of}

@@ -1,5 +1,5 @@
 -- The tallies of records, one for each number of clients (this project's own).
-use Rattle.std.specs.Prelude.{◌≡◌, ◌≢◌, ◌⊎◌, ℕ, List, [], ◌∷◌, ◌++◌, length, All, Bool, IsTrue, IsFalse, Option, Some, None, IsSomeAnd, slice_get}
+use Rattle.std.specs.Prelude.{◌≡◌, ◌≢◌, ◌⊎◌, ℕ, List, [], ◌∷◌, ◌++◌, length, Bool, IsTrue, IsFalse, Option, Some, None, IsSomeAnd, slice_get}
 use Rattle.tl_protocol.specs.declared.event.Event.{Event}
 use Rattle.tl_protocol.specs.declared.shape.Shape.{Shape}
 use Rattle.tlcheck_rules.specs.Judged.{JudgeState}
@@ -10,7 +10,7 @@ use Rattle.tlcheck_home.specs.HomeTableState.{HomeTableState}
 use Rattle.tlcheck_home.specs.Tally.{IsSeen, IsUncounted, TallyState}
 use Rattle.tlcheck_home.specs.declared.tally.Mark.{Mark}
 
--- whether they have the table of what this project's home reaches, and the tallies, in the order in which they were made
+-- whether they have the table of what this project's home reaches, and the tallies, in the order of their making
 pub record TalliesState : Type 0 where
   pub by_home : Bool
   pub tallies : List TallyState
@@ -20,7 +20,7 @@ abbrev pub HasHome : Bool → ℕ → Option HomeTableState → Type 0
 HasHome by_home n None = IsFalse by_home
 HasHome by_home n (Some home) = IsTrue by_home × AreThoseOfHome n home.situations
 
--- A tally's table has every situation that runs of its clients reach, and what this project's home reaches if that is asked for.
+-- A tally's table has every situation of its clients' runs, and what this project's home reaches if it is asked for.
 pub record HasTables (by_home : Bool) (tally : TallyState) : Type 0 where
   pub every : HasEvery tally.clients tally.situations
   pub home : HasHome by_home tally.clients tally.home

@@ -1,6 +1,5 @@
 -- What is counted is what was reached.
-use Rattle.std.proofs.Common.{◌≡◌, ◌≢◌, ℕ, ◌<◌, List, ◌∷◌, ◌++◌, [], Some, None, Result, Ok, Err, OnOk, OnErr, inl, inr, refl, sym, ap, ◌∙◌, subst}
-use Rattle.std.specs.Prelude.{slice_get}
+use Rattle.std.proofs.Common.{◌≡◌, ℕ, ◌<◌, List, ◌∷◌, ◌++◌, [], Some, None, Result, Ok, Err, OnOk, OnErr, inl, inr, sym, ap, ◌∙◌, subst}
 use Rattle.tl_protocol.specs.declared.event.Event.{Event}
 use Rattle.tl_protocol.specs.declared.shape.Shape.{Shape}
 use Rattle.tl_protocol.specs.Protocol.{Block, block_of}
@@ -14,7 +13,7 @@ use Rattle.tlcheck_situations.specs.Reach.{situation_after}
 use Rattle.tlcheck_situations.specs.Situation.{situation_of}
 use Rattle.tlcheck_situations.specs.declared.situation.Situation.{Situation}
 use Rattle.tlcheck_situations.proofs.Complete.{client_is_there}
-use Rattle.tlcheck_home.specs.Tally.{HasTablesOf, IsCountedAt, IsCountedBeyond, IsNoted, IsSeen, IsSituationIn, TallyState}
+use Rattle.tlcheck_home.specs.Tally.{HasTablesOf, IsNoted, IsSeen, IsSituationIn, TallyState}
 use Rattle.tlcheck_home.specs.declared.tally.Mark.{Mark}
 
 -- the situation that the judge shows is that after the log

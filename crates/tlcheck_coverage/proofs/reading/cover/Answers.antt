@@ -1,4 +1,4 @@
-use Rattle.std.proofs.Common.{List, ℕ, Result, Ok, Err, rules, sym, ap, ◌∙◌}
+use Rattle.std.proofs.Common.{List, ℕ, rules, sym, ap, ◌∙◌}
 use Rattle.std.specs.Io.BufRead.{strip_last}
 use Rattle.tlcheck_coverage.proofs.Covering.{ended, ended_without, goes, init, no_refusal, says}
 use Rattle.tlcheck_coverage.proofs.reading.cover.Goals as goal

@@ -4,12 +4,12 @@ use Rattle.tlcheck_reader.specs.Reading.{next}
 use Rattle.tlcheck_reader.specs.declared.outcome.LineFault.{LineFault}
 use Rattle.tlcheck_reader.specs.declared.outcome.Stage.{Stage as CheckStage}
 use Rattle.tlcheck_reader.proofs.Takes.{entry}
-use Rattle.tlcheck_coverage.specs.Reading.{IsFit, checked_entry, checked_line}
+use Rattle.tlcheck_coverage.specs.Reading.{checked_entry, checked_line}
 use Rattle.tlcheck_coverage.specs.Steps.{Steps}
 use Rattle.tlcheck_coverage.specs.declared.reading.Halt.{Halt}
 use Rattle.tlcheck_coverage.specs.declared.reading.Stage.{Stage}
 use Rattle.tlcheck_coverage.specs.declared.reading.Stage.TheVariants.{Counting}
-use Rattle.tlcheck_coverage.proofs.Covering.{entry_fits, entry_steps, staged_as}
+use Rattle.tlcheck_coverage.proofs.Covering.{entry_steps, staged_as}
 use Rattle.tlcheck_coverage.proofs.reading.entry_line.Goals as goal
 
 pub returns-in-Ok-clause-takes : goal.returns-in-Ok-clause-takes

@@ -1,5 +1,4 @@
 use Rattle.std.proofs.Common.{get_or, set, ap, ◌∙◌}
-use Rattle.tlcheck_home.specs.Tally.{TallyState}
 use Rattle.tlcheck_coverage.specs.Tallies.{TalliesState}
 use Rattle.tlcheck_coverage.proofs.Opening.{on_ok, sees_at}
 use Rattle.tlcheck_coverage.proofs.tallies.Tallies.see.Goals as goal

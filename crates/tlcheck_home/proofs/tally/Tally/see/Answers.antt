@@ -1,9 +1,9 @@
-use Rattle.std.proofs.Common.{ℕ, ◌<◌, List, [], ◌∷◌, ◌++◌, refl}
+use Rattle.std.proofs.Common.{ℕ, ◌<◌, List, [], ◌∷◌, ◌++◌}
 use Rattle.tl_protocol.specs.declared.event.Event.{Event}
 use Rattle.tl_protocol.specs.declared.shape.Shape.{Shape}
 use Rattle.tlcheck_rules.specs.Judged.{Follows, IsPermitted}
 use Rattle.tlcheck_home.specs.Tally.{IsNoted, IsSeen}
-use Rattle.tlcheck_home.proofs.Noting.{never_none, on_any, on_ok, same_tables, seen_as, tables_stay}
+use Rattle.tlcheck_home.proofs.Noting.{never_none, on_any, on_ok, seen_as, tables_stay}
 use Rattle.tlcheck_home.proofs.tally.Tally.see.Goals as goal
 
 pub returns-in-None-clause-ok : goal.returns-in-None-clause-ok
