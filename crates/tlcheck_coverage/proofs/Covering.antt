@@ -22,54 +22,21 @@ use Rattle.tlcheck_reader.specs.declared.outcome.Stage.TheVariants as check
 use Rattle.tlcheck_reader.proofs.Steps.{at_end, at_eof, cut, read_more, stops}
 use Rattle.tlcheck_home.specs.Tally.{TallyState}
 use Rattle.tlcheck_home.specs.declared.tally.Mark.{Mark}
+use Rattle.tlcheck_coverage.specs.Amid.{Counted, CountsNone, HasShape, IsAmid, IsCountedSo, IsWhere}
 use Rattle.tlcheck_coverage.specs.Covered.{CountsLine, CountsLines, IsCovered, entries_in, mark_after}
-use Rattle.tlcheck_coverage.specs.Reading.{HasClient, IsCounting, IsEnd, IsFaultOf, IsFit, IsNoRefusal, IsRefusal, IsShaped, IsStop, checked, checked_entry, checked_line, halted, staged}
+use Rattle.tlcheck_coverage.specs.Reading.{HasClient, IsCounting, IsEnd, IsFaultOf, IsFit, IsNoRefusal, IsRefusal, IsShaped, IsStop, checked, checked_entry, checked_line, counting_of, halted, staged}
 use Rattle.tlcheck_coverage.specs.Steps.{Begins, CountsAt, Steps}
 use Rattle.tlcheck_coverage.specs.Tallies.{IsChangedAt, Opens, SeesAt, TalliesState}
 use Rattle.tlcheck_coverage.specs.declared.reading.Counting.{Counting as CountingState}
+use Rattle.tlcheck_coverage.specs.declared.reading.EntryFault.{EntryFault}
 use Rattle.tlcheck_coverage.specs.declared.reading.Fault.{Fault}
 use Rattle.tlcheck_coverage.specs.declared.reading.Fault.TheVariants as fault
 use Rattle.tlcheck_coverage.specs.declared.reading.Halt.{Halt}
 use Rattle.tlcheck_coverage.specs.declared.reading.Stage.{Stage}
 use Rattle.tlcheck_coverage.specs.declared.reading.Stage.TheVariants.{Fresh, Shaped, Counting}
 use Rattle.tlcheck_coverage.specs.declared.tallies.TheConstants.{MOST}
-use Rattle.tlcheck_coverage.proofs.Lines.{HasShape, keeps_shape, lines_more}
+use Rattle.tlcheck_coverage.proofs.Lines.{keeps_shape, lines_more}
 use Rattle.tlcheck_coverage.proofs.Opening.{is_there, place_has, stays_at, tally_of, then_at}
-
--- ## What was counted of the lines so far
-
--- nothing, and no line has an entry
-abbrev pub CountsNone : ℕ → List (List ℕ) → TalliesState → TalliesState → Type 0
-CountsNone file read initial now = (now ≡ initial) × ((tally : TallyState) → CountsLines file 0 fresh read tally tally)
-
--- The tally of the clients was opened at a place, and each line counted over it.
-pub record Counted (file : ℕ) (read : List (List ℕ)) (reading : Reading) (place : ℕ) (initial now : TalliesState) : Type 0 where
-  pub shape : Shape
-  pub geometry : HasShape reading shape
-  pub opened : TalliesState
-  pub opens : Opens (min shape.clients MOST) place initial opened
-  pub before : TallyState
-  pub there : slice_get opened.tallies place ≡ Some before
-  pub after : TallyState
-  pub counts : CountsLines file 0 fresh read before after
-  pub changes : IsChangedAt place after opened now
-
--- by where the reading is
-abbrev pub IsCountedSo : ℕ → List (List ℕ) → Reading → Stage → TalliesState → TalliesState → Type 0
-IsCountedSo file read reading Fresh initial now = CountsNone file read initial now
-IsCountedSo file read reading (Shaped shape) initial now = CountsNone file read initial now
-IsCountedSo file read reading (Counting counting) initial now = Counted file read reading counting.tally initial now
-
--- So many lines were read and counted, and what is left of the text is its other lines.
-pub record IsAmid (file : ℕ) (text left : List ℕ) (n : ℕ) (stage : Stage) (initial now : TalliesState) : Type 0 where
-  pub read : List (List ℕ)
-  pub reading : Reading
-  pub lines : lines_of text ≡ read ++ lines_of left
-  pub reads : reading_of fresh read ≡ Ok reading
-  pub agrees : Agrees reading (checked stage)
-  pub number : length read ≡ n
-  pub client : HasClient reading
-  pub counted : IsCountedSo file read reading stage initial now
 
 -- nothing was read yet
 pub begins : (file : ℕ) (text : List ℕ) (tallies : TalliesState) → IsAmid file text text 0 Fresh tallies tallies
@@ -299,12 +266,11 @@ entry_steps mark text entry counting (Err fault) old new at see place reading af
 entry_steps mark text entry counting (Ok next_) old new at see place reading after a c leads =
     (place, sees mark reading after text entry counting next_ old new at a c leads see)
 
--- its tally is one of these
-pub entry_fits : (counting : CountingState) (r : Result CountingState LineFault) (old new : TalliesState) → counting.tally < length old.tallies
-    → length new.tallies ≡ length old.tallies → IfOk r (λ (next_ : CountingState). next_.tally ≡ counting.tally)
-    → IfOk (staged r) (λ (stage : Stage). IsFit stage new)
-entry_fits counting (Err fault) old new fit size place = tt
-entry_fits counting (Ok next_) old new fit size place = omega (arith, fit, size, place)
+-- the tally of what is counted stays
+pub entry_place : (old new : CountingState) (r : Result (Unit {0}) EntryFault) → new.tally ≡ old.tally
+    → IfOk (counting_of new r) (λ (next_ : CountingState). next_.tally ≡ old.tally)
+entry_place old new (Ok done) same = same
+entry_place old new (Err why) same = tt
 
 -- a line with an image
 pub image_steps : (mark : Mark) (text image : List ℕ) (shape : Shape) (counting : CountingState) (old new : TalliesState)
@@ -454,11 +420,6 @@ client_kept mark (going s image entries) after stage then_ text old new c a b le
     shape_has_client after s (keeps_shape (going s image entries) s text after refl leads) c
 
 -- ## Where the bytes of a reader are known
-
--- the reading is where the lines so far lead, and they are counted
-abbrev pub IsWhere : ℕ → Option (List ℕ) → Option (List ℕ) → ℕ → Stage → TalliesState → TalliesState → Type 0
-IsWhere file known now n stage initial tallies =
-    IfSome known (λ text. (left : List ℕ) × (now ≡ Some left) × IsAmid file text left n stage initial tallies)
 
 -- so a check of the record would be there
 checks : (file : ℕ) (known now : Option (List ℕ)) (n : ℕ) (stage : Stage) (initial tallies : TalliesState)

@@ -9,13 +9,8 @@ use Rattle.tlcheck_record.specs.Words.{is_blank, text_in}
 use Rattle.tlcheck_record.specs.declared.cause.Cause.{Cause}
 use Rattle.tlcheck_reader.specs.Reading.{Reading, fresh, shaped, going, after_line, after_text, image_or_entry, next, reading_of}
 use Rattle.tlcheck_home.specs.Tally.{TallyState}
+use Rattle.tlcheck_coverage.specs.Amid.{HasShape}
 use Rattle.tlcheck_coverage.specs.Covered.{CountsLine, CountsLines, mark_after}
-
--- the geometry of a reading
-abbrev pub HasShape : Reading → Shape → Type 0
-HasShape fresh shape = ⊥
-HasShape (shaped s) shape = shape ≡ s
-HasShape (going s image entries) shape = shape ≡ s
 
 -- an entry leaves the geometry
 entry_keeps : (s : Shape) (image : List ℕ) (entries : List Entry) (o : Result Entry Cause) (after : Reading)

@@ -1,3 +1,4 @@
+pub mod Amid
 pub mod Covered
 pub mod Reading
 pub mod Steps

@@ -1,16 +1,17 @@
 //! A record, read line by line, its events counted.
-ghost use Rattle.std.specs.Prelude.{◌≡◌, ◌↔◌, ◌<◌, ◌≤◌, ℕ, List, [], IfErr, IfOk, IfSome, IsTrue, Ok, length, min};
+ghost use Rattle.std.specs.Prelude.{◌≡◌, ◌↔◌, ◌<◌, ◌≤◌, ℕ, List, [], Option, IfErr, IfOk, IfSome, IsTrue, Ok, length, min};
 ghost use Rattle.std.specs.Io.BufRead.{strip_last};
 ghost use Rattle.tl_protocol.specs.declared.shape.Shape.{Shape};
-ghost use Rattle.tlcheck_rules.specs.Judged.{Follows, IsLawful, events_of};
+ghost use Rattle.tlcheck_rules.specs.Judged.{Follows, IsLawful, JudgeState, events_of};
 ghost use Rattle.tlcheck_rules.specs.declared.entry.Entry.{Entry};
 ghost use Rattle.tlcheck_reader.specs.Outcome.{Agrees, IsJudged, Takes, fault_of, stopped_at};
 ghost use Rattle.tlcheck_reader.specs.Reading.{Reading, after_text, next};
 ghost use Rattle.tlcheck_reader.specs.declared.outcome.LineFault.TheVariants.{Memory};
+ghost use Rattle.tlcheck_coverage.specs.Amid.{IsWhere};
 ghost use Rattle.tlcheck_coverage.specs.Covered.{IsCovered};
-ghost use Rattle.tlcheck_coverage.specs.Reading.{HasClient, IsEnd, IsFaultOf, IsFit, IsNoRefusal, IsShaped, IsStop, checked, checked_entry, checked_line, halted, staged};
+ghost use Rattle.tlcheck_coverage.specs.Reading.{HasClient, IsEnd, IsFaultOf, IsFit, IsNoRefusal, IsShaped, IsStop, checked, checked_entry, checked_line, counting_of, fault_at, halted, staged};
 ghost use Rattle.tlcheck_coverage.specs.Steps.{Steps};
-ghost use Rattle.tlcheck_coverage.specs.Tallies.{Opens, SeesAt};
+ghost use Rattle.tlcheck_coverage.specs.Tallies.{Opens, SeesAt, TalliesState};
 
 use crate::tallies::{MOST, Tallies};
 use std::alloc::Global;
@@ -20,7 +21,9 @@ use tl_rules::Shape;
 use tl_types::{BLOCK_BYTES, BLOCKS};
 use tlcheck_home::Mark;
 use tlcheck_reader::{BrokenEntry, LineFault, Outcome};
-use tlcheck_record::{LineError, is_blank, read_entry, read_image_line, read_shape, read_text};
+use tlcheck_record::{
+    Cause, LineError, is_blank, read_entry, read_image_line, read_shape, read_text,
+};
 use tlcheck_rules::{Breach, Entry, Judge, Refusal};
 use tlcheck_situations::TableError;
 
@@ -107,73 +110,141 @@ fn begin(alloc: Global, tallies: &mut Tallies, shape: Shape, image: &[u8]) -> Re
     }
 }
 
-/// What is said of an entry that breaks something after those that the judge has taken.
-fn broken(judge: Judge, entry: &Entry, number: u64, breach: Breach) -> LineFault
-    ensures { result ≡ stopped_at judge entry.now number breach }
+/// Why an entry is not counted.
+#[derive(Drop)]
+pub(crate) enum EntryFault {
+    /// Its line cannot be read, for this cause.
+    Unreadable(Cause),
+    /// It is of this block, has this number, and breaks this.
+    Broken(u32, u64, Breach),
+    /// A request for memory was refused.
+    Memory,
+}
+
+/// A line could not be read, or there was no memory.
+fn unread_entry(error: LineError) -> EntryFault
+    ensures { (judge : JudgeState) → fault_at judge result ≡ fault_of error }
+{
+    match error {
+        LineError::Wrong(cause) => EntryFault::Unreadable(cause),
+        LineError::Memory => EntryFault::Memory,
+    }
+}
+
+/// An entry that breaks something after those that the judge has taken.
+fn stop_at(judge: &Judge, entry: &Entry, number: u64, breach: Breach) -> EntryFault
+    ensures { fault_at judge.now result ≡ stopped_at judge.now entry.now number breach }
 {
     let block = entry.event.block(judge.plain().shape());
-    LineFault::Broken(BrokenEntry {
-        judge,
-        block,
-        number,
-        breach,
-    })
+    EntryFault::Broken(block, number, breach)
+}
+
+/// Why an entry is not counted, with the judge of the entries before it.
+fn line_fault(judge: Judge, fault: EntryFault) -> LineFault
+    ensures { result ≡ fault_at judge fault }
+{
+    match fault {
+        EntryFault::Unreadable(cause) => LineFault::Unreadable(cause),
+        EntryFault::Broken(block, number, breach) => LineFault::Broken(BrokenEntry {
+            judge,
+            block,
+            number,
+            breach,
+        }),
+        EntryFault::Memory => LineFault::Memory,
+    }
 }
 
 /// Judges and counts an entry.
-fn take_entry(
+fn count_entry(
     tallies: &mut Tallies,
-    counting: Counting,
+    counting: &mut Counting,
     entry: &Entry,
     mark: Mark,
-) -> Result<Counting, LineFault>
-    requires { counting.tally < length tallies.old.tallies }
+) -> Result<(), EntryFault>
+    requires { counting.old.tally < length tallies.old.tallies }
     ensures judged { (shape : Shape) (image : List ℕ) (entries : List Entry)
-        → Follows shape image (events_of entries) counting.judge → IsLawful shape image entries
-        → length entries ≡ counting.entries → IsJudged shape image entries entry.now (checked_entry result) }
+        → Follows shape image (events_of entries) counting.old.judge → IsLawful shape image entries
+        → length entries ≡ counting.old.entries
+        → IsJudged shape image entries entry.now (checked_entry (counting_of counting.new result)) }
     ensures counted { (shape : Shape) (image : List ℕ) (entries : List Entry)
-        → Follows shape image (events_of entries) counting.judge → 0 < shape.clients
-        → IfOk result
-        (λ next. SeesAt counting.tally shape image (events_of entries) entry.now mark next.judge tallies.old
+        → Follows shape image (events_of entries) counting.old.judge → 0 < shape.clients
+        → IfOk (counting_of counting.new result)
+        (λ next. SeesAt counting.old.tally shape image (events_of entries) entry.now mark next.judge tallies.old
         tallies.new) }
-    ensures place { IfOk result (λ next. next.tally ≡ counting.tally) }
+    ensures place { counting.new.tally ≡ counting.old.tally }
     ensures size { length tallies.new.tallies ≡ length tallies.old.tallies }
 {
-    let Counting {
-        mut judge,
-        entries,
-        tally,
-    } = counting;
-    if entries == u64::MAX {
-        return Err(LineFault::Memory);
+    if counting.entries == u64::MAX {
+        return Err(EntryFault::Memory);
     }
-    let number = entries + 1;
-    match tallies.see(tally, &mut judge, entry, mark) {
-        Ok(()) => Ok(Counting {
-            judge,
-            entries: number,
-            tally,
-        }),
-        Err(Refusal::Memory) => Err(LineFault::Memory),
-        Err(Refusal::Broken(breach)) => Err(broken(judge, entry, number, breach)),
-    }
-}
-
-/// Where a reading is after an entry.
-fn staged(taken: Result<Counting, LineFault>) -> Result<Stage, Halt>
-    ensures { result ≡ staged taken }
-{
-    match taken {
-        Ok(counting) => Ok(Stage::Counting(counting)),
-        Err(fault) => Err(Halt::Line(fault)),
+    let number = counting.entries + 1;
+    match tallies.see(counting.tally, &mut counting.judge, entry, mark) {
+        Ok(()) => {
+            counting.entries = number;
+            Ok(())
+        }
+        Err(Refusal::Memory) => Err(EntryFault::Memory),
+        Err(Refusal::Broken(breach)) => Err(stop_at(&counting.judge, entry, number, breach)),
     }
 }
 
 /// Takes the text of a line that has an entry.
+fn entry_text(
+    alloc: Global,
+    tallies: &mut Tallies,
+    counting: &mut Counting,
+    text: &str,
+    mark: Mark,
+) -> Result<(), EntryFault>
+    requires { counting.old.tally < length tallies.old.tallies }
+    ensures takes { (reading : Reading) → Agrees reading (checked (Stage.Counting counting.old))
+        → Takes (next reading text.now) (checked_entry (counting_of counting.new result)) }
+    ensures counts { (reading after : Reading) → Agrees reading (checked (Stage.Counting counting.old))
+        → HasClient reading → next reading text.now ≡ Ok after
+        → IfOk (staged (counting_of counting.new result))
+        (λ stage. Steps mark reading after (Stage.Counting counting.old) stage tallies.old tallies.new) }
+    ensures place { counting.new.tally ≡ counting.old.tally }
+    ensures size { length tallies.new.tallies ≡ length tallies.old.tallies }
+{
+    match read_entry(alloc, text) {
+        Ok(entry) => count_entry(tallies, counting, &entry, mark),
+        Err(error) => Err(unread_entry(error)),
+    }
+}
+
+/// Takes a line without its line feed where entries are counted.
+fn take_entry(
+    alloc: Global,
+    tallies: &mut Tallies,
+    counting: &mut Counting,
+    line: &[u8],
+    mark: Mark,
+) -> Result<(), EntryFault>
+    requires { counting.old.tally < length tallies.old.tallies }
+    ensures takes { (reading : Reading) → Agrees reading (checked (Stage.Counting counting.old))
+        → Takes (after_text reading line.now) (checked_entry (counting_of counting.new result)) }
+    ensures counts { (reading after : Reading) → Agrees reading (checked (Stage.Counting counting.old))
+        → HasClient reading → after_text reading line.now ≡ Ok after
+        → IfOk (staged (counting_of counting.new result))
+        (λ stage. Steps mark reading after (Stage.Counting counting.old) stage tallies.old tallies.new) }
+    ensures place { counting.new.tally ≡ counting.old.tally }
+    ensures size { length tallies.new.tallies ≡ length tallies.old.tallies }
+{
+    if is_blank(line) {
+        return Ok(());
+    }
+    match read_text(line) {
+        Ok(text) => entry_text(alloc, tallies, counting, text, mark),
+        Err(cause) => Err(EntryFault::Unreadable(cause)),
+    }
+}
+
+/// Takes the text of a line that has the first entry.
 fn entry_line(
     alloc: Global,
     tallies: &mut Tallies,
-    counting: Counting,
+    mut counting: Counting,
     text: &str,
     mark: Mark,
 ) -> Result<Stage, Halt>
@@ -185,9 +256,9 @@ fn entry_line(
         → IfOk result (λ stage. Steps mark reading after (Stage.Counting counting) stage tallies.old tallies.new) }
     ensures fit { IfOk result (λ stage. IsFit stage tallies.new) }
 {
-    match read_entry(alloc, text) {
-        Ok(entry) => staged(take_entry(tallies, counting, &entry, mark)),
-        Err(error) => Err(unread(error)),
+    match entry_text(alloc, tallies, &mut counting, text, mark) {
+        Ok(()) => Ok(Stage::Counting(counting)),
+        Err(fault) => Err(Halt::Line(line_fault(counting.judge, fault))),
     }
 }
 
@@ -331,6 +402,47 @@ fn no_file(error: &io::Error) -> Fault
     }
 }
 
+/// Counts the entries on the lines behind the first so many.
+fn cover_entries<R: BufRead>(
+    alloc: Global,
+    reader: &mut R,
+    tallies: &mut Tallies,
+    file: usize,
+    lines: u64,
+    mut counting: Counting,
+) -> Result<u64, Fault>
+    requires { counting.tally < length tallies.old.tallies }
+    ensures covered { (known : Option (List ℕ)) (initial : TalliesState)
+        → IsWhere file known (R.remaining reader.old) lines (Stage.Counting counting) initial tallies.old
+        → IfOk result (λ count. IfSome known (λ text. IsCovered file text count initial tallies.new)) }
+    ensures refused { (known : Option (List ℕ)) (initial : TalliesState)
+        → IsWhere file known (R.remaining reader.old) lines (Stage.Counting counting) initial tallies.old
+        → IfErr result (λ fault. IfSome known (λ text. IsFaultOf text fault)) }
+{
+    let mut line = Vec::new(alloc);
+    for before in lines..u64::MAX {
+        line.clear();
+        match reader.read_until(b'\n', &mut line) {
+            Ok(_) => {}
+            Err(error) => return Err(no_file(&error)),
+        }
+        if is_end(&line) {
+            return Ok(counting.entries);
+        }
+        let mark = Mark {
+            file,
+            line: before + 1,
+        };
+        match take_entry(alloc, tallies, &mut counting, text_of(&line), mark) {
+            Ok(()) => {}
+            Err(fault) => {
+                return Err(stop(mark.line, Halt::Line(line_fault(counting.judge, fault))));
+            }
+        }
+    }
+    Err(Fault::File)
+}
+
 /// Counts the events of a record, line by line, and answers how many there are. `file` is the record's place among
 /// those that are counted. The first entry that is not permitted, or that cannot be read, ends it (`Refused`); what was
 /// counted before stays. `Memory` where memory is refused, `File` where the record cannot be read to its end,
@@ -362,10 +474,13 @@ pub fn cover<R: BufRead>(
             file,
             line: number + 1,
         };
-        stage = match take_line(alloc, tallies, stage, text_of(&line), mark) {
-            Ok(next) => next,
+        match take_line(alloc, tallies, stage, text_of(&line), mark) {
+            Ok(Stage::Counting(counting)) => {
+                return cover_entries(alloc, reader, tallies, file, mark.line, counting);
+            }
+            Ok(next) => stage = next,
             Err(halt) => return Err(stop(mark.line, halt)),
-        };
+        }
     }
     Err(Fault::File)
 }

@@ -1,5 +1,5 @@
 use Rattle.tlcheck_coverage.specs.Reading.{IsFit}
-use Rattle.tlcheck_coverage.proofs.Covering.{IsWhere}
+use Rattle.tlcheck_coverage.specs.Amid.{IsWhere}
 use Rattle.tlcheck_coverage.proofs.reading.cover.Given as goal
 
 -- the reading is where the lines so far lead, they are counted, and what is left of the text is its other lines
