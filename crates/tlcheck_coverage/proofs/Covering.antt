@@ -1,7 +1,6 @@
 -- From one line to the next: what is counted, beside what was read.
 use Rattle.std.proofs.Common.{◌≡◌, ◌≢◌, inl, inr, ◌<◌, ◌+◌, ℕ, Bool, true, false, cond, List, [], ◌∷◌, ◌++◌, length, min, Option, Some, None, IfOk, IfErr, IfSome, Result, Ok, Err, refl, sym, ◌∙◌, ap, subst, arith, append_assoc, length-append}
 use Rattle.std.proofs.lemmas.List.{append-nil}
-use Rattle.std.specs.Prelude.{slice_get}
 use Rattle.std.specs.Io.BufRead.{take_through, drop_through, strip_last}
 use Rattle.tl_protocol.specs.declared.shape.Shape.{Shape}
 use Rattle.tlcheck_rules.specs.Judged.{Follows, events_of}
@@ -26,9 +25,9 @@ use Rattle.tlcheck_coverage.specs.Amid.{Counted, CountsNone, HasShape, IsAmid, I
 use Rattle.tlcheck_coverage.specs.Covered.{CountsLine, CountsLines, IsCovered, entries_in, mark_after}
 use Rattle.tlcheck_coverage.specs.Reading.{HasClient, IsCounting, IsEnd, IsFaultOf, IsFit, IsNoRefusal, IsRefusal, IsShaped, IsStop, checked, checked_entry, checked_line, counting_of, halted, staged}
 use Rattle.tlcheck_coverage.specs.Steps.{Begins, CountsAt, Steps}
-use Rattle.tlcheck_coverage.specs.Tallies.{IsChangedAt, Opens, SeesAt, TalliesState}
+use Rattle.tlcheck_coverage.specs.Tallies.{Opens, SeesAt, TalliesState}
 use Rattle.tlcheck_coverage.specs.declared.reading.Counting.{Counting as CountingState}
-use Rattle.tlcheck_coverage.specs.declared.reading.EntryFault.{EntryFault}
+use Rattle.tlcheck_reader.specs.declared.line.EntryFault.{EntryFault}
 use Rattle.tlcheck_coverage.specs.declared.reading.Fault.{Fault}
 use Rattle.tlcheck_coverage.specs.declared.reading.Fault.TheVariants as fault
 use Rattle.tlcheck_coverage.specs.declared.reading.Halt.{Halt}

@@ -1,5 +1,5 @@
 -- What was read and counted of a record's text so far (this project's own).
-use Rattle.std.specs.Prelude.{◌≡◌, ℕ, ◌+◌, min, List, ◌++◌, length, Option, Some, IfSome, Ok, slice_get}
+use Rattle.std.specs.Prelude.{◌≡◌, ℕ, min, List, ◌++◌, length, Option, Some, IfSome, Ok, slice_get}
 use Rattle.tl_protocol.specs.declared.shape.Shape.{Shape}
 use Rattle.tlcheck_reader.specs.Lines.{lines_of}
 use Rattle.tlcheck_reader.specs.Outcome.{Agrees}

@@ -2,19 +2,18 @@
 use Rattle.std.specs.Prelude.{◌≡◌, ◌<◌, ◌≤◌, ℕ, List, length, Some, Result, Ok, Err}
 use Rattle.tl_types.specs.declared.limits.TheConstants.{BLOCKS, BLOCK_BYTES}
 use Rattle.tl_protocol.specs.declared.shape.Shape.{Shape}
-use Rattle.tlcheck_rules.specs.Judged.{JudgeState}
+use Rattle.tlcheck_reader.specs.Entries.{line_fault}
 use Rattle.tlcheck_reader.specs.Outcome.{IsOutcome, ending_of, stop_of}
 use Rattle.tlcheck_reader.specs.Reading.{Reading, fresh, shaped, going}
+use Rattle.tlcheck_reader.specs.declared.line.EntryFault.{EntryFault}
 use Rattle.tlcheck_reader.specs.declared.outcome.LineFault.{LineFault}
-use Rattle.tlcheck_reader.specs.declared.outcome.LineFault.TheVariants.{Unreadable as bad_line, Broken as bad_entry, Memory}
+use Rattle.tlcheck_reader.specs.declared.outcome.LineFault.TheVariants.{Memory}
 use Rattle.tlcheck_reader.specs.declared.outcome.Outcome.{Outcome}
 use Rattle.tlcheck_reader.specs.declared.outcome.Outcome.TheVariants.{Lawful, Broken, Unreadable, Empty}
 use Rattle.tlcheck_reader.specs.declared.outcome.Stage.{Stage as CheckStage}
 use Rattle.tlcheck_reader.specs.declared.outcome.Stage.TheVariants as check
 use Rattle.tlcheck_coverage.specs.Tallies.{TalliesState}
 use Rattle.tlcheck_coverage.specs.declared.reading.Counting.{Counting as CountingState}
-use Rattle.tlcheck_coverage.specs.declared.reading.EntryFault.{EntryFault}
-use Rattle.tlcheck_coverage.specs.declared.reading.EntryFault.TheVariants as entry
 use Rattle.tlcheck_coverage.specs.declared.reading.Fault.{Fault}
 use Rattle.tlcheck_coverage.specs.declared.reading.Fault.TheVariants as fault
 use Rattle.tlcheck_coverage.specs.declared.reading.Halt.{Halt}
@@ -61,17 +60,10 @@ abbrev pub checked_entry : Result CountingState LineFault → Result CheckStage 
 checked_entry (Ok counting) = Ok (check.Judging counting.judge counting.entries)
 checked_entry (Err fault) = Err fault
 
--- why a check of the record would not take an entry, with the judge of those before it
-abbrev pub fault_at : JudgeState → EntryFault → LineFault
-fault_at judge (entry.Unreadable cause) = bad_line cause
-fault_at judge (entry.Broken block number breach) =
-    bad_entry (record { judge = judge; block = block; number = number; breach = breach })
-fault_at judge entry.Memory = Memory
-
 -- what an entry leaves, with the judge where it is then
 abbrev pub counting_of : CountingState → Result (Unit {0}) EntryFault → Result CountingState LineFault
 counting_of counting (Ok done) = Ok counting
-counting_of counting (Err fault) = Err (fault_at counting.judge fault)
+counting_of counting (Err fault) = Err (line_fault counting.judge fault)
 
 -- where a reading is after an entry
 abbrev pub staged : Result CountingState LineFault → Result Stage Halt

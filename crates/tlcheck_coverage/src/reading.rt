@@ -1,15 +1,14 @@
 //! A record, read line by line, its events counted.
-ghost use Rattle.std.specs.Prelude.{◌≡◌, ◌↔◌, ◌<◌, ◌≤◌, ℕ, List, [], Option, IfErr, IfOk, IfSome, IsTrue, Ok, length, min};
-ghost use Rattle.std.specs.Io.BufRead.{strip_last};
+ghost use Rattle.std.specs.Prelude.{◌≡◌, ◌<◌, ◌≤◌, ℕ, List, [], Option, IfErr, IfOk, IfSome, Ok, length, min};
 ghost use Rattle.tl_protocol.specs.declared.shape.Shape.{Shape};
-ghost use Rattle.tlcheck_rules.specs.Judged.{Follows, IsLawful, JudgeState, events_of};
+ghost use Rattle.tlcheck_rules.specs.Judged.{Follows, IsLawful, events_of};
 ghost use Rattle.tlcheck_rules.specs.declared.entry.Entry.{Entry};
-ghost use Rattle.tlcheck_reader.specs.Outcome.{Agrees, IsJudged, Takes, fault_of, stopped_at};
+ghost use Rattle.tlcheck_reader.specs.Outcome.{Agrees, IsJudged, Takes, fault_of};
 ghost use Rattle.tlcheck_reader.specs.Reading.{Reading, after_text, next};
 ghost use Rattle.tlcheck_reader.specs.declared.outcome.LineFault.TheVariants.{Memory};
 ghost use Rattle.tlcheck_coverage.specs.Amid.{IsWhere};
 ghost use Rattle.tlcheck_coverage.specs.Covered.{IsCovered};
-ghost use Rattle.tlcheck_coverage.specs.Reading.{HasClient, IsEnd, IsFaultOf, IsFit, IsNoRefusal, IsShaped, IsStop, checked, checked_entry, checked_line, counting_of, fault_at, halted, staged};
+ghost use Rattle.tlcheck_coverage.specs.Reading.{HasClient, IsEnd, IsFaultOf, IsFit, IsNoRefusal, IsShaped, IsStop, checked, checked_entry, checked_line, counting_of, halted, staged};
 ghost use Rattle.tlcheck_coverage.specs.Steps.{Steps};
 ghost use Rattle.tlcheck_coverage.specs.Tallies.{Opens, SeesAt, TalliesState};
 
@@ -20,11 +19,11 @@ use std::io::{BufRead, ErrorKind};
 use tl_rules::Shape;
 use tl_types::{BLOCK_BYTES, BLOCKS};
 use tlcheck_home::Mark;
-use tlcheck_reader::{BrokenEntry, LineFault, Outcome};
-use tlcheck_record::{
-    Cause, LineError, is_blank, read_entry, read_image_line, read_shape, read_text,
+use tlcheck_reader::{
+    EntryFault, LineFault, Outcome, is_end, line_fault, stop_at, text_of, unread,
 };
-use tlcheck_rules::{Breach, Entry, Judge, Refusal};
+use tlcheck_record::{LineError, is_blank, read_entry, read_image_line, read_shape, read_text};
+use tlcheck_rules::{Entry, Judge, Refusal};
 use tlcheck_situations::TableError;
 
 /// Why a record is not counted to its end.
@@ -66,7 +65,7 @@ pub(crate) struct Counting {
 }
 
 /// A line could not be read, or there was no memory.
-fn unread(error: LineError) -> Halt
+fn halt_of(error: LineError) -> Halt
     ensures { halted result ≡ fault_of error }
 {
     match error {
@@ -107,51 +106,6 @@ fn begin(alloc: Global, tallies: &mut Tallies, shape: Shape, image: &[u8]) -> Re
             tally,
         }),
         Err(_) => Err(Halt::Line(LineFault::Memory)),
-    }
-}
-
-/// Why an entry is not counted.
-#[derive(Drop)]
-pub(crate) enum EntryFault {
-    /// Its line cannot be read, for this cause.
-    Unreadable(Cause),
-    /// It is of this block, has this number, and breaks this.
-    Broken(u32, u64, Breach),
-    /// A request for memory was refused.
-    Memory,
-}
-
-/// A line could not be read, or there was no memory.
-fn unread_entry(error: LineError) -> EntryFault
-    ensures { (judge : JudgeState) → fault_at judge result ≡ fault_of error }
-{
-    match error {
-        LineError::Wrong(cause) => EntryFault::Unreadable(cause),
-        LineError::Memory => EntryFault::Memory,
-    }
-}
-
-/// An entry that breaks something after those that the judge has taken.
-fn stop_at(judge: &Judge, entry: &Entry, number: u64, breach: Breach) -> EntryFault
-    ensures { fault_at judge.now result ≡ stopped_at judge.now entry.now number breach }
-{
-    let block = entry.event.block(judge.plain().shape());
-    EntryFault::Broken(block, number, breach)
-}
-
-/// Why an entry is not counted, with the judge of the entries before it.
-fn line_fault(judge: Judge, fault: EntryFault) -> LineFault
-    ensures { result ≡ fault_at judge fault }
-{
-    match fault {
-        EntryFault::Unreadable(cause) => LineFault::Unreadable(cause),
-        EntryFault::Broken(block, number, breach) => LineFault::Broken(BrokenEntry {
-            judge,
-            block,
-            number,
-            breach,
-        }),
-        EntryFault::Memory => LineFault::Memory,
     }
 }
 
@@ -209,7 +163,7 @@ fn entry_text(
 {
     match read_entry(alloc, text) {
         Ok(entry) => count_entry(tallies, counting, &entry, mark),
-        Err(error) => Err(unread_entry(error)),
+        Err(error) => Err(unread(error)),
     }
 }
 
@@ -287,7 +241,7 @@ fn second_line(
             let counting = begin(alloc, tallies, shape, &[])?;
             entry_line(alloc, tallies, counting, text, mark)
         }
-        Err(error) => Err(unread(error)),
+        Err(error) => Err(halt_of(error)),
     }
 }
 
@@ -299,7 +253,7 @@ fn first_line(alloc: Global, text: &str) -> Result<Stage, Halt>
 {
     match read_shape(alloc, text) {
         Ok(shape) => Ok(Stage::Shaped(shape)),
-        Err(error) => Err(unread(error)),
+        Err(error) => Err(halt_of(error)),
     }
 }
 
@@ -349,24 +303,6 @@ fn take_line(
         Ok(text) => full_line(alloc, tallies, stage, text, mark),
         Err(cause) => Err(Halt::Line(LineFault::Unreadable(cause))),
     }
-}
-
-/// A line without the line feed at its end.
-fn text_of(line: &[u8]) -> &[u8]
-    ensures { result.now ≡ strip_last 10 line.now }
-{
-    if line.len() > 0 && line[line.len() - 1] == b'\n' {
-        &line[..line.len() - 1]
-    } else {
-        line
-    }
-}
-
-/// Nothing was read, since nothing is left.
-fn is_end(line: &[u8]) -> bool
-    ensures { IsTrue result ↔ (line.now ≡ []) }
-{
-    line.is_empty()
 }
 
 /// What is said at the end of a record: how many entries it has.

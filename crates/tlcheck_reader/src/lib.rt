@@ -8,7 +8,7 @@ mod record;
 mod verdict;
 
 pub use ending::{Ending, lines, show};
-pub use line::take_line;
+pub use line::{EntryFault, line_fault, stop_at, take_line, unread};
 pub use outcome::{BrokenEntry, LineFault, Outcome, Stage};
-pub use record::{CheckFault, check};
+pub use record::{CheckFault, check, is_end, text_of};
 pub use verdict::{answer, check_record, tell_ending};

@@ -29,7 +29,7 @@ fn fault(error: LineError) -> LineFault
 
 /// Why a line with an entry is not taken.
 #[derive(Drop)]
-pub(crate) enum EntryFault {
+pub enum EntryFault {
     /// It cannot be read, for this cause.
     Unreadable(Cause),
     /// The entry is of this block, has this number, and breaks this.
@@ -39,7 +39,7 @@ pub(crate) enum EntryFault {
 }
 
 /// An entry could not be read, or there was no memory.
-fn unread(error: LineError) -> EntryFault
+pub fn unread(error: LineError) -> EntryFault
     ensures { (judge : JudgeState) → line_fault judge result ≡ fault_of error }
 {
     match error {
@@ -49,7 +49,7 @@ fn unread(error: LineError) -> EntryFault
 }
 
 /// An entry that breaks something after those that the judge has taken.
-fn stop_at(judge: &Judge, entry: &Entry, number: u64, breach: Breach) -> EntryFault
+pub fn stop_at(judge: &Judge, entry: &Entry, number: u64, breach: Breach) -> EntryFault
     ensures { line_fault judge.now result ≡ stopped_at judge.now entry.now number breach }
 {
     let block = entry.event.block(judge.plain().shape());
@@ -57,7 +57,7 @@ fn stop_at(judge: &Judge, entry: &Entry, number: u64, breach: Breach) -> EntryFa
 }
 
 /// Why a line is not taken, with the judge of the entries before it.
-pub(crate) fn line_fault(judge: Judge, fault: EntryFault) -> LineFault
+pub fn line_fault(judge: Judge, fault: EntryFault) -> LineFault
     ensures { result ≡ line_fault judge fault }
 {
     match fault {

@@ -28,7 +28,7 @@ fn fault(error: &io::Error) -> CheckFault {
 }
 
 /// A line without the line feed at its end.
-fn text_of(line: &[u8]) -> &[u8]
+pub fn text_of(line: &[u8]) -> &[u8]
     ensures { result.now ≡ strip_last 10 line.now }
 {
     if line.len() > 0 && line[line.len() - 1] == b'\n' {
@@ -39,7 +39,7 @@ fn text_of(line: &[u8]) -> &[u8]
 }
 
 /// Nothing was read, since nothing is left.
-fn is_end(line: &[u8]) -> bool
+pub fn is_end(line: &[u8]) -> bool
     ensures { IsTrue result ↔ (line.now ≡ []) }
 {
     line.is_empty()

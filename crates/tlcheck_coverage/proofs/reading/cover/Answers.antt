@@ -1,4 +1,4 @@
-use Rattle.std.proofs.Common.{List, ℕ, Result, Ok, Err, rules, sym, subst, ap, ◌∙◌}
+use Rattle.std.proofs.Common.{List, ℕ, Result, Ok, rules, sym, subst, ap, ◌∙◌}
 use Rattle.std.specs.Io.BufRead.{strip_last}
 use Rattle.tlcheck_coverage.specs.Reading.{IsFit}
 use Rattle.tlcheck_coverage.specs.declared.reading.Halt.{Halt}

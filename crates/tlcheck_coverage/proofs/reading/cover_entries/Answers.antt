@@ -5,7 +5,7 @@ use Rattle.tlcheck_reader.specs.Reading.{after_text}
 use Rattle.tlcheck_reader.specs.declared.outcome.LineFault.{LineFault}
 use Rattle.tlcheck_reader.specs.declared.outcome.Stage.{Stage as CheckStage}
 use Rattle.tlcheck_coverage.specs.Reading.{counting_of, staged}
-use Rattle.tlcheck_coverage.specs.declared.reading.EntryFault.{EntryFault}
+use Rattle.tlcheck_reader.specs.declared.line.EntryFault.{EntryFault}
 use Rattle.tlcheck_coverage.specs.declared.reading.Halt.{Halt}
 use Rattle.tlcheck_coverage.specs.declared.reading.Halt.TheVariants.{Line}
 use Rattle.tlcheck_coverage.specs.declared.reading.Stage.{Stage}

@@ -1,10 +1,10 @@
-use Rattle.std.proofs.Common.{◌<◌, IfOk, Result, Err, length, sym, subst, arith}
+use Rattle.std.proofs.Common.{IfOk, Result, Err, sym, subst, arith}
 use Rattle.tlcheck_reader.specs.Outcome.{Takes}
 use Rattle.tlcheck_reader.specs.Reading.{next}
 use Rattle.tlcheck_reader.specs.declared.outcome.LineFault.{LineFault}
 use Rattle.tlcheck_coverage.specs.Reading.{checked_entry, counting_of, staged}
 use Rattle.tlcheck_coverage.specs.Steps.{Steps}
-use Rattle.tlcheck_coverage.specs.declared.reading.EntryFault.{EntryFault}
+use Rattle.tlcheck_reader.specs.declared.line.EntryFault.{EntryFault}
 use Rattle.tlcheck_coverage.specs.declared.reading.Stage.{Stage}
 use Rattle.tlcheck_coverage.specs.declared.reading.Stage.TheVariants.{Counting}
 use Rattle.tlcheck_coverage.proofs.reading.entry_line.Goals as goal

@@ -20,5 +20,5 @@ returns-in-Ok-clause-counts c =
 
 pub returns-in-Err-clause-takes : goal.returns-in-Err-clause-takes
 returns-in-Err-clause-takes c = λ reading agrees.
-    subst (λ (fault : LineFault). Takes (next reading c.args.text.now) (Err fault)) (sym (c.unread_entry.ensures c.args.counting.now.judge))
+    subst (λ (fault : LineFault). Takes (next reading c.args.text.now) (Err fault)) (sym (c.unread.ensures c.args.counting.now.judge))
     (entry_none c.args.text.now c.args.counting.now.judge c.args.counting.now.entries c.in-Err.error (c.in-Err.ensures {u = tt}) reading agrees)
