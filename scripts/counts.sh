@@ -27,8 +27,8 @@ run() { # NAME COMMAND..
     fi
 }
 
-# Runs what ends with a line 'N passed, M failed', and adds its counts; a status that says otherwise is one more
-# failure.
+# Runs what ends with a line 'N passed, M failed', which may go on in brackets, and adds its counts; a status that says
+# otherwise is one more failure.
 add() { # COMMAND..
     local status line said
     said=$(mktemp) || exit 1
@@ -36,7 +36,7 @@ add() { # COMMAND..
     status=${PIPESTATUS[0]}
     line=$(tail -n 1 "$said")
     rm "$said"
-    if [[ $line =~ ^([0-9]+)\ passed,\ ([0-9]+)\ failed$ ]]; then
+    if [[ $line =~ ^([0-9]+)\ passed,\ ([0-9]+)\ failed(\ \(.*\))?$ ]]; then
         passed=$((passed + BASH_REMATCH[1]))
         failed=$((failed + BASH_REMATCH[2]))
         [ "$status" = 0 ] || [ "${BASH_REMATCH[2]}" -gt 0 ] || failed=$((failed + 1))
