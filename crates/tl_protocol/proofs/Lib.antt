@@ -14,3 +14,7 @@ pub mod Sizes
 pub mod Steps
 pub mod Talk
 pub mod Values
+pub mod Work
+pub mod Awaiting
+pub mod Moves
+pub mod Written

@@ -16,3 +16,7 @@ pub mod Merges
 pub mod Sizes
 pub mod LogView
 pub mod Past
+pub mod Work
+pub mod Awaiting
+pub mod Moves
+pub mod Written

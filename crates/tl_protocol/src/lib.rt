@@ -19,4 +19,6 @@ pub use log::Log;
 pub use queue::{AckCount, Queue};
 pub use same::{Same, are_same_bytes};
 pub use shape::Shape;
-pub use theorem::{every_block, every_run, some_run};
+pub use theorem::{
+    every_block, every_move, every_run, every_run_ends, every_wait, every_writeback, some_run,
+};
