@@ -1,5 +1,5 @@
 -- A register opens that sends a block away, and what it leaves.
-use Rattle.std.proofs.Common.{◌≡◌, ℕ, ◌+◌, ◌<◌, ◌≤◌, false, [], ◌∷◌, ◌++◌, length, Some, None, is_none, refl, arith, length-append}
+use Rattle.std.proofs.Common.{◌≡◌, ℕ, ◌+◌, ◌<◌, ◌≤◌, false, [], ◌∷◌, ◌++◌, length, true, Some, None, is_none, refl, sym, ◌∙◌, ap, arith, length-append}
 use Rattle.std.proofs.lemmas.Bool.Decides.{nat_tests}
 use Rattle.tl_map.proofs.LimitLaws.{few_clients}
 use Rattle.tl_map.specs.Places.{set_of}
@@ -79,7 +79,7 @@ evict-keeps v h block way m none lies =
     let r : Register = evicting v block way in
     let agree : Agree (shape_of v.geometry) (end_at v) (v.registers ++ r ∷ []) =
     evicting-keeps-agreement (shape_of v.geometry) (end_at v) v.registers block r.way (bank-steady v h m) m.registers.agree
-    (few_clients v.geometry m.geometry) ok.own.0 ok.free in
+    (few_clients v.geometry m.geometry) ok.own.0 ok.free (λ none. let bad : true ≡ false = sym (ap is_none none) ∙ ok.held in cc) in
     record {
       lawful = m.lawful;
       own = m.own;

@@ -137,6 +137,7 @@ free-victim v home block way (Some victim) fit may =
       λ e. let both : Some way ≡ None = sym there.1.2 ∙ (ap (way_at v) e ∙ none) in cc,
       works-held v (set_of v.geometry block) way victim v.registers fit.held there.1 may.not_held,
       home-none (end_at v block).home (fit.holds block may.own ∙ ap is_none none),
+      λ e. let bad : true ≡ false = sym (ap is_none e) ∙ (fit.holds victim (there.0, there.1.0) ∙ ap is_none there.1.2) in cc,
     )
 
 -- ## The register that opens

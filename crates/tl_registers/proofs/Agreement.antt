@@ -38,6 +38,7 @@ leaves-kept shape s later r k h = record {
   probes = probes-kept shape s later r None ToN k h.probes;
   not_accepted = k.accepted ∙ h.not_accepted;
   gone = λ none. nobody-kept shape s later k (h.gone (k.lacks none));
+  leaving = λ none. k.passes none (h.leaving (k.lacks none));
   putting = k.putting h.putting;
 }
 

@@ -1,5 +1,5 @@
 -- What an event that leaves the registers leaves of the blocks that they work on.
-use Rattle.std.proofs.Common.{◌≡◌, ℕ, ◌≤◌, ◌==◌, true, false, List, [], ◌∷◌, Option, Some, None, refl, sym, ◌∙◌, ap, subst, arith, inl, inr, eqb-true}
+use Rattle.std.proofs.Common.{◌≡◌, ◌≢◌, ℕ, ◌≤◌, ◌==◌, true, false, List, [], ◌∷◌, Option, Some, None, refl, sym, ◌∙◌, ap, subst, arith, inl, inr, eqb-true}
 use Rattle.std.proofs.lemmas.Bool.{cases_Bool}
 use Rattle.std.specs.List.{list_any}
 use Rattle.tl_types.specs.Message.{upward_to, upward_bytes, is_grant}
@@ -35,6 +35,8 @@ pub record Keeps (s later : Block) : Type 0 where
   pub putting : IsPutting s.outward → IsPutting later.outward
   pub getting : IsGetting s.outward → IsGetting later.outward
   pub quiet : s.outward ≡ Quiet → later.outward ≡ Quiet
+  -- what passes to the memory goes on passing, unless it comes home
+  pub passes : later.home ≡ None → s.outward ≢ Quiet → later.outward ≢ Quiet
   -- home gets a copy only by data from the memory, and never loses one
   pub lacks : later.home ≡ None → s.home ≡ None
   pub brings_none : s.outward ≡ Quiet → s.home ≡ None → later.home ≡ None
@@ -61,6 +63,7 @@ client-keeps s c k one = record {
   putting = λ h. h;
   getting = λ h. h;
   quiet = λ h. h;
+  passes = λ none h. h;
   lacks = λ h. h;
   brings_none = λ q h. h;
   holds = λ line h. (line, h);
@@ -74,6 +77,7 @@ nothing-keeps s = record {
   putting = λ h. h;
   getting = λ h. h;
   quiet = λ h. h;
+  passes = λ none h. h;
   lacks = λ h. h;
   brings_none = λ q h. h;
   holds = λ line h. (line, h);
@@ -154,6 +158,7 @@ take_c-keeps shape s c kept orderly =
       putting = λ h. h;
       getting = λ h. h;
       quiet = λ h. h;
+      passes = λ none h. h;
       lacks = λ h. no-home s.home (first_bytes messages) h;
       brings_none = λ q none. ap (home_after s.home) (no-data shape s c messages kept orderly refl none) ∙ none;
       holds = λ line h. after-data s.home (first_bytes messages) line h;
@@ -170,6 +175,7 @@ serve-keeps s Get is = record {
   putting = λ h. absurd (rw is at h);
   getting = λ h. tt;
   quiet = λ h. let bad : Get ≡ Quiet = sym is ∙ h in cc;
+  passes = λ none h e. cc;
   lacks = λ h. h;
   brings_none = λ q h. h;
   holds = λ line h. (line, h);
@@ -181,6 +187,7 @@ serve-keeps s (Put bytes) is = record {
   putting = λ h. tt;
   getting = λ h. absurd (rw is at h);
   quiet = λ h. let bad : Put bytes ≡ Quiet = sym is ∙ h in cc;
+  passes = λ none h e. cc;
   lacks = λ h. h;
   brings_none = λ q h. h;
   holds = λ line h. (line, h);
@@ -197,6 +204,7 @@ take_data-keeps s (Data bytes) is = record {
   putting = λ h. tt;
   getting = λ h. tt;
   quiet = λ h. refl;
+  passes = λ none h e. cc;
   lacks = λ h. cc;
   brings_none = λ q h. let bad : Data bytes ≡ Quiet = sym is ∙ q in cc;
   holds = λ line h. (_, refl);

@@ -244,10 +244,10 @@ same-marks shape states q marked (Acquire acquire) h = record { inside = h.insid
 same-marks shape states q marked (Replace acquire victim) h = (
   record { inside = h.0.inside; accepted = h.0.accepted; probes = h.0.probes; getting = h.0.getting; held = h.0.held },
   h.1,
-  record { probes = h.2.probes; not_accepted = h.2.not_accepted; gone = h.2.gone; putting = h.2.putting },
+  record { probes = h.2.probes; not_accepted = h.2.not_accepted; gone = h.2.gone; leaving = h.2.leaving; putting = h.2.putting },
 )
 same-marks shape states q marked Evict h =
-    record { probes = h.probes; not_accepted = h.not_accepted; gone = h.gone; putting = h.putting }
+    record { probes = h.probes; not_accepted = h.not_accepted; gone = h.gone; leaving = h.leaving; putting = h.putting }
 
 -- what a register still sends away once a victim is gone is a block of the memory, where it was before
 below-without : (blocks own victim : ℕ) (task : Task) → IsBelow blocks (victim_in own task)
@@ -412,6 +412,7 @@ put-leaves shape s later q bytes idle now h =
       probes = h.probes;
       not_accepted = h.not_accepted;
       gone = λ none x l. free-probe (s.client x) (idle.no_probe x l);
+      leaving = λ none e. cc;
       putting = tt;
     })
 

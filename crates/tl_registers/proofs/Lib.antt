@@ -1,4 +1,5 @@
 pub mod Actions
+pub mod Acts
 pub mod Agreement
 pub mod Blocks
 pub mod Closing

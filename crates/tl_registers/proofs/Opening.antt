@@ -78,12 +78,14 @@ putting-quiet o e = let P = IsPutting in subst P (sym e) tt
 getting-quiet : (o : Outward) → o ≡ Quiet → IsGetting o
 getting-quiet o e = let P = IsGetting in subst P (sym e) tt
 
--- such a register may send a block away on which nothing is under way
-leaves-fresh : (shape : Shape) (s : Block) (r : Register) → ((x : ℕ) → has_probed r x ≡ false) → IsAtRest shape s → Leaves shape s r
-leaves-fresh shape s r none rest = record {
+-- such a register may send a block away that home holds, and on which nothing is under way
+leaves-fresh : (shape : Shape) (s : Block) (r : Register) → ((x : ℕ) → has_probed r x ≡ false) → IsAtRest shape s → s.home ≢ None
+    → Leaves shape s r
+leaves-fresh shape s r none rest there = record {
   probes = fresh-probes shape s.client r None ToN none rest.unprobed;
   not_accepted = rest.not_accepted;
   gone = λ h. rest.unprobed;
+  leaving = λ h. absurd (there h);
   putting = putting-quiet s.outward rest.quiet;
 }
 
@@ -97,15 +99,15 @@ evict-works own block way on =
       | inr e ↦ let bad : (own == block) || (own == block) ≡ false = rw e refl in cc
     ]
 
--- an evict register that opens for a block that no register works on keeps the agreement
+-- an evict register that opens for a block that home holds, and on which no register works, keeps the agreement
 pub evicting-keeps-agreement : EvictingKeepsAgreement
-evicting-keeps-agreement shape states registers own way steady agree few known free =
+evicting-keeps-agreement shape states registers own way steady agree few known free there =
     let r = opened own way Evict in
     record {
       fits = each-end (Fits shape states) registers r agree.fits (record {
         known = (known, known);
         places = few;
-        task = leaves-fresh shape (states own) r (nobody CLIENTS) (agree.at_rest own free);
+        task = leaves-fresh shape (states own) r (nobody CLIENTS) (agree.at_rest own free) there;
       });
       at_rest = λ block none. agree.at_rest block (busy-end block registers r none).0;
       apart = apart-end registers r
@@ -230,7 +232,7 @@ acquire-fits shape states later registers c own grow rest way (Some victim) stea
       task = (
         subst P (sym is) (served-fresh shape (states own) r c grow rest (nobody CLIENTS) inside (steady.service own) (agree.at_rest own free)),
         subst Q (sym is) (record { lacks = out.3; quiet = quiet }),
-        subst R (sym (same victim out.1)) (leaves-fresh shape (states victim) r (nobody CLIENTS) (agree.at_rest victim out.2)),
+        subst R (sym (same victim out.1)) (leaves-fresh shape (states victim) r (nobody CLIENTS) (agree.at_rest victim out.2) out.4),
       );
     }
 

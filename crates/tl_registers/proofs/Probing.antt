@@ -183,6 +183,7 @@ leaves-probed shape s later r c place there now h =
       probes = probed-more shape s r None ToN c place h.probes;
       not_accepted = h.not_accepted;
       gone = λ none. absurd (there none);
+      leaving = h.leaving;
       putting = h.putting;
     })
 

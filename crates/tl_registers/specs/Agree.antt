@@ -132,11 +132,12 @@ DroppingKeepsAgreement =
 
 -- ## Registers open and close
 
--- home lacks the own block, and the victim is another block of the memory, on which no register works
+-- home lacks the own block, and the victim is another block of the memory, which home holds and on which no register works
 abbrev pub IsFreeVictim : Shape → (ℕ → Block) → List Register → ℕ → Option ℕ → Type 0
 IsFreeVictim shape states registers own None = Unit {0}
 IsFreeVictim shape states registers own (Some victim) =
     (victim < shape.blocks) × (victim ≢ own) × (is_busy victim registers ≡ false) × ((states own).home ≡ None)
+    × ((states victim).home ≢ None)
 
 -- A register that opens for an accepted Acquire, of a block and a victim that no register works on, keeps the agreement.
 abbrev pub AcceptingKeepsAgreement : Type 0
@@ -148,12 +149,12 @@ AcceptingKeepsAgreement =
     → Agree shape (after_next shape states (AcceptAcquire c own))
     (registers ++ opened own way (acquire_task (record { client = c; grow = grow }) victim) ∷ [])
 
--- An evict register that opens for a block that no register works on keeps it.
+-- An evict register that opens for a block that home holds, and on which no register works, keeps it.
 abbrev pub EvictingKeepsAgreement : Type 0
 EvictingKeepsAgreement =
     (shape : Shape) (states : ℕ → Block) (registers : List Register) (own : ℕ) (way : WayOfSet) → IsSteady shape states
     → Agree shape states registers → shape.clients ≤ CLIENTS → own < shape.blocks → is_busy own registers ≡ false
-    → Agree shape states (registers ++ opened own way Evict ∷ [])
+    → (states own).home ≢ None → Agree shape states (registers ++ opened own way Evict ∷ [])
 
 -- A register that closes when its GrantAck is taken keeps it.
 abbrev pub ClosingKeepsAgreement : Type 0

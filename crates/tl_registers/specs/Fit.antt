@@ -1,5 +1,5 @@
 -- When a register fits the protocol's state: what it does next is then permitted (this project's own).
-use Rattle.std.specs.Prelude.{◌≡◌, ℕ, ◌<◌, ◌≤◌, Bool, true, false, List, [], ◌∷◌, length, Option, Some, None}
+use Rattle.std.specs.Prelude.{◌≡◌, ◌≢◌, ℕ, ◌<◌, ◌≤◌, Bool, true, false, List, [], ◌∷◌, length, Option, Some, None}
 use Rattle.tl_types.specs.Message.{upward_to}
 use Rattle.tl_types.specs.Permission.{rank, probe_perm}
 use Rattle.tl_types.specs.declared.message.Upward.{Upward}
@@ -83,11 +83,12 @@ IsGetting (Data bytes) = Unit {0}
 IsGetting (o_Put bytes) = ⊥
 IsGetting PutAck = ⊥
 
--- A block leaves home: no Acquire of it is served, and once it is gone no Probe of it is pending.
+-- A block leaves home: no Acquire of it is served. Once it is gone no Probe of it is pending, and it passes to the memory.
 pub record Leaves (shape : Shape) (s : Block) (r : Register) : Type 0 where
   pub probes : ProbesFit shape s.client r None ToN
   pub not_accepted : s.accepted ≡ None
   pub gone : s.home ≡ None → NobodyIsProbed shape s.client
+  pub leaving : s.home ≡ None → s.outward ≢ Quiet
   pub putting : IsPutting s.outward
 
 -- A block's Acquire is served: it is this register's.

@@ -1,3 +1,4 @@
+pub mod Acts
 pub mod Agree
 pub mod Fit
 pub mod Marks

@@ -1,4 +1,5 @@
 //! What ties the register's rule to the protocol.
+ghost use Rattle.tl_registers.specs.Acts.{EveryRegisterActs};
 ghost use Rattle.tl_registers.specs.Agree.{AgreeAtReset, EveryActionIsOfItsRegister, EveryRunIsSteady, EventsLeaveRegisters, ProbingKeepsAgreement, FetchingKeepsAgreement, GrantingKeepsAgreement, PuttingKeepsAgreement, DroppingKeepsAgreement, EndingKeepsAgreement, AcceptingKeepsAgreement, EvictingKeepsAgreement, ClosingKeepsAgreement};
 ghost use Rattle.tl_registers.specs.Fit.{EveryActionIsPermitted};
 ghost use Rattle.tl_registers.specs.Pending.{PendingIsTheProtocols};
@@ -13,6 +14,12 @@ pub fn pending_is_the_protocols()
 pub fn every_action_is_permitted()
     ensures permitted { EveryActionIsPermitted }
     ensures own { EveryActionIsOfItsRegister }
+{}
+
+/// No open register waits for nothing: where it fits the state, and no Probe, no Grant and nothing to the memory is
+/// under way of its own block and of its victim, it has a next action.
+pub fn every_register_acts()
+    ensures { EveryRegisterActs }
 {}
 
 /// The open registers and the protocol's state agree: at reset, and after each event, with the change of the registers

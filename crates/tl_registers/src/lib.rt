@@ -12,7 +12,9 @@ mod way_of_set;
 
 pub use client_set::ClientSet;
 pub use due::Due;
-pub use laws::{every_action_is_permitted, pending_is_the_protocols, registers_agree};
+pub use laws::{
+    every_action_is_permitted, every_register_acts, pending_is_the_protocols, registers_agree,
+};
 pub use register::{Register, Task};
 pub use register_view::{BlockView, RegisterView};
 pub use registers::Registers;

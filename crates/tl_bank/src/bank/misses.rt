@@ -1,6 +1,10 @@
 //! What a bank shows of its miss registers, and of what lies in the ways of its sets. No view takes memory.
-ghost use Rattle.std.specs.Prelude.{◌≡◌};
+ghost use Rattle.std.specs.Prelude.{◌≡◌, ◌≤◌, ℕ, length, true};
+ghost use Rattle.tl_registers.specs.Agree.{Agree};
+ghost use Rattle.tl_registers.specs.Registers.{is_busy};
 ghost use Rattle.tl_bank.specs.Contents.{next_at, slot_shown};
+ghost use Rattle.tl_bank_spec.specs.Own.{IsOwn};
+ghost use Rattle.tl_bank_spec.specs.View.{end_at, shape_of};
 
 use crate::bank::Bank;
 use tl_map::Set;
@@ -9,9 +13,14 @@ use tl_types::BlockNo;
 use tl_ways::Way;
 
 impl Bank {
-    /// The open miss registers, the oldest first.
+    /// The open miss registers, the oldest first, no more than the geometry has. They agree with what the bank holds:
+    /// whom each has probed, and what it waits for; no two work on one block, and all work on blocks of this bank.
     pub fn registers(&self) -> &[Register]
-        ensures { result.now ≡ self.now.registers }
+        ensures is { result.now ≡ self.now.registers }
+        ensures agree { Agree (shape_of self.now.geometry) (end_at self.now) self.now.registers }
+        ensures few { length self.now.registers ≤ self.now.geometry.registers }
+        ensures own { (block : ℕ) → is_busy block self.now.registers ≡ true
+            → IsOwn self.now.geometry self.now.number block }
     {
         self.registers.as_slice()
     }
