@@ -1,5 +1,5 @@
-//! Tests of a bank by its public calls: small scripts of calls, what is shown amid a race, the age of copies, and a
-//! random walk beside the plain map.
+//! Tests of a bank by its public calls: small scripts of calls, what is shown amid a race, the age of copies, how
+//! far a run goes by itself, what brings a bank to rest, and a random walk beside the plain map.
 #![tactic(auto)]
 
 #[cfg(test)]
@@ -7,9 +7,13 @@ mod bank;
 #[cfg(test)]
 mod calls;
 #[cfg(test)]
+mod ends;
+#[cfg(test)]
 mod moments;
 #[cfg(test)]
 mod oldest;
+#[cfg(test)]
+mod rest;
 #[cfg(test)]
 mod session;
 #[cfg(test)]

@@ -1,10 +1,11 @@
 //! A bank with its clients' shares, as tests ask it.
 use arrayvec::ArrayVec;
-use std::alloc::Global;
+use std::alloc::{AllocError, Global};
 use std::default::Default;
 use std::marker::Model;
 use std::test::Fail;
 use tl_bank::{Action, Bank, Refusal, Share, When};
+use tl_bank_rest::{Receiving, drain, flush, image_of, next_call};
 use tl_map::{Geometry, GeometryNumbers};
 use tl_protocol::{CachedCopy, Event};
 use tl_types::{Awaited, BankNo, BlockNo, CLIENTS, Channel, ClientId, Grow, Perm, Prune, Ticket};
@@ -180,6 +181,57 @@ impl Session {
     /// Home takes what the memory replied. The errors are those of `Bank::take_memory`.
     pub fn take_memory(&mut self, block: BlockNo) -> Result<(), Refusal> {
         self.bank.take_memory(block)
+    }
+}
+
+/// What moves the bank on, and its rest.
+impl Session {
+    /// The call that moves the bank on.
+    pub fn next_call(&self) -> Option<Receiving> {
+        next_call(&self.bank)
+    }
+
+    /// Drains the bank. The errors are those of `drain`.
+    pub fn drain(&mut self) -> Result<u64, Refusal> {
+        drain(&mut self.bank, self.shares.as_mut_slice())
+    }
+
+    /// Drains the bank with the shares of another one. The errors are those of `drain`.
+    pub fn drain_with(&mut self, other: &mut Session) -> Result<u64, Refusal> {
+        drain(&mut self.bank, other.shares.as_mut_slice())
+    }
+
+    /// Drains the bank with the first so many shares. The errors are those of `drain`, and `OutOfRange` where there are
+    /// not so many.
+    pub fn drain_with_first(&mut self, count: usize) -> Result<u64, Refusal> {
+        let Some(shares) = self.shares.as_mut_slice().get_mut(..count) else {
+            return Err(Refusal::OutOfRange);
+        };
+        drain(&mut self.bank, shares)
+    }
+
+    /// Flushes the bank. The errors are those of `flush`.
+    pub fn flush(&mut self) -> Result<u64, Refusal> {
+        flush(&mut self.bank, self.shares.as_mut_slice())
+    }
+
+    /// Flushes the bank with the shares of another one. The errors are those of `flush`.
+    pub fn flush_with(&mut self, other: &mut Session) -> Result<u64, Refusal> {
+        flush(&mut self.bank, other.shares.as_mut_slice())
+    }
+
+    /// Flushes the bank with the first so many shares. The errors are those of `flush`, and `OutOfRange` where there
+    /// are not so many.
+    pub fn flush_with_first(&mut self, count: usize) -> Result<u64, Refusal> {
+        let Some(shares) = self.shares.as_mut_slice().get_mut(..count) else {
+            return Err(Refusal::OutOfRange);
+        };
+        flush(&mut self.bank, shares)
+    }
+
+    /// The bytes of the bank's memory. The error is want of memory for them.
+    pub fn image_of(&self, alloc: Global) -> Result<Vec<u8>, AllocError> {
+        image_of(&self.bank, alloc)
     }
 }
 

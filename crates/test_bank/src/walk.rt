@@ -83,6 +83,8 @@ struct Walk {
     sent: Vec<Ticket>,
     plain: Plain,
     dice: Dice,
+    /// The bytes last stored, by address.
+    stored: [u8; 32],
 }
 
 impl Model for Walk {
@@ -100,6 +102,7 @@ impl Walk {
             sent: Vec::new(alloc),
             plain,
             dice: Dice { state: seed },
+            stored: [0; 32],
         })
     }
 
@@ -121,6 +124,9 @@ impl Walk {
         } else {
             let byte = u8::try_from(self.dice.roll(256)).unwrap_or(0);
             self.session.store(client, address, &[byte], when)?;
+            if let Some(last) = self.stored.get_mut(address as usize) {
+                *last = byte;
+            }
         }
         Ok(())
     }
@@ -283,6 +289,21 @@ impl Walk {
         Ok(None)
     }
 
+    /// Drains the bank and flushes it. Whether it is quiet after each, as many events came as each says, and the memory
+    /// has the bytes last stored then.
+    fn comes_to_rest(&mut self, alloc: Global) -> Result<bool, Fail> {
+        let before = self.session.events() as u64;
+        let drained = self.session.drain()?;
+        let is_quiet = self.session.is_quiet();
+        let flushed = self.session.flush()?;
+        let came = (self.session.events() as u64).saturating_sub(before);
+        let is_told = drained.saturating_add(flushed) == came;
+        let is_empty = self.session.is_quiet() && self.session.copies() == (0, 0);
+        let image = self.session.image_of(alloc)?;
+        let is_last = image.as_slice() == self.stored.as_slice();
+        Ok(is_quiet && is_told && is_empty && is_last)
+    }
+
     /// Makes 3,000 calls: the first after which the bank and the plain map disagree, and whether more than 300 events
     /// were logged.
     fn go(&mut self) -> Result<(Option<u32>, bool), Fail> {
@@ -298,6 +319,15 @@ fn walked(alloc: Global, seed: u64) -> Result<(Option<u32>, bool), Fail> {
     walk.go()
 }
 
+/// Walks 300 calls from a seed, and then comes to rest.
+fn rested(alloc: Global, seed: u64) -> Result<bool, Fail> {
+    let mut walk = Walk::new(alloc, seed)?;
+    if walk.first_that_disagrees(300)?.is_some() {
+        return Ok(false);
+    }
+    walk.comes_to_rest(alloc)
+}
+
 fn refused(is_forbidden: bool) -> Result<(), Fail> {
     if is_forbidden {
         Ok(())
@@ -310,6 +340,14 @@ fn refused(is_forbidden: bool) -> Result<(), Fail> {
 fn a_random_walk_keeps_to_the_protocol(rt: HostRuntime) -> Result<(), Fail> {
     for seed in 0..4u64 {
         assert_eq!(rt; walked(rt.alloc(), seed)?, (None, true), "seed {seed}");
+    }
+    Ok(())
+}
+
+#[test]
+fn a_random_walk_comes_to_rest(rt: HostRuntime) -> Result<(), Fail> {
+    for seed in 0..40u64 {
+        assert!(rt; rested(rt.alloc(), seed)?, "seed {seed}");
     }
     Ok(())
 }

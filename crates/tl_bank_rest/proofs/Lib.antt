@@ -1,0 +1,10 @@
+pub mod Acting
+pub mod Bytes
+pub mod Cases
+pub mod Empty
+pub mod Flushing
+pub mod Quiet
+pub mod Received
+pub mod Resting
+pub mod Sharing
+pub mod Takes
