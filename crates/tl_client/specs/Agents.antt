@@ -14,8 +14,8 @@ use Rattle.tl_client_ports.specs.Ports.{Asks, asked}
 use Rattle.tl_client_ports.specs.declared.port.Asked.{Asked}
 use Rattle.tl_client.specs.Rounds.{Goes}
 
--- what contracts see of a client's links: the client, the number of banks, whether home's answer to an Acquire or
--- Release of the client's own is awaited, and the tickets that wait: Grants and ReleaseAcks, and Probes
+-- what contracts see of a client's links: the client, the number of banks, whether an answer of home is awaited, and the
+-- tickets that wait: Grants and ReleaseAcks, and Probes
 pub record ClientLinks : Type 0 where
   pub client : ℕ
   pub banks : ℕ
@@ -87,8 +87,8 @@ NoneServed (one ∷ rest) = (one.served ≡ false) × NoneServed rest
 abbrev pub StaysQuiet : ClientLinks → List (List Ticket) → ClientLinks → List (List Ticket) → List Asked → Type 0
 StaysQuiet old before new after calls = NoneServed calls → (new.awaits ≡ old.awaits) × (after ≡ before)
 
--- Where a turn served no ticket, an answer of home that was awaited is awaited still; and what the turn sent was an
--- Acquire or a Release of the client's own, whose answer is awaited
+-- Where a turn served no ticket, an answer of home that was awaited is awaited still; and where the turn sent something,
+-- an answer is awaited behind it. Which message it sent is not said
 abbrev pub AwaitsAnswers : ClientLinks → List (List Ticket) → ClientLinks → List (List Ticket) → List Asked → Type 0
 AwaitsAnswers old before new after calls =
     NoneServed calls → (old.awaits ≡ true → new.awaits ≡ true) × (after ≢ before → new.awaits ≡ true)

@@ -113,11 +113,10 @@ impl<'s> Agent<'s> {
     /// the loads and stores that the turn adds are, in order and with their bytes, what the port's successes gained.
     /// What it takes of its inbox, at most `BATCH` tickets, joins those that wait. It asks the banks each Grant and
     /// ReleaseAck, in order, and then each Probe, but none of whose bank and channel an earlier one was refused; the
-    /// refused and those behind them wait on. An idle turn, and one that finds all clients done, asks the port nothing
-    /// and takes no ticket. What a turn sends that serves no ticket is an Acquire or a Release of the client's own:
-    /// home's answer is then awaited, until a ticket is served. The agent rings the done bell in one turn alone, in
-    /// which it is done: all is answered, nothing is left to send and no answer of home is awaited, to a Release of its
-    /// own neither.
+    /// refused and those behind them wait on. An idle turn, and one that finds all clients done, asks the port for no
+    /// ticket and takes none. Where a turn that serves no ticket sends something, which is its own Acquire or Release,
+    /// an answer of home is awaited behind it. The agent rings the done bell in one turn alone, in which it is done: all
+    /// is answered, nothing is left to send and no answer of home is awaited.
     pub fn turn<P: Port, G: Gate, R: Wait + Clock>(
         &mut self,
         rt: &R,

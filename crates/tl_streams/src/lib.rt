@@ -11,5 +11,5 @@ mod writing;
 pub use command_line::{WordsError, words};
 pub use fault::ProgramFault;
 pub use progress::{Progress, Watched, Watcher};
-pub use reading::{ReadError, read_whole};
-pub use writing::{tell, write_whole};
+pub use reading::{Bounded, FILE_BYTES, LINE_BYTES, ReadError, read_at_most, read_whole};
+pub use writing::{CLOSED, Piped, tell, write_whole};

@@ -1,5 +1,5 @@
-//! A text, written whole where the writer takes it.
-ghost use Rattle.std.specs.Prelude.{◌++◌, IfSome, OnErr, OnOk, codes};
+//! A text, written whole where the writer takes it, and output that somebody may stop reading.
+ghost use Rattle.std.specs.Prelude.{◌≡◌, ◌++◌, IfSome, OnErr, OnOk, codes, if◌then◌else◌};
 ghost use Rattle.std.specs.Io.KnownBytes.{Appends};
 ghost use Rattle.tl_streams.specs.Written.{AppendsBeginning};
 
@@ -46,4 +46,66 @@ pub fn tell<W: Write, D: fmt::Display>(faults: &mut W, line: &D) -> io::Result<(
     let mut bytes: ArrayVec<u8, LINE> = ArrayVec::new();
     writeln!(bytes, "{line}")?;
     write_whole(faults, bytes.as_slice())
+}
+
+/// The status of a program whose output nobody reads any more: that of a filter which the signal of a closed pipe ends.
+pub const CLOSED: u8 = 141;
+
+/// A writer of output that somebody may stop reading, as `head` does. From then on what is written is dropped, which is
+/// no fault, and the program's status is `CLOSED`.
+#[derive(Drop)]
+pub struct Piped<W> {
+    writer: W,
+    is_closed: bool,
+}
+
+impl<W> Piped<W> {
+    /// A writer whose reader is there.
+    pub fn new(writer: W) -> Piped<W> {
+        Piped {
+            writer,
+            is_closed: false,
+        }
+    }
+
+    /// The status that the program ends with, where it is this one as long as somebody reads.
+    pub fn status(&self, status: u8) -> u8
+        ensures { result ≡ (if self.now.is_closed then CLOSED else status) }
+    {
+        if self.is_closed { CLOSED } else { status }
+    }
+}
+
+/// Whether a write or a flush found the pipe closed.
+fn is_broken<T>(written: &io::Result<T>) -> bool {
+    match written {
+        Ok(_) => false,
+        Err(error) => error.kind() == ErrorKind::BrokenPipe,
+    }
+}
+
+impl<W: Write> Write for Piped<W> {
+    fn write(&mut self, buf: &[u8]) -> io::Result<usize> {
+        if self.is_closed {
+            return Ok(buf.len());
+        }
+        let written = self.writer.write(buf);
+        if is_broken(&written) {
+            self.is_closed = true;
+            return Ok(buf.len());
+        }
+        written
+    }
+
+    fn flush(&mut self) -> io::Result<()> {
+        if self.is_closed {
+            return Ok(());
+        }
+        let flushed = self.writer.flush();
+        if is_broken(&flushed) {
+            self.is_closed = true;
+            return Ok(());
+        }
+        flushed
+    }
 }

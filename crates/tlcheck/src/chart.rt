@@ -3,7 +3,7 @@
 use crate::refuse;
 use std::io::{Read, Write};
 use std::time::Clock;
-use tl_streams::{Progress, Watched, read_whole};
+use tl_streams::{Piped, Progress, Watched, read_whole};
 use tlchart_draw::title_of;
 use tlcheck_chart::tell_chart;
 use tlcheck_reader::{Ending, check_record};
@@ -12,14 +12,16 @@ use tlcheck_reader::{Ending, check_record};
 fn draw_text(rt: &HostRuntime, file: &str, text: &[u8]) -> u8 {
     let mut rest = text;
     let ending = check_record(rt.alloc(), &mut rest);
-    tell_chart(
+    let mut output = Piped::new(rt.stdout());
+    let status = tell_chart(
         rt.alloc(),
         title_of(file),
         text,
         &ending,
-        &mut rt.stdout(),
+        &mut output,
         &mut rt.stderr(),
-    )
+    );
+    output.status(status)
 }
 
 /// Reads all that a reader has, checks it, and draws where it broke.

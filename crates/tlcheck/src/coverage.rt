@@ -2,6 +2,7 @@
 
 use std::fs::File;
 use std::io::{BufReader, Read};
+use tl_streams::{Bounded, Piped};
 use tlcheck_coverage::{
     Fault, Form, Number, Tallies, Way, cover, tell_fault, tell_tables, tell_way,
 };
@@ -14,7 +15,7 @@ fn count_read<R: Read + Drop>(
     tallies: &mut Tallies,
     place: usize,
 ) -> Result<(), Fault> {
-    match BufReader::with_capacity(rt.alloc(), 65_536, reader) {
+    match BufReader::with_capacity(rt.alloc(), 65_536, Bounded::new(reader)) {
         Ok(mut reader) => {
             cover(rt.alloc(), &mut reader, tallies, place)?;
             Ok(())
@@ -46,20 +47,24 @@ pub(crate) fn tell_coverage(rt: &HostRuntime, form: Form, by_home: bool, names: 
             return tell_fault(rt.alloc(), name.as_str(), fault, &mut rt.stderr());
         }
     }
-    tell_tables(
+    let mut output = Piped::new(rt.stdout());
+    let status = tell_tables(
         rt.alloc(),
         &tallies,
         names,
         form,
-        &mut rt.stdout(),
+        &mut output,
         &mut rt.stderr(),
-    )
+    );
+    output.status(status)
 }
 
 /// Tells a way into a situation.
 pub(crate) fn tell_how(rt: &HostRuntime, way: Way, word: &str) -> u8 {
-    match Number::parse(word) {
-        Some(number) => tell_way(rt.alloc(), number, way, &mut rt.stdout(), &mut rt.stderr()),
-        None => show(&mut rt.stderr(), &Ending::Usage),
-    }
+    let Some(number) = Number::parse(word) else {
+        return show(&mut rt.stderr(), &Ending::Usage);
+    };
+    let mut output = Piped::new(rt.stdout());
+    let status = tell_way(rt.alloc(), number, way, &mut output, &mut rt.stderr());
+    output.status(status)
 }

@@ -17,7 +17,7 @@ use std::fs::File;
 use std::io::{BufReader, IsTerminal, Read, Write};
 use std::process::ExitCode;
 use std::time::Clock;
-use tl_streams::{Progress, Watched, words};
+use tl_streams::{Bounded, Piped, Progress, Watched, words};
 use tlcheck_reader::{Ending, check_record, show, tell_ending};
 
 pub(crate) fn refuse(rt: &HostRuntime, ending: Ending) -> u8 {
@@ -29,13 +29,15 @@ fn judge<R: Read + Drop, W: Write + Drop, C: Clock + Drop>(
     rt: &HostRuntime,
     reader: Watched<R, Option<Progress<W, C>>>,
 ) -> u8 {
-    match BufReader::with_capacity(rt.alloc(), 65_536, reader) {
+    match BufReader::with_capacity(rt.alloc(), 65_536, Bounded::new(reader)) {
         Ok(mut reader) => {
             let ending = check_record(rt.alloc(), &mut reader);
-            if let Some(progress) = reader.into_inner().into_watcher() {
+            if let Some(progress) = reader.into_inner().into_inner().into_watcher() {
                 progress.end();
             }
-            tell_ending(rt.alloc(), &ending, &mut rt.stdout(), &mut rt.stderr())
+            let mut output = Piped::new(rt.stdout());
+            let status = tell_ending(rt.alloc(), &ending, &mut output, &mut rt.stderr());
+            output.status(status)
         }
         Err(_) => refuse(rt, Ending::Memory),
     }

@@ -1,6 +1,11 @@
 -- Why an entry is not permitted, in words (this project's own format; the sections are those of docs/PROTOCOL.md and docs/RECORD.md).
 use Rattle.std.specs.Prelude.{ℕ, List, ◌++◌, codes}
 use Rattle.tl_types.specs.Text.{kind_text}
+use Rattle.tl_types.specs.declared.kind.Kind.{Kind}
+use Rattle.tl_types.specs.declared.kind.Kind.TheVariants as kind
+use Rattle.tl_types.specs.declared.permission.DirtyPrune.TheVariants as dirty
+use Rattle.tl_types.specs.declared.permission.GrantCap.TheVariants as cap
+use Rattle.tl_types.specs.declared.permission.ProbeReport.TheVariants as report
 use Rattle.tl_script_words.specs.Hex.{hex_text}
 use Rattle.tlcheck_rules.specs.declared.difference.Difference.{Difference}
 use Rattle.tlcheck_rules.specs.declared.difference.Difference.TheVariants.{NothingIsSent, OtherMessage, OtherParam, DataIsMissing, DataIsExtra, OtherBytes}
@@ -9,7 +14,7 @@ use Rattle.tlcheck_rules.specs.declared.judge.Breach.TheVariants.{NotPermitted, 
 use Rattle.tlcheck_rules.specs.declared.rule.Rule.{Rule}
 use Rattle.tlcheck_rules.specs.declared.rule.Rule.TheVariants.{BlockIsThere, ClientIsThere, AccessFits, CopyIsReadable, LoadHasItsBytes, CopyIsWritable, NoAcquireUnanswered, NoReleaseBesideAcquire, StartsFromItsCopy, ProbeWaits, NoReleaseUnanswered, GrantIsFirst, ReleaseAckIsFirst, AcquireWaits, ServesNoAcquire, RecordIsAbove, ClientHasNoProbe, NoGrantIsPending, OneGrantIsPending, MessageIsOnC, ServesThisClient, OthersLeaveRoom, HomeHasTheBlock, NoProbeIsPending, NothingIsPending, GrantAckWaits, ServesAnAcquire, HomeLacksTheBlock, NothingIsOutward, RequestIsOutward, DataIsOutward, PutAckIsOutward, CopyIsClean, CopyIsDirty, NobodyIsRecorded}
 use Rattle.tlcheck_record.specs.declared.reason.Source.{Source}
-use Rattle.tlcheck_record.specs.declared.reason.Source.TheVariants.{TileLink, Own, Both}
+use Rattle.tlcheck_record.specs.declared.reason.Source.TheVariants.{TileLink, Own, OwnOfDrops, OwnOfReaders}
 use Rattle.tlcheck_record.specs.declared.reason.Place.{Place}
 use Rattle.tlcheck_record.specs.declared.reason.Place.TheVariants.{Permissions, Rules, Events, Channels, Verdict}
 
@@ -51,7 +56,7 @@ rule_sentence CopyIsClean = codes "a copy that is dropped is clean"
 rule_sentence CopyIsDirty = codes "a copy that is written back is dirty"
 rule_sentence NobodyIsRecorded = codes "home gives up only a block of which nobody has a copy"
 
--- who laid it down: what is not TileLink's is this project's choice
+-- who asks for it: what is not TileLink's is this project's choice
 abbrev pub rule_source : Rule → Source
 rule_source BlockIsThere = Own
 rule_source ClientIsThere = Own
@@ -61,7 +66,7 @@ rule_source LoadHasItsBytes = TileLink
 rule_source CopyIsWritable = TileLink
 rule_source NoAcquireUnanswered = TileLink
 rule_source NoReleaseBesideAcquire = Own
-rule_source StartsFromItsCopy = Both
+rule_source StartsFromItsCopy = OwnOfDrops
 rule_source ProbeWaits = TileLink
 rule_source NoReleaseUnanswered = TileLink
 rule_source GrantIsFirst = TileLink
@@ -146,11 +151,35 @@ sentence_of (NotPermitted rule) = rule_sentence rule
 sentence_of OutOfOrder = codes "a message is taken where it is the first of its channel"
 sentence_of (NotAsShown difference) = codes "what is shown is what the event sends: " ++ difference_text difference
 
--- who laid it down
+-- who asks that a message names the permission of the kind that is sent
+abbrev pub param_source : Kind → Source
+param_source (kind.ProbeAck report.NtoN) = TileLink
+param_source (kind.ProbeAckData dirty.TtoN) = TileLink
+param_source (kind.ReleaseData dirty.TtoN) = TileLink
+param_source (kind.Grant cap.ToB) = TileLink
+param_source (kind.GrantData cap.ToB) = TileLink
+param_source (kind.ProbeAck _) = OwnOfDrops
+param_source (kind.ProbeAckData _) = OwnOfDrops
+param_source (kind.Release _) = OwnOfDrops
+param_source (kind.ReleaseData _) = OwnOfDrops
+param_source (kind.Grant _) = OwnOfReaders
+param_source (kind.GrantData _) = OwnOfReaders
+param_source _ = Own
+
+-- who asks that what is shown is what is sent
+abbrev pub difference_source : Difference → Source
+difference_source NothingIsSent = Own
+difference_source (OtherMessage sent) = Own
+difference_source (OtherParam sent) = param_source sent
+difference_source (DataIsMissing sent) = TileLink
+difference_source (DataIsExtra sent) = Own
+difference_source (OtherBytes sent shown) = TileLink
+
+-- who asks for it
 abbrev pub source_of : Breach → Source
 source_of (NotPermitted rule) = rule_source rule
-source_of OutOfOrder = TileLink
-source_of (NotAsShown difference) = Own
+source_of OutOfOrder = Own
+source_of (NotAsShown difference) = difference_source difference
 
 -- where it stands
 abbrev pub place_of : Breach → Place
@@ -162,7 +191,9 @@ place_of (NotAsShown difference) = Verdict
 abbrev pub source_text : Source → List ℕ
 source_text TileLink = codes "TileLink 1.8"
 source_text Own = codes "this project's profile"
-source_text Both = codes "TileLink 1.8; of an Acquire BtoT behind a ProbeAck this project's profile"
+source_text OwnOfDrops =
+    codes "this project's profile; TileLink 1.8 where dirty bytes are lost, or more is given up than there is or kept than asked"
+source_text OwnOfReaders = codes "this project's profile; TileLink 1.8 where Tip was asked for"
 
 -- how its place prints
 abbrev pub place_text : Place → List ℕ

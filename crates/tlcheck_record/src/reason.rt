@@ -1,22 +1,24 @@
 //! Why an entry is not permitted, in words.
 ghost use Rattle.std.specs.Prelude.{◌≡◌, Some};
-ghost use Rattle.tlcheck_record.specs.Reason.{breaks_text, bytes_text, difference_text, place_of, place_text, reason_text, rule_place, rule_sentence, rule_source, sentence_of, source_of, source_text};
+ghost use Rattle.tlcheck_record.specs.Reason.{breaks_text, bytes_text, difference_source, difference_text, param_source, place_of, place_text, reason_text, rule_place, rule_sentence, rule_source, sentence_of, source_of, source_text};
 
 use std::fmt;
 use tl_script_words::Hex;
-use tl_types::BlockBytes;
+use tl_types::{BlockBytes, DirtyPrune, GrantCap, Kind, ProbeReport};
 use tlcheck_rules::{Breach, Difference, Rule};
 
-/// Who laid a rule down.
+/// Who asks for a rule: the table of RECORD.md, "Whose rule it is".
 #[derive(Clone, Copy, Debug, PartialEq, Eq)]
 pub enum Source {
-    /// The TileLink specification, 1.8.
+    /// The TileLink specification, 1.8: else data is lost or a permission broken.
     TileLink,
     /// This project, where the specification leaves a choice open, and for its own format.
     Own,
-    /// The specification; but it permits an Acquire BtoT behind the ProbeAck that took the copy, and this project
-    /// does not.
-    Both,
+    /// This project, of a clean copy that is dropped unseen; but the specification where dirty bytes are lost, or more
+    /// is given up than there is or kept than asked.
+    OwnOfDrops,
+    /// This project, of a sole reader that is granted Branch; but the specification where Tip was asked for.
+    OwnOfReaders,
 }
 
 /// The section of the documents that has a rule.
@@ -119,7 +121,44 @@ fn rule_source(rule: Rule) -> Source
         | Rule::DataIsOutward
         | Rule::PutAckIsOutward
         | Rule::CopyIsClean => Source::TileLink,
-        Rule::StartsFromItsCopy => Source::Both,
+        Rule::StartsFromItsCopy => Source::OwnOfDrops,
+    }
+}
+
+/// Of a message that names another permission than this kind, which is sent.
+fn param_source(sent: Kind) -> Source
+    ensures { result ≡ param_source sent }
+{
+    match sent {
+        Kind::ProbeAck(ProbeReport::NtoN)
+        | Kind::ProbeAckData(DirtyPrune::TtoN)
+        | Kind::ReleaseData(DirtyPrune::TtoN)
+        | Kind::Grant(GrantCap::ToB)
+        | Kind::GrantData(GrantCap::ToB) => Source::TileLink,
+        Kind::ProbeAck(_) | Kind::ProbeAckData(_) | Kind::Release(_) | Kind::ReleaseData(_) => {
+            Source::OwnOfDrops
+        }
+        Kind::Grant(GrantCap::ToT) | Kind::GrantData(GrantCap::ToT) => Source::OwnOfReaders,
+        Kind::PutFullData
+        | Kind::Get
+        | Kind::AcquireBlock(_)
+        | Kind::ProbeBlock(_)
+        | Kind::AccessAck
+        | Kind::AccessAckData
+        | Kind::ReleaseAck
+        | Kind::GrantAck => Source::Own,
+    }
+}
+
+fn difference_source(difference: &Difference) -> Source
+    ensures { result ≡ difference_source difference.now }
+{
+    match difference {
+        Difference::OtherParam(sent) => param_source(*sent),
+        Difference::DataIsMissing(_) | Difference::OtherBytes(_, _) => Source::TileLink,
+        Difference::NothingIsSent | Difference::OtherMessage(_) | Difference::DataIsExtra(_) => {
+            Source::Own
+        }
     }
 }
 
@@ -222,19 +261,19 @@ impl fmt::Display for Sentence<'_> {
     }
 }
 
-/// What an entry breaks. It prints as a sentence, who laid it down, and where it stands.
+/// What an entry breaks. It prints as a sentence, who asks for it, and where it stands.
 #[derive(Clone, Copy, Debug)]
 pub struct Reason<'a>(pub &'a Breach);
 
 impl Reason<'_> {
-    /// Whether it is TileLink's or this project's own.
+    /// Who asks for it: TileLink, or this project.
     pub fn source(self) -> Source
         ensures { result ≡ source_of self.entry.0.now }
     {
         match self.0 {
             Breach::NotPermitted(rule) => rule_source(*rule),
-            Breach::OutOfOrder => Source::TileLink,
-            Breach::NotAsShown(_) => Source::Own,
+            Breach::OutOfOrder => Source::Own,
+            Breach::NotAsShown(difference) => difference_source(difference),
         }
     }
 
@@ -250,7 +289,7 @@ impl Reason<'_> {
     }
 }
 
-/// What an entry breaks, in few words: what is shown otherwise, who laid it down and where it stands is left out.
+/// What an entry breaks, in few words: what is shown otherwise, who asks for it and where it stands is left out.
 #[derive(Clone, Copy, Debug)]
 pub struct Breaks<'a>(pub &'a Breach);
 
@@ -277,9 +316,13 @@ impl fmt::Display for Source {
         match self {
             Source::TileLink => f.write_str("TileLink 1.8"),
             Source::Own => f.write_str("this project's profile"),
-            Source::Both => f.write_str(
-                "TileLink 1.8; of an Acquire BtoT behind a ProbeAck this project's profile",
+            Source::OwnOfDrops => f.write_str(
+                "this project's profile; TileLink 1.8 where dirty bytes are lost, \
+                 or more is given up than there is or kept than asked",
             ),
+            Source::OwnOfReaders => {
+                f.write_str("this project's profile; TileLink 1.8 where Tip was asked for")
+            }
         }
     }
 }

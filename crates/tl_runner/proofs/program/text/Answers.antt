@@ -36,7 +36,7 @@ for-job job asked known text traces is by h =
 pub returns-clause-answer : goal.returns-clause-answer
 returns-clause-answer g c =
     let known : IfSome (g.R.Read.remaining c.in_ok-reader.reader) (λ all. c.deref.result.now ≡ all) =
-    rw c.deref.ensures.value c.in_ok-bytes.ensures in
+    rw c.deref.ensures.value c.in_ok-bytes.ensures.bytes in
     let read : read_of c.deref.result.now ≡ Ok (value_of c.in_ok-script.script) = c.in_ok-script.ensures in
     for-job c.args.job c.in_ok-job.job _ _ false c.in_ok-job.was c.if-job.false (
       c.in_ok-script.script,
@@ -47,7 +47,7 @@ returns-clause-answer g c =
 pub returns-then-job-clause-answer : goal.returns-then-job-clause-answer
 returns-then-job-clause-answer g c =
     let known : IfSome (g.R.Read.remaining c.in_ok-reader.reader) (λ all. c.deref.result.now ≡ all) =
-    rw c.deref.ensures.value c.in_ok-bytes.ensures in
+    rw c.deref.ensures.value c.in_ok-bytes.ensures.bytes in
     let read : read_of c.deref.result.now ≡ Ok (value_of c.in_ok-script.script) = c.in_ok-script.ensures in
     for-job c.args.job c.in_ok-job.job _ _ true c.in_ok-job.was c.if-job.true (
       c.in_ok-script.script,
@@ -95,7 +95,7 @@ pub returns-in_err-script-clause-fault : goal.returns-in_err-script-clause-fault
 returns-in_err-script-clause-fault g c =
     let (fault, was, is) = err_from_is_err_and c.from_residual-in_err-script.result c.from_residual-in_err-script.ensures.1 in
     let known : IfSome (g.R.Read.remaining c.in_ok-reader.reader) (λ all. c.deref.result.now ≡ all) =
-    rw c.deref.ensures.value c.in_ok-bytes.ensures in
+    rw c.deref.ensures.value c.in_ok-bytes.ensures.bytes in
     caused c.args.job c.in_ok-job.job _ _ _ _ _ c.in_ok-job.was refl (ap (option_map g.R.Read.remaining) c.in_ok-reader.ensures.ok_part)
     (was ∙ ap (λ (f : Fault). Err f) is)
     (at_known (λ all. Fails c.in_err-script.field-0.0 (read_of all)) _ _ known c.in_err-script.ensures)
@@ -104,7 +104,7 @@ pub returns-in_err-trace-clause-fault : goal.returns-in_err-trace-clause-fault
 returns-in_err-trace-clause-fault g c =
     let (fault, was, is) = err_from_is_err_and c.from_residual-in_err-trace.result c.from_residual-in_err-trace.ensures.1 in
     let known : IfSome (g.R.Read.remaining c.in_ok-reader.reader) (λ all. c.deref.result.now ≡ all) =
-    rw c.deref.ensures.value c.in_ok-bytes.ensures in
+    rw c.deref.ensures.value c.in_ok-bytes.ensures.bytes in
     let read : read_of c.deref.result.now ≡ Ok (value_of c.in_ok-script.script) = c.in_ok-script.ensures in
     let ends : EndsRun true c.in_ok-script.script c.in_err-trace.field-0.0 = rw c.in_err-trace.ensures.memory tt in
     caused c.args.job c.in_ok-job.job _ _ true _ _ c.in_ok-job.was c.if-job.true (ap (option_map g.R.Read.remaining) c.in_ok-reader.ensures.ok_part)
@@ -115,7 +115,7 @@ pub returns-in_err-report-clause-fault : goal.returns-in_err-report-clause-fault
 returns-in_err-report-clause-fault g c =
     let (fault, was, is) = err_from_is_err_and c.from_residual-in_err-report.result c.from_residual-in_err-report.ensures.1 in
     let known : IfSome (g.R.Read.remaining c.in_ok-reader.reader) (λ all. c.deref.result.now ≡ all) =
-    rw c.deref.ensures.value c.in_ok-bytes.ensures in
+    rw c.deref.ensures.value c.in_ok-bytes.ensures.bytes in
     let read : read_of c.deref.result.now ≡ Ok (value_of c.in_ok-script.script) = c.in_ok-script.ensures in
     caused c.args.job c.in_ok-job.job _ _ false _ _ c.in_ok-job.was c.if-job.false (ap (option_map g.R.Read.remaining) c.in_ok-reader.ensures.ok_part)
     (was ∙ ap (λ (f : Fault). Err f) is) (
