@@ -106,52 +106,92 @@ fn broken_records(rt: HostRuntime) -> Result<(), Fail> {
     Ok(())
 }
 
-/// What is shown of the event behind the answers, and what differs. Home's answer to the second client is a GrantData.
-const SHOWN: &[(&str, &str)] = &[
+/// What is shown of the event behind the answers, what differs, and who asks for it. Home's answer to the second client
+/// is a GrantData.
+const SHOWN: &[(&str, &str, &str)] = &[
     (
         "grant 1 0 GrantData toT 0011223344556677\n",
         "it sends the bytes aa11223344556677, and 0011223344556677 are shown",
+        "TileLink 1.8",
     ),
     (
         "grant 1 0 GrantData toB aa11223344556677\n",
         "it sends another parameter, GrantData toT",
+        "this project's profile; TileLink 1.8 where Tip was asked for",
     ),
     (
         "grant 1 0 Grant toB\n",
         "it sends another parameter, GrantData toT",
+        "this project's profile; TileLink 1.8 where Tip was asked for",
     ),
     (
         "grant 1 0 Grant toT\n",
         "it sends GrantData toT, whose data is missing",
+        "TileLink 1.8",
     ),
     (
         "grant 1 0 ReleaseAck\n",
         "it sends another message, GrantData toT",
+        "this project's profile",
     ),
     (
         "grant 1 0\ntake_grant 1 0\ntake_grant_ack 1 0 GrantAck\n",
         "it sends no message",
+        "this project's profile",
     ),
     (
         "grant 1 0\ntake_grant 1 0\ntake_grant_ack 1 0\nrelease 1 0 TtoN ReleaseData TtoN aa11223344556677\n",
         "it sends Release TtoN, which has no data",
+        "this project's profile",
     ),
     (
         "grant 1 0\ntake_grant 1 0\ntake_grant_ack 1 0\nrelease 1 0 TtoN Release TtoB\n",
         "it sends another parameter, Release TtoN",
+        DROPPED,
+    ),
+    (
+        "grant 1 0\ntake_grant 1 0\ntake_grant_ack 1 0\nacquire 0 0 NtoB\naccept 0 0\nprobe 1 0 toB\nanswer_probe 1 0 ProbeAck NtoN\n",
+        "it sends another parameter, ProbeAck TtoB",
+        DROPPED,
+    ),
+    (
+        "grant 1 0\ntake_grant 1 0\ntake_grant_ack 1 0\nstore 1 0x00000000 00\nacquire 0 0 NtoT\naccept 0 0\nprobe 1 0 toN\nanswer_probe 1 0 ProbeAck NtoN\n",
+        "it sends another parameter, ProbeAckData TtoN",
+        "TileLink 1.8",
     ),
 ];
 
 #[test]
 fn what_is_shown_differs(rt: HostRuntime) -> Result<(), Fail> {
     let alloc = rt.alloc();
-    for (tail, difference) in SHOWN {
+    for (tail, difference, source) in SHOWN {
         let line = said(alloc, &[ANSWERED, "take_c 0 0\n", *tail])?;
         let want = format!(in alloc;
-            "what is shown is what the event sends: {difference} (this project's profile), docs/RECORD.md, Verdict"
+            "what is shown is what the event sends: {difference} ({source}), docs/RECORD.md, Verdict"
         )?;
         assert!(rt; line.as_str().ends_with(want.as_str()), "{line} at {tail}");
     }
+    Ok(())
+}
+
+/// Who asks that a client has what it says that it has.
+const DROPPED: &str = "this project's profile; TileLink 1.8 where dirty bytes are lost, \
+                       or more is given up than there is or kept than asked";
+
+#[test]
+fn a_copy_dropped_unseen_has_one_label(rt: HostRuntime) -> Result<(), Fail> {
+    let alloc = rt.alloc();
+    let line = said(
+        alloc,
+        &[
+            ANSWERED,
+            "take_c 0 0\ngrant 1 0\ntake_grant 1 0\ntake_grant_ack 1 0\nacquire 1 0 NtoB\n",
+        ],
+    )?;
+    let want = format!(in alloc;
+        "not lawful: line 24, entry 21: what is asked for or given up starts from the permission of the copy ({DROPPED}), docs/PROTOCOL.md, Events, state and runs"
+    )?;
+    assert_eq!(rt; line.as_str(), want.as_str());
     Ok(())
 }
 
@@ -268,7 +308,7 @@ const TEXTS: &[(&[u8], &str)] = &[
     ),
     (
         b"clients 1 block_bytes 8 memory_blocks 4\nacquire 0 2 NtoB\nacquire 0 3 NtoB\naccept 0 3\n",
-        "not lawful: line 4, entry 3: a message is taken where it is the first of its channel (TileLink 1.8), docs/PROTOCOL.md, Channels of all blocks, and serials",
+        "not lawful: line 4, entry 3: a message is taken where it is the first of its channel (this project's profile), docs/PROTOCOL.md, Channels of all blocks, and serials",
     ),
 ];
 

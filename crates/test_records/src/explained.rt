@@ -164,7 +164,7 @@ fn ruled_out(
 ) -> Result<Option<usize>, AllocError> {
     let seen = seen_in(alloc, damage, order)?;
     Ok(
-        match rule_out(alloc, SHAPE, premise, &[], &seen, &mut ())? {
+        match rule_out(alloc, SHAPE, premise, &[], &seen, seen.len(), &mut ())? {
             Answer::Impossible(stuck) => Some(stuck.place),
             Answer::NotDecided(_) => None,
         },
@@ -217,7 +217,7 @@ fn is_sent_instead(stop: &Stop, kind: Kind) -> bool {
 fn what_keeps_the_last_states_from_a_line(rt: HostRuntime) -> Result<(), Fail> {
     let alloc = rt.alloc();
     let seen = seen_in(alloc, Damage::GrantsTip, IN_ORDER)?;
-    let told = match rule_out(alloc, SHAPE, BETWEEN, &[], &seen, &mut ())? {
+    let told = match rule_out(alloc, SHAPE, BETWEEN, &[], &seen, seen.len(), &mut ())? {
         Answer::Impossible(stuck) => stuck.stops.iter().any(|stop| is_sent_instead(
             stop,
             Kind::GrantData(GrantCap::ToB),
@@ -225,6 +225,21 @@ fn what_keeps_the_last_states_from_a_line(rt: HostRuntime) -> Result<(), Fail> {
         Answer::NotDecided(_) => false,
     };
     assert!(rt; told);
+    Ok(())
+}
+
+/// A line is named where it stands before the place up to which lines are asked, and no other.
+#[test]
+fn what_is_impossible_before_a_place(rt: HostRuntime) -> Result<(), Fail> {
+    let alloc = rt.alloc();
+    let seen = seen_in(alloc, Damage::GrantsTip, IN_ORDER)?;
+    for (to, place) in [(12usize, Some(9)), (10, Some(9)), (9, None), (0, None)] {
+        let found = match rule_out(alloc, SHAPE, BETWEEN, &[], &seen, to, &mut ())? {
+            Answer::Impossible(stuck) => Some(stuck.place),
+            Answer::NotDecided(_) => None,
+        };
+        assert_eq!(rt; found, place, "up to {to}");
+    }
     Ok(())
 }
 
@@ -240,13 +255,31 @@ pub(crate) const GRANTED_BEFORE: &[usize] = &[0, 1, 2, 3, 4, 5, 6, 9, 10, 7, 8, 
 /// The first client's Grant stands two lines behind its GrantAck.
 pub(crate) const GRANT_BEHIND: &[usize] = &[0, 1, 2, 4, 5, 3, 6, 7, 8, 9, 10, 11];
 
+/// How a record was seen, where that names no client.
+#[derive(Clone, Copy, Debug)]
+enum Told {
+    Between,
+    AtHome,
+    AtClients,
+}
+
+impl Told {
+    fn way(self) -> Way {
+        match self {
+            Told::Between => Way::Between,
+            Told::AtHome => Way::AtHome,
+            Told::AtClients => Way::AtClients,
+        }
+    }
+}
+
 /// Records, what is wrong with them, how they were seen (the way, by how many lines one may stand behind a later one,
 /// whether nobody watched the memory's link, or the cores), and the first line that no run reaches.
-const SEEN_SO: &[(Damage, &[usize], Way, usize, bool, bool, Option<usize>)] = &[
+const SEEN_SO: &[(Damage, &[usize], Told, usize, bool, bool, Option<usize>)] = &[
     (
         Damage::Nothing,
         IN_ORDER,
-        Way::AtHome,
+        Told::AtHome,
         0,
         false,
         false,
@@ -255,7 +288,7 @@ const SEEN_SO: &[(Damage, &[usize], Way, usize, bool, bool, Option<usize>)] = &[
     (
         Damage::Nothing,
         IN_ORDER,
-        Way::AtClients,
+        Told::AtClients,
         0,
         false,
         false,
@@ -264,7 +297,7 @@ const SEEN_SO: &[(Damage, &[usize], Way, usize, bool, bool, Option<usize>)] = &[
     (
         Damage::Nothing,
         WITHOUT_MEMORY,
-        Way::Between,
+        Told::Between,
         0,
         true,
         false,
@@ -273,7 +306,7 @@ const SEEN_SO: &[(Damage, &[usize], Way, usize, bool, bool, Option<usize>)] = &[
     (
         Damage::Nothing,
         WITHOUT_MEMORY,
-        Way::Between,
+        Told::Between,
         0,
         false,
         false,
@@ -282,7 +315,7 @@ const SEEN_SO: &[(Damage, &[usize], Way, usize, bool, bool, Option<usize>)] = &[
     (
         Damage::GrantsOldBytes,
         WITHOUT_MEMORY,
-        Way::Between,
+        Told::Between,
         0,
         true,
         false,
@@ -291,7 +324,7 @@ const SEEN_SO: &[(Damage, &[usize], Way, usize, bool, bool, Option<usize>)] = &[
     (
         Damage::Nothing,
         WITHOUT_CORES,
-        Way::Between,
+        Told::Between,
         0,
         false,
         false,
@@ -300,7 +333,7 @@ const SEEN_SO: &[(Damage, &[usize], Way, usize, bool, bool, Option<usize>)] = &[
     (
         Damage::Nothing,
         WITHOUT_CORES,
-        Way::Between,
+        Told::Between,
         0,
         false,
         true,
@@ -309,7 +342,7 @@ const SEEN_SO: &[(Damage, &[usize], Way, usize, bool, bool, Option<usize>)] = &[
     (
         Damage::GrantsOldBytes,
         WITHOUT_CORES,
-        Way::Between,
+        Told::Between,
         0,
         false,
         true,
@@ -318,7 +351,7 @@ const SEEN_SO: &[(Damage, &[usize], Way, usize, bool, bool, Option<usize>)] = &[
     (
         Damage::GrantsTip,
         WITHOUT_CORES,
-        Way::AtHome,
+        Told::AtHome,
         0,
         false,
         true,
@@ -327,7 +360,7 @@ const SEEN_SO: &[(Damage, &[usize], Way, usize, bool, bool, Option<usize>)] = &[
     (
         Damage::GrantsOldBytes,
         WITHOUT_CORES,
-        Way::AtClients,
+        Told::AtClients,
         0,
         false,
         true,
@@ -336,7 +369,7 @@ const SEEN_SO: &[(Damage, &[usize], Way, usize, bool, bool, Option<usize>)] = &[
     (
         Damage::Nothing,
         GRANTED_BEFORE,
-        Way::AtClients,
+        Told::AtClients,
         0,
         false,
         false,
@@ -345,7 +378,7 @@ const SEEN_SO: &[(Damage, &[usize], Way, usize, bool, bool, Option<usize>)] = &[
     (
         Damage::Nothing,
         GRANT_BEHIND,
-        Way::Between,
+        Told::Between,
         1,
         false,
         false,
@@ -354,7 +387,7 @@ const SEEN_SO: &[(Damage, &[usize], Way, usize, bool, bool, Option<usize>)] = &[
     (
         Damage::Nothing,
         GRANT_BEHIND,
-        Way::Between,
+        Told::Between,
         2,
         false,
         false,
@@ -364,16 +397,34 @@ const SEEN_SO: &[(Damage, &[usize], Way, usize, bool, bool, Option<usize>)] = &[
 
 #[test]
 fn what_is_impossible_by_how_it_was_seen(rt: HostRuntime) -> Result<(), Fail> {
-    for (damage, order, way, skew, memory_unseen, cores_unseen, place) in SEEN_SO {
+    for (damage, order, told, skew, memory_unseen, cores_unseen, place) in SEEN_SO {
         let premise = tlwire_closed::Premise {
-            way: *way,
+            way: told.way(),
             skew: *skew,
             whole: true,
             memory_unseen: *memory_unseen,
             cores_unseen: *cores_unseen,
         };
         let found = ruled_out(rt.alloc(), *damage, *order, premise)?;
-        assert_eq!(rt; found, *place, "at {damage:?} {way:?}");
+        assert_eq!(rt; found, *place, "at {damage:?} {told:?}");
+    }
+    Ok(())
+}
+
+/// The Grant stands two lines behind its GrantAck: at the first client's pins a skew of two allows that, and one of one
+/// does not; at the second client's the same, since the first client's link is seen between.
+#[test]
+fn what_is_impossible_at_one_clients_pins(rt: HostRuntime) -> Result<(), Fail> {
+    for client in 0u32..2 {
+        for (skew, place) in [(1usize, Some(3)), (2, None)] {
+            let premise = tlwire_closed::Premise {
+                way: Way::AtClient(client),
+                skew,
+                ..BETWEEN
+            };
+            let found = ruled_out(rt.alloc(), Damage::Nothing, GRANT_BEHIND, premise)?;
+            assert_eq!(rt; found, place, "at client {client} and a skew of {skew}");
+        }
     }
     Ok(())
 }

@@ -20,8 +20,6 @@ mod home;
 #[cfg(test)]
 mod names;
 #[cfg(test)]
-mod orders;
-#[cfg(test)]
 mod pins;
 #[cfg(test)]
 mod pins_bench;

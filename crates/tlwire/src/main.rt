@@ -8,7 +8,7 @@ use asked::{Asked, Output, asked_by};
 use std::fs::File;
 use std::io::{IsTerminal, Read};
 use std::process::ExitCode;
-use tl_streams::{Progress, Watched, read_whole, words};
+use tl_streams::{Piped, Progress, Watched, read_whole, words};
 use tlchart_draw::title_of;
 use tlwire_answer::{Ending, judge_lines, show, tell_ending};
 use tlwire_chart::tell_chart;
@@ -86,8 +86,8 @@ fn judge_told(rt: &HostRuntime, lines: &[&[u8]]) -> Ending {
 
 /// Tells what the answer to a record of these lines ends with, as it is asked for.
 fn tell(rt: &HostRuntime, asked: Asked<'_>, lines: &[&[u8]], ending: &Ending) -> u8 {
-    let (mut output, mut faults) = (rt.stdout(), rt.stderr());
-    match asked.output {
+    let (mut output, mut faults) = (Piped::new(rt.stdout()), rt.stderr());
+    let status = match asked.output {
         Output::Answer(form) => {
             tell_ending(rt.alloc(), form, lines, ending, &mut output, &mut faults)
         }
@@ -95,7 +95,8 @@ fn tell(rt: &HostRuntime, asked: Asked<'_>, lines: &[&[u8]], ending: &Ending) ->
             let title = title_of(asked.file);
             tell_chart(rt.alloc(), title, lines, ending, &mut output, &mut faults)
         }
-    }
+    };
+    output.status(status)
 }
 
 /// The answer to a record of these lines.

@@ -1,2 +1,5 @@
+mod Asked
+mod Clients
+mod Firsts
 pub mod Texts
 pub mod Told

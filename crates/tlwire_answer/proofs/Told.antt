@@ -1,32 +1,30 @@
 -- What is said of a record, of its own shape, image and lines.
-use Rattle.std.proofs.Common.{◌≡◌, ℕ, Bool, List, Option, Some, None, Result, Ok, Err, IfOk, IfSome, IsSome, IsTrue, refl, ap, subst, ◌∙◌}
+use Rattle.std.proofs.Common.{◌≡◌, ℕ, Bool, List, Result, Ok, Err, IfOk, IsTrue, ap, subst, ◌∙◌}
 use Rattle.tl_protocol.specs.Runs.{IsRun, at_reset}
 use Rattle.tl_protocol.specs.declared.event.Event.{Event}
 use Rattle.tl_protocol.specs.declared.shape.Shape.{Shape}
 use Rattle.tlwire_search.specs.Explained.{Explains}
 use Rattle.tlwire_search.specs.declared.seen.Seen.{Seen}
-use Rattle.tlwire_orders.specs.Misplaced.{IsFirstMisplaced}
-use Rattle.tlwire_orders.specs.Orders.{IsUnexplained}
-use Rattle.tlwire_orders.specs.declared.order.Misplaced.{Misplaced}
 use Rattle.tlwire_pins.specs.Pins.{KeepsOrder, lines_from}
 use Rattle.tlwire_pins.specs.declared.view.Cores.{Cores}
 use Rattle.tlwire_closed.specs.Along.{IsSeenSo}
 use Rattle.tlwire_closed.specs.declared.premise.Premise.{Premise as SetPremise}
 use Rattle.tlwire_closed.specs.declared.premise.Way.{Way}
-use Rattle.tlwire_closed.specs.declared.premise.Way.TheVariants.{Between, AtSending, AtHome, AtClients}
+use Rattle.tlwire_closed.specs.declared.premise.Way.TheVariants.{Between, AtSending, AtHome, AtClients, AtClient}
 use Rattle.tlwire_record.specs.Messages.{MessagesState}
-use Rattle.tlwire_answer.specs.Answer.{ClientKeepsOrder, EachKeepsOrder, IsExplained, IsInOrder, IsOutOfOrder, Meets, cores_of}
+use Rattle.tlwire_answer.specs.Answer.{ClientKeepsOrder, EachKeepsOrder, IsExplained, IsInOrder, Meets, cores_of}
 use Rattle.tlwire_answer.specs.Named.{premise_of}
 
 -- of a client
-pub keeps_then : {E : Type 0} (r : Result Bool E) (m : MessagesState) (cores : Cores) (lines seen : List Seen) (client : ℕ)
-    → cores ≡ cores_of m.setting.premises client → seen ≡ m.seen
-    → IfOk r (λ (yes : Bool). IsTrue yes → (shape : Shape) → KeepsOrder cores shape client lines seen)
+pub keeps_then : {E : Type 0} (r : Result Bool E) (m : MessagesState) (cores : Cores) (shape : Shape) (lines seen : List Seen) (client : ℕ)
+    → cores ≡ cores_of m.setting.premises client → shape ≡ m.setting.shape → seen ≡ m.seen
+    → IfOk r (λ (yes : Bool). IsTrue yes → KeepsOrder cores shape client lines seen)
     → IfOk r (λ (yes : Bool). IsTrue yes → ClientKeepsOrder m lines client)
-keeps_then (Ok kept) m cores lines seen client k e h =
+keeps_then (Ok kept) m cores shape lines seen client k s e h =
     λ t told. subst (λ (xs : List Seen). KeepsOrder (cores_of m.setting.premises client) m.setting.shape client lines xs) e
-    (subst (λ (x : Cores). KeepsOrder x m.setting.shape client lines seen) k (h t m.setting.shape))
-keeps_then (Err x) m cores lines seen client k e h = tt
+    (subst (λ (sh : Shape). KeepsOrder (cores_of m.setting.premises client) sh client lines seen) s
+    (subst (λ (x : Cores). KeepsOrder x shape client lines seen) k (h t)))
+keeps_then (Err x) m cores shape lines seen client k s e h = tt
 
 -- of each
 pub in_order : (m : MessagesState) (run : List Event) (shape : Shape) (image : List ℕ) (lines given : List Seen) → shape ≡ m.setting.shape → image ≡ m.image
@@ -55,29 +53,17 @@ meets_then (Ok found) m run way shape premise image seen s p i e h = λ t lawful
 meets_then (Err x) m run way shape premise image seen s p i e h = tt
 
 -- and in each way
-pub each_way : (m : MessagesState) (run : List Event) → Meets m run Between → Meets m run AtHome → Meets m run AtClients → (way : Way) → Meets m run way
-each_way m run between home clients Between = between
-each_way m run between home clients AtSending = λ named. cc
-each_way m run between home clients AtHome = home
-each_way m run between home clients AtClients = clients
+pub each_way : (m : MessagesState) (run : List Event) → Meets m run Between → Meets m run AtHome → Meets m run AtClients
+    → ((client : ℕ) → Meets m run (AtClient client)) → (way : Way) → Meets m run way
+each_way m run between home clients each Between = between
+each_way m run between home clients each AtSending = λ named. cc
+each_way m run between home clients each AtHome = home
+each_way m run between home clients each AtClients = clients
+each_way m run between home clients each (AtClient client) = each client
 
 -- so it explains the record
 pub explained_then : (m : MessagesState) (run given : List Event) → given ≡ run → Explains m.setting.premises m.setting.shape m.image m.seen run
     → (IsRun m.setting.shape m.image given → IsInOrder m given × ((way : Way) → Meets m given way)) → IsExplained m run
 explained_then m run given is wires told =
-    let both = subst (λ (es : List Event). IsRun m.setting.shape m.image es → IsInOrder m es × ((way : Way) → Meets m es way)) is told wires.lawful.run in
+    let both = subst (λ (es : List Event). IsRun m.setting.shape m.image es → IsInOrder m es × ((way : Way) → Meets m es way)) is told wires.lawful in
     record { wires = wires; pins = both.0; ways = both.1 }
-
--- an answer stands in another order
-pub out_of_order_then : {E : Type 0} (r : Result (Option Misplaced) E) (m : MessagesState) (shape : Shape) (seen : List Seen) → shape ≡ m.setting.shape → seen ≡ m.seen
-    → IfOk r (λ found. IfSome found (IsFirstMisplaced shape.clients seen)) → IfOk r (λ found. IsSome found → IsUnexplained shape seen)
-    → IfOk r (λ found. IfSome found (IsOutOfOrder m))
-out_of_order_then (Ok (Some x)) m shape seen s e first none = record {
-  first =
-      subst (λ (sh : Shape). IsFirstMisplaced sh.clients m.seen x) s
-      (subst (λ (lines : List Seen). IsFirstMisplaced shape.clients lines x) e first);
-  unexplained =
-      subst (λ (sh : Shape). IsUnexplained sh m.seen) s (subst (λ (lines : List Seen). IsUnexplained shape lines) e (none refl));
-}
-out_of_order_then (Ok None) m shape seen s e first none = tt
-out_of_order_then (Err x) m shape seen s e first none = tt

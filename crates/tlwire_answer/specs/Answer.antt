@@ -1,17 +1,15 @@
 -- What the answer to a record of messages ends with.
-use Rattle.std.specs.Prelude.{◌≡◌, ◌<◌, ℕ, true, false, List, length, Ok, Err, if◌then◌else◌}
+use Rattle.std.specs.Prelude.{◌≡◌, ◌<◌, ℕ, true, false, List, length, take, Option, Some, None, Ok, Err, if◌then◌else◌}
 use Rattle.std.specs.List.{list_any}
 use Rattle.tlwire_search.specs.Explained.{Explains}
-use Rattle.tlwire_search.specs.Premises.{is_seen_at_pins, is_unseen_on}
+use Rattle.tlwire_search.specs.Premises.{is_unseen_on}
 use Rattle.tlwire_search.specs.declared.premise.Premise.{Premise}
 use Rattle.tlwire_search.specs.declared.seen.Wire.TheVariants.{Core}
 use Rattle.tl_protocol.specs.Runs.{at_reset}
 use Rattle.tl_protocol.specs.declared.event.Event.{Event}
 use Rattle.tlwire_search.specs.declared.seen.Seen.{Seen}
-use Rattle.tlwire_orders.specs.Misplaced.{IsFirstMisplaced}
-use Rattle.tlwire_orders.specs.Orders.{IsUnexplained}
-use Rattle.tlwire_orders.specs.declared.order.Misplaced.{Misplaced as MisplacedAnswer}
 use Rattle.tlwire_pins.specs.Impossible.{IsImpossible}
+use Rattle.tlwire_pins.specs.Judged.{EachMay}
 use Rattle.tlwire_pins.specs.Pins.{KeepsOrder, lines_from}
 use Rattle.tlwire_pins.specs.Walk.{IsWrong}
 use Rattle.tlwire_pins.specs.declared.pass.Wrong.{Wrong}
@@ -19,34 +17,41 @@ use Rattle.tlwire_pins.specs.declared.view.Cores.{Cores}
 use Rattle.tlwire_pins.specs.declared.view.Cores.TheVariants.{Watched, Unseen}
 use Rattle.tlwire_closed.specs.Along.{IsImpossible as IsSeenByNone, IsSeenSo}
 use Rattle.tlwire_closed.specs.declared.premise.Way.{Way}
-use Rattle.tlwire_answer.specs.Named.{names, premise_of}
+use Rattle.tlwire_answer.specs.Named.{is_told, names, premise_of}
 use Rattle.tlwire_record.specs.Messages.{MessagesState}
 use Rattle.tlwire_record.specs.Read.{IsRead}
 use Rattle.tlwire_record.specs.declared.record.ReadFault.TheVariants as read
 use Rattle.tlwire_answer.specs.declared.ending.Ending.{Ending}
 use Rattle.tlwire_answer.specs.declared.ending.Ending.TheVariants.{Usage, Answered, Wrong as WrongLine, Empty, Memory, File}
-use Rattle.tlwire_answer.specs.declared.verdict.Sets.{Sets}
-use Rattle.tlwire_answer.specs.declared.verdict.Sets.TheVariants.{Stuck, Open}
+use Rattle.tlwire_answer.specs.declared.sets.Sets.{Sets}
+use Rattle.tlwire_answer.specs.declared.sets.Sets.TheVariants.{Stuck, Open}
 use Rattle.tlwire_answer.specs.declared.verdict.Verdict.{Verdict}
-use Rattle.tlwire_answer.specs.declared.verdict.Verdict.TheVariants.{Explained, Misplaced, Impossible, RuledOut, NotDecided, OtherOrder}
+use Rattle.tlwire_answer.specs.declared.verdict.Verdict.TheVariants.{Explained, Impossible, RuledOut, NotDecided, OtherOrder}
 
 -- whether the header says that nobody watched a client's core
 abbrev pub cores_of : List Premise → ℕ → Cores
 cores_of premises client = if list_any (is_unseen_on (Core client)) premises then Unseen else Watched
 
--- This is the first answer that stands in another order than what it answers, and no run explains the record, over any image and however
--- it was seen.
-pub record IsOutOfOrder (m : MessagesState) (x : MisplacedAnswer) : Type 0 where
-  pub first : IsFirstMisplaced m.setting.shape.clients m.seen x
-  pub unexplained : IsUnexplained m.setting.shape m.seen
-
--- The header says that a client's link was seen at the client's pins, its core too or not; there this is the first line
--- of the client's that may not be seen, and no lawful run over any image is seen so.
+-- The header says that a client's lines are told at the client's pins, its core's too or not; there this line may not be seen, and no
+-- lawful run over any image is seen so.
 pub record IsNo (m : MessagesState) (w : Wrong) : Type 0 where
   pub client : ℕ
-  pub premise : is_seen_at_pins m.setting.premises client ≡ true
+  pub premise : is_told m.setting.premises client ≡ true
   pub wrong : IsWrong (cores_of m.setting.premises client) m.setting.shape client m.seen w
   pub impossible : IsImpossible (cores_of m.setting.premises client) m.setting.shape client m.seen
+
+-- what of these lines is told at a client's pins may be seen there, each line after those before it
+abbrev pub MayAt : MessagesState → List Seen → ℕ → Type 0
+MayAt m lines client =
+    is_told m.setting.premises client ≡ true → EachMay (cores_of m.setting.premises client) m.setting.shape client lines
+
+-- at those of each client below a number
+abbrev pub MayBelow : MessagesState → ℕ → List Seen → Type 0
+MayBelow m clients lines = (client : ℕ) → client < clients → MayAt m lines client
+
+-- At no client's pins is anything wrong with these lines.
+abbrev pub MayAtPins : MessagesState → List Seen → Type 0
+MayAtPins m lines = MayBelow m m.setting.shape.clients lines
 
 -- The header names a way of seeing, and no lawful run over the image is seen so.
 pub record IsRuledOut (m : MessagesState) : Type 0 where
@@ -54,48 +59,58 @@ pub record IsRuledOut (m : MessagesState) : Type 0 where
   pub named : names m.setting.premises way ≡ true
   pub impossible : IsSeenByNone m.setting.shape (premise_of m.setting.premises way) m.image m.seen
 
--- lines at the pins of clients have the record's in their order, of a client, where it was seen there
+-- lines at the pins of clients have the record's in their order, of a client that is told there
 abbrev pub ClientKeepsOrder : MessagesState → List Seen → ℕ → Type 0
 ClientKeepsOrder m lines client =
-    is_seen_at_pins m.setting.premises client ≡ true
+    is_told m.setting.premises client ≡ true
     → KeepsOrder (cores_of m.setting.premises client) m.setting.shape client lines m.seen
 
 -- and of each
 abbrev pub EachKeepsOrder : MessagesState → List Seen → Type 0
 EachKeepsOrder m lines = (client : ℕ) → client < m.setting.shape.clients → ClientKeepsOrder m lines client
 
--- A run is seen so at the pins of each client that the header names.
+-- A run is seen so at the pins of each client that is told there.
 abbrev pub IsInOrder : MessagesState → List Event → Type 0
 IsInOrder m run = EachKeepsOrder m (lines_from m.setting.shape (at_reset m.setting.shape m.image) run)
 
--- no client was seen there
+-- no client is told there
 abbrev pub NobodyIsTold : MessagesState → Type 0
-NobodyIsTold m = (client : ℕ) → client < m.setting.shape.clients → is_seen_at_pins m.setting.premises client ≡ false
+NobodyIsTold m = (client : ℕ) → client < m.setting.shape.clients → is_told m.setting.premises client ≡ false
 
 -- A run is seen so, where the header names the way of seeing.
 abbrev pub Meets : MessagesState → List Event → Way → Type 0
 Meets m run way = names m.setting.premises way ≡ true → IsSeenSo m.setting.shape (premise_of m.setting.premises way) m.image m.seen run
 
--- A run explains a record: it has what was seen on each wire; the lines at the pins of each client that the header names in their order of
+-- A run explains a record: it has what was seen on each wire; the lines at the pins of each client that is told there in their order of
 -- time, so that it is seen so there (`IsSeenAt`); and it is seen so in each way that the header names.
 pub record IsExplained (m : MessagesState) (run : List Event) : Type 0 where
   pub wires : Explains m.setting.premises m.setting.shape m.image m.seen run
   pub pins : IsInOrder m run
   pub ways : (way : Way) → Meets m run way
 
--- What may be said of what was seen: a run that explains it; or that there is none; or a place in it, of which nothing else is claimed.
+-- What may be said of what was seen: a run that explains it; or that there is none, and then nothing before the line that is named is wrong
+-- at a client's pins; or a place in it, of which nothing else is claimed.
 abbrev pub IsVerdict : MessagesState → Verdict → Type 0
 IsVerdict m (Explained run) = IsExplained m run.items
-IsVerdict m (Misplaced x) = IsOutOfOrder m x
-IsVerdict m (Impossible w) = IsNo m w
-IsVerdict m (RuledOut stuck) = IsRuledOut m
+IsVerdict m (Impossible w) = IsNo m w × MayAtPins m (take w.place m.seen)
+IsVerdict m (RuledOut stuck) = IsRuledOut m × MayAtPins m (take stuck.place m.seen)
 IsVerdict m (NotDecided place limit sets) = place < length m.seen
 IsVerdict m (OtherOrder order sets) = Unit {0}
 
--- What closed sets say of what was seen, in the ways that were asked: that there is no run; or why they say nothing.
-abbrev pub IsSets : MessagesState → Sets → Type 0
-IsSets m (Stuck stuck) = IsRuledOut m
-IsSets m (Open reason) = Unit {0}
+-- What closed sets say of the lines before a place, in the ways that were asked: that there is no run; or why they say nothing.
+abbrev pub IsSets : MessagesState → ℕ → Sets → Type 0
+IsSets m to (Stuck stuck) = IsRuledOut m × (stuck.place < to)
+IsSets m to (Open reason) = Unit {0}
+
+-- What is wrong at a client's pins, and nothing before it; or nothing is.
+abbrev pub IsWrongAt : MessagesState → ℕ → Option Wrong → Type 0
+IsWrongAt m client None = MayAt m m.seen client
+IsWrongAt m client (Some w) = IsNo m w × MayAt m (take w.place m.seen) client
+
+-- At the pins of so many clients: the first that is wrong, and nothing before it; or nothing is.
+abbrev pub IsFirstOf : MessagesState → ℕ → Option Wrong → Type 0
+IsFirstOf m clients None = MayBelow m clients m.seen
+IsFirstOf m clients (Some w) = IsNo m w × MayBelow m clients (take w.place m.seen)
 
 -- What may be said of a record's lines: what was seen is what they say, and what is said of it holds; or the first line that is outside
 -- the format, and what is wrong with it; or that there is nothing seen.

@@ -24,9 +24,6 @@ use Rattle.tlwire_closed.specs.declared.answer.Side.{Side}
 use Rattle.tlwire_closed.specs.declared.answer.Side.TheVariants as side
 use Rattle.tlwire_closed.specs.declared.answer.Stop.{Stop}
 use Rattle.tlwire_closed.specs.declared.answer.Stuck.{Stuck}
-use Rattle.tlwire_orders.specs.declared.order.Misplaced.{Misplaced}
-use Rattle.tlwire_orders.specs.declared.pair.Pair.{Pair}
-use Rattle.tlwire_orders.specs.declared.pair.Pair.TheVariants.{Probes, Releases, Grants}
 use Rattle.tlwire_pins.specs.declared.pass.Wrong.{Wrong}
 use Rattle.tlwire_pins.specs.declared.view.View.{View}
 use Rattle.tlcheck_record.specs.Cause.{is_outside, sentence}
@@ -35,17 +32,16 @@ use Rattle.tlcheck_record.specs.declared.cause.Cause.{Cause}
 use Rattle.tlwire_answer.specs.Run.{run_text}
 use Rattle.tlwire_answer.specs.declared.ending.Ending.{Ending}
 use Rattle.tlwire_answer.specs.declared.ending.Ending.TheVariants.{Usage, Answered, Wrong as WrongLine, Empty, Memory, File}
-use Rattle.tlwire_answer.specs.declared.verdict.Order.{Order}
-use Rattle.tlwire_answer.specs.declared.verdict.Order.TheVariants.{AtPins, Between, AtHome, AtClients}
+use Rattle.tlwire_answer.specs.declared.order.Order.{Order}
+use Rattle.tlwire_answer.specs.declared.order.Order.TheVariants.{AtPins, Between, AtHome, AtClients}
 use Rattle.tlwire_answer.specs.declared.verdict.Verdict.{Verdict}
-use Rattle.tlwire_answer.specs.declared.verdict.Verdict.TheVariants.{Explained, Misplaced as InAnotherOrder, Impossible, RuledOut, NotDecided, OtherOrder}
+use Rattle.tlwire_answer.specs.declared.verdict.Verdict.TheVariants.{Explained, Impossible, RuledOut, NotDecided, OtherOrder}
 use Rattle.tlwire_answer.specs.declared.ending.Form.{Form}
 use Rattle.tlwire_answer.specs.declared.ending.Form.TheVariants.{Summary, Run}
 
 -- explained ends with 0, impossible with 1, not decided with 6
 abbrev pub verdict_status : Verdict → ℕ
 verdict_status (Explained events) = 0
-verdict_status (InAnotherOrder x) = 1
 verdict_status (Impossible wrong) = 1
 verdict_status (RuledOut stuck) = 1
 verdict_status (NotDecided place limit sets) = 6
@@ -172,32 +168,6 @@ view_line block client v =
 abbrev pub impossible_text : ℕ → List ℕ → Wrong → List ℕ
 impossible_text number line w = rule_line number w.breach ++ line ++ view_line w.block w.client w.view
 
--- what an answer is of (this project's own: what is taken first is answered first)
-abbrev pub pair_text : Pair → List ℕ
-pair_text Probes = codes "a ProbeAck answers the first Probe that is not answered"
-pair_text Releases = codes "a ReleaseAck answers the first Release that is not answered"
-pair_text Grants = codes "a GrantAck answers the first Grant that is not answered"
-
--- whose rule that is, and where it stands
-abbrev pub order_place : List ℕ
-order_place = codes " (this project's profile), docs/PROTOCOL.md, Channels of all blocks, and serials"
-
--- which order an answer breaks, and the block of what it should answer
-abbrev pub order_rule : Misplaced → List ℕ
-order_rule x = pair_text x.pair ++ codes ", of block " ++ decimal x.first ++ order_place
-
--- the number of its line before it
-abbrev pub misplaced_line : ℕ → Misplaced → List ℕ
-misplaced_line number x = codes "impossible: line " ++ decimal number ++ codes ": " ++ order_rule x ++ codes "\n"
-
--- the block of the answer, and whose link it is on
-abbrev pub link_line : ℕ → ℕ → List ℕ
-link_line block client = codes "\nblock " ++ decimal block ++ codes ", client " ++ decimal client ++ codes "\n"
-
--- an answer that stands in another order than what it answers
-abbrev pub misplaced_text : ℕ → List ℕ → Misplaced → List ℕ
-misplaced_text number line x = misplaced_line number x ++ line ++ link_line x.block x.client
-
 -- the number of a line that no run comes to
 abbrev pub stuck_line : ℕ → List ℕ
 stuck_line number = codes "impossible: line " ++ decimal number ++ codes ": no lawful run comes so far\n"
@@ -236,7 +206,6 @@ explained_text Run m events = run_of m events
 -- what is written of what was said
 abbrev pub answer_text : Form → List (List ℕ) → MessagesState → Verdict → List ℕ
 answer_text form lines m (Explained events) = explained_text form m events.items
-answer_text form lines m (InAnotherOrder x) = misplaced_text (number_at m.lines x.place) (text_at lines (number_at m.lines x.place)) x
 answer_text form lines m (Impossible w) = impossible_text (number_at m.lines w.place) (text_at lines (number_at m.lines w.place)) w
 answer_text form lines m (RuledOut stuck) =
     ruled_out_text m.lines (number_at m.lines stuck.place) (text_at lines (number_at m.lines stuck.place)) stuck

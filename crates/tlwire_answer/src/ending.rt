@@ -3,10 +3,11 @@ ghost use Rattle.std.specs.Prelude.{◌≡◌, ◌++◌, Some, IfOk, OnOk, slice
 ghost use Rattle.std.specs.List.{flat_map};
 ghost use Rattle.tl_streams.specs.Written.{AppendsBeginning};
 ghost use Rattle.tl_script_words.specs.Words.{texts};
-ghost use Rattle.tlwire_answer.specs.Ending.{answer_text, ending_of_read, ending_of_words, explained_text, fault_line, fault_text, hindrance_text, impossible_text, lent_line, limit_line, limit_text, link_line, misplaced_line, misplaced_text, not_decided_text, number_at, order_place, order_rule, order_text, other_order_text, pair_text, rule_line, ruled_out_text, sets_text, side_text, stop_line, stuck_line, block_line, run_of, status_of, summary_line, summary_text, text_at, view_line};
+ghost use Rattle.tlwire_answer.specs.Ending.{answer_text, ending_of_read, ending_of_words, explained_text, fault_line, fault_text, hindrance_text, impossible_text, lent_line, limit_line, limit_text, not_decided_text, number_at, order_text, other_order_text, rule_line, ruled_out_text, sets_text, side_text, stop_line, stuck_line, block_line, run_of, status_of, summary_line, summary_text, text_at, view_line};
 
+use crate::order::Order;
 use crate::run::RunText;
-use crate::verdict::{Order, Verdict};
+use crate::verdict::Verdict;
 use std::alloc::{AllocError, Global};
 use std::fmt;
 use std::fmt::Write as WriteText;
@@ -17,7 +18,6 @@ use tl_types::{BlockNo, ClientId};
 use tlcheck_record::{Cause, Held, Reason as Reasoned, Waits};
 use tlcheck_rules::Breach;
 use tlwire_closed::{Hindrance, Reason, Side, Stop, Stuck};
-use tlwire_orders::{Misplaced, Pair};
 use tlwire_pins::{View, Wrong};
 use tlwire_record::Messages;
 use tlwire_search::Limit;
@@ -98,7 +98,6 @@ impl Ending {
     {
         match self {
             Ending::Answered(_, Verdict::Explained(_)) => 0,
-            Ending::Answered(_, Verdict::Misplaced(_)) => 1,
             Ending::Answered(_, Verdict::Impossible(_)) => 1,
             Ending::Answered(_, Verdict::RuledOut(_)) => 1,
             Ending::Answered(_, Verdict::NotDecided(_, _, _)) => 6,
@@ -366,115 +365,6 @@ fn impossible(alloc: Global, number: u64, line: &[u8], wrong: &Wrong) -> Result<
     Ok(text)
 }
 
-// What an answer is of.
-#[derive(Clone, Copy)]
-struct PairText(Pair);
-
-impl fmt::Display for PairText {
-    ghost output = { λ x. Some (pair_text x.0) };
-
-    fn fmt<W: fmt::Write>(&self, f: &mut fmt::Formatter<W>) -> fmt::Result {
-        match self.0 {
-            Pair::Probes => f.write_str("a ProbeAck answers the first Probe that is not answered"),
-            Pair::Releases => {
-                f.write_str("a ReleaseAck answers the first Release that is not answered")
-            }
-            Pair::Grants => f.write_str("a GrantAck answers the first Grant that is not answered"),
-        }
-    }
-}
-
-// Whose rule that is, and where it stands.
-#[derive(Clone, Copy)]
-struct OrderPlace;
-
-impl fmt::Display for OrderPlace {
-    ghost output = { λ x. Some order_place };
-
-    fn fmt<W: fmt::Write>(&self, f: &mut fmt::Formatter<W>) -> fmt::Result {
-        f.write_str(
-            " (this project's profile), docs/PROTOCOL.md, Channels of all blocks, and serials",
-        )
-    }
-}
-
-// Which order an answer breaks, and the block of what it should answer.
-#[derive(Clone, Copy)]
-struct OrderRule(Misplaced);
-
-impl fmt::Display for OrderRule {
-    ghost output = { λ x. Some (order_rule x.0) };
-
-    fn fmt<W: fmt::Write>(&self, f: &mut fmt::Formatter<W>) -> fmt::Result {
-        write!(
-            f,
-            "{}, of block {}{}",
-            PairText(self.0.pair),
-            self.0.first,
-            OrderPlace
-        )
-    }
-}
-
-// The number of its line before it.
-#[derive(Clone, Copy)]
-struct MisplacedLine {
-    number: u64,
-    misplaced: Misplaced,
-}
-
-impl fmt::Display for MisplacedLine {
-    ghost output = { λ x. Some (misplaced_line x.number x.misplaced) };
-
-    fn fmt<W: fmt::Write>(&self, f: &mut fmt::Formatter<W>) -> fmt::Result {
-        write!(
-            f,
-            "impossible: line {}: {}\n",
-            self.number,
-            OrderRule(self.misplaced)
-        )
-    }
-}
-
-// The block of an answer, and whose link it is on.
-#[derive(Clone, Copy)]
-struct LinkLine {
-    block: BlockNo,
-    client: ClientId,
-}
-
-impl fmt::Display for LinkLine {
-    ghost output = { λ x. Some (link_line x.block x.client) };
-
-    fn fmt<W: fmt::Write>(&self, f: &mut fmt::Formatter<W>) -> fmt::Result {
-        write!(f, "\nblock {}, client {}\n", self.block, self.client)
-    }
-}
-
-fn misplaced(
-    alloc: Global,
-    number: u64,
-    line: &[u8],
-    misplaced: &Misplaced,
-) -> Result<Vec<u8>, AllocError>
-    ensures { IfOk result (λ text. text.items ≡ misplaced_text number line.now misplaced.now) }
-{
-    let order = MisplacedLine {
-        number,
-        misplaced: *misplaced,
-    };
-    let link = LinkLine {
-        block: misplaced.block,
-        client: misplaced.client,
-    };
-    let head = format!(in alloc; "{order}")?;
-    let tail = format!(in alloc; "{link}")?;
-    let mut text = head.into_bytes();
-    text.extend_from_slice(line)?;
-    text.extend_from_slice(tail.as_bytes())?;
-    Ok(text)
-}
-
 // The number of a line that no run comes to.
 #[derive(Clone, Copy)]
 struct StuckLine(u64);
@@ -616,10 +506,6 @@ pub fn text_of(
 {
     match verdict {
         Verdict::Explained(events) => explained(alloc, form, messages, events),
-        Verdict::Misplaced(found) => {
-            let number = number_at(messages, found.place);
-            misplaced(alloc, number, text_at(lines, number), found)
-        }
         Verdict::Impossible(wrong) => {
             let number = number_at(messages, wrong.place);
             impossible(alloc, number, text_at(lines, number), wrong)

@@ -3,10 +3,15 @@
 #![tactic(auto)]
 
 mod ending;
+mod named;
+mod order;
+mod pins;
 mod reply;
 mod run;
+mod sets;
 mod verdict;
 
 pub use ending::{Ending, Form, show, text_of};
+pub use order::Order;
 pub use reply::{answer, judge_lines, tell_ending};
-pub use verdict::{Order, Verdict};
+pub use verdict::Verdict;

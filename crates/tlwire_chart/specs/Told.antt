@@ -5,13 +5,12 @@ use Rattle.tlwire_answer.specs.Ending.{fault_text, status_of}
 use Rattle.tlwire_answer.specs.declared.ending.Ending.{Ending}
 use Rattle.tlwire_answer.specs.declared.ending.Ending.TheVariants.{Usage, Answered, Wrong as WrongLine, Empty, Memory, File}
 use Rattle.tlwire_answer.specs.declared.verdict.Verdict.{Verdict}
-use Rattle.tlwire_answer.specs.declared.verdict.Verdict.TheVariants.{Explained, Misplaced, Impossible, RuledOut, NotDecided, OtherOrder}
+use Rattle.tlwire_answer.specs.declared.verdict.Verdict.TheVariants.{Explained, Impossible, RuledOut, NotDecided, OtherOrder}
 
 -- why nothing is drawn of what was said of a record
 abbrev pub verdict_words : Verdict → List ℕ
 verdict_words (Explained events) = codes "error 61 no chart: the record is explained"
 verdict_words (Impossible wrong) = []
-verdict_words (Misplaced found) = []
 verdict_words (RuledOut stuck) = []
 verdict_words (NotDecided place limit sets) = codes "error 61 no chart: the record is not decided"
 verdict_words (OtherOrder order sets) = codes "error 61 no chart: the record is not decided"

@@ -11,15 +11,14 @@ pub fn broken_at(verdict: &Verdict) -> Option<usize>
     ensures { result ≡ broken_at verdict.now }
 {
     match verdict {
-        Verdict::Misplaced(found) => Some(found.place),
         Verdict::Impossible(wrong) => Some(wrong.place),
         Verdict::RuledOut(stuck) => Some(stuck.place),
         Verdict::Explained(_) | Verdict::NotDecided(_, _, _) | Verdict::OtherOrder(_, _) => None,
     }
 }
 
-/// By what the line is impossible: the order of answers, the rule that it breaks, or that no lawful run comes so far.
-/// The error is want of memory.
+/// By what the line is impossible: the rule that it breaks, or that no lawful run comes so far. The error is want of
+/// memory.
 pub fn words_of(alloc: Global, verdict: &Verdict) -> Result<String, AllocError>
     ensures { IfOk result (λ words. string_bytes words ≡ words_of verdict.now) }
 {
@@ -28,10 +27,6 @@ pub fn words_of(alloc: Global, verdict: &Verdict) -> Result<String, AllocError>
             let breaks = Breaks(&wrong.breach);
             format!(in alloc; "{breaks}")
         }
-        Verdict::Misplaced(_) => String::from_str(
-            alloc,
-            "answers stand in another order than what they answer",
-        ),
         _ => String::from_str(alloc, "no lawful run comes so far"),
     }
 }

@@ -27,7 +27,7 @@ impl fmt::Display for NoChart<'_> {
             Verdict::NotDecided(_, _, _) | Verdict::OtherOrder(_, _) => {
                 f.write_str("error 61 no chart: the record is not decided")
             }
-            Verdict::Misplaced(_) | Verdict::Impossible(_) | Verdict::RuledOut(_) => Ok(()),
+            Verdict::Impossible(_) | Verdict::RuledOut(_) => Ok(()),
         }
     }
 }

@@ -17,6 +17,8 @@ pub enum Way {
     /// At the clients' pins: what a client sends on A and C as it is sent, a Grant and a ReleaseAck as they are taken;
     /// what is on B and E, and on the memory's link, between.
     AtClients,
+    /// At the pins of the client with this number, its link as at the clients' pins; what is on other links, between.
+    AtClient(u32),
 }
 
 /// What is known of when lines were seen.
@@ -75,13 +77,21 @@ impl Way {
     pub(crate) fn opens_at_taking(self, wire: &Wire) -> bool
         ensures { result ≡ opens_at_taking self wire.now }
     {
-        match (self, wire) {
-            (Way::Between | Way::AtSending, _) => false,
-            (Way::AtHome, Wire::Link(_, channel)) => is_to_home(*channel),
-            (Way::AtHome, Wire::Memory(channel)) => is_from_memory(*channel),
-            (Way::AtClients, Wire::Link(_, channel)) => is_grant_channel(*channel),
-            (Way::AtClients, Wire::Memory(_)) => false,
-            (Way::AtHome | Way::AtClients, Wire::Core(_)) => false,
+        match self {
+            Way::Between | Way::AtSending => false,
+            Way::AtHome => match wire {
+                Wire::Link(_, channel) => is_to_home(*channel),
+                Wire::Memory(channel) => is_from_memory(*channel),
+                Wire::Core(_) => false,
+            },
+            Way::AtClients => match wire {
+                Wire::Link(_, channel) => is_grant_channel(*channel),
+                Wire::Memory(_) | Wire::Core(_) => false,
+            },
+            Way::AtClient(client) => match wire {
+                Wire::Link(c, channel) => c.number() == client && is_grant_channel(*channel),
+                Wire::Memory(_) | Wire::Core(_) => false,
+            },
         }
     }
 
@@ -89,13 +99,27 @@ impl Way {
     fn closes_at_taking(self, wire: &Wire) -> bool
         ensures { result ≡ closes_at_taking self wire.now }
     {
-        match (self, wire) {
-            (_, Wire::Core(_)) | (Way::AtSending, _) => false,
-            (Way::Between, Wire::Link(_, _) | Wire::Memory(_)) => true,
-            (Way::AtHome, Wire::Link(_, channel)) => is_to_home(*channel),
-            (Way::AtHome, Wire::Memory(channel)) => is_from_memory(*channel),
-            (Way::AtClients, Wire::Link(_, channel)) => is_late_at_clients(*channel),
-            (Way::AtClients, Wire::Memory(_)) => true,
+        match self {
+            Way::AtSending => false,
+            Way::Between => match wire {
+                Wire::Link(_, _) | Wire::Memory(_) => true,
+                Wire::Core(_) => false,
+            },
+            Way::AtHome => match wire {
+                Wire::Link(_, channel) => is_to_home(*channel),
+                Wire::Memory(channel) => is_from_memory(*channel),
+                Wire::Core(_) => false,
+            },
+            Way::AtClients => match wire {
+                Wire::Link(_, channel) => is_late_at_clients(*channel),
+                Wire::Memory(_) => true,
+                Wire::Core(_) => false,
+            },
+            Way::AtClient(client) => match wire {
+                Wire::Link(c, channel) => c.number() != client || is_late_at_clients(*channel),
+                Wire::Memory(_) => true,
+                Wire::Core(_) => false,
+            },
         }
     }
 }

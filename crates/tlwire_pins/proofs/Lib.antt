@@ -1,3 +1,4 @@
+pub mod Grouped
 pub mod Impossible
 pub mod Judged
 pub mod Leads

@@ -6,9 +6,8 @@ use Rattle.tl_types.specs.Codes.{channel_of}
 use Rattle.tl_protocol.specs.declared.shape.Shape.{Shape}
 use Rattle.tlwire_search.specs.declared.seen.Seen.{Seen}
 use Rattle.tlwire_search.specs.declared.seen.Seen.TheVariants.{OnLink, OnMemory, Load, Store}
-use Rattle.tlwire_pins.proofs.Leads.{joined}
 use Rattle.tlwire_pins.proofs.Walk.{take_one}
-use Rattle.tlwire_pins.specs.Pins.{KeepsOrder, is_message, is_of_client, is_own, is_told, own, told}
+use Rattle.tlwire_pins.specs.Pins.{is_message, is_of_client, is_own, is_told, own, told}
 use Rattle.tlwire_pins.specs.declared.view.Cores.{Cores}
 use Rattle.tlwire_pins.specs.declared.view.Cores.TheVariants.{Watched, Unseen}
 use Rattle.tlwire_pins.specs.Walk.{IsBeginning}
@@ -55,21 +54,10 @@ messages shape c block (OnMemory b message ∷ xs) = messages shape c block xs
 messages shape c block (Load x address bytes ∷ xs) = messages shape c block xs
 messages shape c block (Store x address bytes ∷ xs) = messages shape c block xs
 
-told-filter : (cores : Cores) (shape : Shape) (c block : ℕ) (xs : List Seen)
+pub told-filter : (cores : Cores) (shape : Shape) (c block : ℕ) (xs : List Seen)
     → own shape c block (filter (is_of_client cores c) xs) ≡ own shape c block (told cores xs)
 told-filter Watched shape c block xs = own-filter shape c block xs
 told-filter Unseen shape c block xs = messages shape c block xs
-
--- the order of all lines is that of each block's
-pub keeps : (cores : Cores) (shape : Shape) (c : ℕ) (lines seen some all : List Seen) → all ≡ filter (is_of_client cores c) lines
-    → some ≡ filter (is_of_client Watched c) seen → IsBeginning some all → KeepsOrder cores shape c lines seen
-keeps cores shape c lines seen some all is_all is_some b block = (
-  own shape c block b.0,
-  sym (told-filter cores shape c block lines)
-      ∙ (ap (λ (xs : List Seen). own shape c block xs) (sym is_all ∙ b.1)
-      ∙ (joined shape c block some b.0
-      ∙ ap (λ (xs : List Seen). xs ++ own shape c block b.0) (ap (λ (xs : List Seen). own shape c block xs) is_some ∙ own-filter shape c block seen))),
-)
 
 -- ## Lines behind references
 

@@ -1,10 +1,11 @@
 -- A walk along the lines of a record.
-use Rattle.std.proofs.Common.{◌≡◌, ◌≢◌, ◌<◌, ◌+◌, ℕ, zero, suc, Bool, true, false, cond, List, [], ◌∷◌, ◌++◌, take, length, get_or, Some, slice_get, refl, sym, ap, subst, ◌∙◌, append_assoc, arith, add-one}
+use Rattle.std.proofs.Common.{◌≡◌, ◌≢◌, ◌<◌, ◌≤◌, ◌+◌, ℕ, zero, suc, Bool, true, false, cond, List, [], ◌∷◌, ◌++◌, take, drop, length, get_or, Some, slice_get, refl, sym, ap, subst, ◌∙◌, append_assoc, arith, add-one}
 use Rattle.tl_protocol.specs.declared.shape.Shape.{Shape}
 use Rattle.tlwire_search.specs.declared.seen.Seen.{Seen}
 use Rattle.tlwire_pins.proofs.Impossible.{every_line}
 use Rattle.tlwire_pins.proofs.Leads.{joined}
 use Rattle.tlwire_pins.specs.Impossible.{IsImpossible}
+use Rattle.tlwire_pins.specs.Judged.{EachMay}
 use Rattle.tlwire_pins.specs.Pins.{is_own, own}
 use Rattle.tlwire_pins.specs.View.{MayBeSeen, after_seen, fresh, led_by}
 use Rattle.tlwire_pins.specs.Walk.{AllMay, Steps, StepsAt}
@@ -101,3 +102,33 @@ pub there_is : (xs : List Seen) (place : ℕ) (d : Seen) → place < length xs �
 there_is [] place d h = absurd (omega (arith, h))
 there_is (y ∷ ys) zero d h = refl
 there_is (y ∷ ys) (suc place) d h = there_is ys place d (omega (arith, h))
+
+-- ## The beginning of some lines
+
+may_first : (cores : Cores) (shape : Shape) (v : View) (xs ys : List Seen) → AllMay cores shape v (xs ++ ys) → AllMay cores shape v xs
+may_first cores shape v [] ys all = tt
+may_first cores shape v (x ∷ xs) ys all = (all.0, may_first cores shape (after_seen cores shape v x) xs ys all.1)
+
+take_drop_all : (n : ℕ) (xs : List Seen) → take n xs ++ drop n xs ≡ xs
+take_drop_all zero xs = refl
+take_drop_all (suc n) [] = refl
+take_drop_all (suc n) (x ∷ xs) = ap (λ (zs : List Seen). x ∷ zs) (take_drop_all n xs)
+
+-- where each line may be seen, each of the first ones may
+pub each_may_take : (cores : Cores) (shape : Shape) (c n : ℕ) (xs : List Seen) → EachMay cores shape c xs → EachMay cores shape c (take n xs)
+each_may_take cores shape c n xs all = λ block.
+    may_first cores shape fresh (own shape c block (take n xs)) (own shape c block (drop n xs))
+    (subst (λ (ys : List Seen). AllMay cores shape fresh ys) (joined shape c block (take n xs) (drop n xs))
+    (subst (λ (ys : List Seen). AllMay cores shape fresh (own shape c block ys)) (sym (take_drop_all n xs)) (all block)))
+
+take_less : (m n : ℕ) (xs : List Seen) → m ≤ n → take m (take n xs) ≡ take m xs
+take_less zero n xs le = refl
+take_less (suc m) zero xs le = absurd (omega (arith, le))
+take_less (suc m) (suc n) [] le = refl
+take_less (suc m) (suc n) (x ∷ xs) le = ap (λ (zs : List Seen). x ∷ zs) (take_less m n xs (omega (arith, le)))
+
+-- and of fewer
+pub each_may_less : (cores : Cores) (shape : Shape) (c m n : ℕ) (xs : List Seen) → m ≤ n → EachMay cores shape c (take n xs)
+    → EachMay cores shape c (take m xs)
+each_may_less cores shape c m n xs le all =
+    subst (λ (ys : List Seen). EachMay cores shape c ys) (take_less m n xs le) (each_may_take cores shape c m (take n xs) all)

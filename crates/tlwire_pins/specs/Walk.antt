@@ -3,7 +3,9 @@ use Rattle.std.specs.Prelude.{◌≡◌, ◌==◌, ℕ, Bool, true, false, List,
 use Rattle.tl_protocol.specs.declared.shape.Shape.{Shape}
 use Rattle.tl_protocol.specs.Runs.{at_reset}
 use Rattle.tl_protocol.specs.declared.event.Event.{Event}
-use Rattle.tlcheck_rules.specs.Judged.{Follows, JudgeState}
+use Rattle.tl_rules.specs.PlainState.{PlainState}
+use Rattle.tlwire_search.specs.Led.{LeadsTo}
+use Rattle.tlwire_search.specs.Lists.{block_of}
 use Rattle.tlwire_search.specs.declared.seen.Seen.{Seen}
 use Rattle.tlwire_pins.specs.Pins.{is_own, lines_from, own}
 use Rattle.tlwire_pins.specs.View.{BreaksLine, MayLine, MayBeSeen, after_seen, before_line, fresh, led_by}
@@ -52,11 +54,15 @@ pub record BreaksNext (cores : Cores) (shape : Shape) (c : ℕ) (x : Seen) (old 
 
 -- ## What is seen of a run at the pins. No public clause cites these.
 
+-- it is of a block
+abbrev pub is_in : Shape → ℕ → Seen → Bool
+is_in shape block x = block_of shape.block_bytes x == block
+
 -- some lines are the beginning of others
 abbrev pub IsBeginning : List Seen → List Seen → Type 0
 IsBeginning some all = (more : List Seen) × (all ≡ some ++ more)
 
--- a judge is where the events so far lead, and these lines are what is seen of them
-pub record IsReplayed (shape : Shape) (image : List ℕ) (run : List Event) (judge : JudgeState) (lines : List Seen) : Type 0 where
-  pub follows : Follows shape image run judge
+-- the events so far are a run that leads to this map, and these lines are what is seen of them
+pub record IsReplayed (shape : Shape) (image : List ℕ) (run : List Event) (plain : PlainState) (lines : List Seen) : Type 0 where
+  pub leads : LeadsTo shape image run plain
   pub seen : lines ≡ lines_from shape (at_reset shape image) run

@@ -1,9 +1,8 @@
 //! A pass over a record: the first line that may not be seen at a client's pins.
-ghost use Rattle.std.specs.Prelude.{◌≡◌, ◌<◌, ◌≤◌, ℕ, IfOk, IfSome, IsNone, IsSome};
+ghost use Rattle.std.specs.Prelude.{◌≡◌, ◌<◌, ◌≤◌, IfOk, IfSome, IsNone, IsSome, take};
 ghost use Rattle.tlwire_pins.specs.Impossible.{IsImpossible};
-ghost use Rattle.tlwire_pins.specs.Pins.{own};
-ghost use Rattle.tlwire_pins.specs.View.{fresh};
-ghost use Rattle.tlwire_pins.specs.Walk.{AllMay, IsWrong};
+ghost use Rattle.tlwire_pins.specs.Judged.{EachMay};
+ghost use Rattle.tlwire_pins.specs.Walk.{IsWrong};
 
 use crate::view::{Cores, View};
 use crate::views::{Broken, step};
@@ -48,8 +47,8 @@ fn at_place(place: usize, client: ClientId, broken: Broken) -> Wrong
     }
 }
 
-/// Looks for the first line of a record that may not be seen at a client's pins. Where there is one, no lawful run is
-/// seen so there. Where nobody watched the client's core, only its permission and what it waits for count. It takes
+/// Looks for the first line of a record that may not be seen at a client's pins: each line before it may. Where there
+/// is one, no lawful run is seen so there. Where nobody watched the client's core, only its permission and what it waits for count. It takes
 /// time by lines, and memory by the blocks that they are of. The error is want of memory.
 pub fn first_wrong(
     alloc: Global,
@@ -61,8 +60,8 @@ pub fn first_wrong(
     requires { (0 < shape.block_bytes) × (shape.block_bytes ≤ BLOCK_BYTES) }
     ensures wrong { IfOk result (λ found. IfSome found (IsWrong cores shape client seen.now)) }
     ensures impossible { IfOk result (λ found. IsSome found → IsImpossible cores shape client seen.now) }
-    ensures none { IfOk result
-        (λ found. IsNone found → (block : ℕ) → AllMay cores shape fresh (own shape client block seen.now)) }
+    ensures first { IfOk result (λ found. IfSome found (λ w. EachMay cores shape client (take w.place seen.now))) }
+    ensures none { IfOk result (λ found. IsNone found → EachMay cores shape client seen.now) }
 {
     let mut views = HashMap::new(alloc);
     for place in 0..seen.len() {

@@ -5,53 +5,15 @@ ghost use Rattle.tl_protocol.specs.Runs.{at_reset};
 ghost use Rattle.tl_protocol.specs.declared.event.Event.{Event};
 ghost use Rattle.tl_protocol.specs.declared.shape.Shape.{Shape};
 ghost use Rattle.tl_rules.specs.Plain.{plain_client};
-ghost use Rattle.tlcheck_rules.specs.Judged.{own_block};
 ghost use Rattle.tlwire_pins.specs.Pins.{line_of, lines_from, taken_seen};
 ghost use Rattle.tlwire_pins.specs.Walk.{IsReplayed};
+ghost use Rattle.tlwire_search.specs.Led.{own_block};
 
 use std::alloc::{AllocError, Global};
-use tl_rules::{Access, BlockState, Event, Shape};
+use tl_rules::{BlockState, Event, Plain, Shape, may_follow};
 use tl_types::{BLOCK_BYTES, BLOCKS, BlockNo, Body, ClientId, Downward};
-use tlcheck_rules::{Entry, Judge, Refusal, Shown};
+use tlcheck_rules::Shown;
 use tlwire_search::{Seen, seen_of};
-
-fn copied_access(access: &Access) -> Access
-    ensures { result ≡ access.now }
-{
-    Access {
-        client: access.client,
-        address: access.address,
-        stamp: access.stamp,
-        index: access.index,
-        bytes: access.bytes.copied(),
-    }
-}
-
-/// The same event again.
-fn copied(event: &Event) -> Event
-    ensures { result ≡ event.now }
-{
-    match event {
-        Event::Load(access) => Event::Load(copied_access(access)),
-        Event::Store(access) => Event::Store(copied_access(access)),
-        Event::SendAcquire(c, block, grow) => Event::SendAcquire(*c, *block, *grow),
-        Event::SendRelease(c, block, prune) => Event::SendRelease(*c, *block, *prune),
-        Event::AnswerProbe(c, block) => Event::AnswerProbe(*c, *block),
-        Event::TakeGrant(c, block) => Event::TakeGrant(*c, *block),
-        Event::TakeReleaseAck(c, block) => Event::TakeReleaseAck(*c, *block),
-        Event::AcceptAcquire(c, block) => Event::AcceptAcquire(*c, *block),
-        Event::SendProbe(c, block, cap) => Event::SendProbe(*c, *block, *cap),
-        Event::TakeC(c, block) => Event::TakeC(*c, *block),
-        Event::SendGrant(c, block) => Event::SendGrant(*c, *block),
-        Event::TakeGrantAck(c, block) => Event::TakeGrantAck(*c, *block),
-        Event::SendGet(block) => Event::SendGet(*block),
-        Event::Serve(block) => Event::Serve(*block),
-        Event::TakeData(block) => Event::TakeData(*block),
-        Event::Drop(block) => Event::Drop(*block),
-        Event::SendPut(block) => Event::SendPut(*block),
-        Event::TakePutAck(block) => Event::TakePutAck(*block),
-    }
-}
 
 /// The first message of D, as a client takes it.
 fn taken_seen(client: ClientId, block: BlockNo, waiting: &[Downward]) -> Option<Seen>
@@ -75,20 +37,18 @@ fn taken_of(client: ClientId, block: BlockNo, state: &BlockState) -> Option<Seen
 }
 
 /// What is seen at its client's pins of an event that may come next.
-fn line_of(judge: &Judge, event: &Event) -> Option<Seen>
-    requires { May judge.now.plain.shape (own_block judge.now event.now) event.now }
-    ensures { result ≡ line_of judge.now.plain.shape (own_block judge.now event.now) event.now }
+fn line_of(plain: &Plain, event: &Event) -> Option<Seen>
+    requires { May plain.now.shape (own_block plain.now event.now) event.now }
+    ensures { result ≡ line_of plain.now.shape (own_block plain.now event.now) event.now }
 {
     match event {
         Event::Load(_)
         | Event::Store(_)
         | Event::SendAcquire(_, _, _)
         | Event::SendRelease(_, _, _)
-        | Event::AnswerProbe(_, _) => seen_of(judge, event),
-        Event::TakeGrant(c, block) => taken_of(*c, *block, judge.plain().block(block.number())?),
-        Event::TakeReleaseAck(c, block) => {
-            taken_of(*c, *block, judge.plain().block(block.number())?)
-        }
+        | Event::AnswerProbe(_, _) => seen_of(plain, event),
+        Event::TakeGrant(c, block) => taken_of(*c, *block, plain.block(block.number())?),
+        Event::TakeReleaseAck(c, block) => taken_of(*c, *block, plain.block(block.number())?),
         _ => None,
     }
 }
@@ -96,7 +56,7 @@ fn line_of(judge: &Judge, event: &Event) -> Option<Seen>
 /// The events of a run so far, and what is seen of them at the pins of their clients.
 #[derive(Drop)]
 struct Replay {
-    judge: Judge,
+    plain: Plain,
     lines: Vec<Seen>,
 }
 
@@ -104,35 +64,32 @@ impl Replay {
     fn new(alloc: Global, shape: Shape, image: &[u8]) -> Result<Replay, AllocError>
         requires bytes { (0 < shape.block_bytes) × (shape.block_bytes ≤ BLOCK_BYTES) }
         requires blocks { shape.blocks ≤ BLOCKS }
-        ensures { IfOk result (λ replay. IsReplayed shape image.now [] replay.judge replay.lines.items) }
+        ensures { IfOk result (λ replay. IsReplayed shape image.now [] replay.plain replay.lines.items) }
     {
-        let judge = Judge::new(alloc, shape, image)?;
+        let plain = Plain::new(alloc, shape, image)?;
         let lines = Vec::new(alloc);
-        Ok(Replay { judge, lines })
+        Ok(Replay { plain, lines })
     }
 }
 
 /// Takes one event more, where it is permitted.
-fn take(judge: &mut Judge, lines: &mut Vec<Seen>, entry: &Entry) -> Result<bool, AllocError>
+fn take(plain: &mut Plain, lines: &mut Vec<Seen>, event: &Event) -> Result<bool, AllocError>
     ensures { IfOk result (λ yes. IsTrue yes → (shape : Shape) (image : List ℕ) (run : List Event)
-        → IsReplayed shape image run judge.old lines.old.items
-        → IsReplayed shape image (run ++ entry.now.event ∷ []) judge.new lines.new.items) }
+        → IsReplayed shape image run plain.old lines.old.items
+        → IsReplayed shape image (run ++ event.now ∷ []) plain.new lines.new.items) }
 {
-    if let Some(_) = judge.breach(entry) {
+    if !may_follow(plain, event) {
         return Ok(false);
     }
-    if let Some(line) = line_of(judge, &entry.event) {
+    if let Some(line) = line_of(plain, event) {
         lines.push(line)?;
     }
-    match judge.step(entry) {
-        Ok(()) => Ok(true),
-        Err(Refusal::Broken(_)) => Ok(false),
-        Err(Refusal::Memory) => Err(AllocError),
-    }
+    plain.carry_out(event)?;
+    Ok(true)
 }
 
-/// What is seen of a run at the pins of its clients, in order of time; None where an event is not permitted, or
-/// takes a message out of its channel's order. The error is want of memory.
+/// What is seen of a run at the pins of its clients, in order of time; None where an event is not permitted. The error
+/// is want of memory.
 pub fn lines_at_pins(
     alloc: Global,
     shape: Shape,
@@ -146,11 +103,7 @@ pub fn lines_at_pins(
 {
     let mut replay = Replay::new(alloc, shape, image)?;
     for event in run {
-        let entry = Entry {
-            event: copied(event),
-            shown: None,
-        };
-        if !take(&mut replay.judge, &mut replay.lines, &entry)? {
+        if !take(&mut replay.plain, &mut replay.lines, event)? {
             return Ok(None);
         }
     }

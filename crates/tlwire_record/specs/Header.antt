@@ -1,5 +1,5 @@
 -- The lines before the messages (this project's own format).
-use Rattle.std.specs.Prelude.{ℕ, ◌%◌, ◌++◌, ◌==◌, ◌&&◌, ◌||◌, nat_le, nat_lt, Bool, false, List, [], ◌∷◌, length, codes, bytes_eq, Result, Ok, Err, if◌then◌else◌}
+use Rattle.std.specs.Prelude.{ℕ, ◌%◌, ◌*◌, ◌+◌, ◌++◌, ◌==◌, ◌&&◌, ◌||◌, nat_le, nat_lt, Bool, false, List, [], ◌∷◌, codes, bytes_eq, Result, Ok, Err, if◌then◌else◌}
 use Rattle.std.specs.List.{list_any}
 use Rattle.tl_protocol.specs.declared.shape.Shape.{Shape}
 use Rattle.tlcheck_record.specs.Header.{is_in_range}
@@ -9,6 +9,7 @@ use Rattle.tlwire_record.specs.Address.{wide_address_in}
 use Rattle.tlwire_record.specs.Fields.{pair_of}
 use Rattle.tlcheck_record.specs.declared.cause.Cause.{Cause}
 use Rattle.tlcheck_record.specs.declared.cause.Cause.TheVariants as cause
+use Rattle.tlwire_record.specs.declared.header.TheConstants.{REACH}
 use Rattle.tlwire_record.specs.declared.header.Sources.{Sources}
 use Rattle.tlwire_search.specs.declared.premise.Premise.{Premise}
 use Rattle.tlwire_search.specs.declared.premise.Premise.TheVariants.{AtClient, AtClients, AtHome, Between, Skew, Whole, MemoryUnseen, CoresUnseen}
@@ -24,10 +25,14 @@ pub record SettingState : Type 0 where
 abbrev pub has_source : ℕ → ℕ → Sources → Bool
 has_source client source s = (s.client == client) && nat_le s.from source && nat_le source s.to
 
--- a source is one of a client's: it lies in one of its ranges; where no line gives sources, it is the client's number
+-- a range is the client's
+abbrev pub is_of : ℕ → Sources → Bool
+is_of client s = s.client == client
+
+-- a source is one of a client's: it lies in one of its ranges; where no line gives the client sources, it is the client's number
 abbrev pub owns : List Sources → ℕ → ℕ → Bool
 owns sources client source =
-    if length sources == 0 then client == source else list_any (has_source client source) sources
+    if list_any (is_of client) sources then list_any (has_source client source) sources else client == source
 
 -- `jvwire 1`
 abbrev pub is_title : List (List ℕ) → Bool
@@ -52,9 +57,13 @@ address_part key _ = Err cause.Key
 abbrev pub address_at : List ℕ → List ℕ → Result ℕ Cause
 address_at key word = address_part key (pair_of word)
 
--- the numbers are in range, and block 0 begins where a block may
+-- the last byte of the memory has an address of 64 bits
+abbrev pub ends_in_reach : Shape → ℕ → Bool
+ends_in_reach shape base = nat_le (base + shape.block_bytes * shape.blocks) REACH
+
+-- the numbers are in range, block 0 begins where a block may, and the last one ends where an address reaches
 abbrev pub is_fit : Shape → ℕ → Bool
-is_fit shape base = is_in_range shape && (base % shape.block_bytes == 0)
+is_fit shape base = is_in_range shape && (base % shape.block_bytes == 0) && ends_in_reach shape base
 
 -- the setting of these numbers, where they are fit
 abbrev pub fitting : Shape → ℕ → Result SettingState Cause

@@ -3,7 +3,7 @@ ghost use Rattle.std.specs.Prelude.{◌≡◌, ◌<◌, ◌≤◌, [], ◌∷◌
 ghost use Rattle.std.specs.List.{list_any};
 ghost use Rattle.tl_script_words.specs.Words.{texts};
 ghost use Rattle.tlcheck_record.specs.Cause.{Gives};
-ghost use Rattle.tlwire_record.specs.Header.{address_at, address_part, fitting, has_source, has_sources, is_fit, is_title, number_at, number_part, numbers_in, owns, setting_in, sources_in, sources_taken, with_premise, with_sources};
+ghost use Rattle.tlwire_record.specs.Header.{address_at, address_part, ends_in_reach, fitting, has_source, has_sources, is_fit, is_of, is_title, number_at, number_part, numbers_in, owns, setting_in, sources_in, sources_taken, with_premise, with_sources};
 
 use crate::address::read_wide_address;
 use crate::fields::split_pair;
@@ -13,6 +13,9 @@ use tl_rules::Shape;
 use tl_types::{BLOCK_BYTES, BLOCKS, ClientId};
 use tlcheck_record::{Cause, LineError, read_number};
 use tlwire_search::Premise;
+
+/// How many bytes addresses of 64 bits reach.
+pub const REACH: u128 = 18_446_744_073_709_551_616;
 
 /// The source ids from one to another, both with them, which are a client's.
 #[derive(Clone, Copy, Debug, PartialEq, Eq)]
@@ -54,6 +57,12 @@ impl Sources {
     }
 }
 
+fn is_named(sources: &[Sources], client: ClientId) -> bool
+    ensures { result ≡ list_any (is_of client) sources.now }
+{
+    sources.iter().any(|range| range.client == client)
+}
+
 fn is_owned(sources: &[Sources], client: ClientId, source: u32) -> bool
     ensures { result ≡ list_any (has_source client source) sources.now }
 {
@@ -63,10 +72,10 @@ fn is_owned(sources: &[Sources], client: ClientId, source: u32) -> bool
 fn owns(sources: &[Sources], client: ClientId, source: u32) -> bool
     ensures { result ≡ owns sources.now client source }
 {
-    if sources.is_empty() {
-        client.number() == source
-    } else {
+    if is_named(sources, client) {
         is_owned(sources, client, source)
+    } else {
+        client.number() == source
     }
 }
 
@@ -87,7 +96,7 @@ impl Setting {
         self.base
     }
 
-    /// Whether a source is one of a client's; where no line gives sources, a client has the one of its number.
+    /// Whether a source is one of a client's; a client that no line gives sources has the one of its number.
     pub fn owns(&self, client: ClientId, source: u32) -> bool
         ensures { result ≡ owns self.now.sources client source }
     {
@@ -174,6 +183,14 @@ fn address_at(alloc: Global, key: &str, word: &str) -> Result<u64, LineError>
     Ok(address_part(key, &parts)?)
 }
 
+/// Whether the last byte of a memory has an address of 64 bits.
+fn ends_in_reach(shape: Shape, base: u64) -> bool
+    ensures { result ≡ ends_in_reach shape base }
+{
+    let bytes = shape.block_bytes as u64 * shape.blocks as u64;
+    base as u128 + bytes as u128 <= REACH
+}
+
 fn is_fit(shape: Shape, base: u64) -> bool
     ensures { result ≡ is_fit shape base }
 {
@@ -186,6 +203,7 @@ fn is_fit(shape: Shape, base: u64) -> bool
         && 1 <= shape.blocks
         && shape.blocks as usize <= BLOCKS
         && base % (shape.block_bytes as u64) == 0
+        && ends_in_reach(shape, base)
 }
 
 fn fitting(alloc: Global, shape: Shape, base: u64) -> Result<Setting, Cause>

@@ -5,12 +5,12 @@ use Rattle.tl_protocol.specs.declared.event.Event.{Event}
 use Rattle.tl_protocol.specs.declared.shape.Shape.{Shape}
 use Rattle.tl_protocol.specs.Protocol.{Block, block_of}
 use Rattle.tl_protocol.specs.Runs.{at_reset, after_next, end_from, end_of}
-use Rattle.tlcheck_rules.specs.declared.entry.Entry.{Entry}
-use Rattle.tlcheck_rules.specs.Judged.{Allows, Follows, IsPermitted, JudgeState, own_block}
-use Rattle.tl_rules.specs.Plain.{state_of_plain}
-use Rattle.tl_protocol_lanes.proofs.Logs.{empty_is_lawful, lawful_grows_by_one}
+use Rattle.tl_rules.specs.Plain.{IsReset, IsStep, state_of_plain}
+use Rattle.tl_rules.specs.PlainState.{PlainState}
+use Rattle.tlwire_search.proofs.Led.{led_at_reset, led_on}
 use Rattle.tlwire_search.proofs.Marking.{same_wire-true}
 use Rattle.tlwire_search.specs.Explained.{Explains, IsSeenOn, as_list, on, same_wire, seen_along, seen_from, seen_of, wire_of}
+use Rattle.tlwire_search.specs.Led.{own_block}
 use Rattle.tlwire_search.specs.Left.{GoesAlong, GoesAlongOn, IsMarking, IsNext, MarkState, left}
 use Rattle.tlwire_search.specs.Premises.{may_have_more}
 use Rattle.tlwire_search.specs.declared.premise.Premise.{Premise}
@@ -91,31 +91,29 @@ still premises seen old new None m same = subst (λ (n : MarkState). IsMarking s
 still premises seen old new (Some s) m (inl marked) = marked.marking
 still premises seen old new (Some s) m (inr (more, done, same, marking)) = marking
 
-module _ (premises : List Premise) (shape : Shape) (image : List ℕ) (seen : List Seen) (run : List Event) (j : JudgeState) (m : MarkState) (g : GoesAlong premises shape image seen run j m) where
+module _ (premises : List Premise) (shape : Shape) (image : List ℕ) (seen : List Seen) (run : List Event) (p : PlainState) (m : MarkState) (g : GoesAlong premises shape image seen run p m) where
   -- what is seen of one more event that may come next
-  own : (e : Event) → block_of j.plain.shape e < j.plain.shape.blocks
-      → seen_along shape image (run ++ e ∷ []) ≡ seen_along shape image run ++ as_list (seen_of j.plain.shape (own_block j e) e)
+  own : (e : Event) → block_of p.shape e < p.shape.blocks
+      → seen_along shape image (run ++ e ∷ []) ≡ seen_along shape image run ++ as_list (seen_of p.shape (own_block p e) e)
   own e lt =
       grows shape (at_reset shape image) run e
       ∙ subst (λ (sh : Shape). seen_along shape image run ++ as_list (seen_of shape (end_of shape image run (block_of shape e)) e)
-      ≡ seen_along shape image run ++ as_list (seen_of sh (state_of_plain j.plain (block_of sh e)) e)) (sym g.follows.same_shape)
+      ≡ seen_along shape image run ++ as_list (seen_of sh (state_of_plain p (block_of sh e)) e)) (sym g.leads.same_shape)
       (ap (λ (b : Block). seen_along shape image run ++ as_list (seen_of shape b e))
-      (g.follows.ended (block_of shape e) (subst (λ (sh : Shape). block_of sh e < sh.blocks) g.follows.same_shape lt)))
+      (g.leads.ended (block_of shape e) (subst (λ (sh : Shape). block_of sh e < sh.blocks) g.leads.same_shape lt)))
 
   -- one more event
-  pub goes_on : (entry : Entry) (new : JudgeState) (marks : MarkState) → Allows j entry
-      → IsPermitted shape image run entry × Follows shape image (run ++ entry.event ∷ []) new
-      → IsNextBy premises seen m marks (seen_of j.plain.shape (own_block j entry.event) entry.event)
-      → GoesAlong premises shape image seen (run ++ entry.event ∷ []) new marks
-  goes_on entry new marks a next marked =
-      let shown : Option Seen = seen_of j.plain.shape (own_block j entry.event) entry.event in
+  pub goes_on : (e : Event) (new : PlainState) (marks : MarkState) → IsStep p new e
+      → IsNextBy premises seen m marks (seen_of p.shape (own_block p e) e)
+      → GoesAlong premises shape image seen (run ++ e ∷ []) new marks
+  goes_on e new marks step marked =
+      let shown : Option Seen = seen_of p.shape (own_block p e) e in
       record {
-        follows = next.1;
-        lawful = lawful_grows_by_one shape image run entry.event g.lawful next.0.may next.0.first;
+        leads = led_on shape image run p new e g.leads step;
         marking = still premises seen m marks shown g.marking marked;
         each = λ w.
             subst (λ (xs : List Seen). GoesAlongOn (may_have_more premises w) xs (on w (left marks.marks seen)) (on w seen))
-            (sym (ap (λ (xs : List Seen). on w xs) (own entry.event a.may.0) ∙ on-append w (seen_along shape image run) (as_list shown)))
+            (sym (ap (λ (xs : List Seen). on w xs) (own e step.permitted.0) ∙ on-append w (seen_along shape image run) (as_list shown)))
             (goes premises seen (seen_along shape image run) m marks shown marked w (g.each w));
       }
 
@@ -124,12 +122,11 @@ starts_on : (more : Bool) (rest seen : List Seen) → rest ≡ seen → GoesAlon
 starts_on false rest seen e = e
 starts_on true rest seen e = inl e
 
-pub starts : (premises : List Premise) (shape : Shape) (image : List ℕ) (seen : List Seen) (j : JudgeState) (m : MarkState)
-    → Follows shape image [] j → IsMarking seen m → left m.marks seen ≡ seen → GoesAlong premises shape image seen [] j m
-starts premises shape image seen j m f marking all =
+pub starts : (premises : List Premise) (shape : Shape) (image : List ℕ) (seen : List Seen) (p : PlainState) (m : MarkState)
+    → IsReset shape image p → IsMarking seen m → left m.marks seen ≡ seen → GoesAlong premises shape image seen [] p m
+starts premises shape image seen p m reset marking all =
     record {
-      follows = f;
-      lawful = (empty_is_lawful shape image).0;
+      leads = led_at_reset shape image p reset;
       marking = marking;
       each = λ w. starts_on (may_have_more premises w) (on w (left m.marks seen)) (on w seen) (ap (λ (xs : List Seen). on w xs) all);
     }
@@ -141,11 +138,11 @@ ends_on true all rest seen none (inl g) =
     ([], sym (append-nil all) ∙ (ap (λ (xs : List Seen). all ++ xs) (sym none) ∙ (g ∙ sym (append-nil seen))))
 ends_on true all rest seen none (inr (done, more)) = more
 
-pub explains : (premises : List Premise) (shape : Shape) (image : List ℕ) (seen : List Seen) (run : List Event) (j : JudgeState) (m : MarkState)
-    → GoesAlong premises shape image seen run j m → left m.marks seen ≡ [] → Explains premises shape image seen run
-explains premises shape image seen run j m g none =
+pub explains : (premises : List Premise) (shape : Shape) (image : List ℕ) (seen : List Seen) (run : List Event) (p : PlainState) (m : MarkState)
+    → GoesAlong premises shape image seen run p m → left m.marks seen ≡ [] → Explains premises shape image seen run
+explains premises shape image seen run p m g none =
     record {
-      lawful = g.lawful;
+      lawful = g.leads.lawful;
       seen_there = λ w.
           ends_on (may_have_more premises w) (on w (seen_along shape image run)) (on w (left m.marks seen)) (on w seen)
           (ap (λ (xs : List Seen). on w xs) none) (g.each w);
@@ -160,7 +157,7 @@ pub nothing : (premises : List Premise) (shape : Shape) (image : List ℕ) (seen
 nothing premises shape image seen run none empty =
     subst (λ (es : List Event). Explains premises shape image seen es) (sym empty)
     (record {
-      lawful = (empty_is_lawful shape image).0;
+      lawful = tt;
       seen_there = λ w. nothing_on (may_have_more premises w) (on w seen) (ap (λ (xs : List Seen). on w xs) (sym none));
     })
 

@@ -1,4 +1,5 @@
 pub mod Along
+pub mod Led
 pub mod Listing
 pub mod Marking
 pub mod Grants

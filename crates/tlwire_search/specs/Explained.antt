@@ -14,9 +14,8 @@ use Rattle.tl_protocol.specs.declared.home.Outward.{Outward}
 use Rattle.tl_protocol.specs.declared.home.Outward.TheVariants.{Quiet, Get, Data, Put, PutAck}
 use Rattle.tl_protocol.specs.declared.shape.Shape.{Shape}
 use Rattle.tl_protocol.specs.Protocol.{Block, block_of, home_bytes}
-use Rattle.tl_protocol.specs.Runs.{at_reset, after_next}
+use Rattle.tl_protocol.specs.Runs.{IsRun, at_reset, after_next}
 use Rattle.tl_protocol_lanes.specs.Lanes.{Post, post_of}
-use Rattle.tl_protocol_lanes.specs.Lawful.{Lawful}
 use Rattle.tlcheck_rules.specs.declared.entry.Shown.{Shown}
 use Rattle.tlwire_search.specs.Premises.{may_have_more}
 use Rattle.tlwire_search.specs.declared.answer.Explanation.{Explanation}
@@ -108,9 +107,10 @@ IsSeenOn true all seen = (unseen : List Seen) × (all ≡ seen ++ unseen)
 
 -- A run explains what a monitor saw, so far as the record's header says how: it is lawful, and on each channel and at each core just that
 -- is seen of it, in that order; what comes behind that was not seen, where the record was cut or nobody watched. Between two channels no
--- order is kept, since the buffers of a network delay what a monitor sees on each of them.
+-- order is kept, since the buffers of a network delay what a monitor sees on each of them. Nor is one in what an agent takes from a
+-- channel: of each block it takes the messages in their order, and of several blocks in any (TileLink 1.8, section 9).
 pub record Explains (premises : List Premise) (shape : Shape) (image : List ℕ) (seen : List Seen) (run : List Event) : Type 0 where
-  pub lawful : Lawful shape image run
+  pub lawful : IsRun shape image run
   pub seen_there : (wire : Wire) → IsSeenOn (may_have_more premises wire) (on wire (seen_along shape image run)) (on wire seen)
 
 -- What is answered: a run that explains what was seen; or a place in it, of which nothing else is claimed.

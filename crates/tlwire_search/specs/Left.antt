@@ -2,9 +2,9 @@
 use Rattle.std.specs.Prelude.{◌≡◌, ◌<◌, ◌⊎◌, ℕ, All, Bool, true, false, List, [], ◌∷◌, ◌++◌, length, slice_index_or, if◌then◌else◌}
 use Rattle.tl_protocol.specs.declared.event.Event.{Event}
 use Rattle.tl_protocol.specs.declared.shape.Shape.{Shape}
-use Rattle.tl_protocol_lanes.specs.Lawful.{Lawful}
-use Rattle.tlcheck_rules.specs.Judged.{Follows, JudgeState}
+use Rattle.tl_rules.specs.PlainState.{PlainState}
 use Rattle.tlwire_search.specs.Explained.{on, seen_along, wire_of}
+use Rattle.tlwire_search.specs.Led.{LeadsTo}
 use Rattle.tlwire_search.specs.Premises.{may_have_more}
 use Rattle.tlwire_search.specs.declared.premise.Premise.{Premise}
 use Rattle.tlwire_search.specs.declared.seen.Seen.{Seen}
@@ -53,10 +53,9 @@ abbrev pub GoesAlongOn : Bool → List Seen → List Seen → List Seen → Type
 GoesAlongOn false all rest seen = all ++ rest ≡ seen
 GoesAlongOn true all rest seen = (all ++ rest ≡ seen) ⊎ ((rest ≡ []) × ((unseen : List Seen) × (all ≡ seen ++ unseen)))
 
--- A run is lawful, a judge is where it leads, and what is seen of it is what is marked, or was not seen.
-pub record GoesAlong (premises : List Premise) (shape : Shape) (image : List ℕ) (seen : List Seen) (run : List Event) (judge : JudgeState) (m : MarkState) : Type 0 where
-  pub follows : Follows shape image run judge
-  pub lawful : Lawful shape image run
+-- A run is lawful, and leads to a map of the state, and what is seen of it is what is marked, or was not seen.
+pub record GoesAlong (premises : List Premise) (shape : Shape) (image : List ℕ) (seen : List Seen) (run : List Event) (plain : PlainState) (m : MarkState) : Type 0 where
+  pub leads : LeadsTo shape image run plain
   pub marking : IsMarking seen m
   pub each :
       (wire : Wire)

@@ -1,4 +1,5 @@
 pub mod Explained
+pub mod Led
 pub mod Left
 pub mod Lists
 pub mod Premises

@@ -1,5 +1,5 @@
 -- What is looked for among what was seen. No public clause cites these.
-use Rattle.std.specs.Prelude.{◌≡◌, ℕ, Bool, true, false, Option, Some, None}
+use Rattle.std.specs.Prelude.{◌≡◌, ℕ, Bool, true, false}
 use Rattle.tl_types.specs.declared.kind.Kind.{Kind}
 use Rattle.tl_types.specs.declared.kind.Kind.TheVariants as kind
 use Rattle.tlwire_search.specs.Explained.{wire_of}
@@ -36,8 +36,3 @@ is_sought Get s = is_get s
 -- it is sought of a block on a wire, where a block has so many bytes
 abbrev pub IsLike : ℕ → Wire → ℕ → Sought → Seen → Type 0
 IsLike bytes wire block sought s = (wire_of s ≡ wire) × (block_of bytes s ≡ block) × (is_sought sought s ≡ true)
-
--- a Grant is of this block, however many bytes a block has; or it is no Grant
-abbrev pub IsGrantedBlock : Seen → Option ℕ → Type 0
-IsGrantedBlock s None = is_grant s ≡ false
-IsGrantedBlock s (Some block) = (is_grant s ≡ true) × ((bytes : ℕ) → block_of bytes s ≡ block)

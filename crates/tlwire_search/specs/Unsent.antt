@@ -51,13 +51,6 @@ IsFirstUnsent w wire block sought (Some place) =
     IsUnsentAt w wire block sought place
     × ((earlier : ℕ) → earlier < place → ¬ IsUnsentAt w wire block sought earlier)
 
--- the first Grant to a client that is not sent is of this block; or none is unsent
-abbrev pub IsNextGranted : Wires → ℕ → Option ℕ → Type 0
-IsNextGranted w c None = (place block : ℕ) → ¬ IsUnsentAt w (Link c D) block Grant place
-IsNextGranted w c (Some block) =
-    (place : ℕ) × IsUnsentAt w (Link c D) block Grant place
-    × ((earlier other : ℕ) → earlier < place → ¬ IsUnsentAt w (Link c D) other Grant earlier)
-
 -- of the Grants of a block to so many clients that are not sent, the first is to this client; or none is unsent
 abbrev pub IsGrantedFirst : Wires → ℕ → ℕ → Option ℕ → Type 0
 IsGrantedFirst w clients block None = (x place : ℕ) → x < clients → ¬ IsUnsentAt w (Link x D) block Grant place

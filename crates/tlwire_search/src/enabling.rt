@@ -6,9 +6,9 @@ use crate::premise::{Premise, may_have_more};
 use crate::seen::{Seen, Wire};
 use crate::target::target;
 use crate::wires::Wires;
-use tl_rules::{BlockState, Client, Event, Outward};
+use tl_rules::{BlockState, Client, Event, Outward, Plain};
 use tl_types::{Awaited, BlockNo, Channel, ClientId, GrantCap};
-use tlcheck_rules::{Breach, Judge, Rule, client_of};
+use tlcheck_rules::{Rule, client_of};
 
 /// Whose Acquire home accepts first where no Grant says whose.
 #[derive(Clone, Copy)]
@@ -61,20 +61,6 @@ fn client_step(
     }
 }
 
-/// Whether a client is to be granted a block that home does not serve it yet.
-fn is_before_a_grant(judge: &Judge, wires: &Wires<'_>, c: ClientId) -> bool {
-    let Some(granted) = wires.next_granted(c) else {
-        return false;
-    };
-    match judge.plain().block(granted.number()) {
-        Some(state) => match state.accepted() {
-            Some(acquire) => acquire.client != c,
-            None => true,
-        },
-        None => false,
-    }
-}
-
 /// The client whose Acquire home accepts last of a block, where it waits.
 fn last_of(state: &BlockState, block: BlockNo, preferred: &Preferred<'_>) -> Option<ClientId> {
     let c = preferred.last.client(block)?;
@@ -85,11 +71,9 @@ fn last_of(state: &BlockState, block: BlockNo, preferred: &Preferred<'_>) -> Opt
     }
 }
 
-/// The client that home is known to serve last; else one whose Acquire of a block is first on A, and stands before one
-/// that is granted; else one whose Acquire is first, the preferred one before others; else one that has it on A.
+/// The client whose Acquire home accepts where no Grant says whose: the one that it is known to serve last, else the
+/// preferred one, else any that has one on A.
 fn asking(
-    judge: &Judge,
-    wires: &Wires<'_>,
     state: &BlockState,
     clients: u32,
     block: BlockNo,
@@ -98,27 +82,17 @@ fn asking(
     if let Some(c) = last_of(state, block, preferred) {
         return Some(c);
     }
-    let mut first = None;
-    for number in 0..clients {
-        let c = ClientId::new(number);
-        if judge.first_on(c, Channel::A) == Some(block) {
-            if is_before_a_grant(judge, wires, c) {
-                return Some(c);
-            }
-            if first.is_none() || preferred.client == Some(c) {
-                first = Some(c);
-            }
+    if let Some(c) = preferred.client {
+        if state.client(c)?.may_take_a() {
+            return Some(c);
         }
     }
-    match first {
-        Some(c) => Some(c),
-        None => in_way(state, clients, Which::Asking),
-    }
+    in_way(state, clients, Which::Asking)
 }
 
 /// What a client does first.
 fn client_before(
-    judge: &Judge,
+    plain: &Plain,
     wires: &Wires<'_>,
     seen: &[Seen],
     event: &Event,
@@ -126,7 +100,7 @@ fn client_before(
     rule: Rule,
 ) -> Option<Event> {
     let c = client_of(event);
-    let block = BlockNo::new(event.block(judge.plain().shape()));
+    let block = BlockNo::new(event.block(plain.shape()));
     match rule {
         Rule::NoAcquireUnanswered
         | Rule::NoReleaseBesideAcquire
@@ -154,7 +128,7 @@ fn client_before(
 
 /// What home and the memory do first.
 fn home_before(
-    judge: &Judge,
+    plain: &Plain,
     wires: &Wires<'_>,
     seen: &[Seen],
     event: &Event,
@@ -162,9 +136,9 @@ fn home_before(
     rule: Rule,
     preferred: &Preferred<'_>,
 ) -> Option<Event> {
-    let clients = judge.plain().shape().clients;
+    let clients = plain.shape().clients;
     let c = client_of(event);
-    let block = BlockNo::new(event.block(judge.plain().shape()));
+    let block = BlockNo::new(event.block(plain.shape()));
     match rule {
         Rule::ServesNoAcquire => Some(Event::TakeGrantAck(state.accepted()?.client, block)),
         Rule::NoGrantIsPending | Rule::OneGrantIsPending => Some(Event::TakeGrantAck(
@@ -191,7 +165,7 @@ fn home_before(
                 Some(Event::AcceptAcquire(
                     match wires.granted_first(block) {
                         Some(first) => first,
-                        None => asking(judge, wires, state, clients, block, preferred)?,
+                        None => asking(state, clients, block, preferred)?,
                     },
                     block,
                 ))
@@ -223,7 +197,7 @@ fn room_for(state: &BlockState, clients: u32, c: ClientId, block: BlockNo) -> Op
 
 /// A store that nobody saw, where the next message on C has other bytes than the copy.
 fn unseen_store(
-    judge: &Judge,
+    plain: &Plain,
     wires: &Wires<'_>,
     premises: &[Premise],
     seen: &[Seen],
@@ -237,7 +211,7 @@ fn unseen_store(
     }
     match seen.get(wires.next(Wire::Link(c, Channel::C))?)? {
         Seen::OnLink(_, _, message) => match &message.bytes {
-            Some(given) => hidden_store(judge.plain().shape(), k, c, block, given),
+            Some(given) => hidden_store(plain.shape(), k, c, block, given),
             None => None,
         },
         _ => None,
@@ -247,7 +221,7 @@ fn unseen_store(
 /// What comes first where an event may come, but is not seen as it would be: a store before a copy is given up, and
 /// what others give up before a Grant.
 fn unlike(
-    judge: &Judge,
+    plain: &Plain,
     wires: &Wires<'_>,
     premises: &[Premise],
     seen: &[Seen],
@@ -255,16 +229,16 @@ fn unlike(
     state: &BlockState,
 ) -> Option<Event> {
     let c = client_of(event);
-    let block = BlockNo::new(event.block(judge.plain().shape()));
+    let block = BlockNo::new(event.block(plain.shape()));
     match event {
         Event::AnswerProbe(_, _) | Event::SendRelease(_, _, _) => {
             match next_of(wires, seen, Wire::Core(c), block) {
                 Some(first) => Some(first),
-                None => unseen_store(judge, wires, premises, seen, state.client(c)?, c, block),
+                None => unseen_store(plain, wires, premises, seen, state.client(c)?, c, block),
             }
         }
         Event::SendGrant(_, _) => {
-            let clients = judge.plain().shape().clients;
+            let clients = plain.shape().clients;
             let other = in_way(state, clients, Which::Giving(c));
             Some(Event::TakeC(other.unwrap_or(c), block))
         }
@@ -272,54 +246,29 @@ fn unlike(
     }
 }
 
-/// The event that takes the message which is first on the channel that an event takes from.
-fn first_taken(judge: &Judge, event: &Event) -> Option<Event> {
-    let c = client_of(event);
-    match event {
-        Event::AcceptAcquire(_, _) => Some(Event::AcceptAcquire(c, judge.first_on(c, Channel::A)?)),
-        Event::AnswerProbe(_, _) => Some(Event::AnswerProbe(c, judge.first_on(c, Channel::B)?)),
-        Event::TakeC(_, _) => Some(Event::TakeC(c, judge.first_on(c, Channel::C)?)),
-        Event::TakeGrantAck(_, _) => Some(Event::TakeGrantAck(c, judge.first_on(c, Channel::E)?)),
-        Event::TakeGrant(_, _) | Event::TakeReleaseAck(_, _) => {
-            let block = judge.first_on(c, Channel::D)?;
-            let k = judge.plain().block(block.number())?.client(c)?;
-            if k.may_take_grant() {
-                Some(Event::TakeGrant(c, block))
-            } else {
-                Some(Event::TakeReleaseAck(c, block))
-            }
-        }
-        _ => None,
-    }
-}
-
-/// An event that has to come before one that breaks something, or that is not seen as it would be.
+/// An event that has to come before one that breaks a rule, or that is not seen as it would be.
 pub(crate) fn enabling_event(
-    judge: &Judge,
+    plain: &Plain,
     wires: &Wires<'_>,
     premises: &[Premise],
     seen: &[Seen],
     event: &Event,
-    breach: Option<Breach>,
+    broken: Option<Rule>,
     preferred: &Preferred<'_>,
 ) -> Option<Event> {
-    let state = judge.plain().block(event.block(judge.plain().shape()))?;
-    match breach {
-        None => unlike(judge, wires, premises, seen, event, state),
-        Some(Breach::NotAsShown(_)) => None,
-        Some(Breach::OutOfOrder) => first_taken(judge, event),
-        Some(Breach::NotPermitted(rule)) => {
-            match home_before(judge, wires, seen, event, state, rule, preferred) {
-                Some(first) => Some(first),
-                None => client_before(
-                    judge,
-                    wires,
-                    seen,
-                    event,
-                    state.client(client_of(event))?,
-                    rule,
-                ),
-            }
-        }
+    let state = plain.block(event.block(plain.shape()))?;
+    match broken {
+        None => unlike(plain, wires, premises, seen, event, state),
+        Some(rule) => match home_before(plain, wires, seen, event, state, rule, preferred) {
+            Some(first) => Some(first),
+            None => client_before(
+                plain,
+                wires,
+                seen,
+                event,
+                state.client(client_of(event))?,
+                rule,
+            ),
+        },
     }
 }

@@ -2,9 +2,8 @@
 use crate::clients::{Which, in_way};
 use crate::seen::{Seen, Wire};
 use crate::wires::Wires;
-use tl_rules::{BlockState, Client, Event};
+use tl_rules::{BlockState, Client, Event, Plain};
 use tl_types::{Awaited, BlockNo, Channel, ClientId, GrantCap, Grow, Kind, Perm, ProbeCap, Upward};
-use tlcheck_rules::Judge;
 
 /// What is next of a block on a client's channel, where it is seen.
 fn kind_next(
@@ -93,7 +92,7 @@ fn crossing(
 /// Before home takes a Release, it sends the Probe that crosses it, which asks for no less than the Release leaves; and
 /// the Grant toB that needs the record which the Release ends.
 fn before_taking(
-    judge: &Judge,
+    plain: &Plain,
     wires: &Wires<'_>,
     seen: &[Seen],
     state: &BlockState,
@@ -111,7 +110,7 @@ fn before_taking(
         }
     }
     if left == Perm::None {
-        grant_before(judge, wires, seen, state, c, block)
+        grant_before(plain, wires, seen, state, c, block)
     } else {
         None
     }
@@ -119,14 +118,14 @@ fn before_taking(
 
 /// The Grant toB to another client, where no third one is recorded.
 fn grant_before(
-    judge: &Judge,
+    plain: &Plain,
     wires: &Wires<'_>,
     seen: &[Seen],
     state: &BlockState,
     c: ClientId,
     block: BlockNo,
 ) -> Option<Event> {
-    let clients = judge.plain().shape().clients;
+    let clients = plain.shape().clients;
     let other = wires.granted_first(block)?;
     if other == c || in_way(state, clients, Which::NeitherOf(c, other)).is_some() {
         return None;
@@ -144,18 +143,18 @@ fn grant_before(
 
 /// An event that has to come before this one, if one has.
 pub(crate) fn preceding_event(
-    judge: &Judge,
+    plain: &Plain,
     wires: &Wires<'_>,
     seen: &[Seen],
     event: &Event,
 ) -> Option<Event> {
-    let state = judge.plain().block(event.block(judge.plain().shape()))?;
+    let state = plain.block(event.block(plain.shape()))?;
     match event {
         Event::AcceptAcquire(c, block) => { before_accepting(wires, state, *c, *block) }
         Event::AnswerProbe(c, block) => {
             before_answering(wires, seen, state.client(*c)?, *c, *block)
         }
-        Event::TakeC(c, block) => before_taking(judge, wires, seen, state, *c, *block),
+        Event::TakeC(c, block) => before_taking(plain, wires, seen, state, *c, *block),
         _ => None,
     }
 }

@@ -1,7 +1,7 @@
 //! A search for a run that has what was seen. Nothing rests on it: what it finds is walked along.
 ghost use Rattle.std.specs.Prelude.{◌<◌, ◌≤◌, IfOk};
 ghost use Rattle.tl_protocol.specs.Protocol.{May};
-ghost use Rattle.tlcheck_rules.specs.Judged.{Allows, own_block};
+ghost use Rattle.tlwire_search.specs.Led.{own_block};
 
 use crate::clients::{Which, in_way};
 use crate::enabling::{Preferred, enabling_event};
@@ -13,9 +13,9 @@ use crate::sight::seen_of;
 use crate::target::{target, wire_of};
 use crate::wires::Wires;
 use std::alloc::{AllocError, Global};
-use tl_rules::{Client, Event, Outward, Shape};
+use tl_rules::{Client, Event, Outward, Plain, Shape};
 use tl_types::{BLOCK_BYTES, BLOCKS, BlockNo, Channel, ClientId, Downward, Upward};
-use tlcheck_rules::{Entry, Judge, client_of};
+use tlcheck_rules::{broken_rule, client_of};
 
 /// How many events may come before one that something seen stands for.
 const EVENTS: u32 = 4096;
@@ -37,7 +37,7 @@ pub enum Limit {
 /// A run so far, and where it leads.
 #[derive(Drop)]
 struct Attempt<'a> {
-    judge: Judge,
+    plain: Plain,
     wires: Wires<'a>,
     run: Vec<Event>,
 }
@@ -60,11 +60,11 @@ struct Record<'a> {
 }
 
 /// Whether home answers a Release if it takes the first message of C.
-fn acknowledges(judge: &Judge, event: &Event) -> bool {
+fn acknowledges(plain: &Plain, event: &Event) -> bool {
     let Event::TakeC(client, block) = event else {
         return false;
     };
-    match judge.plain().block(block.number()) {
+    match plain.block(block.number()) {
         Some(state) => match state.client(*client) {
             Some(k) => matches!(k.c.as_slice(), [Upward::Release(_), ..]),
             None => false,
@@ -75,8 +75,8 @@ fn acknowledges(judge: &Judge, event: &Event) -> bool {
 
 /// The event that is next on the wire of this one, itself where it sends nothing, or where more may have been sent
 /// there than was seen.
-fn in_order(judge: &Judge, wires: &Wires<'_>, record: Record<'_>, event: Event) -> Option<Event> {
-    let wire = if acknowledges(judge, &event) {
+fn in_order(plain: &Plain, wires: &Wires<'_>, record: Record<'_>, event: Event) -> Option<Event> {
+    let wire = if acknowledges(plain, &event) {
         Some(Wire::Link(client_of(&event), Channel::D))
     } else {
         wire_of(&event)
@@ -92,10 +92,10 @@ fn in_order(judge: &Judge, wires: &Wires<'_>, record: Record<'_>, event: Event) 
 }
 
 /// Whether what is seen of an event that may come next is next on its wire.
-fn is_next(judge: &Judge, wires: &Wires<'_>, record: Record<'_>, event: &Event) -> bool
-    requires { May judge.now.plain.shape (own_block judge.now event.now) event.now }
+fn is_next(plain: &Plain, wires: &Wires<'_>, record: Record<'_>, event: &Event) -> bool
+    requires { May plain.now.shape (own_block plain.now event.now) event.now }
 {
-    let Some(shown) = seen_of(judge, event) else {
+    let Some(shown) = seen_of(plain, event) else {
         return true;
     };
     let Some(place) = wires.next(shown.wire()) else {
@@ -109,34 +109,33 @@ fn is_next(judge: &Judge, wires: &Wires<'_>, record: Record<'_>, event: &Event) 
 
 /// An event that may come next, for one that is wanted: itself, or one that has to come before it.
 fn ready_for(
-    judge: &Judge,
+    plain: &Plain,
     wires: &Wires<'_>,
     record: Record<'_>,
     wanted: Event,
     preferred: &Preferred<'_>,
-) -> Result<Entry, Limit>
-    ensures { IfOk result (λ entry. Allows judge.now entry) }
+) -> Result<Event, Limit>
+    ensures { IfOk result (λ event. May plain.now.shape (own_block plain.now event) event) }
 {
     let seen = record.seen;
     let mut event = wanted;
     for _ in 0..DEPTH {
-        event = in_order(judge, wires, record, event).ok_or(Limit::NoWay)?;
-        if let Some(first) = preceding_event(judge, wires, seen, &event) {
+        event = in_order(plain, wires, record, event).ok_or(Limit::NoWay)?;
+        if let Some(first) = preceding_event(plain, wires, seen, &event) {
             event = first;
             continue;
         }
-        let entry = Entry { event, shown: None };
-        let breach = judge.breach(&entry);
-        if breach.is_none() && is_next(judge, wires, record, &entry.event) {
-            return Ok(entry);
+        let broken = broken_rule(plain, &event);
+        if broken.is_none() && is_next(plain, wires, record, &event) {
+            return Ok(event);
         }
         event = enabling_event(
-            judge,
+            plain,
             wires,
             record.premises,
             seen,
-            &entry.event,
-            breach,
+            &event,
+            broken,
             preferred,
         )
         .ok_or(Limit::NoWay)?;
@@ -169,8 +168,8 @@ fn is_taken_as_seen(record: Record<'_>, client: ClientId, channel: Channel) -> b
 }
 
 /// The event that takes what the memory answered of a block, where it waits.
-fn taking_answer(judge: &Judge, block: BlockNo) -> Option<Event> {
-    match judge.plain().block(block.number())?.outward() {
+fn taking_answer(plain: &Plain, block: BlockNo) -> Option<Event> {
+    match plain.block(block.number())?.outward() {
         Outward::Data(_) => Some(Event::TakeData(block)),
         Outward::PutAck => Some(Event::TakePutAck(block)),
         Outward::Quiet | Outward::Get | Outward::Put(_) => None,
@@ -178,19 +177,19 @@ fn taking_answer(judge: &Judge, block: BlockNo) -> Option<Event> {
 }
 
 /// The event that takes a message, where it waits and is taken as it is seen.
-fn untaken(judge: &Judge, record: Record<'_>, line: &Seen) -> Option<Event> {
+fn untaken(plain: &Plain, record: Record<'_>, line: &Seen) -> Option<Event> {
     match line {
         Seen::OnLink(client, block, message) => {
             let channel = message.kind.channel();
             if !is_taken_as_seen(record, *client, channel) {
                 return None;
             }
-            let k = judge.plain().block(block.number())?.client(*client)?;
+            let k = plain.block(block.number())?.client(*client)?;
             taking(k, *client, *block, channel)
         }
         Seen::OnMemory(block, message)
             if message.kind.channel() == Channel::D && is_seen_at_home(record.premises) => {
-            taking_answer(judge, *block)
+            taking_answer(plain, *block)
         }
         _ => None,
     }
@@ -207,33 +206,33 @@ impl<'a> Attempt<'a> {
         requires blocks { shape.blocks ≤ BLOCKS }
     {
         Ok(Attempt {
-            judge: Judge::new(alloc, shape, image)?,
+            plain: Plain::new(alloc, shape, image)?,
             wires: Wires::new(alloc, shape, seen)?,
             run: Vec::new(alloc),
         })
     }
 
     /// Takes an event that may come next.
-    fn take(&mut self, entry: Entry) -> Result<(), AllocError>
-        requires { Allows self.old.judge entry }
+    fn take(&mut self, event: Event) -> Result<(), AllocError>
+        requires { May self.old.plain.shape (own_block self.old.plain event) event }
     {
-        let wire = if acknowledges(&self.judge, &entry.event) {
-            Some(Wire::Link(client_of(&entry.event), Channel::D))
+        let wire = if acknowledges(&self.plain, &event) {
+            Some(Wire::Link(client_of(&event), Channel::D))
         } else {
-            wire_of(&entry.event)
+            wire_of(&event)
         };
-        self.judge.take_allowed(&entry)?;
+        self.plain.carry_out(&event)?;
         if let Some(wire) = wire {
             self.wires.advance(wire);
         }
-        self.run.push(entry.event)?;
+        self.run.push(event)?;
         Ok(())
     }
 
     /// What leads on to what was seen at a place; None where it is reached.
     fn wanted(&self, record: Record<'_>, line: &Seen, place: usize) -> Option<Event> {
         if self.wires.is_sent(place) {
-            return untaken(&self.judge, record, line);
+            return untaken(&self.plain, record, line);
         }
         target(line)
     }
@@ -253,25 +252,25 @@ impl<'a> Attempt<'a> {
             let Some(wanted) = self.wanted(record, line, place) else {
                 return Ok(None);
             };
-            let entry = match ready_for(&self.judge, &self.wires, record, wanted, preferred) {
-                Ok(entry) => entry,
+            let event = match ready_for(&self.plain, &self.wires, record, wanted, preferred) {
+                Ok(event) => event,
                 Err(limit) => return Ok(Some(limit)),
             };
-            self.take(entry)?;
+            self.take(event)?;
         }
         Ok(Some(Limit::Events))
     }
 }
 
 /// A client that waits for home to accept the Acquire which a line comes of: its own, or one of its block.
-fn held_up(judge: &Judge, line: &Seen) -> Option<ClientId> {
+fn held_up(plain: &Plain, line: &Seen) -> Option<ClientId> {
     match line {
         Seen::OnLink(client, _, _) | Seen::Load(client, _, _) | Seen::Store(client, _, _) => {
             Some(*client)
         }
         Seen::OnMemory(block, _) => {
-            let clients = judge.plain().shape().clients;
-            in_way(judge.plain().block(block.number())?, clients, Which::Asking)
+            let clients = plain.shape().clients;
+            in_way(plain.block(block.number())?, clients, Which::Asking)
         }
     }
 }
@@ -328,7 +327,7 @@ fn search_once(
     let mut attempt = Attempt::new(alloc, shape, image, seen)?;
     for place in 0..seen.len() {
         if let Some(limit) = attempt.reach(record, preferred, place)? {
-            let held_up = held_up(&attempt.judge, &seen[place]);
+            let held_up = held_up(&attempt.plain, &seen[place]);
             return Ok(Found {
                 run: attempt.run,
                 place,

@@ -3,13 +3,13 @@ ghost use Rattle.std.specs.Prelude.{◌≡◌, ◌<◌, Some, length};
 ghost use Rattle.tl_protocol_lanes.specs.Lanes.{post_of};
 ghost use Rattle.tl_protocol.specs.Protocol.{May, MayOn, block_of, home_bytes};
 ghost use Rattle.tl_rules.specs.Plain.{block_state};
-ghost use Rattle.tlcheck_rules.specs.Judged.{own_block};
 ghost use Rattle.tlwire_search.specs.Explained.{answer_seen, link_seen, memory_seen, seen_of};
+ghost use Rattle.tlwire_search.specs.Led.{own_block};
 
 use crate::seen::Seen;
-use tl_rules::{BlockState, Event, Outward, Shape};
+use tl_rules::{BlockState, Event, Outward, Plain, Shape};
 use tl_types::{BlockBytes, BlockNo, Kind};
-use tlcheck_rules::{Judge, Shown, client_of, sent_by};
+use tlcheck_rules::{Shown, client_of, sent_by};
 
 fn on_memory(block: BlockNo, kind: Kind, bytes: Option<BlockBytes>) -> Option<Seen>
     ensures { result ≡ memory_seen block kind bytes }
@@ -85,10 +85,10 @@ pub fn seen_on(state: &BlockState, shape: Shape, event: &Event) -> Option<Seen>
 }
 
 /// What is seen of an event that may come next.
-pub fn seen_of(judge: &Judge, event: &Event) -> Option<Seen>
-    requires { May judge.now.plain.shape (own_block judge.now event.now) event.now }
-    ensures { result ≡ seen_of judge.now.plain.shape (own_block judge.now event.now) event.now }
+pub fn seen_of(plain: &Plain, event: &Event) -> Option<Seen>
+    requires { May plain.now.shape (own_block plain.now event.now) event.now }
+    ensures { result ≡ seen_of plain.now.shape (own_block plain.now event.now) event.now }
 {
-    let shape = judge.plain().shape();
-    seen_on(judge.plain().block(event.block(shape))?, shape, event)
+    let shape = plain.shape();
+    seen_on(plain.block(event.block(shape))?, shape, event)
 }

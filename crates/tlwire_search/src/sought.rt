@@ -1,9 +1,9 @@
 //! What is looked for among what was seen.
 ghost use Rattle.std.specs.Prelude.{◌≡◌};
-ghost use Rattle.tlwire_search.specs.Sought.{IsGrantedBlock, is_get, is_grant, is_sought};
+ghost use Rattle.tlwire_search.specs.Sought.{is_get, is_grant, is_sought};
 
 use crate::seen::Seen;
-use tl_types::{BlockNo, Kind};
+use tl_types::Kind;
 
 /// What is looked for of a block on a wire.
 #[derive(Clone, Copy)]
@@ -26,16 +26,6 @@ impl Sought {
             Sought::Grant => is_grant(line),
             Sought::Get => is_get(line),
         }
-    }
-}
-
-/// The block of a Grant.
-pub(crate) fn granted_block(line: &Seen) -> Option<BlockNo>
-    ensures { IsGrantedBlock line.now result }
-{
-    match line {
-        Seen::OnLink(_, block, _) if is_grant(line) => Some(*block),
-        _ => None,
     }
 }
 

@@ -11,9 +11,8 @@ use crate::premise::{Premise, may_have_more};
 use crate::seen::Seen;
 use crate::sight::seen_of;
 use std::alloc::{AllocError, Global};
-use tl_rules::{Event, Shape};
+use tl_rules::{Event, Plain, Shape, may_follow};
 use tl_types::{BLOCK_BYTES, BLOCKS};
-use tlcheck_rules::{Entry, Judge};
 
 /// Marks this as the next on its wire; or nothing is left there, and more may have been sent.
 fn is_next(
@@ -33,33 +32,33 @@ fn is_next(
 
 /// Takes one more event, where it is permitted and what is seen of it was seen next, or was not seen.
 fn goes_on(
-    judge: &mut Judge,
+    plain: &mut Plain,
     marks: &mut Marks,
     premises: &[Premise],
     seen: &[Seen],
-    entry: &Entry,
+    event: &Event,
 ) -> Result<bool, AllocError>
     requires { IsMarking seen.now marks.old }
     ensures { IfOk result (λ yes. IsTrue yes → (shape : Shape) (image : List ℕ) (run : List Event)
-        → GoesAlong premises.now shape image seen.now run judge.old marks.old
-        → GoesAlong premises.now shape image seen.now (run ++ entry.now.event ∷ []) judge.new marks.new) }
+        → GoesAlong premises.now shape image seen.now run plain.old marks.old
+        → GoesAlong premises.now shape image seen.now (run ++ event.now ∷ []) plain.new marks.new) }
 {
-    if let Some(_) = judge.breach(entry) {
+    if !may_follow(plain, event) {
         return Ok(false);
     }
-    if let Some(shown) = seen_of(judge, &entry.event) {
+    if let Some(shown) = seen_of(plain, event) {
         if !is_next(marks, premises, seen, &shown)? {
             return Ok(false);
         }
     }
-    judge.take_allowed(entry)?;
+    plain.carry_out(event)?;
     Ok(true)
 }
 
 /// A run so far, where it leads, and what is marked of what was seen.
 #[derive(Drop)]
 struct Walk {
-    judge: Judge,
+    plain: Plain,
     marks: Marks,
     run: Vec<Event>,
 }
@@ -71,12 +70,12 @@ impl Walk {
         requires blocks { shape.blocks ≤ BLOCKS }
         ensures { IfOk result
             (λ walk. (premises : List Premise)
-            → GoesAlong premises shape image.now seen.now walk.run.items walk.judge walk.marks) }
+            → GoesAlong premises shape image.now seen.now walk.run.items walk.plain walk.marks) }
     {
-        let judge = Judge::new(alloc, shape, image)?;
+        let plain = Plain::new(alloc, shape, image)?;
         let marks = Marks::new(alloc, seen.len())?;
         let run = Vec::new(alloc);
-        Ok(Walk { judge, marks, run })
+        Ok(Walk { plain, marks, run })
     }
 
     /// Takes one more event, where it goes on.
@@ -88,14 +87,13 @@ impl Walk {
     ) -> Result<bool, AllocError>
         requires { IsMarking seen.now self.old.marks }
         ensures { IfOk result (λ yes. IsTrue yes → (shape : Shape) (image : List ℕ)
-            → GoesAlong premises.now shape image seen.now self.old.run.items self.old.judge self.old.marks
-            → GoesAlong premises.now shape image seen.now self.new.run.items self.new.judge self.new.marks) }
+            → GoesAlong premises.now shape image seen.now self.old.run.items self.old.plain self.old.marks
+            → GoesAlong premises.now shape image seen.now self.new.run.items self.new.plain self.new.marks) }
     {
-        let entry = Entry { event, shown: None };
-        if !goes_on(&mut self.judge, &mut self.marks, premises, seen, &entry)? {
+        if !goes_on(&mut self.plain, &mut self.marks, premises, seen, &event)? {
             return Ok(false);
         }
-        self.run.push(entry.event)?;
+        self.run.push(event)?;
         Ok(true)
     }
 }

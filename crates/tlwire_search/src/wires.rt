@@ -6,7 +6,7 @@ ghost use Rattle.tlwire_search.specs.Explained.{wire_of};
 ghost use Rattle.tlwire_search.specs.Lists.{block_of, gap_at, list_at, list_of, number_of};
 
 use crate::seen::{Seen, Wire};
-use crate::sought::{Sought, granted_block};
+use crate::sought::Sought;
 use std::alloc::{AllocError, Global};
 use tl_rules::Shape;
 use tl_types::{BlockNo, Channel, ClientId};
@@ -133,7 +133,7 @@ fn gap_at(gaps: &[u32], lines: usize, place: usize) -> usize
 
 impl<'a> Wires<'a> {
     ghost use Rattle.tlwire_search.specs.Sought.{IsLike};
-    ghost use Rattle.tlwire_search.specs.Unsent.{IsAdvanced, IsFirstUnsent, IsFresh, IsGrantedFirst, IsNextGranted};
+    ghost use Rattle.tlwire_search.specs.Unsent.{IsAdvanced, IsFirstUnsent, IsFresh, IsGrantedFirst};
     ghost use Rattle.tlwire_search.specs.Unsent.{IsSentAt};
     ghost use Rattle.tl_types.specs.declared.channel.Channel.TheVariants.{A, D};
     ghost use Rattle.tlwire_search.specs.declared.seen.Wire.TheVariants.{Link, Memory};
@@ -305,23 +305,6 @@ impl<'a> Wires<'a> {
         ensures { IsFirstUnsent self.now (Memory A) block Get result }
     {
         self.next_like(Wire::Memory(Channel::A), block, Sought::Get)
-    }
-
-    /// The block of the next Grant to a client.
-    pub(crate) fn next_granted(&self, c: ClientId) -> Option<BlockNo>
-        ensures { IsNextGranted self.now c result }
-    {
-        let wire = Wire::Link(c, Channel::D);
-        let next = self.next(wire)?;
-        let mut place = next;
-        while place < self.seen.len() {
-            let line = &self.seen[place];
-            if let Some(block) = granted_block(line) {
-                return Some(block);
-            }
-            place = self.behind_on_wire(place, line);
-        }
-        None
     }
 
     /// The client whose Grant of a block is seen first.

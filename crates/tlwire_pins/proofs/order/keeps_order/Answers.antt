@@ -1,13 +1,10 @@
-use Rattle.std.proofs.Common.{map, ap, ◌∙◌, List}
-use Rattle.std.specs.Borrow.{Bor}
-use Rattle.tlwire_search.specs.declared.seen.Seen.{Seen}
-use Rattle.tlwire_pins.proofs.Ordered.{keeps}
+use Rattle.std.proofs.Common.{ap, ◌∙◌}
+use Rattle.tlwire_pins.proofs.Grouped.{keeps_each, nows}
 use Rattle.tlwire_pins.proofs.order.keeps_order.Goals as goal
 
-abbrev lines : List (Bor Seen) → List Seen
-lines xs = map (λ (x : Bor Seen). x.now) xs
-
 pub returns : goal.returns
-returns c = λ yes shape.
-    keeps c.args.cores shape c.args.client c.args.lines.now c.args.seen.now (lines c.deref.result.now) (lines c.deref-2.result.now)
-    (ap lines c.deref-2.ensures.value ∙ c.in_ok-all.ensures) (ap lines c.deref.ensures.value ∙ c.in_ok-some.ensures) (c.is_beginning.ensures yes)
+returns c = λ yes.
+    keeps_each c.args.cores c.args.shape c.args.client c.args.lines.now c.args.seen.now c.deref-2.result.now c.deref.result.now c.in-Some-2.some.items
+    c.in-Some.all.items c.deref-3.result.now c.deref-4.result.now (ap nows c.deref.ensures.value ∙ c.in_ok-all.ensures)
+    (ap nows c.deref-2.ensures.value ∙ c.in_ok-some.ensures) (rw c.in-Some.is at c.in_ok-all-2.ensures.lines)
+    (rw c.in-Some-2.is at c.in_ok-some-2.ensures.lines) c.deref-3.ensures.value c.deref-4.ensures.value (c.are_beginnings.ensures yes)

@@ -2,9 +2,10 @@ use Rattle.std.proofs.Common.{◌++◌, ◌∷◌, [], List, Option, take, IfSom
 use Rattle.tlwire_search.proofs.Marking.{here_is}
 use Rattle.tlwire_search.specs.declared.seen.Seen.{Seen}
 use Rattle.tlwire_pins.proofs.Walk.{Walked, is_impossible_at, take_one, walked_more}
-use Rattle.tlwire_pins.specs.Judged.{held_in}
+use Rattle.tlwire_pins.specs.Judged.{EachMay, held_in}
 use Rattle.tlwire_pins.specs.View.{MayLine, before_line}
 use Rattle.tlwire_pins.specs.Walk.{BreaksNext}
+use Rattle.tlwire_pins.specs.declared.pass.Wrong.{Wrong}
 use Rattle.tlwire_pins.specs.declared.view.View.{View}
 use Rattle.tlwire_pins.specs.declared.views.Broken.{Broken}
 use Rattle.tlwire_pins.proofs.pass.first_wrong.Goals as goal
@@ -18,6 +19,11 @@ returns-in-Some-clause-impossible c = λ yes.
     (here_is c.args.seen.now c.loop-place.place c.index-seen-place.result (omega arith) c.index-seen-place.is) b.own_line
     (subst (λ (v : View). ¬ MayLine c.args.shape v c.index-seen-place.result)
     (b.held ∙ ap (λ (v : View). before_line c.args.cores v c.index-seen-place.result) (c.loop-place.invariant.led c.in-Some.broken.block)) b.may_not)
+
+pub returns-in-Some-clause-first : goal.returns-in-Some-clause-first
+returns-in-Some-clause-first c =
+    subst (λ (w : Wrong). EachMay c.args.cores c.args.shape c.args.client (take w.place c.args.seen.now)) (sym c.at_place.ensures)
+    (λ block. c.loop-place.invariant.may block)
 
 pub loop-place-preserved : goal.loop-place-preserved
 loop-place-preserved c =

@@ -1,0 +1,7 @@
+use Rattle.tlwire_answer.proofs.Asked.{sets_less}
+use Rattle.tlwire_answer.proofs.sets.sets_beside.Goals as goal
+
+pub returns : goal.returns
+returns g c =
+    c.joined.ensures c.args.messages.now c.args.to c.requires
+    (sets_less c.args.messages.now c.asked_to.result c.args.to c.in_ok-other.other (c.asked_to.ensures c.args.messages.now c.requires) c.in_ok-other.ensures)

@@ -1,0 +1,175 @@
+//! Whether a run has the orders of lines that a header asks for.
+ghost use Rattle.std.specs.Prelude.{◌≡◌, ℕ, true, IfOk, IsNone, IsTrue};
+ghost use Rattle.std.specs.Bool.{OnFalse};
+ghost use Rattle.tl_protocol.specs.Runs.{IsRun};
+ghost use Rattle.tlwire_answer.specs.Answer.{ClientKeepsOrder, EachKeepsOrder, IsInOrder, Meets, NobodyIsTold};
+ghost use Rattle.tlwire_answer.specs.Named.{is_at_client};
+ghost use Rattle.tlwire_closed.specs.declared.premise.Way.{Way};
+ghost use Rattle.tlwire_closed.specs.declared.premise.Way.TheVariants.{AtClient};
+
+use crate::named::{is_told, names, premise_of};
+use crate::pins::cores_of;
+use std::alloc::{AllocError, Global};
+use tl_rules::Event;
+use tl_types::ClientId;
+use tlwire_closed::{Way, is_seen_so};
+use tlwire_pins::{keeps_order, lines_at_pins};
+use tlwire_record::Messages;
+use tlwire_search::{Premise, Seen};
+
+/// An order of lines that the header asks for, and a run does not have.
+#[derive(Clone, Copy, Debug, PartialEq, Eq)]
+pub enum Order {
+    /// That of the lines of a client at its pins.
+    AtPins,
+    /// That of messages seen between sending and taking.
+    Between,
+    /// That of messages seen at home's pins.
+    AtHome,
+    /// That of messages seen at the pins of all clients.
+    AtClients,
+}
+
+/// Whether the lines of some client are told at the client's pins.
+fn is_any_told(messages: &Messages) -> bool
+    ensures { OnFalse result (NobodyIsTold messages.now) }
+{
+    for number in 0..messages.setting().shape().clients {
+        if is_told(messages.setting().premises(), ClientId::new(number)) {
+            return true;
+        }
+    }
+    false
+}
+
+/// Whether lines at the pins of clients keep the order of the record's, of a client that is told there.
+fn keeps(
+    alloc: Global,
+    messages: &Messages,
+    client: ClientId,
+    lines: &[Seen],
+) -> Result<bool, AllocError>
+    ensures { IfOk result (λ yes. IsTrue yes → ClientKeepsOrder messages.now lines.now client) }
+{
+    let setting = messages.setting();
+    let premises = setting.premises();
+    if !is_told(premises, client) {
+        return Ok(true);
+    }
+    let shape = setting.shape();
+    let cores = cores_of(premises, client);
+    keeps_order(alloc, shape, cores, client, lines, messages.seen())
+}
+
+/// Whether lines at the pins of clients keep the order of the record's, of each client that is told there.
+fn keep_order(alloc: Global, messages: &Messages, lines: &[Seen]) -> Result<bool, AllocError>
+    ensures { IfOk result (λ yes. IsTrue yes → EachKeepsOrder messages.now lines.now) }
+{
+    for number in 0..messages.setting().shape().clients {
+        if !keeps(alloc, messages, ClientId::new(number), lines)? {
+            return Ok(false);
+        }
+    }
+    Ok(true)
+}
+
+/// Whether a run has the lines at the pins of clients in the order of the record's.
+fn is_in_order(alloc: Global, messages: &Messages, run: &[Event]) -> Result<bool, AllocError>
+    ensures { IfOk result (λ yes. IsTrue yes → IsInOrder messages.now run.now) }
+{
+    if !is_any_told(messages) {
+        return Ok(true);
+    }
+    let shape = messages.setting().shape();
+    match lines_at_pins(alloc, shape, messages.image(), run)? {
+        Some(lines) => keep_order(alloc, messages, &lines),
+        None => Ok(false),
+    }
+}
+
+/// Whether a run is seen so, where a header names the way of seeing.
+fn meets(alloc: Global, messages: &Messages, run: &[Event], way: Way) -> Result<bool, AllocError>
+    ensures { IfOk result
+        (λ yes. IsTrue yes → IsRun messages.now.setting.shape messages.now.image run.now
+        → Meets messages.now run.now way) }
+{
+    let setting = messages.setting();
+    if !names(setting.premises(), way) {
+        return Ok(true);
+    }
+    let shape = setting.shape();
+    let premise = premise_of(setting.premises(), way);
+    is_seen_so(
+        alloc,
+        shape,
+        premise,
+        messages.image(),
+        messages.seen(),
+        run,
+    )
+}
+
+/// Whether a run is seen so at the pins of the client that a line of the header names, if it names one.
+fn meets_line(
+    alloc: Global,
+    messages: &Messages,
+    run: &[Event],
+    line: &Premise,
+) -> Result<bool, AllocError>
+    ensures { IfOk result
+        (λ yes. IsTrue yes → IsRun messages.now.setting.shape messages.now.image run.now
+        → (client : ℕ) → is_at_client client line.now ≡ true → Meets messages.now run.now (AtClient client)) }
+{
+    match line {
+        Premise::AtClient(client) => meets(alloc, messages, run, Way::AtClient(client.number())),
+        Premise::AtClients
+        | Premise::AtHome
+        | Premise::Between
+        | Premise::Skew(_)
+        | Premise::Whole
+        | Premise::MemoryUnseen
+        | Premise::CoresUnseen => Ok(true),
+    }
+}
+
+/// Whether a run is seen so at the pins of each client that lines of the header name.
+fn meets_at_clients(alloc: Global, messages: &Messages, run: &[Event]) -> Result<bool, AllocError>
+    ensures { IfOk result
+        (λ yes. IsTrue yes → IsRun messages.now.setting.shape messages.now.image run.now
+        → (client : ℕ) → Meets messages.now run.now (AtClient client)) }
+{
+    let premises = messages.setting().premises();
+    for line in premises {
+        if !meets_line(alloc, messages, run, line)? {
+            return Ok(false);
+        }
+    }
+    Ok(true)
+}
+
+/// An order that the header asks for, and a run does not have.
+pub(crate) fn other_order(
+    alloc: Global,
+    messages: &Messages,
+    run: &[Event],
+) -> Result<Option<Order>, AllocError>
+    ensures { IfOk result (λ found. IsNone found → IsRun messages.now.setting.shape messages.now.image run.now
+        → IsInOrder messages.now run.now × ((way : Way) → Meets messages.now run.now way)) }
+{
+    if !is_in_order(alloc, messages, run)? {
+        return Ok(Some(Order::AtPins));
+    }
+    if !meets(alloc, messages, run, Way::Between)? {
+        return Ok(Some(Order::Between));
+    }
+    if !meets(alloc, messages, run, Way::AtHome)? {
+        return Ok(Some(Order::AtHome));
+    }
+    if !meets(alloc, messages, run, Way::AtClients)? {
+        return Ok(Some(Order::AtClients));
+    }
+    if !meets_at_clients(alloc, messages, run)? {
+        return Ok(Some(Order::AtPins));
+    }
+    Ok(None)
+}
