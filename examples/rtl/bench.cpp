@@ -10,7 +10,10 @@
 //                           its data), param-c, drop-b, drop-c, drop-d, drop-e (it is lost), size-c (its third beat has
 //                           another size)
 //   taps=1 banks=1 sets=16 pace=3 evict=500   whether the loads and stores are told; the home's numbers and choices
-//   silent=0 more=0         whether a clean Branch may be dropped, and a Probe toB be answered by giving the copy up
+//   silent=0 tip=0 more=0   whether a clean Branch and a clean Tip may be dropped, and a Probe toB be answered by
+//                           giving the copy up
+//   drops=0                 1: each L1 drops its clean victims, and sends no Release
+//   copies=16               for how many copies of a client the home has room
 //   spots=24 stall=4        how many blocks; a beat is stalled in one of so many cycles (0: never)
 //   most=1                  the run ends after so many faults (0: never)
 //   plain=0                 1: a home without a model in Jinavoke's place
@@ -19,49 +22,19 @@
 //   chart=FILE              the first fault's block as a script for tlchart
 //   quiet=0                 1: of each fault its first line alone
 #include "Vtop.h"
-#include "jinavoke.hpp"
+#include "bench.hpp"
 #include "plain_home.hpp"
 #include "verilated.h"
-#include <chrono>
-#include <iostream>
-#include <map>
-#include <memory>
 
 using jinavoke::Beat;
 static const uint32_t kClients = 4, kPlanted = 1, kBlock = 64;
 
-struct Settings {
-    std::map<std::string, std::string> words;
-    Settings(int argc, char **argv) {
-        for (int i = 1; i < argc; i++) {
-            std::string word = argv[i];
-            size_t at = word.find('=');
-            if (at == std::string::npos) { std::cerr << "bench: " << word << " is not KEY=VALUE\n"; std::exit(2); }
-            words[word.substr(0, at)] = word.substr(at + 1);
-        }
-    }
-    std::string text(const char *key) const {
-        auto it = words.find(key);
-        return it == words.end() ? "" : it->second;
-    }
-    uint64_t number(const char *key, uint64_t other) const {
-        auto it = words.find(key);
-        return it == words.end() ? other : std::stoull(it->second, nullptr, 0);
-    }
-};
-
-static uint32_t place_of(const std::string &word, std::initializer_list<const char *> names, const char *what) {
-    uint32_t n = 0;
-    for (const char *name : names) { if (word == name) return n; n++; }
-    std::cerr << "bench: there is no " << what << " " << word << "\n";
-    std::exit(2);
-}
 static uint32_t plant_of(const std::string &word) { // the numbers of plants.sv
     if (word.empty()) return 0;
     return place_of(word, {"nothing", "lost-data", "lost-writeback", "silent-upgrade", "kept-copy", "early-answer",
         "early-acquire", "wrong-report", "torn-refill", "shifted-burst", "second-grant-ack", "lost-probe",
         "lost-release-beats", "deaf-b", "other-source", "early-grant-ack", "clean-data", "late-btot", "silent-branch",
-        "gives-more"}, "plant");
+        "gives-more", "silent-dirty"}, "plant");
 }
 enum damage_t { kNone, kFlipC, kFlipD, kParamC, kDropB, kDropC, kDropD, kDropE, kSizeC };
 static damage_t damage_of(const std::string &word) {
@@ -69,18 +42,6 @@ static damage_t damage_of(const std::string &word) {
     return damage_t(place_of(word, {"nothing", "flip-c", "flip-d", "param-c", "drop-b", "drop-c", "drop-d", "drop-e",
         "size-c"}, "damage"));
 }
-
-// What was stored last.
-struct Board {
-    uint64_t base;
-    std::vector<uint8_t> bytes;
-    // Whether a load is right; a store is kept.
-    bool did(bool is_store, uint64_t address, const uint8_t *data, uint32_t len) {
-        uint8_t *at = &bytes.at(address - base);
-        if (is_store) { std::memcpy(at, data, len); return true; }
-        return std::memcmp(at, data, len) == 0;
-    }
-};
 
 template <class Home> class Bench {
   public:
@@ -91,6 +52,7 @@ template <class Home> class Bench {
         context_.randReset(2);
         context_.randSeed(int(s.number("seed", 1)));
         top_ = std::make_unique<Vtop>(&context_);
+        top_->drops = s.number("drops", 0) != 0;
         top_->rst = 1;
         for (int i = 0; i < 4; i++) { top_->clk = 0; top_->eval(); top_->clk = 1; top_->eval(); }
         top_->rst = 0;
@@ -156,11 +118,9 @@ template <class Home> class Bench {
         if (d_[k].has_data && damages(k, kFlipD)) top_->d_data[k] ^= 1ull << rng_() % 64;
     }
     void ask(uint32_t k) {
-        uint32_t size = rng_() % 4, kind = rng_() % 100;
-        top_->core_op[k] = kind < 10 ? 2 : kind < 55 ? 0 : 1;
-        top_->core_size[k] = size;
-        top_->core_addr[k] = uint32_t(board_.base + rng_() % spots_ * kBlock + (rng_() % kBlock >> size << size));
-        top_->core_data[k] = (uint64_t(rng_()) << 32) | rng_();
+        const Asked it = any_access(rng_, board_.base, spots_);
+        top_->core_op[k] = it.op; top_->core_size[k] = it.size;
+        top_->core_addr[k] = uint32_t(it.address); top_->core_data[k] = it.data;
         pending_[k] = true;
         asked_[k] = now_;
     }
@@ -243,19 +203,6 @@ template <class Home> class Bench {
     std::array<uint64_t, kClients> asked_{}, raised_{};
 };
 
-// What a run has come to.
-struct Outcome {
-    uint64_t faults = 0, wrong = 0;             // of the home, and of the scoreboard
-    uint64_t first_fault = 0, first_wrong = 0;  // their cycles
-};
-
-// The most memory that the process has taken, where the system tells it.
-static uint64_t kibibytes() {
-    std::ifstream status("/proc/self/status");
-    for (std::string line; std::getline(status, line);)
-        if (line.rfind("VmHWM:", 0) == 0) return std::stoull(line.substr(6));
-    return 0;
-}
 template <class Home>
 static void print(const Outcome &out, const Home &home, const Bench<Home> &bench, double seconds) {
     std::cout << home.cycle() << " cycles, " << bench.accesses << " accesses, " << bench.acquires << " Acquires, "
@@ -263,6 +210,8 @@ static void print(const Outcome &out, const Home &home, const Bench<Home> &bench
     if (out.faults) std::cout << ", the first at " << out.first_fault;
     std::cout << "; " << out.wrong << " by the scoreboard";
     if (out.wrong) std::cout << ", the first at " << out.first_wrong;
+    if constexpr (std::is_same_v<Home, jinavoke::Home>) if (home.inferred() + home.rooms())
+        std::cout << "; " << home.inferred() << " drops inferred, " << home.rooms() << " evictions for room";
     std::cout << "; " << uint64_t(double(home.cycle()) / seconds) << " cycles a second, " << kibibytes() << " KiB\n";
 }
 using Hears = std::function<void(std::function<void()>)>; // has a function called at each fault of the home
@@ -301,7 +250,7 @@ static Outcome judge_steps(const Settings &s, jinavoke::Home &home, const std::v
 // A run with Jinavoke: records where they are asked for, each fault's text, the first one's chart.
 static Outcome judge(const Settings &s, const jinavoke::Options &o, const std::vector<uint8_t> &image, Board &board) {
     jinavoke::Home home(o, image);
-    std::ofstream wire(s.text("wire")), events(s.text("events"));
+    std::ofstream wire = s.file("wire"), events = s.file("events");
     std::unique_ptr<jinavoke::Watch> wire_record, event_record;
     if (wire.is_open()) home.watch((wire_record = std::make_unique<jinavoke::WireRecord>(wire, o, image)).get());
     if (events.is_open()) home.watch((event_record = std::make_unique<jinavoke::EventRecord>(events, o, image)).get());
@@ -310,7 +259,7 @@ static Outcome judge(const Settings &s, const jinavoke::Options &o, const std::v
         home.on_fault = [&s, &home, hear](const jinavoke::Fault &f) {
             hear();
             std::cout << (s.number("quiet", 0) ? f.line() + "\n" : f.text());
-            if (home.faults() == 1 && !s.text("chart").empty()) std::ofstream(s.text("chart")) << f.script;
+            if (home.faults() == 1 && !s.text("chart").empty()) s.file("chart") << f.script;
         };
     });
 }
@@ -322,6 +271,8 @@ int main(int argc, char **argv) {
     o.base = 0x80000000;
     o.has_taps = s.number("taps", 1);
     o.silent_branch = s.number("silent", 0);
+    o.silent_tip = s.number("tip", 0);
+    o.numbers.copies = int64_t(s.number("copies", 16));
     o.gives_more = s.number("more", 0);
     o.pace = uint32_t(s.number("pace", 3));
     o.evict_every = uint32_t(s.number("evict", 500));

@@ -1,13 +1,19 @@
 #!/usr/bin/env python3
-"""Two small caches in plain Python on the links of a home, as a cocotb bench would drive them: links.py [LIBRARY].
+"""Two small caches in plain Python on the links of a home, as a cocotb bench would drive them:
+links.py [LIBRARY [threads]].
 
 On buses and blocks of several sizes, without a plant no fault is told; with each one a fault of that client is, or none
-where what is planted is lawful. What hangs is told as late. A bus that cannot be is refused.
+where what is planted is lawful. What hangs is told as late. A bus that cannot be is refused, and so is a wrong use:
+what is closed, a number that no wire carries, a record that cannot be written. Threads that share a home make their
+calls one at a time (`threads`: that alone).
 LIBRARY is libjinavoke_dpi.so, where it is not installed with the module. Status 1 where one is told otherwise.
 """
+import os
 import pathlib
 import random
 import sys
+import tempfile
+import threading
 
 sys.path.append(str(pathlib.Path(__file__).resolve().parents[2] / "python"))
 import jinavoke as jv  # noqa: E402
@@ -118,8 +124,109 @@ def faults_of(path, plant, cycles=3000, **numbers):
         return home.faults()
 
 
-def main():
-    path = sys.argv[1] if len(sys.argv) > 1 else None
+def raised_by(call):
+    """The exception that a call raises, or None."""
+    try:
+        call()
+    except Exception as why:  # pylint: disable=broad-except
+        return why
+    return None
+
+
+def refused(what, kind, calls):
+    """How many of the calls do not raise this exception."""
+    told = [(call, raised_by(call)) for call in calls]
+    for _, why in told:
+        print(f"{what}: {why!r}")
+    return sum(type(why) is not kind for _, why in told)
+
+
+def closed(path):
+    home = jv.Home(path=path, clients=2)
+    link = home.links[1]
+    with home:
+        home.tick()
+    home.close()
+    return refused("a closed home", ValueError, [
+        home.tick, lambda: home.cycle, home.is_quiet, home.fault_count, home.faults, home.script, home.__enter__,
+        link.b, link.d, link.b_taken, link.d_taken, lambda: link.e(0), lambda: link.load(0, bytes(8)),
+        lambda: link.store(0, bytes(8)), lambda: link.a(6, 1, 0, 0), lambda: link.c(6, 1, 0, 0)])
+
+
+def numbers(path):
+    """Numbers that no wire carries, and those of no home; none of them does anything."""
+    made = lambda **words: lambda: jv.Home(path=path, **words)
+    with jv.Home(path=path, clients=2, memory_blocks=64) as home:
+        link = home.links[0]
+        wrong = refused("a number", ValueError, [
+            lambda: jv.Link(home, 2), lambda: jv.Link(home, 5), lambda: jv.Link(home, -1), lambda: jv.Link(home, 2**32),
+            lambda: link.a(6, 1, 0, 2**64), lambda: link.a(6, 1, 0, -64), lambda: link.a(2**32 + 6, 1, 0, 0),
+            lambda: link.a(6, 2**32 + 1, 0, 0), lambda: link.a(6, 1, 2**32, 0),
+            lambda: link.a(6, 1, 0, 0, size=2**32 + 6), lambda: link.a(6, 1, 0, 0, raised=2**64),
+            lambda: link.c(6, 1, 0, 2**64), lambda: link.c(7, 1, 0, 0, bytes(9)),
+            lambda: link.c(7, 1, 0, 0, [300]), lambda: link.e(2**32), lambda: link.load(2**64, b"\1"),
+            lambda: link.store(2**64 - 1, b"\1\2"), lambda: link.store(0, 8 * [0] + [300])])
+        wrong += home.fault_count() != 0 or not home.is_quiet() or home.numbers["blocks"] != 64
+        link.a(6, 1, 0, 2**64 - 64)
+        print(f"the last address: {home.faults().splitlines()[0]}")
+        wrong += home.fault_count() != 1
+    wrong += refused("a home", ValueError, [
+        made(clients=2**32 + 2), made(clients=0), made(clients=-1), made(banks=2**32 + 1), made(base=2**64),
+        made(pace=-1), made(sinks=2**32 + 16), made(seed=2**32), made(blocks=2**32 + 64)])
+    wrong += refused("a home", TypeError, [made(blocks=4, memory_blocks=4), made(clints=2), made(image=5)])
+    with jv.Home(path=path, seed=2**32 - 1, base=2**64 - 2**20) as home:
+        home.tick()
+    return wrong
+
+
+def records(path):
+    """A record that cannot be written is an error before anything is made, and what is there is kept; else it is."""
+    with tempfile.TemporaryDirectory() as folder:
+        there, old = os.path.join(folder, "there"), os.path.join(folder, "old")
+        pathlib.Path(old).write_text("kept", encoding="utf-8")
+        made = lambda **words: lambda: jv.Home(path=path, **words)
+        nowhere = os.path.join(folder, "none", "record")
+        wrong = refused("a record", FileNotFoundError, [made(wire=nowhere), made(events=nowhere, wire=old)])
+        wrong += refused("a record", IsADirectoryError, [made(wire=folder), made(events=pathlib.Path(folder))])
+        wrong += refused("a home with a record", ValueError, [made(wire=old, clients=99)])
+        wrong += pathlib.Path(old).read_text(encoding="utf-8") != "kept"
+        with jv.Home(path=path, wire=pathlib.Path(there)):
+            pass
+        return wrong + (not pathlib.Path(there).read_text(encoding="utf-8").startswith("jvwire 1\n"))
+
+
+def threads(path, cycles=2000):
+    """Each client of a home is driven by a thread of its own, each of which ticks; one closes it beside the others."""
+    sys.setswitchinterval(1e-5)
+    home = jv.Home(path=path, clients=4, blocks=BLOCKS, base=BASE)
+    started, ends = threading.Barrier(4), []
+
+    def drives(client):
+        for _ in range(cycles):
+            client.cycle()
+            home.tick()
+            home.faults()
+        started.wait()
+        if client.link.client == 0:
+            home.close()
+        ends.append(raised_by(lambda: run_on(client)))
+
+    def run_on(client):
+        while True:
+            client.cycle()
+            client.link.home.tick()
+
+    clients = [Client(link, random.Random(link.client)) for link in home.links]
+    all_of_them = [threading.Thread(target=drives, args=(client,)) for client in clients]
+    for it in all_of_them:
+        it.start()
+    for it in all_of_them:
+        it.join()
+    print(f"four threads: {ends}")
+    return int([type(it) for it in ends] != 4 * [ValueError])
+
+
+def plants(path):
     wanted = {"": "", "clean data": "", "lost data": "client 1, block", "kept copy": "client 1, block"}
     wrong = 0
     for block, bus in (64, 8), (64, 16), (64, 64), (32, 8), (8, 8), (8, 64):
@@ -133,14 +240,14 @@ def main():
         first = told.splitlines()[0][:120] if told else "no fault"
         print(f"{plant} planted: {first}")
         wrong += "client 1" not in first or ": late: " not in first
-    for bus in 0, 4, 24, 128:
-        try:
-            jv.Home(path=path, beat_bytes=bus)
-            print(f"a bus of {bus} bytes was taken")
-            wrong += 1
-        except ValueError:
-            pass
-    return 1 if wrong else 0
+    buses = [lambda it=it: jv.Home(path=path, beat_bytes=it) for it in (0, 4, 24, 128)]
+    return wrong + refused("a bus", ValueError, buses)
+
+
+def main():
+    path = sys.argv[1] if len(sys.argv) > 1 else None
+    trials = [threads] if sys.argv[2:] == ["threads"] else [plants, closed, numbers, records, threads]
+    return 1 if sum([trial(path) for trial in trials]) else 0
 
 
 if __name__ == "__main__":

@@ -51,6 +51,136 @@ static void messages() {
     }
 }
 
+// ---- what a home does with numbers at their edges
+
+static jinavoke::Options small() {
+    jinavoke::Options o;
+    o.numbers = {2, 2, 1, 64, 1, 1, 1, 4, 4};
+    return o;
+}
+static jinavoke::Beat acquires(uint32_t param, uint32_t source, uint64_t address = 0) {
+    jinavoke::Beat beat;
+    beat.opcode = JV_OP_ACQUIRE_BLOCK; beat.param = param; beat.source = source; beat.address = address;
+    return beat;
+}
+// The names of the faults of a run, each with a blank behind it.
+struct Told {
+    explicit Told(jinavoke::Home &home) {
+        home.on_fault = [this](const jinavoke::Fault &f) { names += f.name() + " "; };
+    }
+    std::string names;
+};
+static void edges() {
+    jinavoke::Home home(small());
+    Told told(home);
+    for (int i = 0; i < 2; i++) home.a(0, acquires(JV_BTOT, 3));
+    want(told.names == "wrong from wrong from ", "an Acquire that was refused has given its source back:", 3);
+    want(home.bytes_of(3).has_value(), "the bytes of block", 3);
+    bool is_thrown = false;
+    try { home.bytes_of(4); } catch (const std::out_of_range &) { is_thrown = true; }
+    want(is_thrown, "no bytes of a block that is not there:", 4);
+
+    for (uint64_t patience : {0, 2000}) { // a Grant that is never taken
+        jinavoke::Options o = small();
+        o.patience = patience;
+        jinavoke::Home slow(o);
+        Told late(slow);
+        slow.a(0, acquires(JV_NTOT, 0));
+        for (int i = 0; i < 5000; i++) slow.tick();
+        want((late.names == "") == (patience == 0), "a patience of", int64_t(patience));
+    }
+    jinavoke::Options o = small();
+    o.has_taps = false;
+    jinavoke::Home untold(o);
+    Told of_taps(untold);
+    const uint8_t byte = 1;
+    untold.store(0, 0, &byte, 1);
+    want(of_taps.names == "", "stores that are told where the options say that none is:", 1);
+
+    jinavoke::Fault f;
+    for (auto [status, is_of_device] : {std::pair<uint32_t, bool>(JV_NO_MEMORY, false), {JV_CLOCK_FULL, false},
+            {JV_COPIES_FULL, false}, {JV_WRONG_FROM, true}, {JV_OK, true}}) {
+        f.status = status;
+        want(f.is_of_device() == is_of_device, "whether it is the device's fault: status", status);
+    }
+}
+// A memory that is at the end of all addresses, or would go on behind it; one that begins within a block.
+static void ends() {
+    jinavoke::Options o = small();
+    o.base = ~uint64_t(0) - 4 * 64 + 1;
+    jinavoke::Home home(o);
+    Told told(home);
+    home.a(0, acquires(JV_NTOT, 0, ~uint64_t(0) - 63));
+    for (int i = 0; i < 200 && told.names.empty(); i++) {
+        home.tick();
+        if (!home.d(0)) continue;
+        home.d_taken(0);
+        if (home.d(0)) continue; // the last beat was taken
+        const uint8_t byte = 1;
+        home.store(0, ~uint64_t(0), &byte, 1);
+        home.load(0, ~uint64_t(0), &byte, 1);
+        break;
+    }
+    want(told.names == "", "a store of the last byte of all:", 1);
+    const uint8_t two[2] = {};
+    home.load(0, ~uint64_t(0), two, 2);
+    want(told.names == "address ", "a load that goes on behind it:", 2);
+    for (uint64_t base : {~uint64_t(0) - 3 * 64 + 1, ~uint64_t(0) - 63, uint64_t(4), ~uint64_t(0)}) {
+        o.base = base;
+        bool is_thrown = false;
+        try { jinavoke::Home none(o); } catch (const std::runtime_error &) { is_thrown = true; }
+        want(is_thrown, "no memory at", int64_t(base));
+    }
+    o = small();
+    o.numbers.clients = 3;
+    o.uncached = {{2, 0, 15}};
+    jinavoke::Home wide(o);
+    for (uint32_t k : {2u, 3u, ~0u}) { // an agent, and nobody
+        bool is_thrown = false;
+        try { wide.load(k, 0, two, 2); } catch (const std::out_of_range &) { is_thrown = true; }
+        want(is_thrown, "no core of client", k);
+    }
+}
+static void records() {
+    std::ofstream lost("/no/such/folder/record");
+    int thrown = 0;
+    try { jinavoke::WireRecord wire(lost, small()); } catch (const std::runtime_error &) { thrown++; }
+    try { jinavoke::EventRecord events(lost, small()); } catch (const std::runtime_error &) { thrown++; }
+    want(thrown == 2, "records that cannot be opened:", thrown);
+    for (auto [wire, events] : {std::pair<const char *, const char *>("/no/such/folder/record", ""),
+            {"", "/no/such/folder/record"}}) {
+        void *home = jvh_new(2, 1, 64, 16, 4, 8, 64, 4096, 0, 8, 16, 16, 1, 3, 20, 0, 20000, 0, 1, 0, 0, "", wire,
+                             events);
+        want(home == nullptr, "no home for DPI whose record cannot be opened:", *wire != 0);
+    }
+}
+static void *wide_for_dpi(const char *cached, const char *uncached) {
+    return jvh_new_wide(2, 1, 64, 16, 4, 8, 64, 4096, 0, 8, 16, 16, 1, 3, 20, 0, 20000, 0, 1, 0, 0, 1, 1, 1, cached,
+        uncached, "", "", "");
+}
+static void ranges() {
+    void *home = wide_for_dpi("0:0-3 0:4-7", " 0:8-8  2:0-15 ");
+    want(home != nullptr, "a home of clients and agents by their sources, on link", 2);
+    want(jvh_links(home) == 3, "links:", jvh_links(home));
+    want(jvh_link_of(home, 1) == 0, "the link of client 1:", jvh_link_of(home, 1));
+    jvh_free(home);
+    for (const char *wrong : {"0:8", "x", "0:8-9,1:2-3", "0:8-16", "0:9-8", "16:8-9", "0:8-9 0:9-9", "0:-1--1"})
+        want(wide_for_dpi("", wrong) == nullptr, wrong, 0);
+    want(wide_for_dpi("0:0-3", "") == nullptr, "no home of two clients and one range of sources:", 1);
+}
+// A vector of 16 bytes of which a mask names some is told as its runs.
+static void masks() {
+    void *home = made_for_dpi(16);
+    uint32_t data[16] = {}, all[2] = {~0u, ~0u}, some[2] = {0x0ff3, 0};
+    want(jvh_tap(home, 0, 0, 0, 65, data, all) == 0, "no tap of", 65);
+    want(jvh_tap(home, 0, 0, 0, 0, data, all) == 0, "no tap of", 0);
+    jvh_tap(home, 0, 0, 0, 16, data, some); // bytes 0 and 1, and 4 to 11: the second run is one access of eight
+    want(jvh_faults(home) == 2, "runs of a masked load, each without a copy:", jvh_faults(home));
+    jvh_tap(home, 0, 0, 56, 16, data, all);
+    want(jvh_faults(home) == 4, "a load over two blocks, each without a copy:", jvh_faults(home));
+    jvh_free(home);
+}
+
 static int seen(void *judge, int event, int place) { // the status of an event of client 0 with nothing shown
     const uint32_t none[JV_MOST_BLOCK_BYTES / 4] = {};
     int rule = 0;
@@ -106,6 +236,11 @@ static void judges_at_pins() {
 
 int main() {
     messages();
+    edges();
+    ends();
+    records();
+    ranges();
+    masks();
     judges();
     judges_at_pins();
     for (uint32_t bus : {8u, 16u, 32u, 64u}) want(is_made(bus), "a bus of", bus);

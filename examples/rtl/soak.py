@@ -17,6 +17,7 @@ LAWFUL = "early-grant-ack clean-data late-btot".split()
 # A client that hears no more of its Release is silent, and lawful for ever: nobody on the links can see that.
 SILENT = ["drop-c", "drop-d"]
 LINE = re.compile(r"(\d+) faults(?:, the first at (\d+))?; (\d+) by the scoreboard(?:, the first at (\d+))?; "
+                  r"(?:\d+ drops inferred, \d+ evictions for room; )?"
                   r"(\d+) cycles a second, (\d+) KiB")
 
 

@@ -11,12 +11,20 @@ Each JV_, JJ_ and JP_ name of the header is a name of this module; `jv.Judge` ju
 `jv.PinsJudge` messages at a client's pins. To import it opens no file: the header is read where a number is first
 needed, and the shared library is loaded by the first cache. Both are those that were installed with this file, or, in a
 checkout, the repository's header. JINAVOKE_HEADER and JINAVOKE_LIBRARY name others.
+
+What is closed answers each use with a ValueError. Threads may share a cache, a judge or a home: a call keeps the
+interpreter's lock (ctypes.PyDLL), so calls are made one at a time. No number wraps: one that its field has no room for
+is handed in as the field's greatest, which the library refuses with its status; an `index` or a byte, which has no such
+status, is a ValueError.
 """
 import ctypes as c
 import functools
+import operator
 import os
 import pathlib
 import re
+import struct
+import sys
 
 NUMBERS = "version clients banks block_bytes sets ways registers copies memory_blocks".split()
 ASKED = "call index client place param bank channel len".split()
@@ -28,16 +36,102 @@ LINE = "what client place channel opcode param len".split()
 PINS_VERDICT = "status rule opcode param len perm wait why".split()
 # What a ticket is made of.
 TICKET = "bank client channel serial".split()
+# What the statuses 20 to 28 are of: the numbers of a cache, in the order in which they are asked.
+ILLEGAL = dict(zip(range(20, 29), NUMBERS[1:] + NUMBERS[:1]))
+# What each number of a type can be, and how `struct` names it.
+RANGES = {c.c_uint32: (0, 2**32 - 1), c.c_uint64: (0, 2**64 - 1), c.c_int64: (-2**63, 2**63 - 1)}
+CODES = {c.c_uint32: "I", c.c_uint64: "Q", c.c_int64: "q"}
 
 
-class Numbers(c.Structure):
+def octets(data):
+    """Bytes of what has them, of numbers from 0 to 255 too; a ValueError where one is no byte."""
+    if isinstance(data, bytes):
+        return data
+    if isinstance(data, int):
+        raise TypeError("bytes are wanted, and no number")
+    return bytes(data)
+
+
+class Octets(c.Array):
+    """Bytes of a struct: what is no byte is a ValueError, where ctypes keeps its lowest eight bits."""
+    _type_, _length_ = c.c_uint8, 0
+
+    def __setitem__(self, at, value):
+        super().__setitem__(at, octets(value) if isinstance(at, slice) else octets([value])[0])
+
+    @classmethod
+    def of(cls, data):
+        """These bytes, and 0 behind them; ValueError where they are too many."""
+        if len(data) > cls._length_:
+            raise ValueError(f"{len(data)} bytes, where {cls._length_} have room")
+        return cls.from_buffer_copy(data.ljust(cls._length_, b"\0"))
+
+
+class Octets8(Octets):
+    _length_ = 8
+
+
+class Octets64(Octets):
+    _length_ = 64
+
+
+class Asking(c.Structure):
+    """What a library is asked, in which no number wraps: one that its field has no room for becomes the field's
+    greatest (or least), which no cache has. `index` may be any number of 32 bits, so another is a ValueError."""
+
+    def __init_subclass__(cls):
+        """A 0 for each number, and what packs them with the bytes behind them: at once, since one by one takes long."""
+        *numbers, (_, last) = cls._fields_
+        cls.zeros = {name: 0 for name, _ in numbers}
+        if issubclass(last, Octets):
+            codes = "".join(CODES[kind] for _, kind in numbers)
+            cls.pack = struct.Struct(f"={codes}{last._length_}s").pack
+
+    @classmethod
+    def made(cls, data, **words):
+        """One of these numbers, 0 where none is given, and the bytes that have room."""
+        numbers = {**cls.zeros, **words}
+        if len(numbers) == len(cls.zeros):
+            try:
+                return cls.from_buffer_copy(cls.pack(*numbers.values(), data))
+            except struct.error:  # one of them does not fit, or is no number
+                pass
+        return cls(bytes=data[:cls.kind_of("bytes")._length_], **words)
+
+    @classmethod
+    @functools.lru_cache(maxsize=None)
+    def kind_of(cls, name):
+        """The type of a field; TypeError where there is none of that name."""
+        fields = dict(cls._fields_)
+        if name not in fields:
+            raise TypeError(f"there is no {name!r}, but " + ", ".join(fields))
+        return fields[name]
+
+    def __setattr__(self, name, value):
+        kind = self.kind_of(name)
+        if kind in RANGES:
+            value = self.fitting(name, operator.index(value), *RANGES[kind])
+        elif issubclass(kind, Octets):
+            value = kind.of(octets(value))
+        super().__setattr__(name, value)
+
+    @staticmethod
+    def fitting(name, value, least, most):
+        if least <= value <= most:
+            return value
+        if name == "index":
+            raise ValueError(f"index={value}: it is a number of 32 bits")
+        return least if value < least < 0 else most
+
+
+class Numbers(Asking):
     """The numbers of a cache (jv_numbers)."""
     _fields_ = [(name, c.c_int64) for name in NUMBERS]
 
 
-class Request(c.Structure):
+class Request(Asking):
     """A call or a view with what it is asked for (jv_request)."""
-    _fields_ = [(name, c.c_uint32) for name in ASKED] + [("serial", c.c_uint64), ("bytes", c.c_uint8 * 8)]
+    _fields_ = [(name, c.c_uint32) for name in ASKED] + [("serial", c.c_uint64), ("bytes", Octets8)]
 
 
 class Answer(c.Structure):
@@ -50,9 +144,9 @@ class Answer(c.Structure):
         return bytes(self.bytes[:self.len])
 
 
-class Seen(c.Structure):
+class Seen(Asking):
     """A message that was seen on a client's link (jv_seen)."""
-    _fields_ = [(name, c.c_uint32) for name in SEEN] + [("bytes", c.c_uint8 * 64)]
+    _fields_ = [(name, c.c_uint32) for name in SEEN] + [("bytes", Octets64)]
 
 
 class Number(c.Structure):
@@ -60,14 +154,14 @@ class Number(c.Structure):
     _fields_ = [("status", c.c_uint32), ("what", c.c_uint32), ("serial", c.c_uint64)]
 
 
-class JudgeNumbers(c.Structure):
+class JudgeNumbers(Asking):
     """The numbers of a judge (jj_numbers)."""
     _fields_ = [(name, c.c_uint32) for name in ("clients", "block_bytes", "memory_blocks")]
 
 
-class Entry(c.Structure):
+class Entry(Asking):
     """An event, with the message that was seen to be sent by it (jj_entry)."""
-    _fields_ = [(name, c.c_uint32) for name in ENTRY] + [("bytes", c.c_uint8 * 64)]
+    _fields_ = [(name, c.c_uint32) for name in ENTRY] + [("bytes", Octets64)]
 
 
 class Verdict(c.Structure):
@@ -75,14 +169,14 @@ class Verdict(c.Structure):
     _fields_ = [(name, c.c_uint32) for name in VERDICT] + [("bytes", c.c_uint8 * 64)]
 
 
-class PinsNumbers(c.Structure):
+class PinsNumbers(Asking):
     """The numbers of a judge at a client's pins (jp_numbers)."""
     _fields_ = [("of", JudgeNumbers), ("client", c.c_uint32), ("cores_unseen", c.c_uint32)]
 
 
-class Line(c.Structure):
+class Line(Asking):
     """A message on a client's link, a load or a store (jp_line)."""
-    _fields_ = [(name, c.c_uint32) for name in LINE] + [("bytes", c.c_uint8 * 64)]
+    _fields_ = [(name, c.c_uint32) for name in LINE] + [("bytes", Octets64)]
 
 
 class PinsVerdict(c.Structure):
@@ -94,7 +188,7 @@ class Refused(Exception):
     """A step was refused, or a cache was not opened: `status` is the number, as in jv_status."""
 
     def __init__(self, what, status):
-        super().__init__(f"{what}: {name_of('JV_', status, 'jv_status') or status}")
+        super().__init__(f"{what}: {status_name(status)}")
         self.status = status
 
 
@@ -140,10 +234,24 @@ def name_of(prefix, number, enum):
     return next((word for word, it in enums()[enum].items() if it == number and word.startswith(prefix)), None)
 
 
+def status_name(status):
+    """A status in words: its name in the header, or which number is not legal."""
+    if status in ILLEGAL:
+        return f"{status}, {ILLEGAL[status]} is not legal"
+    return name_of("JV_", status, "jv_status") or str(status)
+
+
+def loaded(path):
+    """The library of this path. A call keeps the interpreter's lock, so that threads make theirs one at a time."""
+    if not getattr(sys, "_is_gil_enabled", lambda: True)():
+        raise OSError(f"{path}: this Python has no interpreter lock, which keeps the calls of threads apart")
+    return c.PyDLL(path)
+
+
 @functools.lru_cache(maxsize=None)
 def library(path):
     """The shared library, once the layout of its structs is seen to be this file's."""
-    lib = c.CDLL(path)
+    lib = loaded(path)
     lib.jv_version.restype = c.c_uint32
     lib.jv_size.restype = lib.jv_align.restype = c.c_size_t
     lib.jv_echo.argtypes, lib.jv_echo.restype = [c.POINTER(Request)], Answer
@@ -160,7 +268,8 @@ def library(path):
     lib.jp_see.argtypes, lib.jp_see.restype = [c.c_void_p, c.POINTER(Line)], PinsVerdict
     lib.jv_calls.restype = c.c_size_t  # a Batch hands over what needs no conversion
     back = lib.jv_echo(Request(101, 102, 103, 104, 105, 106, 107, 108, 109))
-    told = [back.what, back.index, back.client, back.place, back.param, back.bank, back.channel, back.opcode, back.serial]
+    told = [back.what, back.index, back.client, back.place, back.param, back.bank, back.channel, back.opcode,
+            back.serial]
     back = lib.jv_echo_seen(Seen(*range(110, 118)))
     told += [back.channel, back.opcode, back.param, back.client, back.place, back.size, back.what, back.index]
     if told != [*range(101, 118)] or lib.jv_version() != enums()["version"]["JV_VERSION"]:
@@ -171,7 +280,7 @@ def library(path):
 def asked(call, bytes=b"", **words):
     """The request of a call or a view, named as in the header (JV_CALL_.., JV_VIEW_..) in small letters."""
     words.setdefault("len", len(bytes))
-    return Request(call=number_of_call(call), bytes=(c.c_uint8 * 8)(*bytes[:8]), **words)
+    return Request.made(octets(bytes), call=number_of_call(call), **words)
 
 
 @functools.lru_cache(maxsize=None)
@@ -184,10 +293,16 @@ def number_of_call(call):
     return number
 
 
+class Handle:
+    """What stands for a cache, a judge or a home in a call. ctypes takes its `_as_parameter_`, the address, in the call
+    itself; where there is none the call is not made (ctypes.ArgumentError)."""
+
+
 class Opened:
     """What a library keeps from its opening until it is closed: a cache, a judge, a home of links."""
 
-    at = None  # where it stands, while it is open
+    handle = None
+    kind = "cache"
 
     def lend(self, path, prefix):
         """Memory for what the function with this prefix opens: PREFIX_size bytes, at an address that PREFIX_align
@@ -196,19 +311,41 @@ class Opened:
         align = getattr(self.lib, f"{prefix}_align")()
         self.room = c.create_string_buffer(getattr(self.lib, f"{prefix}_size")() + align)
         begin = c.addressof(self.room)
-        self.at = c.c_void_p(begin + -begin % align)
+        self.hold(begin + -begin % align)
 
-    def end(self):
+    def hold(self, address):
+        """It is open, at this address."""
+        self.handle = Handle()
+        self.handle._as_parameter_ = c.c_void_p(address)
+
+    def call(self, name, *words):
+        """What the library's function answers; ValueError where this is closed."""
+        try:
+            return getattr(self.lib, name)(self.handle, *words)
+        except c.ArgumentError:
+            self.check()
+            raise
+
+    def is_open(self):
+        return hasattr(self.handle, "_as_parameter_")
+
+    def check(self):
+        """ValueError where it is closed."""
+        if not self.is_open():
+            raise ValueError(f"the {self.kind} is closed") from None
+
+    def end(self, at):
         """The call that closes it."""
         raise NotImplementedError
 
     def close(self):
         """Gives all that it holds back; a closed one is closed again without harm."""
-        if self.at:
-            self.end()
-            self.at = None
+        at = self.handle and self.handle.__dict__.pop("_as_parameter_", None)
+        if at:
+            self.end(at)
 
     def __enter__(self):
+        self.check()
         return self
 
     def __exit__(self, *_):
@@ -227,19 +364,30 @@ class Batch:
     """
 
     def __init__(self, cache, requests):
+        cache.check()
         self.cache = cache  # its room has to stay
         self.requests = (Request * len(requests))(*requests)
         self.answers = (Answer * len(requests))()
         many = c.c_size_t(len(requests))
-        self.run = functools.partial(cache.lib.jv_calls, cache.at, c.byref(self.requests), many, c.byref(self.answers), many)
+        self.made = functools.partial(cache.lib.jv_calls, cache.handle, c.byref(self.requests), many,
+                                      c.byref(self.answers), many)
+
+    def run(self):
+        """How many calls were made; ValueError where the cache is closed."""
+        try:
+            return self.made()
+        except c.ArgumentError:
+            self.cache.check()
+            raise
 
 
 class Cache(Opened):
     """A cache at reset over an image. Its numbers are those of jv_numbers; the version is 2 where none is given."""
 
     def __init__(self, image=b"", path=None, **numbers):
+        numbers, image = Numbers(**{"version": 2, **numbers}), octets(image)
         self.lend(path, "jv")
-        self.lib.jv_open(Numbers(**{"version": 2, **numbers}), bytes(image), len(image), self.at)
+        self.lib.jv_open(numbers, image, len(image), self.handle)
         why = self.ask("room")
         if why.status == enums()["jv_status"]["JV_CLOSED"]:
             raise Refused("the cache is not opened", why.serial)
@@ -247,7 +395,7 @@ class Cache(Opened):
     def ask(self, call, bytes=b"", **words):
         """The answer of a call or a view, named as in the header (JV_CALL_.., JV_VIEW_..) in small letters, refused or
         not."""
-        return self.lib.jv_call(self.at, asked(call, bytes, **words))
+        return self.call("jv_call", asked(call, bytes, **words))
 
     def batch(self, *calls):
         """A Batch of requests, each made by `asked`."""
@@ -261,7 +409,8 @@ class Cache(Opened):
     def saw(self, bytes=b"", **words):
         """The answer to a message that was seen on A, C or E (jv_saw): channel, opcode, param, client, block, and
         options (JV_STORES)."""
-        return self.lib.jv_saw(self.at, Seen(len=len(bytes), bytes=(c.c_uint8 * 64)(*bytes[:64]), **words))
+        words.setdefault("len", len(bytes))
+        return self.call("jv_saw", Seen.made(octets(bytes), **words))
 
     def step(self, call, **words):
         """The answer of a call that is done; Refused where it is not."""
@@ -279,59 +428,112 @@ class Cache(Opened):
 
     def events(self, bank=0):
         """The events of a bank's log that are not forgotten, oldest first."""
-        request = asked("event", bank=bank, serial=self.step("forgotten", bank=bank).serial)
+        return self.read(asked("event", bank=bank, serial=self.step("forgotten", bank=bank).serial))
+
+    def read(self, request):
         while True:
             read = (Answer * 256)()
-            count = self.lib.jv_read(self.at, request, read, len(read)).serial
+            count = self.call("jv_read", request, read, len(read)).serial
             if not count:
                 return
             yield from read[:count]
             request.serial += count
 
-    def end(self):
-        self.ask("close")
+    def end(self, at):
+        self.lib.jv_call(at, Request())  # JV_CALL_CLOSE is 0
 
 
-class Judge(Opened):
-    """A judge of events at reset over an image: clients, block_bytes, memory_blocks (jj_numbers)."""
+class Judging(Opened):
+    """A judge: of the library, or one of jinavoke.hpp, which infers what was dropped, in the library of a home of
+    links (links.py)."""
 
-    def __init__(self, image=b"", path=None, **numbers):
-        self.lend(path, "jj")
-        self.lib.jj_open(JudgeNumbers(**numbers), bytes(image), len(image), self.at)
-        why = self.see(event=254)  # no entry: an open judge answers JV_BAD_ARGUMENT
+    kind = "judge"
+    prefix = ""  # of the library's functions
+    infers = False
+
+    def begin(self, path, infers, opening, *options):
+        """Opens it; Refused where it is not. `options` are those of jinavoke.hpp."""
+        self.infers = infers
+        if infers:
+            self.lib, why = links.library(path or links.library_file()), c.c_uint32()
+            at = getattr(self.lib, f"{self.prefix}d_open")(*opening, *options, why)
+            if not at:
+                raise Refused("the judge is not opened", why.value)
+            self.hold(at)
+            return
+        self.lend(path, self.prefix)
+        getattr(self.lib, f"{self.prefix}_open")(*opening, self.handle)
+        why = self.see(254)  # no entry: an open judge answers JV_BAD_ARGUMENT
         if why.status == enums()["jv_status"]["JV_CLOSED"]:
             raise Refused("the judge is not opened", why.why)
+
+    def hand(self, entry, verdict):
+        """What the judge says of an entry or a line; `verdict` is the type of that."""
+        if not self.infers:
+            return self.call(f"{self.prefix}_see", entry)
+        told = verdict()
+        self.call(f"{self.prefix}d_judge", entry, told)
+        return told
+
+    def inferred(self):
+        """How many copies clients are taken to have dropped: 0 without `drops_clean`."""
+        self.check()
+        return self.call(f"{self.prefix}d_inferred") if self.infers else 0
+
+    def end(self, at):
+        if self.infers:
+            getattr(self.lib, f"{self.prefix}d_free")(at)
+        else:
+            self.closes(at)
+
+    def closes(self, at):
+        """The entry that closes a judge of the library."""
+        raise NotImplementedError
+
+
+class Judge(Judging):
+    """A judge of events at reset over an image: clients, block_bytes, memory_blocks (jj_numbers). With `drops_clean`
+    clients may drop clean copies and send no Release, and with `probes_anyone` home may probe a client that has no
+    more than the Probe leaves it; `path` then names the library of a home of links."""
+
+    prefix = "jj"
+
+    def __init__(self, image=b"", path=None, drops_clean=False, probes_anyone=False, **numbers):
+        numbers, image = JudgeNumbers(**numbers), octets(image)
+        opening = numbers, image, len(image)
+        self.begin(path, drops_clean or probes_anyone, opening, bool(drops_clean), bool(probes_anyone))
 
     def see(self, event, bytes=b"", **words):
         """The verdict on the next entry: its event by number, or named as in the header (JV_EVENT_..), in small
         letters."""
         number = event if isinstance(event, int) else enums()["jv_event_kind"]["JV_EVENT_" + event.upper()]
-        held = (c.c_uint8 * 64)(*bytes[:64])
-        return self.lib.jj_see(self.at, Entry(event=number, len=len(bytes), bytes=held, **words))
+        words.setdefault("len", len(bytes))
+        return self.hand(Entry.made(octets(bytes), event=number, **words), Verdict)
 
-    def end(self):
-        self.see(event=255)
+    def closes(self, at):
+        self.lib.jj_see(at, Entry(event=255))
 
 
-class PinsJudge(Opened):
-    """A judge of messages at a client's pins: client, clients, block_bytes, memory_blocks, cores_unseen
-    (jp_numbers)."""
+class PinsJudge(Judging):
+    """A judge of messages at a client's pins: client, clients, block_bytes, memory_blocks, cores_unseen (jp_numbers).
+    With `drops_clean` the client may drop clean copies and send no Release; `path` then names the library of a home of
+    links."""
 
-    def __init__(self, client, cores_unseen=0, path=None, **numbers):
-        self.lend(path, "jp")
-        self.lib.jp_open(PinsNumbers(JudgeNumbers(**numbers), client, cores_unseen), self.at)
-        why = self.see(254)  # no line: an open judge answers JV_BAD_ARGUMENT
-        if why.status == enums()["jv_status"]["JV_CLOSED"]:
-            raise Refused("the judge is not opened", why.why)
+    prefix = "jp"
+
+    def __init__(self, client, cores_unseen=0, path=None, drops_clean=False, **numbers):
+        opening = [PinsNumbers(JudgeNumbers(**numbers), client, cores_unseen)]
+        self.begin(path, drops_clean, opening, bool(drops_clean))
 
     def see(self, what, bytes=b"", **words):
         """The verdict on the next line: what it is by number, or named as in the header (JP_..), in small letters."""
         number = what if isinstance(what, int) else enums()["jp_what"]["JP_" + what.upper()]
-        held = (c.c_uint8 * 64)(*bytes[:64])
-        return self.lib.jp_see(self.at, Line(what=number, len=len(bytes), bytes=held, **words))
+        words.setdefault("len", len(bytes))
+        return self.hand(Line.made(octets(bytes), what=number, **words), PinsVerdict)
 
-    def end(self):
-        self.see(255)
+    def closes(self, at):
+        self.lib.jp_see(at, Line(what=255))
 
 
+from . import links  # noqa: E402
 from .links import Down, Home, Link  # noqa: E402, F401
