@@ -69,7 +69,7 @@ interface() { sed -n 's/^#define JV_VERSION \([0-9]*\).*/\1/p' "$top/include/jin
 # that their links hold (scripts/links.py).
 shared_files() (
     cd "$top" || exit 1
-    find README.md CONTRIBUTING.md docs examples -type f ! -name check ! -name '*.pyc'
+    find README.md CHANGELOG.md CONTRIBUTING.md docs examples -type f ! -name check ! -name '*.pyc'
     find crates -name out -prune -o -name CALLING.md -print
     find crates/golden/data -name '*.svg' -o -name '*.html'
 )

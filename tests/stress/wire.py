@@ -5,7 +5,8 @@ traces, given to tlwire.
 Each bank of a trace is a record of messages: each message that was sent, with a cycle, a source and a sink, and each
 load and store. Each record is given to tlwire twice as `whole`: with each message at its sending, and with each one
 later, as buffers would delay it: somewhere before it is taken, the messages of a channel in their order. Both must be
-explained; with --tlcheck the run that `tlwire --run` prints must be lawful. Then it is given as it is seen at the
+explained; with --tlcheck the run that `tlwire --run` prints must be lawful, but for the order of a channel over all
+blocks, which an explanation need not keep. Then it is given as it is seen at the
 clients' pins (what a client has not taken is not seen), whole and cut at some line, with all that is seen, without the
 memory's link, without the cores, without both: none of these may be impossible. Then N damages (10) of the record that
 is whole, and N of the one at the clients' pins: a line dropped, a byte or a parameter changed, two lines of a channel
@@ -27,6 +28,8 @@ CODES = {
     "Release": ("C", 6, {"TtoB": 0, "TtoN": 1, "BtoN": 2}), "ReleaseData": ("C", 7, {"TtoB": 0, "TtoN": 1}),
     "Grant": ("D", 4, {"toT": 0, "toB": 1}), "GrantData": ("D", 5, {"toT": 0, "toB": 1}), "ReleaseAck": ("D", 6, {}), "GrantAck": ("E", 0, {}),
 }
+# What tlcheck says of a run that takes the messages of several blocks in another order than they were sent.
+OTHER_ORDER = b"a message is taken where it is the first of its channel"
 # Which channel an event takes its message from.
 TAKES = {"accept": "A", "answer_probe": "B", "take_c": "C", "take_grant": "D", "take_release_ack": "D", "take_grant_ack": "E"}
 
@@ -290,7 +293,7 @@ class Wire:
             _, run, _ = self.ask([self.tlwire, "--run"], text(head, lines))
             status, output, fault = self.ask([self.tlcheck], run.decode())
             # (a run of no events over no image is no record)
-            if status != 0 and lines:
+            if status != 0 and lines and OTHER_ORDER not in output:
                 return f"the run: status {status}: {output.decode()}{fault.decode()}"
         return None
 
