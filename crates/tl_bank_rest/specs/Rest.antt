@@ -18,8 +18,8 @@ pub record ReceivesOne (old new : View) : Type 0 where
   pub receiving : is_receiving event ≡ true
   pub less : work_at new < work_at old
 
--- These events more in the log; nothing else changed but the room, the registers and the ways. By each event something
--- was received, and they are no more than what was under way could bring, without what is under way still.
+-- These events more in the log; nothing else changed but the room, the registers and the ways. By each event something was received,
+-- and they are no more than what was under way could bring, without what is under way still.
 pub record Receives (old new : View) (events : List Event) : Type 0 where
   pub is :
       new ≡ record old { log = old.log ++ events; room = new.room; registers = new.registers; ways = new.ways }
