@@ -24,9 +24,13 @@ ANSWERS = ("explained", "not decided", "impossible")
 
 
 def made(rng, clients, lines, way, free):
-    """A record of about so many lines, and the same damaged in one place; None where an exchange is out of order."""
+    """A record of about so many lines, and the same damaged in one place; None where the walk is not
+    seen so, or an exchange is out of order."""
     walk = closed.Walk(rng, clients, rng.choice([1, 2, 4]), 8, 2 * lines, rng.random() < 0.6)
-    there = [m for m in closed.seen(walk, way, 0, False)[0] if m["wire"][0] not in free][:lines]
+    what = closed.seen(walk, way, 0, False)
+    if what is None:
+        return None
+    there = [m for m in what[0] if m["wire"][0] not in free][:lines]
     header = closed.HEADERS[way] + [closed.UNSEEN[link] for link in free]
     both = [closed.text(it, walk, header) for it in (there, closed.damaged(rng, there))]
     return both if all(both) else None

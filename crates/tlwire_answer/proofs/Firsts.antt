@@ -6,21 +6,22 @@ use Rattle.tlwire_pins.specs.Impossible.{IsImpossible}
 use Rattle.tlwire_pins.specs.Judged.{EachMay}
 use Rattle.tlwire_pins.specs.Walk.{IsWrong}
 use Rattle.tlwire_pins.specs.declared.pass.Wrong.{Wrong}
-use Rattle.tlwire_pins.specs.declared.view.Cores.{Cores}
+use Rattle.tlwire_pins.specs.declared.view.Tap.{Tap}
 use Rattle.tlwire_pins.proofs.Walk.{each_may_less, each_may_take}
 use Rattle.tlwire_record.specs.Messages.{MessagesState}
-use Rattle.tlwire_answer.specs.Answer.{IsFirstOf, IsWrongAt, MayAt, MayAtPins, cores_of}
+use Rattle.tlwire_answer.specs.Answer.{IsFirstOf, IsWrongAt, MayAt, MayAtPins}
 use Rattle.tlwire_answer.specs.Named.{is_told}
+use Rattle.tlwire_pins.specs.Taps.{tap_of}
 
 -- what may be seen may be seen up to a place
 may_take : (m : MessagesState) (place client : ℕ) → MayAt m m.seen client → MayAt m (take place m.seen) client
 may_take m place client may = λ told.
-    each_may_take (cores_of m.setting.premises client) m.setting.shape client place m.seen (may told)
+    each_may_take (tap_of m.setting.premises client) m.setting.shape client place m.seen (may told)
 
 -- and up to an earlier one
 may_less : (m : MessagesState) (place to client : ℕ) → place ≤ to → MayAt m (take to m.seen) client → MayAt m (take place m.seen) client
 may_less m place to client le may = λ told.
-    each_may_less (cores_of m.setting.premises client) m.setting.shape client place to m.seen le (may told)
+    each_may_less (tap_of m.setting.premises client) m.setting.shape client place to m.seen le (may told)
 
 pub pins_take : (m : MessagesState) (place : ℕ) → MayAtPins m m.seen → MayAtPins m (take place m.seen)
 pins_take m place may = λ client lt. may_take m place client (may client lt)
@@ -60,30 +61,30 @@ first_behind m clients w other le first here = (
 )
 
 -- what holds of the record's own shape and lines
-own_of : (P : Cores → Shape → List Seen → Type 0) (m : MessagesState) (cores : Cores) (shape : Shape) (seen : List Seen) (client : ℕ)
-    → cores ≡ cores_of m.setting.premises client → shape ≡ m.setting.shape → seen ≡ m.seen → P cores shape seen
-    → P (cores_of m.setting.premises client) m.setting.shape m.seen
-own_of P m cores shape seen client k s e p =
-    subst (λ (xs : List Seen). P (cores_of m.setting.premises client) m.setting.shape xs) e
-    (subst (λ (x : Shape). P (cores_of m.setting.premises client) x seen) s (subst (λ (x : Cores). P x shape seen) k p))
+own_of : (P : Tap → Shape → List Seen → Type 0) (m : MessagesState) (tap : Tap) (shape : Shape) (seen : List Seen) (client : ℕ)
+    → tap ≡ tap_of m.setting.premises client → shape ≡ m.setting.shape → seen ≡ m.seen → P tap shape seen
+    → P (tap_of m.setting.premises client) m.setting.shape m.seen
+own_of P m tap shape seen client k s e p =
+    subst (λ (xs : List Seen). P (tap_of m.setting.premises client) m.setting.shape xs) e
+    (subst (λ (x : Shape). P (tap_of m.setting.premises client) x seen) s (subst (λ (x : Tap). P x shape seen) k p))
 
 -- what is said at the pins of a client that is told there
-pub wrong_then : {E : Type 0} (r : Result (Option Wrong) E) (m : MessagesState) (cores : Cores) (shape : Shape) (seen : List Seen) (client : ℕ)
-    → cores ≡ cores_of m.setting.premises client → shape ≡ m.setting.shape → seen ≡ m.seen → is_told m.setting.premises client ≡ true
-    → IfOk r (λ found. IfSome found (IsWrong cores shape client seen))
-    → IfOk r (λ found. IsSome found → IsImpossible cores shape client seen)
-    → IfOk r (λ found. IfSome found (λ (w : Wrong). EachMay cores shape client (take w.place seen)))
-    → IfOk r (λ found. IsNone found → EachMay cores shape client seen)
+pub wrong_then : {E : Type 0} (r : Result (Option Wrong) E) (m : MessagesState) (tap : Tap) (shape : Shape) (seen : List Seen) (client : ℕ)
+    → tap ≡ tap_of m.setting.premises client → shape ≡ m.setting.shape → seen ≡ m.seen → is_told m.setting.premises client ≡ true
+    → IfOk r (λ found. IfSome found (IsWrong tap shape client seen))
+    → IfOk r (λ found. IsSome found → IsImpossible tap shape client seen)
+    → IfOk r (λ found. IfSome found (λ (w : Wrong). EachMay tap shape client (take w.place seen)))
+    → IfOk r (λ found. IsNone found → EachMay tap shape client seen)
     → IfOk r (IsWrongAt m client)
-wrong_then (Ok (Some w)) m cores shape seen client k s e told wrong none first all = (
+wrong_then (Ok (Some w)) m tap shape seen client k s e told wrong none first all = (
   record {
     client = client;
     premise = told;
-    wrong = own_of (λ (x : Cores) (sh : Shape) (xs : List Seen). IsWrong x sh client xs w) m cores shape seen client k s e wrong;
-    impossible = own_of (λ (x : Cores) (sh : Shape) (xs : List Seen). IsImpossible x sh client xs) m cores shape seen client k s e (none refl);
+    wrong = own_of (λ (x : Tap) (sh : Shape) (xs : List Seen). IsWrong x sh client xs w) m tap shape seen client k s e wrong;
+    impossible = own_of (λ (x : Tap) (sh : Shape) (xs : List Seen). IsImpossible x sh client xs) m tap shape seen client k s e (none refl);
   },
-  λ t. own_of (λ (x : Cores) (sh : Shape) (xs : List Seen). EachMay x sh client (take w.place xs)) m cores shape seen client k s e first,
+  λ t. own_of (λ (x : Tap) (sh : Shape) (xs : List Seen). EachMay x sh client (take w.place xs)) m tap shape seen client k s e first,
 )
-wrong_then (Ok None) m cores shape seen client k s e told wrong none first all =
-    λ t. own_of (λ (x : Cores) (sh : Shape) (xs : List Seen). EachMay x sh client xs) m cores shape seen client k s e (all refl)
-wrong_then (Err x) m cores shape seen client k s e told wrong none first all = tt
+wrong_then (Ok None) m tap shape seen client k s e told wrong none first all =
+    λ t. own_of (λ (x : Tap) (sh : Shape) (xs : List Seen). EachMay x sh client xs) m tap shape seen client k s e (all refl)
+wrong_then (Err x) m tap shape seen client k s e told wrong none first all = tt

@@ -1,5 +1,6 @@
 mod Asked
 mod Clients
 mod Firsts
+mod Found
 pub mod Texts
 pub mod Told

@@ -5,7 +5,7 @@ use Rattle.std.specs.Borrow.{Bor}
 use Rattle.std.specs.List.{slice_get}
 use Rattle.std.specs.Option.{option_map}
 use Rattle.tl_script_words.specs.Words.{texts}
-use Rattle.tlwire_answer.specs.Ending.{lent_line, line_or_none}
+use Rattle.tlwire_answer.specs.Lines.{lent_line, line_or_none}
 
 -- what is behind a reference that may be absent
 of_one : (o : Option (Bor (List ℕ))) → lent_line o ≡ line_or_none (option_map (λ w. w.now) o)

@@ -12,8 +12,9 @@ use Rattle.tlwire_closed.specs.declared.premise.Premise.{Premise as SetPremise}
 use Rattle.tlwire_closed.specs.declared.premise.Way.{Way}
 use Rattle.tlwire_closed.specs.declared.premise.Way.TheVariants.{Between, AtSending, AtHome, AtClients, AtClient}
 use Rattle.tlwire_record.specs.Messages.{MessagesState}
-use Rattle.tlwire_answer.specs.Answer.{ClientKeepsOrder, EachKeepsOrder, IsExplained, IsInOrder, Meets, cores_of}
+use Rattle.tlwire_answer.specs.Answer.{ClientKeepsOrder, EachKeepsOrder, IsExplained, IsInOrder, Meets}
 use Rattle.tlwire_answer.specs.Named.{premise_of}
+use Rattle.tlwire_pins.specs.Taps.{cores_of}
 
 -- of a client
 pub keeps_then : {E : Type 0} (r : Result Bool E) (m : MessagesState) (cores : Cores) (shape : Shape) (lines seen : List Seen) (client : ℕ)

@@ -1,8 +1,7 @@
 -- What an answer ends with, what is written then, and its status (this project's own format).
-use Rattle.std.specs.Prelude.{◌≡◌, ◌≢◌, ℕ, ◌-◌, ◌==◌, List, [], ◌++◌, length, slice_get, codes, decimal, Option, Some, None, if◌then◌else◌}
+use Rattle.std.specs.Prelude.{◌≡◌, ◌≢◌, ℕ, List, [], ◌++◌, length, codes, decimal, Option, Some, None, if◌then◌else◌}
 use Rattle.std.specs.Io.KnownBytes.{Appends}
 use Rattle.std.specs.List.{flat_map}
-use Rattle.std.specs.Borrow.{Bor}
 use Rattle.tl_protocol.specs.declared.event.Event.{Event}
 use Rattle.tl_streams.specs.Fault.{program_fault_text}
 use Rattle.tl_streams.specs.declared.command_line.WordsError.{WordsError}
@@ -29,23 +28,26 @@ use Rattle.tlwire_pins.specs.declared.view.View.{View}
 use Rattle.tlcheck_record.specs.Cause.{is_outside, sentence}
 use Rattle.tlwire_record.specs.Messages.{MessagesState}
 use Rattle.tlcheck_record.specs.declared.cause.Cause.{Cause}
+use Rattle.tlwire_answer.specs.Lines.{number_at, text_at}
 use Rattle.tlwire_answer.specs.Run.{run_text}
+use Rattle.tlwire_answer.specs.Waits.{unmet_text, waits_text}
 use Rattle.tlwire_answer.specs.declared.ending.Ending.{Ending}
 use Rattle.tlwire_answer.specs.declared.ending.Ending.TheVariants.{Usage, Answered, Wrong as WrongLine, Empty, Memory, File}
 use Rattle.tlwire_answer.specs.declared.order.Order.{Order}
 use Rattle.tlwire_answer.specs.declared.order.Order.TheVariants.{AtPins, Between, AtHome, AtClients}
 use Rattle.tlwire_answer.specs.declared.verdict.Verdict.{Verdict}
-use Rattle.tlwire_answer.specs.declared.verdict.Verdict.TheVariants.{Explained, Impossible, RuledOut, NotDecided, OtherOrder}
+use Rattle.tlwire_answer.specs.declared.verdict.Verdict.TheVariants.{Explained, Impossible, RuledOut, NotDecided, OtherOrder, Unmet}
 use Rattle.tlwire_answer.specs.declared.ending.Form.{Form}
 use Rattle.tlwire_answer.specs.declared.ending.Form.TheVariants.{Summary, Run}
 
--- explained ends with 0, impossible with 1, not decided with 6
+-- explained ends with 0, impossible and what is not as the header expects with 1, not decided with 6
 abbrev pub verdict_status : Verdict → ℕ
 verdict_status (Explained events) = 0
 verdict_status (Impossible wrong) = 1
 verdict_status (RuledOut stuck) = 1
 verdict_status (NotDecided place limit sets) = 6
 verdict_status (OtherOrder order sets) = 6
+verdict_status (Unmet unmet) = 1
 
 -- usage ends with 2, what is no record of messages with 3, want of memory with 4, the file with 5
 abbrev pub status_of : Ending → ℕ
@@ -96,29 +98,6 @@ summary_line m events = summary_text (length m.seen) (length events)
 -- the run, as a record of events
 abbrev pub run_of : MessagesState → List Event → List ℕ
 run_of m events = run_text m.setting.shape m.image events
-
--- a number that may be absent
-abbrev pub number_or_zero : Option ℕ → ℕ
-number_or_zero None = 0
-number_or_zero (Some n) = n
-
--- the number of the line of a thing seen
-abbrev pub number_at : List ℕ → ℕ → ℕ
-number_at numbers place = number_or_zero (slice_get numbers place)
-
--- a line that may be absent
-abbrev pub line_or_none : Option (List ℕ) → List ℕ
-line_or_none None = []
-line_or_none (Some line) = line
-
--- that of a reference to it
-abbrev pub lent_line : Option (Bor (List ℕ)) → List ℕ
-lent_line None = []
-lent_line (Some line) = line.now
-
--- the line with a number, from 1 on
-abbrev pub text_at : List (List ℕ) → ℕ → List ℕ
-text_at lines number = if number == 0 then [] else line_or_none (slice_get lines (number - 1))
 
 -- what ended an attempt
 abbrev pub limit_text : Limit → List ℕ
@@ -198,20 +177,21 @@ abbrev pub ruled_out_text : List ℕ → ℕ → List ℕ → Stuck → List ℕ
 ruled_out_text numbers number line stuck =
     stuck_line number ++ line ++ (block_line stuck.block ++ flat_map (stop_line numbers) stuck.stops.items)
 
--- what is written of a run that was found
-abbrev pub explained_text : Form → MessagesState → List Event → List ℕ
-explained_text Summary m events = summary_line m events
-explained_text Run m events = run_of m events
+-- what is written of a run that was found: how much it explains, with the exchanges; or the run alone
+abbrev pub explained_text : Form → List (List ℕ) → MessagesState → List Event → List ℕ
+explained_text Summary lines m events = summary_line m events ++ waits_text lines m
+explained_text Run lines m events = run_of m events
 
 -- what is written of what was said
 abbrev pub answer_text : Form → List (List ℕ) → MessagesState → Verdict → List ℕ
-answer_text form lines m (Explained events) = explained_text form m events.items
+answer_text form lines m (Explained events) = explained_text form lines m events.items
 answer_text form lines m (Impossible w) = impossible_text (number_at m.lines w.place) (text_at lines (number_at m.lines w.place)) w
 answer_text form lines m (RuledOut stuck) =
     ruled_out_text m.lines (number_at m.lines stuck.place) (text_at lines (number_at m.lines stuck.place)) stuck
 answer_text form lines m (NotDecided place limit sets) =
-    not_decided_text (number_at m.lines place) (text_at lines (number_at m.lines place)) limit sets
-answer_text form lines m (OtherOrder order sets) = other_order_text order sets
+    not_decided_text (number_at m.lines place) (text_at lines (number_at m.lines place)) limit sets ++ waits_text lines m
+answer_text form lines m (OtherOrder order sets) = other_order_text order sets ++ waits_text lines m
+answer_text form lines m (Unmet unmet) = unmet_text lines m unmet ++ waits_text lines m
 
 -- what is written of an ending that is an answer
 abbrev pub ending_text : Form → List (List ℕ) → Ending → List ℕ

@@ -1,4 +1,6 @@
 pub mod Answer
 pub mod Ending
+pub mod Lines
 pub mod Run
+pub mod Waits
 pub mod Named

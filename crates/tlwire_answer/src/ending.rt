@@ -3,11 +3,13 @@ ghost use Rattle.std.specs.Prelude.{◌≡◌, ◌++◌, Some, IfOk, OnOk, slice
 ghost use Rattle.std.specs.List.{flat_map};
 ghost use Rattle.tl_streams.specs.Written.{AppendsBeginning};
 ghost use Rattle.tl_script_words.specs.Words.{texts};
-ghost use Rattle.tlwire_answer.specs.Ending.{answer_text, ending_of_read, ending_of_words, explained_text, fault_line, fault_text, hindrance_text, impossible_text, lent_line, limit_line, limit_text, not_decided_text, number_at, order_text, other_order_text, rule_line, ruled_out_text, sets_text, side_text, stop_line, stuck_line, block_line, run_of, status_of, summary_line, summary_text, text_at, view_line};
+ghost use Rattle.tlwire_answer.specs.Ending.{answer_text, ending_of_read, ending_of_words, explained_text, fault_line, fault_text, hindrance_text, impossible_text, limit_line, limit_text, not_decided_text, order_text, other_order_text, rule_line, ruled_out_text, sets_text, side_text, stop_line, stuck_line, block_line, run_of, status_of, summary_line, summary_text, view_line};
+ghost use Rattle.tlwire_answer.specs.Lines.{lent_line, number_at, text_at};
 
 use crate::order::Order;
 use crate::run::RunText;
 use crate::verdict::Verdict;
+use crate::waits::{unmet_text, with_waits};
 use std::alloc::{AllocError, Global};
 use std::fmt;
 use std::fmt::Write as WriteText;
@@ -100,6 +102,7 @@ impl Ending {
             Ending::Answered(_, Verdict::Explained(_)) => 0,
             Ending::Answered(_, Verdict::Impossible(_)) => 1,
             Ending::Answered(_, Verdict::RuledOut(_)) => 1,
+            Ending::Answered(_, Verdict::Unmet(_)) => 1,
             Ending::Answered(_, Verdict::NotDecided(_, _, _)) => 6,
             Ending::Answered(_, Verdict::OtherOrder(_, _)) => 6,
             Ending::Usage => 2,
@@ -111,7 +114,7 @@ impl Ending {
 }
 
 /// The number of the line of a thing seen, among those of all.
-fn number_in(numbers: &[u64], place: usize) -> u64
+pub(crate) fn number_in(numbers: &[u64], place: usize) -> u64
     ensures { result ≡ number_at numbers.now place }
 {
     match numbers.get(place) {
@@ -121,7 +124,7 @@ fn number_in(numbers: &[u64], place: usize) -> u64
 }
 
 /// The number of the line of a thing seen.
-fn number_at(messages: &Messages, place: usize) -> u64
+pub(crate) fn number_at(messages: &Messages, place: usize) -> u64
     ensures { result ≡ number_at messages.now.lines place }
 {
     number_in(messages.lines(), place)
@@ -138,7 +141,7 @@ fn line_at<'a>(lines: &[&'a [u8]], place: usize) -> &'a [u8]
 
 /// The line with a number, from 1 on.
 #[tactic(auto, using(crate::proofs::Texts::lent_at))]
-fn text_at<'a>(lines: &[&'a [u8]], number: u64) -> &'a [u8]
+pub(crate) fn text_at<'a>(lines: &[&'a [u8]], number: u64) -> &'a [u8]
     ensures { result.now ≡ text_at (texts lines.now) number }
 {
     if number == 0 {
@@ -189,17 +192,23 @@ fn push_run(text: &mut String, messages: &Messages, events: &[Event]) -> Result<
 fn explained(
     alloc: Global,
     form: Form,
+    lines: &[&[u8]],
     messages: &Messages,
     events: &[Event],
 ) -> Result<Vec<u8>, AllocError>
-    ensures { IfOk result (λ text. text.items ≡ explained_text form messages.now events.now) }
+    ensures { IfOk result (λ text. text.items ≡ explained_text form (texts lines.now) messages.now events.now) }
 {
     let mut text = String::new(alloc);
     match form {
-        Form::Summary => push_summary(&mut text, messages, events)?,
-        Form::Run => push_run(&mut text, messages, events)?,
+        Form::Summary => {
+            push_summary(&mut text, messages, events)?;
+            with_waits(alloc, text.into_bytes(), lines, messages)
+        }
+        Form::Run => {
+            push_run(&mut text, messages, events)?;
+            Ok(text.into_bytes())
+        }
     }
-    Ok(text.into_bytes())
 }
 
 // What ended an attempt.
@@ -505,7 +514,7 @@ pub fn text_of(
     ensures { IfOk result (λ text. text.items ≡ answer_text form (texts lines.now) messages.now verdict.now) }
 {
     match verdict {
-        Verdict::Explained(events) => explained(alloc, form, messages, events),
+        Verdict::Explained(events) => explained(alloc, form, lines, messages, events),
         Verdict::Impossible(wrong) => {
             let number = number_at(messages, wrong.place);
             impossible(alloc, number, text_at(lines, number), wrong)
@@ -522,9 +531,17 @@ pub fn text_of(
         }
         Verdict::NotDecided(place, limit, sets) => {
             let number = number_at(messages, *place);
-            not_decided(alloc, number, text_at(lines, number), *limit, *sets)
+            let text = not_decided(alloc, number, text_at(lines, number), *limit, *sets)?;
+            with_waits(alloc, text, lines, messages)
         }
-        Verdict::OtherOrder(order, sets) => other_order(alloc, *order, *sets),
+        Verdict::OtherOrder(order, sets) => {
+            let text = other_order(alloc, *order, *sets)?;
+            with_waits(alloc, text, lines, messages)
+        }
+        Verdict::Unmet(unmet) => {
+            let text = unmet_text(alloc, lines, messages, *unmet)?;
+            with_waits(alloc, text, lines, messages)
+        }
     }
 }
 

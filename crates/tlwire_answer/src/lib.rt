@@ -10,8 +10,10 @@ mod reply;
 mod run;
 mod sets;
 mod verdict;
+mod waits;
 
 pub use ending::{Ending, Form, show, text_of};
 pub use order::Order;
 pub use reply::{answer, judge_lines, tell_ending};
 pub use verdict::Verdict;
+pub use waits::Unmet;

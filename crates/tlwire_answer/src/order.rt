@@ -2,18 +2,17 @@
 ghost use Rattle.std.specs.Prelude.{◌≡◌, ℕ, true, IfOk, IsNone, IsTrue};
 ghost use Rattle.std.specs.Bool.{OnFalse};
 ghost use Rattle.tl_protocol.specs.Runs.{IsRun};
-ghost use Rattle.tlwire_answer.specs.Answer.{ClientKeepsOrder, EachKeepsOrder, IsInOrder, Meets, NobodyIsTold};
+ghost use Rattle.tlwire_answer.specs.Answer.{ClientKeepsOrder, EachKeepsOrder, IsInOrder, Meets, NobodyIsTold, with_lines};
 ghost use Rattle.tlwire_answer.specs.Named.{is_at_client};
 ghost use Rattle.tlwire_closed.specs.declared.premise.Way.{Way};
 ghost use Rattle.tlwire_closed.specs.declared.premise.Way.TheVariants.{AtClient};
 
 use crate::named::{is_told, names, premise_of};
-use crate::pins::cores_of;
 use std::alloc::{AllocError, Global};
 use tl_rules::Event;
 use tl_types::ClientId;
 use tlwire_closed::{Way, is_seen_so};
-use tlwire_pins::{keeps_order, lines_at_pins};
+use tlwire_pins::{cores_of, keeps_order, lines_at_pins};
 use tlwire_record::Messages;
 use tlwire_search::{Premise, Seen};
 
@@ -42,14 +41,15 @@ fn is_any_told(messages: &Messages) -> bool
     false
 }
 
-/// Whether lines at the pins of clients keep the order of the record's, of a client that is told there.
+/// Whether lines at the pins of clients keep the order of those seen, of a client that is told there.
 fn keeps(
     alloc: Global,
     messages: &Messages,
+    seen: &[Seen],
     client: ClientId,
     lines: &[Seen],
 ) -> Result<bool, AllocError>
-    ensures { IfOk result (λ yes. IsTrue yes → ClientKeepsOrder messages.now lines.now client) }
+    ensures { IfOk result (λ yes. IsTrue yes → ClientKeepsOrder (with_lines messages.now seen.now) lines.now client) }
 {
     let setting = messages.setting();
     let premises = setting.premises();
@@ -58,40 +58,56 @@ fn keeps(
     }
     let shape = setting.shape();
     let cores = cores_of(premises, client);
-    keeps_order(alloc, shape, cores, client, lines, messages.seen())
+    keeps_order(alloc, shape, cores, client, lines, seen)
 }
 
-/// Whether lines at the pins of clients keep the order of the record's, of each client that is told there.
-fn keep_order(alloc: Global, messages: &Messages, lines: &[Seen]) -> Result<bool, AllocError>
-    ensures { IfOk result (λ yes. IsTrue yes → EachKeepsOrder messages.now lines.now) }
+/// Whether lines at the pins of clients keep the order of those seen, of each client that is told there.
+fn keep_order(
+    alloc: Global,
+    messages: &Messages,
+    seen: &[Seen],
+    lines: &[Seen],
+) -> Result<bool, AllocError>
+    ensures { IfOk result (λ yes. IsTrue yes → EachKeepsOrder (with_lines messages.now seen.now) lines.now) }
 {
     for number in 0..messages.setting().shape().clients {
-        if !keeps(alloc, messages, ClientId::new(number), lines)? {
+        if !keeps(alloc, messages, seen, ClientId::new(number), lines)? {
             return Ok(false);
         }
     }
     Ok(true)
 }
 
-/// Whether a run has the lines at the pins of clients in the order of the record's.
-fn is_in_order(alloc: Global, messages: &Messages, run: &[Event]) -> Result<bool, AllocError>
-    ensures { IfOk result (λ yes. IsTrue yes → IsInOrder messages.now run.now) }
+/// Whether a run has the lines at the pins of clients in the order of those seen.
+fn is_in_order(
+    alloc: Global,
+    messages: &Messages,
+    seen: &[Seen],
+    run: &[Event],
+) -> Result<bool, AllocError>
+    ensures { IfOk result (λ yes. IsTrue yes → IsInOrder (with_lines messages.now seen.now) run.now) }
 {
     if !is_any_told(messages) {
         return Ok(true);
     }
     let shape = messages.setting().shape();
     match lines_at_pins(alloc, shape, messages.image(), run)? {
-        Some(lines) => keep_order(alloc, messages, &lines),
+        Some(lines) => keep_order(alloc, messages, seen, &lines),
         None => Ok(false),
     }
 }
 
 /// Whether a run is seen so, where a header names the way of seeing.
-fn meets(alloc: Global, messages: &Messages, run: &[Event], way: Way) -> Result<bool, AllocError>
+fn meets(
+    alloc: Global,
+    messages: &Messages,
+    seen: &[Seen],
+    run: &[Event],
+    way: Way,
+) -> Result<bool, AllocError>
     ensures { IfOk result
         (λ yes. IsTrue yes → IsRun messages.now.setting.shape messages.now.image run.now
-        → Meets messages.now run.now way) }
+        → Meets (with_lines messages.now seen.now) run.now way) }
 {
     let setting = messages.setting();
     if !names(setting.premises(), way) {
@@ -99,76 +115,84 @@ fn meets(alloc: Global, messages: &Messages, run: &[Event], way: Way) -> Result<
     }
     let shape = setting.shape();
     let premise = premise_of(setting.premises(), way);
-    is_seen_so(
-        alloc,
-        shape,
-        premise,
-        messages.image(),
-        messages.seen(),
-        run,
-    )
+    is_seen_so(alloc, shape, premise, messages.image(), seen, run)
 }
 
 /// Whether a run is seen so at the pins of the client that a line of the header names, if it names one.
 fn meets_line(
     alloc: Global,
     messages: &Messages,
+    seen: &[Seen],
     run: &[Event],
     line: &Premise,
 ) -> Result<bool, AllocError>
     ensures { IfOk result
         (λ yes. IsTrue yes → IsRun messages.now.setting.shape messages.now.image run.now
-        → (client : ℕ) → is_at_client client line.now ≡ true → Meets messages.now run.now (AtClient client)) }
+        → (client : ℕ) → is_at_client client line.now ≡ true → Meets (with_lines messages.now seen.now) run.now (AtClient client)) }
 {
     match line {
-        Premise::AtClient(client) => meets(alloc, messages, run, Way::AtClient(client.number())),
+        Premise::AtClient(client) => meets(
+            alloc,
+            messages,
+            seen,
+            run,
+            Way::AtClient(client.number()),
+        ),
         Premise::AtClients
         | Premise::AtHome
         | Premise::Between
         | Premise::Skew(_)
         | Premise::Whole
         | Premise::MemoryUnseen
-        | Premise::CoresUnseen => Ok(true),
+        | Premise::CoresUnseen
+        | Premise::ClientDrops(_)
+        | Premise::ClientsDrop => Ok(true),
     }
 }
 
 /// Whether a run is seen so at the pins of each client that lines of the header name.
-fn meets_at_clients(alloc: Global, messages: &Messages, run: &[Event]) -> Result<bool, AllocError>
+fn meets_at_clients(
+    alloc: Global,
+    messages: &Messages,
+    seen: &[Seen],
+    run: &[Event],
+) -> Result<bool, AllocError>
     ensures { IfOk result
         (λ yes. IsTrue yes → IsRun messages.now.setting.shape messages.now.image run.now
-        → (client : ℕ) → Meets messages.now run.now (AtClient client)) }
+        → (client : ℕ) → Meets (with_lines messages.now seen.now) run.now (AtClient client)) }
 {
     let premises = messages.setting().premises();
     for line in premises {
-        if !meets_line(alloc, messages, run, line)? {
+        if !meets_line(alloc, messages, seen, run, line)? {
             return Ok(false);
         }
     }
     Ok(true)
 }
 
-/// An order that the header asks for, and a run does not have.
+/// An order that the header asks for of the lines seen, and a run does not have.
 pub(crate) fn other_order(
     alloc: Global,
     messages: &Messages,
+    seen: &[Seen],
     run: &[Event],
 ) -> Result<Option<Order>, AllocError>
     ensures { IfOk result (λ found. IsNone found → IsRun messages.now.setting.shape messages.now.image run.now
-        → IsInOrder messages.now run.now × ((way : Way) → Meets messages.now run.now way)) }
+        → IsInOrder (with_lines messages.now seen.now) run.now × ((way : Way) → Meets (with_lines messages.now seen.now) run.now way)) }
 {
-    if !is_in_order(alloc, messages, run)? {
+    if !is_in_order(alloc, messages, seen, run)? {
         return Ok(Some(Order::AtPins));
     }
-    if !meets(alloc, messages, run, Way::Between)? {
+    if !meets(alloc, messages, seen, run, Way::Between)? {
         return Ok(Some(Order::Between));
     }
-    if !meets(alloc, messages, run, Way::AtHome)? {
+    if !meets(alloc, messages, seen, run, Way::AtHome)? {
         return Ok(Some(Order::AtHome));
     }
-    if !meets(alloc, messages, run, Way::AtClients)? {
+    if !meets(alloc, messages, seen, run, Way::AtClients)? {
         return Ok(Some(Order::AtClients));
     }
-    if !meets_at_clients(alloc, messages, run)? {
+    if !meets_at_clients(alloc, messages, seen, run)? {
         return Ok(Some(Order::AtPins));
     }
     Ok(None)

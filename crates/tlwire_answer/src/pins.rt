@@ -1,26 +1,14 @@
 //! The first line that may not be seen at the pins of a client.
 ghost use Rattle.std.specs.Bool.{OnFalse};
 ghost use Rattle.std.specs.Prelude.{◌≡◌, ◌≤◌, ◌+◌, ℕ, IfOk, IsTrue};
-ghost use Rattle.tlwire_answer.specs.Answer.{IsFirstOf, IsWrongAt, cores_of};
+ghost use Rattle.tlwire_answer.specs.Answer.{IsFirstOf, IsWrongAt};
 ghost use Rattle.tlwire_record.specs.Messages.{MessagesState};
 
 use crate::named::is_told;
 use std::alloc::{AllocError, Global};
 use tl_types::ClientId;
-use tlwire_pins::{Cores, Wrong, first_wrong};
+use tlwire_pins::{Wrong, first_wrong, tap_of};
 use tlwire_record::Messages;
-use tlwire_search::{Premise, Wire, is_unseen};
-
-/// Whether the header says that nobody watched a client's core.
-pub(crate) fn cores_of(premises: &[Premise], client: ClientId) -> Cores
-    ensures { result ≡ cores_of premises.now client }
-{
-    if is_unseen(premises, Wire::Core(client)) {
-        Cores::Unseen
-    } else {
-        Cores::Watched
-    }
-}
 
 /// The first line that may not be seen at the pins of a client, where it is told there.
 fn wrong_at(
@@ -36,8 +24,8 @@ fn wrong_at(
         return Ok(None);
     }
     let shape = setting.shape();
-    let cores = cores_of(premises, client);
-    first_wrong(alloc, shape, client, cores, messages.seen())
+    let tap = tap_of(premises, client);
+    first_wrong(alloc, shape, client, tap, messages.seen())
 }
 
 /// Whether the line of the one stands no later than that of the other.

@@ -86,9 +86,9 @@ fn reply<W: Write, E: Write>(
 }
 
 /// Reads a record of messages, says what it found of it, and writes that: an answer to `output`, a fault to `faults`.
-/// It answers the status: 0 where a run explains it, 1 where no lawful run is seen so, 6 where neither was found, 3
-/// where it cannot be read, 4 for want of memory, 5 where the answer could not be written. A failing `faults` does not
-/// change it.
+/// It answers the status: 0 where a run explains it, 1 where no lawful run is seen so, or where an exchange is not as
+/// the header expects, 6 where neither was found, 3 where it cannot be read, 4 for want of memory, 5 where the answer
+/// could not be written. A failing `faults` does not change it.
 pub fn answer<W: Write, E: Write>(
     alloc: Global,
     form: Form,

@@ -8,7 +8,7 @@ use std::alloc::{AllocError, Global};
 use tl_streams::Watcher;
 use tlwire_closed::{Answer, Reason, Stuck, Way, rule_out};
 use tlwire_record::Messages;
-use tlwire_search::Premise;
+use tlwire_search::{Premise, has_drops};
 
 /// What closed sets say of what was seen.
 #[derive(Drop)]
@@ -58,7 +58,8 @@ fn joined(one: Sets, other: Sets) -> Sets
     }
 }
 
-/// What closed sets say of the lines before a place, in a way of seeing, where the header names it.
+/// What closed sets say of the lines before a place, in a way of seeing, where the header names it; nothing where clients
+/// drop clean copies, since the sets have no such step.
 fn sets_by<W: Watcher>(
     alloc: Global,
     messages: &Messages,
@@ -69,7 +70,7 @@ fn sets_by<W: Watcher>(
     ensures { IfOk result (IsSets messages.now to) }
 {
     let setting = messages.setting();
-    if !names(setting.premises(), way) {
+    if has_drops(setting.premises()) || !names(setting.premises(), way) {
         return Ok(Sets::Open(None));
     }
     match rule_out(

@@ -1,6 +1,6 @@
 //! What is said of what was seen.
 ghost use Rattle.std.specs.Prelude.{ℕ, Some, IfOk, IfSome};
-ghost use Rattle.tlwire_answer.specs.Answer.{IsFirstOf, IsRuledOut, IsSets, IsVerdict, MayAtPins};
+ghost use Rattle.tlwire_answer.specs.Answer.{IsExplainedInFull, IsFirstOf, IsFound, IsJudged, IsRuledOut, IsSets, IsVerdict, MayAtPins, with_lines};
 ghost use Rattle.tlwire_record.specs.Messages.{MessagesState};
 ghost use Rattle.tlwire_search.specs.Explained.{Explains, IsExplanation};
 
@@ -8,14 +8,15 @@ use crate::named::is_all_in_order;
 use crate::order::{Order, other_order};
 use crate::pins::wrong_at_pins;
 use crate::sets::{Sets, all_sets, sets_at_pins, sets_between};
+use crate::waits::{Unmet, unmet_of};
 use std::alloc::{AllocError, Global};
 use tl_rules::Event;
 use tl_streams::Watcher;
 use tlwire_closed::{Reason, Stuck};
-use tlwire_pins::Wrong;
+use tlwire_pins::{Wrong, in_full};
 use tlwire_record::Messages;
 use tlwire_rounds::explain_in_rounds;
-use tlwire_search::{Explanation, Limit, explain};
+use tlwire_search::{Explanation, Limit, Seen, explain, has_drops};
 
 /// How many messages, loads and stores a record has, at most, for which a run is sought in rounds.
 const SEEN_IN_ROUNDS: usize = 10_000;
@@ -34,15 +35,21 @@ pub enum Verdict {
     NotDecided(usize, Limit, Option<Reason>),
     /// A run was found that has what was seen on each wire, but not in this order. Of closed sets the same.
     OtherOrder(Order, Option<Reason>),
+    /// It is not impossible, and not as the header expects.
+    Unmet(Unmet),
 }
 
-/// That a run explains what was seen, where it has each order that the header asks for.
-fn ordered(alloc: Global, messages: &Messages, run: Vec<Event>) -> Result<Verdict, AllocError>
-    requires { Explains messages.now.setting.premises messages.now.setting.shape messages.now.image messages.now.seen
-        run.items }
-    ensures { IfOk result (IsVerdict messages.now) }
+/// That a run explains these lines, where it has each order that the header asks for.
+fn ordered(
+    alloc: Global,
+    messages: &Messages,
+    seen: &[Seen],
+    run: Vec<Event>,
+) -> Result<Verdict, AllocError>
+    requires { Explains messages.now.setting.premises messages.now.setting.shape messages.now.image seen.now run.items }
+    ensures { IfOk result (IsFound (with_lines messages.now seen.now)) }
 {
-    match other_order(alloc, messages, &run)? {
+    match other_order(alloc, messages, seen, &run)? {
         Some(order) => Ok(Verdict::OtherOrder(order, None)),
         None => Ok(Verdict::Explained(run)),
     }
@@ -52,21 +59,26 @@ fn ordered(alloc: Global, messages: &Messages, run: Vec<Event>) -> Result<Verdic
 fn weighed_run(
     alloc: Global,
     messages: &Messages,
+    seen: &[Seen],
     explanation: Explanation,
 ) -> Result<Verdict, AllocError>
-    requires { IsExplanation messages.now.setting.premises messages.now.setting.shape messages.now.image
-        messages.now.seen explanation }
-    ensures { IfOk result (IsVerdict messages.now) }
+    requires { IsExplanation messages.now.setting.premises messages.now.setting.shape messages.now.image seen.now
+        explanation }
+    ensures { IfOk result (IsFound (with_lines messages.now seen.now)) }
 {
     match explanation {
-        Explanation::Explained(run) => ordered(alloc, messages, run),
+        Explanation::Explained(run) => ordered(alloc, messages, seen, run),
         Explanation::NotExplained(place, limit) => Ok(Verdict::NotDecided(place, limit, None)),
     }
 }
 
-/// A run that explains what was seen, or how far an attempt came.
-fn explained_at_once(alloc: Global, messages: &Messages) -> Result<Verdict, AllocError>
-    ensures { IfOk result (IsVerdict messages.now) }
+/// A run that explains these lines, or how far an attempt came.
+fn explained_at_once(
+    alloc: Global,
+    messages: &Messages,
+    seen: &[Seen],
+) -> Result<Verdict, AllocError>
+    ensures { IfOk result (IsFound (with_lines messages.now seen.now)) }
 {
     let setting = messages.setting();
     let explanation = explain(
@@ -74,17 +86,20 @@ fn explained_at_once(alloc: Global, messages: &Messages) -> Result<Verdict, Allo
         setting.shape(),
         setting.premises(),
         messages.image(),
-        messages.seen(),
+        seen,
     )?;
-    weighed_run(alloc, messages, explanation)
+    weighed_run(alloc, messages, seen, explanation)
 }
 
 /// The same by the search in rounds, which takes longer.
-fn explained_in_rounds(alloc: Global, messages: &Messages) -> Result<Verdict, AllocError>
-    ensures { IfOk result (IsVerdict messages.now) }
+fn explained_in_rounds(
+    alloc: Global,
+    messages: &Messages,
+    seen: &[Seen],
+) -> Result<Verdict, AllocError>
+    ensures { IfOk result (IsFound (with_lines messages.now seen.now)) }
 {
     let setting = messages.setting();
-    let seen = messages.seen();
     let explanation = explain_in_rounds(
         alloc,
         setting.shape(),
@@ -92,25 +107,55 @@ fn explained_in_rounds(alloc: Global, messages: &Messages) -> Result<Verdict, Al
         messages.image(),
         seen,
     )?;
-    weighed_run(alloc, messages, explanation)
+    weighed_run(alloc, messages, seen, explanation)
 }
 
-/// A run that explains what was seen, or how far the first attempt came.
-fn explained(alloc: Global, messages: &Messages) -> Result<Verdict, AllocError>
-    ensures { IfOk result (IsVerdict messages.now) }
+/// A run that explains these lines, or how far the first attempt came.
+fn explained(alloc: Global, messages: &Messages, seen: &[Seen]) -> Result<Verdict, AllocError>
+    ensures { IfOk result (IsFound (with_lines messages.now seen.now)) }
 {
-    let verdict = explained_at_once(alloc, messages)?;
+    let verdict = explained_at_once(alloc, messages, seen)?;
     if let Verdict::Explained(_) = &verdict {
         return Ok(verdict);
     }
-    if messages.seen().len() > SEEN_IN_ROUNDS {
+    if seen.len() > SEEN_IN_ROUNDS {
         return Ok(verdict);
     }
-    let again = explained_in_rounds(alloc, messages)?;
+    let again = explained_in_rounds(alloc, messages, seen)?;
     if let Verdict::Explained(_) = &again {
         return Ok(again);
     }
     Ok(verdict)
+}
+
+/// A run that explains the record in full, where clients drop clean copies.
+fn explained_with_drops(
+    alloc: Global,
+    messages: &Messages,
+) -> Result<Option<Vec<Event>>, AllocError>
+    ensures { IfOk result (λ found. IfSome found (λ run. IsExplainedInFull messages.now run.items)) }
+{
+    let setting = messages.setting();
+    let premises = setting.premises();
+    if !has_drops(premises) {
+        return Ok(None);
+    }
+    let full = in_full(alloc, setting.shape(), premises, messages.seen())?;
+    match explained(alloc, messages, &full)? {
+        Verdict::Explained(run) => Ok(Some(run)),
+        _ => Ok(None),
+    }
+}
+
+/// A run that explains what was seen, with the drops of clean copies that nobody saw or without, or how far the first
+/// attempt came.
+fn explained_or_not(alloc: Global, messages: &Messages) -> Result<Verdict, AllocError>
+    ensures { IfOk result (IsVerdict messages.now) }
+{
+    if let Some(run) = explained_with_drops(alloc, messages)? {
+        return Ok(Verdict::Explained(run));
+    }
+    explained(alloc, messages, messages.seen())
 }
 
 /// A verdict, with the reason for which closed sets say nothing, where it is none.
@@ -152,7 +197,7 @@ fn sought<W: Watcher>(
     requires between { (to : ℕ) → IfSome between (IsSets messages.now to) }
     ensures { IfOk result (IsVerdict messages.now) }
 {
-    let verdict = explained(alloc, messages)?;
+    let verdict = explained_or_not(alloc, messages)?;
     if let Verdict::Explained(_) = &verdict {
         return Ok(verdict);
     }
@@ -215,9 +260,8 @@ fn wrong_first<W: Watcher>(
     }
 }
 
-/// What is said of what was seen: where it is impossible, by the earliest line that is found. A watcher is told how far
-/// closed sets are. Err is a refused request for memory.
-pub(crate) fn judge<W: Watcher>(
+/// What is said of what was seen, whatever the header expects of it.
+fn lawful<W: Watcher>(
     alloc: Global,
     messages: &Messages,
     watcher: &mut W,
@@ -228,4 +272,34 @@ pub(crate) fn judge<W: Watcher>(
         Some(wrong) => wrong_first(alloc, messages, wrong, watcher),
         None => weighed(alloc, messages, watcher),
     }
+}
+
+/// A verdict, unless the record is not impossible, and not as the header expects.
+fn expected(alloc: Global, messages: &Messages, verdict: Verdict) -> Result<Verdict, AllocError>
+    requires { IsVerdict messages.now verdict }
+    ensures { IfOk result (IsJudged messages.now) }
+{
+    match verdict {
+        Verdict::Impossible(_) | Verdict::RuledOut(_) | Verdict::Unmet(_) => Ok(verdict),
+        Verdict::Explained(_) | Verdict::NotDecided(_, _, _) | Verdict::OtherOrder(_, _) => {
+            match unmet_of(alloc, messages)? {
+                Some(unmet) => Ok(Verdict::Unmet(unmet)),
+                None => Ok(verdict),
+            }
+        }
+    }
+}
+
+/// What is said of what was seen: where it is impossible, by the earliest line that is found; else, where an exchange
+/// is not as the header expects, by that one. A watcher is told how far closed sets are. Err is a refused request for
+/// memory.
+pub(crate) fn judge<W: Watcher>(
+    alloc: Global,
+    messages: &Messages,
+    watcher: &mut W,
+) -> Result<Verdict, AllocError>
+    ensures { IfOk result (IsJudged messages.now) }
+{
+    let verdict = lawful(alloc, messages, watcher)?;
+    expected(alloc, messages, verdict)
 }

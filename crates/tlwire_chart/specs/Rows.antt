@@ -3,7 +3,7 @@ use Rattle.std.specs.Prelude.{◌≡◌, ℕ, suc, ◌==◌, List, [], ◌∷◌
 use Rattle.std.specs.Option.{option_map}
 use Rattle.tl_types.specs.declared.kind.Kind.{Kind}
 use Rattle.tlcheck_rules.specs.declared.entry.Shown.{Shown}
-use Rattle.tlwire_answer.specs.Ending.{number_at}
+use Rattle.tlwire_answer.specs.Lines.{number_at}
 use Rattle.tlwire_record.specs.Messages.{MessagesState}
 use Rattle.tlwire_search.specs.Lists.{block_of}
 use Rattle.tlwire_search.specs.declared.seen.Seen.{Seen}

@@ -13,7 +13,10 @@ pub fn broken_at(verdict: &Verdict) -> Option<usize>
     match verdict {
         Verdict::Impossible(wrong) => Some(wrong.place),
         Verdict::RuledOut(stuck) => Some(stuck.place),
-        Verdict::Explained(_) | Verdict::NotDecided(_, _, _) | Verdict::OtherOrder(_, _) => None,
+        Verdict::Explained(_)
+        | Verdict::NotDecided(_, _, _)
+        | Verdict::OtherOrder(_, _)
+        | Verdict::Unmet(_) => None,
     }
 }
 

@@ -3,7 +3,7 @@ ghost use Rattle.std.specs.List.{All};
 ghost use Rattle.std.specs.Option.{option_map};
 ghost use Rattle.std.specs.Prelude.{◌≡◌, ◌<◌, IfOk, MatchOption, None, Some, false, map, slice_get, string_bytes};
 ghost use Rattle.tlchart_draw.specs.Strip.{IsUnbroken, is_broken};
-ghost use Rattle.tlwire_answer.specs.Ending.{number_at};
+ghost use Rattle.tlwire_answer.specs.Lines.{number_at};
 ghost use Rattle.tlwire_chart.specs.Rows.{IsStripOf, mark_of, mark_seen, message_drawn, message_of, message_seen, places_of, told_at, told_by};
 
 use crate::message::{mark_of, message_of, sender_of};

@@ -4,6 +4,7 @@ use Rattle.tl_protocol.specs.declared.shape.Shape.{Shape}
 use Rattle.tlwire_search.specs.Lists.{block_of}
 use Rattle.tlwire_search.specs.declared.seen.Seen.{Seen}
 use Rattle.tlwire_pins.specs.Judged.{EachMay, Follows, holds}
+use Rattle.tlwire_pins.specs.View.{keeps}
 use Rattle.tlwire_pins.specs.declared.judge.PinsJudge.{PinsJudge}
 use Rattle.tlwire_pins.specs.declared.view.Cores.{Cores}
 use Rattle.tlwire_pins.specs.declared.view.View.{View}
@@ -54,7 +55,7 @@ abbrev TellsOn : Cores → Shape → ℕ → List Seen → PinsLine → PinsVerd
 TellsOn cores shape c lines l told more =
     ((line_of cores shape l ≡ None) × (told ≡ only 17) × AreToldBehind cores shape c lines more)
     ⊎ ((line : Seen) × (line_of cores shape l ≡ Some line)
-    × ((EachMay cores shape c (lines ++ line ∷ []) × (told ≡ taken_told cores shape c (lines ++ line ∷ []) line)
+    × ((EachMay (keeps cores) shape c (lines ++ line ∷ []) × (told ≡ taken_told cores shape c (lines ++ line ∷ []) line)
     × AreToldBehind cores shape c (lines ++ line ∷ []) more)
     ⊎ ((IsToldBroken cores shape c lines line told ⊎ (told ≡ only 14)) × AreRepeated told more)))
 

@@ -5,7 +5,7 @@ use Rattle.tlwire_search.specs.Lists.{block_of}
 use Rattle.tlwire_search.specs.declared.seen.Seen.{Seen}
 use Rattle.tlwire_pins.specs.Judged.{Breaks, EachMay}
 use Rattle.tlwire_pins.specs.Pins.{own}
-use Rattle.tlwire_pins.specs.View.{fresh, led_by}
+use Rattle.tlwire_pins.specs.View.{fresh, keeps, led_by}
 use Rattle.tlwire_pins.specs.declared.view.Cores.{Cores}
 use Rattle.tlwire_pins.specs.declared.views.Broken.{Broken}
 use Rattle.tlwire_embed.specs.Lines.{line_of}
@@ -38,7 +38,7 @@ AreRepeated fault (x ∷ more) =
 -- Behind these lines, of which it is the last, a line is taken: 0, and what they lead to of its block.
 abbrev pub taken_told : Cores → Shape → ℕ → List Seen → Seen → PinsVerdict
 taken_told cores shape c lines x =
-    with_view (led_by cores shape fresh (own shape c (block_of shape.block_bytes x) lines)) (only 0)
+    with_view (led_by (keeps cores) shape fresh (own shape c (block_of shape.block_bytes x) lines)) (only 0)
 
 -- A line breaks this behind others, so that no lawful run is seen so at the client's pins (`Breaks`); it is told so.
 pub record IsToldBroken (cores : Cores) (shape : Shape) (c : ℕ) (lines : List Seen) (x : Seen) (told : PinsVerdict) : Type 0 where
@@ -55,7 +55,7 @@ AreToldBehind cores shape c lines (x ∷ more) =
     × (x.0.what ≢ 255
     → ((line_of cores shape x.0 ≡ None) × (x.1 ≡ only 17) × AreToldBehind cores shape c lines more)
     ⊎ ((line : Seen) × (line_of cores shape x.0 ≡ Some line)
-    × ((EachMay cores shape c (lines ++ line ∷ []) × (x.1 ≡ taken_told cores shape c (lines ++ line ∷ []) line)
+    × ((EachMay (keeps cores) shape c (lines ++ line ∷ []) × (x.1 ≡ taken_told cores shape c (lines ++ line ∷ []) line)
     × AreToldBehind cores shape c (lines ++ line ∷ []) more)
     ⊎ ((IsToldBroken cores shape c lines line x.1 ⊎ (x.1 ≡ only 14)) × AreRepeated x.1 more))))
 

@@ -5,7 +5,7 @@ use Rattle.tlwire_search.specs.declared.seen.Seen.{Seen}
 use Rattle.tlwire_pins.proofs.Walk.{Walked, is_impossible, walked_more}
 use Rattle.tlwire_pins.specs.Judged.{Breaks, Follows, held_in}
 use Rattle.tlwire_pins.specs.Pins.{own}
-use Rattle.tlwire_pins.specs.View.{MayLine, before_line, fresh, led_by}
+use Rattle.tlwire_pins.specs.View.{MayLine, before_line, fresh, keeps, led_by}
 use Rattle.tlwire_pins.specs.Walk.{BreaksNext, Steps}
 use Rattle.tlwire_pins.specs.declared.judge.PinsJudge.{PinsJudge}
 use Rattle.tlwire_pins.specs.declared.view.Cores.{Cores}
@@ -33,13 +33,13 @@ at_client P cores shape c lines j f p =
 
 -- a line that may be seen next
 pub follows_more : (x : Seen) (old new : PinsJudge) → (new.cores ≡ old.cores) × (new.shape ≡ old.shape) × (new.client ≡ old.client)
-    → Steps old.cores old.shape old.client x (held_in old.views) (held_in new.views) → (cores : Cores) (shape : Shape) (c : ℕ)
+    → Steps (keeps old.cores) old.shape old.client x (held_in old.views) (held_in new.views) → (cores : Cores) (shape : Shape) (c : ℕ)
     (lines : List Seen) → Follows cores shape c lines old → Follows cores shape c (lines ++ x ∷ []) new
 follows_more x old new same steps cores shape c lines f =
-    let before : Walked cores shape c lines (held_in old.views) = record { led = f.led; may = f.may } in
-    let now : Walked cores shape c (lines ++ x ∷ []) (held_in new.views) =
-    walked_more cores shape c lines x (held_in old.views) (held_in new.views) before
-    (at_client (λ k s y. Steps k s y x (held_in old.views) (held_in new.views)) cores shape c lines old f steps) in
+    let before : Walked (keeps cores) shape c lines (held_in old.views) = record { led = f.led; may = f.may } in
+    let now : Walked (keeps cores) shape c (lines ++ x ∷ []) (held_in new.views) =
+    walked_more (keeps cores) shape c lines x (held_in old.views) (held_in new.views) before
+    (at_client (λ k s y. Steps (keeps k) s y x (held_in old.views) (held_in new.views)) cores shape c lines old f steps) in
     record {
       same_cores = same.0 ∙ f.same_cores;
       same_shape = same.1 ∙ f.same_shape;
@@ -49,17 +49,17 @@ follows_more x old new same steps cores shape c lines f =
     }
 
 -- one that may not
-pub breaks_now : (x : Seen) (old : PinsJudge) (b : Broken) → BreaksNext old.cores old.shape old.client x (held_in old.views) b
+pub breaks_now : (x : Seen) (old : PinsJudge) (b : Broken) → BreaksNext (keeps old.cores) old.shape old.client x (held_in old.views) b
     → (cores : Cores) (shape : Shape) (c : ℕ) (lines : List Seen) → Follows cores shape c lines old → Breaks cores shape c lines x b
 breaks_now x old b breaks cores shape c lines f =
-    let now : BreaksNext cores shape c x (held_in old.views) b =
-    at_client (λ k s y. BreaksNext k s y x (held_in old.views) b) cores shape c lines old f breaks in
-    let led : b.view ≡ before_line cores (led_by cores shape fresh (own shape c b.block lines)) x =
-    now.held ∙ ap (λ (v : View). before_line cores v x) (f.led b.block) in
+    let now : BreaksNext (keeps cores) shape c x (held_in old.views) b =
+    at_client (λ k s y. BreaksNext (keeps k) s y x (held_in old.views) b) cores shape c lines old f breaks in
+    let led : b.view ≡ before_line (keeps cores) (led_by (keeps cores) shape fresh (own shape c b.block lines)) x =
+    now.held ∙ ap (λ (v : View). before_line (keeps cores) v x) (f.led b.block) in
     record {
       own_line = now.own_line;
       led = led;
       breaks = now.breaks;
       impossible = λ later.
-          is_impossible cores shape c b.block lines later x now.own_line (subst (λ (v : View). ¬ MayLine shape v x) led now.may_not);
+          is_impossible (keeps cores) shape c b.block lines later x now.own_line (subst (λ (v : View). ¬ MayLine shape v x) led now.may_not);
     }

@@ -13,7 +13,6 @@ use Rattle.tl_types.specs.declared.message.Upward.{Upward}
 use Rattle.tl_types.specs.declared.message.Upward.TheVariants.{ProbeAck, Release}
 use Rattle.tl_types.specs.declared.permission.GrantCap.{GrantCap}
 use Rattle.tl_types.specs.declared.permission.Grow.{Grow}
-use Rattle.tl_types.specs.declared.permission.Perm.TheVariants.{None as p_None, Branch, Tip}
 use Rattle.tl_types.specs.declared.permission.ProbeCap.{ProbeCap}
 use Rattle.tl_types.specs.declared.permission.ProbeCap.TheVariants.{ToB, ToN}
 use Rattle.tl_types.specs.declared.permission.Prune.{Prune}
@@ -24,7 +23,7 @@ use Rattle.tl_protocol.specs.Client.{answered, first_bytes, released, sent_acqui
 use Rattle.tl_protocol.specs.Copy.{dirty_bytes, perm_of, reduced}
 use Rattle.tl_protocol.specs.Protocol.{Block, MayOn, accepted_from, after, block_of, granted, grants, home_after, home_bytes, served, took_data, with_client}
 use Rattle.tl_protocol.specs.Queue.{HasFirst}
-use Rattle.tl_protocol.specs.Runs.{IsRunFrom, after_next, at_reset}
+use Rattle.tl_protocol.specs.Runs.{IsRunFrom, after_next}
 use Rattle.tl_protocol.specs.declared.client.Client.{Client}
 use Rattle.tl_protocol.specs.declared.copy.CachedCopy.{CachedCopy}
 use Rattle.tl_protocol.specs.declared.copy.CachedCopy.TheVariants.{Absent, Readable, Writable}
@@ -40,7 +39,7 @@ use Rattle.tlwire_search.specs.Explained.{as_list, link_seen, shown_as}
 use Rattle.tlwire_search.specs.declared.seen.Seen.{Seen}
 use Rattle.tlwire_search.specs.declared.seen.Seen.TheVariants.{OnLink}
 use Rattle.tlwire_pins.specs.Pins.{is_own, is_told, line_of, lines_from, own, taken_seen}
-use Rattle.tlwire_pins.specs.View.{MayLine, MaySeeAs, after_line, after_message, led_by, view_of}
+use Rattle.tlwire_pins.specs.View.{MayLine, MaySeeAs, after_line, after_message, keeps, led_by, view_of}
 use Rattle.tlwire_pins.specs.declared.view.Cores.TheVariants.{Watched}
 use Rattle.tlwire_pins.specs.declared.view.View.{View}
 
@@ -295,13 +294,13 @@ joined shape c b (x ∷ xs) ys =
 
 -- from one event to the next
 through : (shape : Shape) (l : Option Seen) (v w : View) (more xs ys : List Seen) (x : Seen) → Leads shape v w l → as_list l ++ more ≡ xs ++ x ∷ ys
-    → ((zs : List Seen) → more ≡ zs ++ x ∷ ys → MayLine shape (led_by Watched shape w zs) x) → MayLine shape (led_by Watched shape v xs) x
-through shape None v w more xs ys x h e go = subst (λ (u : View). MayLine shape (led_by Watched shape u xs) x) h (go xs e)
+    → ((zs : List Seen) → more ≡ zs ++ x ∷ ys → MayLine shape (led_by (keeps Watched) shape w zs) x) → MayLine shape (led_by (keeps Watched) shape v xs) x
+through shape None v w more xs ys x h e go = subst (λ (u : View). MayLine shape (led_by (keeps Watched) shape u xs) x) h (go xs e)
 through shape (Some y) v w more [] ys x h e go = let same : y ≡ x = cc in subst (λ (z : Seen). MayLine shape v z) same h.0
 through shape (Some y) v w more (z ∷ zs) ys x h e go =
     let same : y ≡ z = cc in
     let tail : more ≡ zs ++ x ∷ ys = cc in
-    subst (λ (u : View). MayLine shape (led_by Watched shape u zs) x) (h.1 ∙ ap (λ (q : Seen). after_line shape v q) same) (go zs tail)
+    subst (λ (u : View). MayLine shape (led_by (keeps Watched) shape u zs) x) (h.1 ∙ ap (λ (q : Seen). after_line shape v q) same) (go zs tail)
 
 -- the line of an event of the client and the block, and of another
 here : (shape : Shape) (c block d b : ℕ) (l : Option Seen) → IsOf shape d b l → d ≡ c → b ≡ block → own shape c block (as_list l) ≡ as_list l
@@ -343,18 +342,18 @@ module _ (shape : Shape) (c block : ℕ) where
 
   -- each line that is seen of a run may be seen there
   pub seen_run : (run : List Event) (s : ℕ → Block) (xs ys : List Seen) (x : Seen) → IsRunFrom shape s run → later s run ≡ xs ++ x ∷ ys
-      → MayLine shape (led_by Watched shape (view_of ((s block).client c)) xs) x
+      → MayLine shape (led_by (keeps Watched) shape (view_of ((s block).client c)) xs) x
   seen_run [] s [] ys x r e = cc
   seen_run [] s (z ∷ zs) ys x r e = cc
   seen_run (e ∷ es) s xs ys x r eq =
       let l : Option Seen = line_of shape (s (block_of shape e)) e in
       let more : List Seen = later (after_next shape s e) es in
       let split : own shape c block (as_list l) ++ more ≡ xs ++ x ∷ ys = sym (joined shape c block (as_list l) (lines_from shape (after_next shape s e) es)) ∙ eq in
-      let go : (zs : List Seen) → more ≡ zs ++ x ∷ ys → MayLine shape (led_by Watched shape (view_of ((after_next shape s e block).client c)) zs) x =
+      let go : (zs : List Seen) → more ≡ zs ++ x ∷ ys → MayLine shape (led_by (keeps Watched) shape (view_of ((after_next shape s e block).client c)) zs) x =
       λ zs h. seen_run es (after_next shape s e) zs ys x r.1 h in
       let past : own shape c block (as_list l) ≡ [] → view_of ((after_next shape s e block).client c) ≡ view_of ((s block).client c)
-      → MayLine shape (led_by Watched shape (view_of ((s block).client c)) xs) x =
-      λ none kept. subst (λ (v : View). MayLine shape (led_by Watched shape v xs) x) kept (go xs (sym (ap (λ (q : List Seen). q ++ more) none) ∙ split)) in
+      → MayLine shape (led_by (keeps Watched) shape (view_of ((s block).client c)) xs) x =
+      λ none kept. subst (λ (v : View). MayLine shape (led_by (keeps Watched) shape v xs) x) kept (go xs (sym (ap (λ (q : List Seen). q ++ more) none) ∙ split)) in
       elim (cases_eq (block_of shape e) block) [
         | inl at ↦ elim (cases_eq (client_of e) c) [
           | inl same ↦

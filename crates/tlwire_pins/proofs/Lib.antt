@@ -1,5 +1,7 @@
+pub mod Dropped
 pub mod Grouped
 pub mod Impossible
+pub mod InFull
 pub mod Judged
 pub mod Leads
 pub mod Ordered

@@ -25,10 +25,10 @@ use Rattle.tlcheck_rules.specs.declared.entry.Shown.{Shown}
 use Rattle.tlwire_search.specs.declared.seen.Seen.{Seen}
 use Rattle.tlwire_search.specs.declared.seen.Seen.TheVariants.{OnLink, OnMemory, Load, Store}
 use Rattle.tlwire_pins.specs.Pins.{is_message, is_own, own}
-use Rattle.tlwire_pins.specs.View.{MayBeSeen, MayLine, MaySeeAs, after_line, after_message, after_seen, answer_of, as_shown, before_line, cap_to, led_by, release_of}
+use Rattle.tlwire_pins.specs.View.{MayBeSeen, MayLine, MaySeeAs, after_line, after_message, after_seen, answer_of, as_shown, before_line, cap_to, keeps, led_by, release_of}
 use Rattle.tlwire_pins.specs.Walk.{AllMay}
-use Rattle.tlwire_pins.specs.declared.view.Cores.{Cores}
 use Rattle.tlwire_pins.specs.declared.view.Cores.TheVariants.{Watched, Unseen}
+use Rattle.tlwire_pins.specs.declared.view.Tap.{Tap}
 use Rattle.tlwire_pins.specs.declared.view.View.{View}
 
 -- two views agree in the permission and in what is waited for
@@ -39,7 +39,7 @@ pub record Agree (v w : View) : Type 0 where
 -- ## Copies
 
 -- a copy keeps its permission
-shown_perm : (held : CachedCopy) (shown : Option (List ℕ)) → perm_of (as_shown held shown) ≡ perm_of held
+pub shown_perm : (held : CachedCopy) (shown : Option (List ℕ)) → perm_of (as_shown held shown) ≡ perm_of held
 shown_perm Absent shown = refl
 shown_perm (Readable bytes) shown = refl
 shown_perm (Writable bytes dirty) None = refl
@@ -216,7 +216,7 @@ message_follows v w message kind.AccessAckData h may = (tt, stored_agrees v w me
 message_follows v w message kind.GrantAck h may = (tt, stored_agrees v w message h)
 
 -- where each line may be seen with the loads and stores, each message may be without them
-pub unseen_may : (shape : Shape) (xs : List Seen) (v w : View) → Agree v w → AllMay Watched shape v xs → AllMay Unseen shape w (filter is_message xs)
+pub unseen_may : (shape : Shape) (xs : List Seen) (v w : View) → Agree v w → AllMay (keeps Watched) shape v xs → AllMay (keeps Unseen) shape w (filter is_message xs)
 unseen_may shape [] v w h all = tt
 unseen_may shape (OnLink c block message ∷ xs) v w h all =
     let one = message_follows v w message message.kind h all.0 in (
@@ -225,7 +225,7 @@ unseen_may shape (OnLink c block message ∷ xs) v w h all =
     )
 unseen_may shape (OnMemory block message ∷ xs) v w h all = (
   tt,
-  unseen_may shape xs v (before_line Unseen w (OnMemory block message))
+  unseen_may shape xs v (before_line (keeps Unseen) w (OnMemory block message))
       (record { perm = h.perm ∙ sym (shown_perm w.held None); wait = h.wait }) all.1,
 )
 unseen_may shape (Load c address bytes ∷ xs) v w h all = unseen_may shape xs v w h all.1
@@ -240,7 +240,7 @@ agrees v = record { perm = refl; wait = refl }
 
 -- where each line may be seen behind those before it, all may
 pub each_may : (shape : Shape) (all : List Seen) (v : View)
-    → ((xs ys : List Seen) (x : Seen) → all ≡ xs ++ x ∷ ys → MayLine shape (led_by Watched shape v xs) x) → AllMay Watched shape v all
+    → ((xs ys : List Seen) (x : Seen) → all ≡ xs ++ x ∷ ys → MayLine shape (led_by (keeps Watched) shape v xs) x) → AllMay (keeps Watched) shape v all
 each_may shape [] v h = tt
 each_may shape (x ∷ xs) v h = (
   h [] xs x refl,
@@ -248,10 +248,15 @@ each_may shape (x ∷ xs) v h = (
 )
 
 -- and where all may, each may behind those before it
-pub one_may : (cores : Cores) (shape : Shape) (xs ys : List Seen) (x : Seen) (v : View) → AllMay cores shape v (xs ++ x ∷ ys)
-    → MayBeSeen cores shape (led_by cores shape v xs) x
-one_may cores shape [] ys x v all = all.0
-one_may cores shape (y ∷ xs) ys x v all = one_may cores shape xs ys x (after_seen cores shape v y) all.1
+pub one_may : (tap : Tap) (shape : Shape) (xs ys : List Seen) (x : Seen) (v : View) → AllMay tap shape v (xs ++ x ∷ ys)
+    → MayBeSeen tap shape (led_by tap shape v xs) x
+one_may tap shape [] ys x v all = all.0
+one_may tap shape (y ∷ xs) ys x v all = one_may tap shape xs ys x (after_seen tap shape v y) all.1
+
+-- and each of the first ones may
+pub may_first : (tap : Tap) (shape : Shape) (v : View) (xs ys : List Seen) → AllMay tap shape v (xs ++ ys) → AllMay tap shape v xs
+may_first tap shape v [] ys all = tt
+may_first tap shape v (x ∷ xs) ys all = (all.0, may_first tap shape (after_seen tap shape v x) xs ys all.1)
 
 -- the messages of a client and a block are those of its lines that are messages
 kept_by : (t : Bool) (x : Seen) (xs : List Seen) → is_message x ≡ true

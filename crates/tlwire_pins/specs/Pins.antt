@@ -11,7 +11,6 @@ use Rattle.tl_protocol.specs.declared.event.Event.TheVariants.{Load as e_Load, S
 use Rattle.tl_protocol.specs.declared.shape.Shape.{Shape}
 use Rattle.tl_protocol.specs.Protocol.{Block, block_of}
 use Rattle.tl_protocol.specs.Runs.{IsRun, at_reset, after_next}
-use Rattle.tlcheck_rules.specs.Rules.{client_of}
 use Rattle.tlwire_search.specs.Explained.{as_list, seen_of, shown_as}
 use Rattle.tlwire_search.specs.declared.seen.Seen.{Seen}
 use Rattle.tlwire_search.specs.declared.seen.Seen.TheVariants.{OnLink, OnMemory, Load, Store}

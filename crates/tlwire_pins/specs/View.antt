@@ -1,5 +1,5 @@
 -- What a client holds of a block and waits for, as the messages at its pins tell (TileLink 1.8, section 9).
-use Rattle.std.specs.Prelude.{◌≡◌, ◌≢◌, ◌%◌, ℕ, true, false, List, [], ◌∷◌, Option, Some, None}
+use Rattle.std.specs.Prelude.{◌≡◌, ◌≢◌, ◌%◌, ◌&&◌, not, ℕ, Bool, true, false, List, [], ◌∷◌, Option, Some, None, if◌then◌else◌}
 use Rattle.tl_types.specs.Message.{probe_answer, surrender}
 use Rattle.tl_types.specs.Parameters.{dirty_prune, probe_report}
 use Rattle.tl_types.specs.Permission.{grant_perm, grow_from, prune_from, prune_to, report_to}
@@ -13,6 +13,7 @@ use Rattle.tl_types.specs.declared.permission.Perm.TheVariants.{None as p_None, 
 use Rattle.tl_types.specs.declared.permission.ProbeCap.{ProbeCap}
 use Rattle.tl_types.specs.declared.permission.ProbeCap.TheVariants.{ToB, ToN}
 use Rattle.tl_types.specs.declared.permission.Prune.{Prune}
+use Rattle.tl_types.specs.declared.wait.Awaited.{Awaited}
 use Rattle.tl_types.specs.declared.wait.Awaited.TheVariants.{Nothing, ForGrant, ForReleaseAck}
 use Rattle.tl_protocol.specs.Access.{FitsBlock, ReadsAs}
 use Rattle.tl_protocol.specs.Client.{bytes_or}
@@ -22,7 +23,6 @@ use Rattle.tl_protocol.specs.declared.copy.CachedCopy.TheVariants.{Absent, Reada
 use Rattle.tl_protocol.specs.declared.client.Client.{Client}
 use Rattle.tl_protocol.specs.declared.shape.Shape.{Shape}
 use Rattle.tlcheck_rules.specs.Differs.{DiffersFrom, IsMessage}
-use Rattle.tlcheck_rules.specs.declared.difference.Difference.{Difference}
 use Rattle.tlcheck_rules.specs.declared.entry.Shown.{Shown}
 use Rattle.tlcheck_rules.specs.declared.judge.Breach.{Breach}
 use Rattle.tlcheck_rules.specs.declared.judge.Breach.TheVariants.{NotPermitted, OutOfOrder, NotAsShown}
@@ -30,8 +30,10 @@ use Rattle.tlcheck_rules.specs.declared.rule.Rule.{Rule}
 use Rattle.tlcheck_rules.specs.declared.rule.Rule.TheVariants as rule
 use Rattle.tlwire_search.specs.declared.seen.Seen.{Seen}
 use Rattle.tlwire_search.specs.declared.seen.Seen.TheVariants.{OnLink, OnMemory, Load, Store}
+use Rattle.tlwire_pins.specs.Drops.{shows_nothing}
 use Rattle.tlwire_pins.specs.declared.view.Cores.{Cores}
 use Rattle.tlwire_pins.specs.declared.view.Cores.TheVariants.{Watched, Unseen}
+use Rattle.tlwire_pins.specs.declared.view.Tap.{Tap}
 use Rattle.tlwire_pins.specs.declared.view.View.{View}
 
 -- what a client holds and waits for
@@ -126,22 +128,57 @@ line_bytes (Store c address bytes) = None
 
 -- What a client holds and waits for just before a line: where nobody watched its core, stores made of its Tip what the
 -- line shows.
-abbrev pub before_line : Cores → View → Seen → View
-before_line Watched v x = v
-before_line Unseen v x = record v { held = as_shown v.held (line_bytes x) }
+abbrev pub with_stores : Cores → View → Seen → View
+with_stores Watched v x = v
+with_stores Unseen v x = record v { held = as_shown v.held (line_bytes x) }
 
--- a line may be seen of such a client next, with stores before it that nobody saw
-abbrev pub MayBeSeen : Cores → Shape → View → Seen → Type 0
-MayBeSeen cores shape v x = MayLine shape (before_line cores v x) x
+-- ## Drops that nobody saw
+
+-- a client that gives no copy up without a word
+abbrev pub keeps : Cores → Tap
+keeps cores = record { cores = cores; drops = false }
+
+-- it waits for nothing
+abbrev pub is_idle : Awaited → Bool
+is_idle Nothing = true
+is_idle ForGrant = false
+is_idle ForReleaseAck = false
+
+-- a copy is there and clean; where nobody watched the core, a Tip may be
+abbrev pub is_clean : Cores → CachedCopy → Bool
+is_clean cores Absent = false
+is_clean cores (Readable bytes) = true
+is_clean Watched (Writable bytes dirty) = not dirty
+is_clean Unseen (Writable bytes dirty) = true
+
+-- The client may give up its copy without a word: it is clean, and the client waits for nothing.
+abbrev pub may_drop : Cores → View → Bool
+may_drop cores v = is_idle v.wait && is_clean cores v.held
+
+-- what that leaves
+abbrev pub dropped : View → View
+dropped v = record v { held = Absent }
+
+-- before a line that shows that the client has nothing, one that drops clean copies has dropped its own
+abbrev pub with_drop : Tap → View → Seen → View
+with_drop tap v x = if tap.drops && (shows_nothing x && may_drop tap.cores v) then dropped v else v
+
+-- what a client holds and waits for just before a line, with what nobody saw of it: a drop, and stores
+abbrev pub before_line : Tap → View → Seen → View
+before_line tap v x = with_stores tap.cores (with_drop tap v x) x
+
+-- a line may be seen of such a client next, with what nobody saw before it
+abbrev pub MayBeSeen : Tap → Shape → View → Seen → Type 0
+MayBeSeen tap shape v x = MayLine shape (before_line tap v x) x
 
 -- what it leaves
-abbrev pub after_seen : Cores → Shape → View → Seen → View
-after_seen cores shape v x = after_line shape (before_line cores v x) x
+abbrev pub after_seen : Tap → Shape → View → Seen → View
+after_seen tap shape v x = after_line shape (before_line tap v x) x
 
 -- where these lines lead, one after another
-abbrev pub led_by : Cores → Shape → View → List Seen → View
-led_by cores shape v [] = v
-led_by cores shape v (x ∷ rest) = led_by cores shape (after_seen cores shape v x) rest
+abbrev pub led_by : Tap → Shape → View → List Seen → View
+led_by tap shape v [] = v
+led_by tap shape v (x ∷ rest) = led_by tap shape (after_seen tap shape v x) rest
 
 -- ## What a line breaks that may not be seen next
 

@@ -10,22 +10,22 @@ use Rattle.tlwire_search.specs.declared.seen.Seen.{Seen}
 use Rattle.tlwire_pins.specs.Pins.{is_own, lines_from, own}
 use Rattle.tlwire_pins.specs.View.{BreaksLine, MayLine, MayBeSeen, after_seen, before_line, fresh, led_by}
 use Rattle.tlwire_pins.specs.declared.pass.Wrong.{Wrong}
-use Rattle.tlwire_pins.specs.declared.view.Cores.{Cores}
+use Rattle.tlwire_pins.specs.declared.view.Tap.{Tap}
 use Rattle.tlwire_pins.specs.declared.view.View.{View}
 use Rattle.tlwire_pins.specs.declared.views.Broken.{Broken}
 
 -- each of these lines may be seen of a client, one after another
-abbrev pub AllMay : Cores → Shape → View → List Seen → Type 0
-AllMay cores shape v [] = Unit {0}
-AllMay cores shape v (x ∷ rest) = MayBeSeen cores shape v x × AllMay cores shape (after_seen cores shape v x) rest
+abbrev pub AllMay : Tap → Shape → View → List Seen → Type 0
+AllMay tap shape v [] = Unit {0}
+AllMay tap shape v (x ∷ rest) = MayBeSeen tap shape v x × AllMay tap shape (after_seen tap shape v x) rest
 
 -- The line at a place of a record is one of a block at the client's pins; there the client holds and waits for what the block's lines
--- before it lead to, with the stores that nobody saw, and this is what the line breaks.
-pub record IsWrong (cores : Cores) (shape : Shape) (c : ℕ) (seen : List Seen) (w : Wrong) : Type 0 where
+-- before it lead to, with what nobody saw of it, and this is what the line breaks.
+pub record IsWrong (tap : Tap) (shape : Shape) (c : ℕ) (seen : List Seen) (w : Wrong) : Type 0 where
   pub line : Seen
   pub there : slice_get seen w.place ≡ Some line
   pub own_line : is_own shape c w.block line ≡ true
-  pub led : w.view ≡ before_line cores (led_by cores shape fresh (own shape c w.block (take w.place seen))) line
+  pub led : w.view ≡ before_line tap (led_by tap shape fresh (own shape c w.block (take w.place seen))) line
   pub breaks : BreaksLine shape w.view line w.breach
   pub client : w.client ≡ c
 
@@ -37,18 +37,18 @@ is_at None b = false
 is_at (Some block) b = block == b
 
 -- a line that is of a block is seen next, or one that is not leaves it as it is
-abbrev pub StepsAt : Cores → Shape → Seen → Bool → View → View → Type 0
-StepsAt cores shape x true v w = MayBeSeen cores shape v x × (w ≡ after_seen cores shape v x)
-StepsAt cores shape x false v w = w ≡ v
+abbrev pub StepsAt : Tap → Shape → Seen → Bool → View → View → Type 0
+StepsAt tap shape x true v w = MayBeSeen tap shape v x × (w ≡ after_seen tap shape v x)
+StepsAt tap shape x false v w = w ≡ v
 
 -- one line more leads from what a client holds of each block to what it holds of each
-abbrev pub Steps : Cores → Shape → ℕ → Seen → (ℕ → View) → (ℕ → View) → Type 0
-Steps cores shape c x old new = (block : ℕ) → StepsAt cores shape x (is_own shape c block x) (old block) (new block)
+abbrev pub Steps : Tap → Shape → ℕ → Seen → (ℕ → View) → (ℕ → View) → Type 0
+Steps tap shape c x old new = (block : ℕ) → StepsAt tap shape x (is_own shape c block x) (old block) (new block)
 
 -- a line of a block at the client's pins may not be seen next, and this is what it breaks
-pub record BreaksNext (cores : Cores) (shape : Shape) (c : ℕ) (x : Seen) (old : ℕ → View) (b : Broken) : Type 0 where
+pub record BreaksNext (tap : Tap) (shape : Shape) (c : ℕ) (x : Seen) (old : ℕ → View) (b : Broken) : Type 0 where
   pub own_line : is_own shape c b.block x ≡ true
-  pub held : b.view ≡ before_line cores (old b.block) x
+  pub held : b.view ≡ before_line tap (old b.block) x
   pub breaks : BreaksLine shape b.view x b.breach
   pub may_not : ¬ MayLine shape b.view x
 

@@ -6,7 +6,7 @@ ghost use Rattle.tl_types.specs.declared.limits.TheConstants.{BLOCK_BYTES};
 ghost use Rattle.tlwire_pins.specs.declared.view.Cores.{Cores};
 ghost use Rattle.tlwire_search.specs.declared.seen.Seen.{Seen};
 
-use crate::view::Cores;
+use crate::view::{Cores, Tap};
 use crate::views::{Broken, Views, state_in, step};
 use std::alloc::{AllocError, Global};
 use std::collections::HashMap;
@@ -73,6 +73,10 @@ impl PinsJudge {
             (cores : Cores) (shape : Shape) (c : ℕ) (lines : List Seen)
             → Follows cores shape c lines self.old → Breaks cores shape c lines line.now broken)) }
     {
-        step(&mut self.views, self.shape, self.client, self.cores, line)
+        let tap = Tap {
+            cores: self.cores,
+            drops: false,
+        };
+        step(&mut self.views, self.shape, self.client, tap, line)
     }
 }

@@ -4,7 +4,7 @@ ghost use Rattle.tlwire_pins.specs.Impossible.{IsImpossible};
 ghost use Rattle.tlwire_pins.specs.Judged.{EachMay};
 ghost use Rattle.tlwire_pins.specs.Walk.{IsWrong};
 
-use crate::view::{Cores, View};
+use crate::view::{Tap, View};
 use crate::views::{Broken, step};
 use std::alloc::{AllocError, Global};
 use std::collections::HashMap;
@@ -48,24 +48,25 @@ fn at_place(place: usize, client: ClientId, broken: Broken) -> Wrong
 }
 
 /// Looks for the first line of a record that may not be seen at a client's pins: each line before it may. Where there
-/// is one, no lawful run is seen so there. Where nobody watched the client's core, only its permission and what it waits for count. It takes
-/// time by lines, and memory by the blocks that they are of. The error is want of memory.
+/// is one, no lawful run is seen so there, whatever clean copies the client gave up without a word, where it may. Where
+/// nobody watched its core, only its permission and what it waits for count. It takes time by lines, and memory by the
+/// blocks that they are of. The error is want of memory.
 pub fn first_wrong(
     alloc: Global,
     shape: Shape,
     client: ClientId,
-    cores: Cores,
+    tap: Tap,
     seen: &[Seen],
 ) -> Result<Option<Wrong>, AllocError>
     requires { (0 < shape.block_bytes) × (shape.block_bytes ≤ BLOCK_BYTES) }
-    ensures wrong { IfOk result (λ found. IfSome found (IsWrong cores shape client seen.now)) }
-    ensures impossible { IfOk result (λ found. IsSome found → IsImpossible cores shape client seen.now) }
-    ensures first { IfOk result (λ found. IfSome found (λ w. EachMay cores shape client (take w.place seen.now))) }
-    ensures none { IfOk result (λ found. IsNone found → EachMay cores shape client seen.now) }
+    ensures wrong { IfOk result (λ found. IfSome found (IsWrong tap shape client seen.now)) }
+    ensures impossible { IfOk result (λ found. IsSome found → IsImpossible tap shape client seen.now) }
+    ensures first { IfOk result (λ found. IfSome found (λ w. EachMay tap shape client (take w.place seen.now))) }
+    ensures none { IfOk result (λ found. IsNone found → EachMay tap shape client seen.now) }
 {
     let mut views = HashMap::new(alloc);
     for place in 0..seen.len() {
-        if let Some(broken) = step(&mut views, shape, client, cores, &seen[place])? {
+        if let Some(broken) = step(&mut views, shape, client, tap, &seen[place])? {
             return Ok(Some(at_place(place, client, broken)));
         }
     }

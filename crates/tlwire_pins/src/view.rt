@@ -4,14 +4,15 @@ ghost use Rattle.tl_protocol.specs.Access.{FitsBlock, ReadsAs};
 ghost use Rattle.tl_protocol.specs.Client.{bytes_or};
 ghost use Rattle.tl_protocol.specs.Copy.{bytes_of, clean_copy, perm_of};
 ghost use Rattle.tl_types.specs.Permission.{grant_perm};
-ghost use Rattle.tlwire_pins.specs.View.{BreaksAcquire, BreaksAnswer, BreaksAs, BreaksGiving, BreaksLine, BreaksLoad, BreaksRelease, BreaksStore, MayAcquire, MayAnswer, MayLine, MayRelease, MaySeeAs, after_line, after_message, as_shown, before_line, cap_to, fresh, line_bytes};
+ghost use Rattle.tlwire_pins.specs.Drops.{has_nothing, shows_nothing};
+ghost use Rattle.tlwire_pins.specs.View.{BreaksAcquire, BreaksAnswer, BreaksAs, BreaksGiving, BreaksLine, BreaksLoad, BreaksRelease, BreaksStore, MayAcquire, MayAnswer, MayLine, MayRelease, MaySeeAs, after_line, after_message, as_shown, before_line, cap_to, fresh, is_clean, is_idle, line_bytes, may_drop, with_drop, with_stores};
 
 use std::mem;
 use tl_protocol::CachedCopy;
 use tl_rules::Shape;
 use tl_types::{
     AccessBytes, Awaited, BLOCK_BYTES, BlockBytes, Body, GrantCap, Kind, Perm, ProbeAnswer,
-    ProbeCap, Prune, Surrender, Upward,
+    ProbeCap, ProbeReport, Prune, Surrender, Upward,
 };
 use tlcheck_rules::{Breach, Rule, Shown, other_message};
 use tlwire_search::Seen;
@@ -23,6 +24,15 @@ pub enum Cores {
     Watched,
     /// They were not.
     Unseen,
+}
+
+/// What of a client may stay unseen at its pins.
+#[derive(Clone, Copy, Debug, PartialEq, Eq)]
+pub struct Tap {
+    /// Whether somebody watched its core.
+    pub cores: Cores,
+    /// Whether it may give up a clean copy without a word.
+    pub drops: bool,
 }
 
 /// What a client holds of a block, and the answer that it waits for.
@@ -73,6 +83,41 @@ fn line_bytes(line: &Seen) -> Option<BlockBytes>
             None => None,
         },
         Seen::OnMemory(_, _) | Seen::Load(_, _, _) | Seen::Store(_, _, _) => None,
+    }
+}
+
+/// Whether a client that sends such a message has nothing of the block.
+pub(crate) fn has_nothing(kind: Kind) -> bool
+    ensures { result ≡ has_nothing kind }
+{
+    match kind {
+        Kind::AcquireBlock(grow) => grow.from() == Perm::None,
+        Kind::ProbeAck(ProbeReport::NtoN) => true,
+        _ => false,
+    }
+}
+
+/// Whether a line shows that its client has nothing of the block.
+fn shows_nothing(line: &Seen) -> bool
+    ensures { result ≡ shows_nothing line.now }
+{
+    match line {
+        Seen::OnLink(_, _, message) => has_nothing(message.kind),
+        Seen::OnMemory(_, _) | Seen::Load(_, _, _) | Seen::Store(_, _, _) => false,
+    }
+}
+
+/// Whether a copy is there and clean; where nobody watched the core, a Tip may be.
+fn is_clean(cores: Cores, held: &CachedCopy) -> bool
+    ensures { result ≡ is_clean cores held.now }
+{
+    match held {
+        CachedCopy::Absent => false,
+        CachedCopy::Readable(_) => true,
+        CachedCopy::Writable(_, dirty) => match cores {
+            Cores::Watched => !*dirty,
+            Cores::Unseen => true,
+        },
     }
 }
 
@@ -255,8 +300,8 @@ impl View {
     }
 
     /// Where nobody watched the client's core, the stores are made that a line shows.
-    pub fn store_unseen(&mut self, cores: Cores, line: &Seen)
-        ensures { self.new ≡ before_line cores self.old line.now }
+    fn store_unseen(&mut self, cores: Cores, line: &Seen)
+        ensures { self.new ≡ with_stores cores self.old line.now }
     {
         match cores {
             Cores::Watched => {}
@@ -265,6 +310,30 @@ impl View {
                 self.held = as_shown(held, line_bytes(line));
             }
         }
+    }
+
+    /// Whether the client may give up its copy without a word.
+    pub(crate) fn may_drop(&self, cores: Cores) -> bool
+        ensures { result ≡ may_drop cores self.now }
+    {
+        self.wait == Awaited::Nothing && is_clean(cores, &self.held)
+    }
+
+    /// Before a line that shows that the client has nothing, one that drops clean copies drops its own.
+    fn drop_unseen(&mut self, tap: Tap, line: &Seen)
+        ensures { self.new ≡ with_drop tap self.old line.now }
+    {
+        if tap.drops && (shows_nothing(line) && self.may_drop(tap.cores)) {
+            self.held = CachedCopy::Absent;
+        }
+    }
+
+    /// What nobody saw before a line happens: a drop, and stores.
+    pub fn pass_unseen(&mut self, tap: Tap, line: &Seen)
+        ensures { self.new ≡ before_line tap self.old line.now }
+    {
+        self.drop_unseen(tap, line);
+        self.store_unseen(tap.cores, line);
     }
 
     /// The line is seen, where it may be.

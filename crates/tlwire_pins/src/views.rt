@@ -5,7 +5,7 @@ ghost use Rattle.tlwire_pins.specs.Judged.{held_in};
 ghost use Rattle.tlwire_pins.specs.Pins.{is_own, is_told};
 ghost use Rattle.tlwire_pins.specs.Walk.{BreaksNext, Steps, is_at};
 
-use crate::view::{Cores, View};
+use crate::view::{Tap, View};
 use std::alloc::{AllocError, Global};
 use std::collections::HashMap;
 use tl_rules::Shape;
@@ -84,19 +84,19 @@ pub(crate) fn step(
     views: &mut Views,
     shape: Shape,
     c: ClientId,
-    cores: Cores,
+    tap: Tap,
     line: &Seen,
 ) -> Result<Option<Broken>, AllocError>
     requires { (0 < shape.block_bytes) × (shape.block_bytes ≤ BLOCK_BYTES) }
     ensures steps { IfOk result
-        (λ found. IsNone found → Steps cores shape c line.now (held_in views.old) (held_in views.new)) }
-    ensures broken { IfOk result (λ found. IfSome found (BreaksNext cores shape c line.now (held_in views.old))) }
+        (λ found. IsNone found → Steps tap shape c line.now (held_in views.old) (held_in views.new)) }
+    ensures broken { IfOk result (λ found. IfSome found (BreaksNext tap shape c line.now (held_in views.old))) }
 {
     let Some(block) = block_at_pins(shape, c, line) else {
         return Ok(None);
     };
     let mut view = take(views, block);
-    view.store_unseen(cores, line);
+    view.pass_unseen(tap, line);
     if let Some(breach) = view.breach(shape, line) {
         return Ok(Some(Broken {
             block,

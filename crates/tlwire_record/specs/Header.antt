@@ -1,25 +1,32 @@
 -- The lines before the messages (this project's own format).
-use Rattle.std.specs.Prelude.{ℕ, ◌%◌, ◌*◌, ◌+◌, ◌++◌, ◌==◌, ◌&&◌, ◌||◌, nat_le, nat_lt, Bool, false, List, [], ◌∷◌, codes, bytes_eq, Result, Ok, Err, if◌then◌else◌}
+use Rattle.std.specs.Prelude.{ℕ, ◌%◌, ◌*◌, ◌+◌, ◌++◌, ◌==◌, ◌&&◌, ◌||◌, nat_le, nat_lt, Bool, false, List, [], ◌∷◌, codes, bytes_eq, None, Result, Ok, Err, if◌then◌else◌}
 use Rattle.std.specs.List.{list_any}
 use Rattle.tl_protocol.specs.declared.shape.Shape.{Shape}
 use Rattle.tlcheck_record.specs.Header.{is_in_range}
 use Rattle.tlcheck_record.specs.Cause.{◌>>=◌}
 use Rattle.tlcheck_record.specs.Words.{number_in}
 use Rattle.tlwire_record.specs.Address.{wide_address_in}
+use Rattle.tlwire_record.specs.Drops.{drops_in, says_again}
 use Rattle.tlwire_record.specs.Fields.{pair_of}
 use Rattle.tlcheck_record.specs.declared.cause.Cause.{Cause}
 use Rattle.tlcheck_record.specs.declared.cause.Cause.TheVariants as cause
 use Rattle.tlwire_record.specs.declared.header.TheConstants.{REACH}
 use Rattle.tlwire_record.specs.declared.header.Sources.{Sources}
+use Rattle.tlwire_record.specs.declared.expects.Expects.{Expects}
 use Rattle.tlwire_search.specs.declared.premise.Premise.{Premise}
 use Rattle.tlwire_search.specs.declared.premise.Premise.TheVariants.{AtClient, AtClients, AtHome, Between, Skew, Whole, MemoryUnseen, CoresUnseen}
 
--- The memory, the clients and their sources, and how the record was seen, in the order of their lines.
+-- The memory, the clients and their sources, and how the record was seen, in the order of their lines; what is expected of its exchanges.
 pub record SettingState : Type 0 where
   pub shape : Shape
   pub base : ℕ
   pub sources : List Sources
   pub premises : List Premise
+  pub expects : Expects
+
+-- nothing
+abbrev pub nothing_expected : Expects
+nothing_expected = record { quiet = false; patience = None }
 
 -- a source lies in a range, which is the client's
 abbrev pub has_source : ℕ → ℕ → Sources → Bool
@@ -67,7 +74,7 @@ is_fit shape base = is_in_range shape && (base % shape.block_bytes == 0) && ends
 
 -- the setting of these numbers, where they are fit
 abbrev pub fitting : Shape → ℕ → Result SettingState Cause
-fitting shape base = if is_fit shape base then Ok (record { shape = shape; base = base; sources = []; premises = [] }) else Err cause.Range
+fitting shape base = if is_fit shape base then Ok (record { shape = shape; base = base; sources = []; premises = []; expects = nothing_expected }) else Err cause.Range
 
 -- `clients=NUM block=NUM blocks=NUM base=ADDR`, behind the word `shape`
 unfoldable pub numbers_in : List (List ℕ) → Result SettingState Cause
@@ -113,6 +120,7 @@ sources_taken setting words = sources_in setting.shape words >>= (λ s. Ok (with
 abbrev pub is_premise_word : List ℕ → Bool
 is_premise_word word =
     bytes_eq word (codes "seen") || bytes_eq word (codes "skew") || bytes_eq word (codes "whole") || bytes_eq word (codes "memory") || bytes_eq word (codes "cores")
+    || bytes_eq word (codes "drops")
 
 -- a client that is there
 abbrev pub at_client : Shape → ℕ → Result Premise Cause
@@ -163,12 +171,18 @@ premise_in shape word rest =
     else if bytes_eq word (codes "skew") then skew_in rest
     else if bytes_eq word (codes "whole") then alone rest Whole
     else if bytes_eq word (codes "memory") then unseen_in rest MemoryUnseen
+    else if bytes_eq word (codes "drops") then drops_in shape rest
     else unseen_in rest CoresUnseen
 
 -- one line more that says how
 abbrev pub with_premise : SettingState → Premise → SettingState
 with_premise setting p = record setting { premises = setting.premises ++ p ∷ [] }
 
+-- the same, where no earlier line says it already
+abbrev pub new_premise : SettingState → List ℕ → List (List ℕ) → Result Premise Cause
+new_premise setting word rest =
+    premise_in setting.shape word rest >>= (λ p. if says_again setting.premises p then Err cause.Premise else Ok p)
+
 -- the setting with what a line says of how the record was seen
 abbrev pub premise_taken : SettingState → List ℕ → List (List ℕ) → Result SettingState Cause
-premise_taken setting word rest = premise_in setting.shape word rest >>= (λ p. Ok (with_premise setting p))
+premise_taken setting word rest = new_premise setting word rest >>= (λ p. Ok (with_premise setting p))

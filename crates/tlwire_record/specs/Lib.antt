@@ -1,5 +1,7 @@
 pub mod Address
 pub mod Code
+pub mod Drops
+pub mod Expects
 pub mod Fields
 pub mod Header
 pub mod Line

@@ -112,7 +112,7 @@ said_taken setting t link (said.Store address bytes) =
     owner_of link >>= (λ c. offset_of setting.shape setting.base address bytes >>= (λ offset. Ok (Stores c offset bytes, t)))
 said_taken setting t link (said.Message channel opcode f) = message_taken setting t link channel opcode f
 
--- What was seen, in the order of the lines, each with the number of its line; the cycle of the last, and what is open.
+-- What was seen, in the order of the lines, each with the number of its line and its cycle; the cycle of the last line, and what is open.
 pub record MessagesState : Type 0 where
   pub setting : SettingState
   pub image : List ℕ
@@ -120,10 +120,11 @@ pub record MessagesState : Type 0 where
   pub tables : TableState
   pub seen : List Seen
   pub lines : List ℕ
+  pub cycles : List ℕ
 
 -- nothing was seen
 abbrev pub began : SettingState → List ℕ → MessagesState
-began setting image = record { setting = setting; image = image; cycle = 0; tables = no_tables; seen = []; lines = [] }
+began setting image = record { setting = setting; image = image; cycle = 0; tables = no_tables; seen = []; lines = []; cycles = [] }
 
 -- the line with this number has what is seen of it, and nothing else changes but the cycle and what is open
 abbrev pub line_taken : MessagesState → ℕ → Line → Result MessagesState Cause
@@ -133,4 +134,4 @@ line_taken m number line =
     else if is_unwatched m.setting.premises (unwatched_wire line.link line.said) then Err cause.Unwatched
     else
     said_taken m.setting m.tables line.link line.said
-    >>= (λ s. Ok (record m { cycle = line.cycle; tables = s.1; seen = m.seen ++ s.0 ∷ []; lines = m.lines ++ number ∷ [] }))
+    >>= (λ s. Ok (record m { cycle = line.cycle; tables = s.1; seen = m.seen ++ s.0 ∷ []; lines = m.lines ++ number ∷ []; cycles = m.cycles ++ line.cycle ∷ [] }))

@@ -4,6 +4,7 @@ use Rattle.std.specs.List.{slice_split}
 use Rattle.tl_script_words.specs.Words.{words_of}
 use Rattle.tlcheck_record.specs.Cause.{◌>>=◌}
 use Rattle.tlcheck_record.specs.Words.{image_in, is_blank, text_in}
+use Rattle.tlwire_record.specs.Expects.{expects_taken, is_expects_word}
 use Rattle.tlwire_record.specs.Header.{SettingState, is_premise_word, is_title, premise_taken, setting_in, sources_taken}
 use Rattle.tlwire_record.specs.Line.{line_in}
 use Rattle.tlwire_record.specs.Messages.{MessagesState, began, line_taken}
@@ -16,11 +17,12 @@ use Rattle.tlwire_record.specs.declared.stage.Stage.TheVariants.{Fresh, Titled, 
 abbrev pub going : MessagesState → ℕ → List (List ℕ) → Result Stage Cause
 going m number words = line_in words >>= (λ line. line_taken m number line >>= (λ after. Ok (Going after)))
 
--- a line behind the shape: sources, how the record was seen, the image, or the first of what was seen
+-- a line behind the shape: sources, how the record was seen, what is expected of it, the image, or the first of what was seen
 abbrev pub shaped_by : SettingState → ℕ → List ℕ → List (List ℕ) → List (List ℕ) → Result Stage Cause
 shaped_by setting number word rest words =
     if bytes_eq word (codes "source") then sources_taken setting rest >>= (λ s. Ok (Shaped s))
     else if is_premise_word word then premise_taken setting word rest >>= (λ s. Ok (Shaped s))
+    else if is_expects_word word then expects_taken setting word rest >>= (λ s. Ok (Shaped s))
     else if bytes_eq word (codes "image") then image_in setting.shape rest >>= (λ image. Ok (Going (began setting image)))
     else going (began setting []) number words
 

@@ -6,6 +6,7 @@ ghost use Rattle.tlcheck_record.specs.Cause.{Gives};
 ghost use Rattle.tlwire_record.specs.Header.{address_at, address_part, ends_in_reach, fitting, has_source, has_sources, is_fit, is_of, is_title, number_at, number_part, numbers_in, owns, setting_in, sources_in, sources_taken, with_premise, with_sources};
 
 use crate::address::read_wide_address;
+use crate::expects::{Expects, nothing_expected};
 use crate::fields::split_pair;
 use std::alloc::Global;
 use std::marker::Model;
@@ -32,6 +33,7 @@ pub struct Setting {
     base: u64,
     sources: Vec<Sources>,
     premises: Vec<Premise>,
+    expects: Expects,
 }
 
 impl Model for Setting {
@@ -42,7 +44,13 @@ impl Model for Setting {
     ghost Value = { SettingState };
 
     ghost view = { λ s.
-        record { shape = s.shape; base = s.base; sources = s.sources.items; premises = s.premises.items } };
+        record {
+          shape = s.shape;
+          base = s.base;
+          sources = s.sources.items;
+          premises = s.premises.items;
+          expects = s.expects;
+        } };
 
     ghost invariant = { λ s. (0 < s.shape.block_bytes) × (s.shape.block_bytes ≤ BLOCK_BYTES)
         × (s.shape.blocks ≤ BLOCKS) };
@@ -108,6 +116,20 @@ impl Setting {
         ensures { result.now ≡ self.now.premises }
     {
         &self.premises
+    }
+
+    /// What is expected of the exchanges of the record.
+    pub fn expects(&self) -> Expects
+        ensures { result ≡ self.now.expects }
+    {
+        self.expects
+    }
+
+    /// This is expected.
+    pub(crate) fn set_expects(&mut self, expects: Expects)
+        ensures { self.new ≡ record self.old { expects = expects } }
+    {
+        self.expects = expects;
     }
 
     /// One line more that says how.
@@ -215,6 +237,7 @@ fn fitting(alloc: Global, shape: Shape, base: u64) -> Result<Setting, Cause>
             base,
             sources: Vec::new(alloc),
             premises: Vec::new(alloc),
+            expects: nothing_expected(),
         })
     } else {
         Err(Cause::Range)

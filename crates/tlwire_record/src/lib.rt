@@ -5,6 +5,7 @@
 mod address;
 mod code;
 mod cut;
+mod expects;
 mod fields;
 mod header;
 mod line;
@@ -16,6 +17,7 @@ mod stage;
 mod tables;
 
 pub use code::Role;
+pub use expects::Expects;
 pub use fields::{Field, Fields};
 pub use header::{Setting, Sources};
 pub use line::{Line, Link, Said};

@@ -140,6 +140,7 @@ pub struct Messages {
     tables: Tables,
     seen: Vec<Seen>,
     lines: Vec<u64>,
+    cycles: Vec<u32>,
 }
 
 impl Model for Messages {
@@ -154,6 +155,7 @@ impl Model for Messages {
       tables = m.tables;
       seen = m.seen.items;
       lines = m.lines.items;
+      cycles = m.cycles.items;
     } };
 }
 
@@ -188,6 +190,20 @@ impl Messages {
         &self.lines
     }
 
+    /// The cycle of each thing seen.
+    pub fn cycles(&self) -> &[u32]
+        ensures { result.now ≡ self.now.cycles }
+    {
+        &self.cycles
+    }
+
+    /// The cycle of the last line.
+    pub fn end(&self) -> u32
+        ensures { result ≡ self.now.cycle }
+    {
+        self.cycle
+    }
+
     /// Nothing was seen.
     pub(crate) fn begin(alloc: Global, setting: Setting, image: Vec<u8>) -> Messages
         ensures { result ≡ began setting image.items }
@@ -199,6 +215,7 @@ impl Messages {
             tables: Tables::new(alloc),
             seen: Vec::new(alloc),
             lines: Vec::new(alloc),
+            cycles: Vec::new(alloc),
         }
     }
 
@@ -282,6 +299,7 @@ impl Messages {
         self.cycle = cycle;
         self.seen.push(seen)?;
         self.lines.push(number)?;
+        self.cycles.push(cycle)?;
         Ok(())
     }
 }

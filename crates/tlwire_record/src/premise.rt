@@ -2,19 +2,25 @@
 ghost use Rattle.std.specs.Prelude.{◌≡◌};
 ghost use Rattle.tl_script_words.specs.Words.{texts};
 ghost use Rattle.tlcheck_record.specs.Cause.{Gives};
-ghost use Rattle.tlwire_record.specs.Header.{alone, at_client, is_premise_word, place_in, place_named, premise_in, premise_taken, seen_in, skew_in, unseen_in};
+ghost use Rattle.tlwire_record.specs.Drops.{dropping_client, drops_in, says_again};
+ghost use Rattle.tlwire_record.specs.Header.{alone, at_client, is_premise_word, new_premise, place_in, place_named, premise_in, premise_taken, seen_in, skew_in, unseen_in};
 
 use crate::header::Setting;
 use tl_rules::Shape;
 use tl_types::ClientId;
 use tlcheck_record::{Cause, LineError, read_number};
-use tlwire_search::Premise;
+use tlwire_search::{Premise, drops, has_drops};
 
 /// Whether a line with this first word says how the record was seen.
 pub(crate) fn is_premise_word(word: &str) -> bool
     ensures { result ≡ is_premise_word word.now }
 {
-    word == "seen" || word == "skew" || word == "whole" || word == "memory" || word == "cores"
+    word == "seen"
+        || word == "skew"
+        || word == "whole"
+        || word == "memory"
+        || word == "cores"
+        || word == "drops"
 }
 
 fn at_client(shape: Shape, c: u32) -> Result<Premise, Cause>
@@ -104,6 +110,51 @@ fn seen(shape: Shape, words: &[&str]) -> Result<Premise, Cause>
     }
 }
 
+fn dropping_client(shape: Shape, c: u32) -> Result<Premise, Cause>
+    ensures { result ≡ dropping_client shape c }
+{
+    if c < shape.clients {
+        Ok(Premise::ClientDrops(ClientId::new(c)))
+    } else {
+        Err(Cause::Client)
+    }
+}
+
+/// `clients` or `client NUM`, behind `drops`.
+#[tactic(auto, unfolding(crate::specs::Drops::drops_in))]
+fn drops_of(shape: Shape, words: &[&str]) -> Result<Premise, Cause>
+    ensures { result ≡ drops_in shape (texts words.now) }
+{
+    match *words {
+        [word] => {
+            if word == "clients" {
+                Ok(Premise::ClientsDrop)
+            } else {
+                Err(Cause::Premise)
+            }
+        }
+        [word, number] => {
+            if word == "client" {
+                dropping_client(shape, read_number(number)?)
+            } else {
+                Err(Cause::Premise)
+            }
+        }
+        _ => Err(Cause::Premise),
+    }
+}
+
+/// Whether an earlier line says already that a client drops, or that some do.
+fn says_again(premises: &[Premise], premise: &Premise) -> bool
+    ensures { result ≡ says_again premises.now premise.now }
+{
+    match premise {
+        Premise::ClientDrops(client) => drops(premises, *client),
+        Premise::ClientsDrop => has_drops(premises),
+        _ => false,
+    }
+}
+
 /// What a line says of how the record was seen, by its first word.
 #[tactic(auto, unfolding(crate::specs::Header::premise_in))]
 fn premise_of(shape: Shape, word: &str, rest: &[&str]) -> Result<Premise, Cause>
@@ -114,7 +165,20 @@ fn premise_of(shape: Shape, word: &str, rest: &[&str]) -> Result<Premise, Cause>
         "skew" => skew(rest),
         "whole" => alone(rest, Premise::Whole),
         "memory" => unseen(rest, Premise::MemoryUnseen),
+        "drops" => drops_of(shape, rest),
         _ => unseen(rest, Premise::CoresUnseen),
+    }
+}
+
+/// The same, where no earlier line says it already.
+fn new_premise(setting: &Setting, word: &str, rest: &[&str]) -> Result<Premise, Cause>
+    ensures { result ≡ new_premise setting.now word.now (texts rest.now) }
+{
+    let premise = premise_of(setting.shape(), word, rest)?;
+    if says_again(setting.premises(), &premise) {
+        Err(Cause::Premise)
+    } else {
+        Ok(premise)
     }
 }
 
@@ -126,7 +190,7 @@ pub(crate) fn take_premise(
 ) -> Result<Setting, LineError>
     ensures { Gives (λ x. x) result (premise_taken setting word.now (texts rest.now)) }
 {
-    let premise = premise_of(setting.shape(), word, rest)?;
+    let premise = new_premise(&setting, word, rest)?;
     setting.add_premise(premise)?;
     Ok(setting)
 }

@@ -5,6 +5,7 @@ ghost use Rattle.tl_script_words.specs.Words.{texts};
 ghost use Rattle.tlcheck_record.specs.Cause.{Gives};
 ghost use Rattle.tlwire_record.specs.Reading.{after_text, going, next, next_shaped, shaped_by, text_taken};
 
+use crate::expects::{is_expects_word, take_expects};
 use crate::header::{Setting, is_title, parse_setting, take_sources};
 use crate::line::parse_line;
 use crate::messages::Messages;
@@ -60,6 +61,7 @@ fn shaped_by(
     match word {
         "source" => Ok(Stage::Shaped(take_sources(alloc, setting, rest)?)),
         _ if is_premise_word(word) => Ok(Stage::Shaped(take_premise(setting, word, rest)?)),
+        _ if is_expects_word(word) => Ok(Stage::Shaped(take_expects(setting, word, rest)?)),
         "image" => {
             let image = read_image(alloc, setting.shape(), rest)?;
             Ok(Stage::Going(Messages::begin(alloc, setting, image)))

@@ -2,7 +2,7 @@
 ghost use Rattle.std.specs.Prelude.{◌<◌, ◌≤◌, IfOk};
 ghost use Rattle.tlwire_search.specs.Explained.{IsExplanation};
 
-use crate::rounds::search_rounds;
+use crate::tries::search_rounds;
 use std::alloc::{AllocError, Global};
 use tl_rules::Shape;
 use tl_types::{BLOCK_BYTES, BLOCKS};

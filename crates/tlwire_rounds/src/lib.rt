@@ -7,5 +7,6 @@ mod lines;
 mod rounds;
 mod stand;
 mod steps;
+mod tries;
 
 pub use answer::explain_in_rounds;

@@ -2,7 +2,7 @@
 use Rattle.std.specs.Prelude.{ℕ, ◌==◌, ◌||◌, not, Bool, true, false, List}
 use Rattle.std.specs.List.{list_any}
 use Rattle.tlwire_search.specs.declared.premise.Premise.{Premise}
-use Rattle.tlwire_search.specs.declared.premise.Premise.TheVariants.{AtClient, AtClients, AtHome, Whole, MemoryUnseen, CoresUnseen}
+use Rattle.tlwire_search.specs.declared.premise.Premise.TheVariants.{AtClient, AtClients, AtHome, Whole, MemoryUnseen, CoresUnseen, ClientDrops, ClientsDrop}
 use Rattle.tlwire_search.specs.declared.seen.Wire.{Wire}
 use Rattle.tlwire_search.specs.declared.seen.Wire.TheVariants.{Memory, Core}
 
@@ -43,3 +43,23 @@ is_home_line _ = false
 -- Each message was seen at home's pins.
 abbrev pub is_seen_at_home : List Premise → Bool
 is_seen_at_home premises = list_any is_home_line premises
+
+-- it says that a client may give up a clean copy without a word
+abbrev pub is_drop_of : ℕ → Premise → Bool
+is_drop_of client (ClientDrops c) = c == client
+is_drop_of client ClientsDrop = true
+is_drop_of client _ = false
+
+-- A client may give up a clean copy without a word.
+abbrev pub drops : List Premise → ℕ → Bool
+drops premises client = list_any (is_drop_of client) premises
+
+-- it says so of some client
+abbrev pub is_drop_line : Premise → Bool
+is_drop_line (ClientDrops c) = true
+is_drop_line ClientsDrop = true
+is_drop_line _ = false
+
+-- Some client may.
+abbrev pub has_drops : List Premise → Bool
+has_drops premises = list_any is_drop_line premises

@@ -21,7 +21,9 @@ mod wires;
 pub use answer::{Explanation, explain, explained_along};
 pub use hidden::hidden_store;
 pub use last::LastAccepts;
-pub use premise::{Premise, is_seen_at_home, is_seen_at_pins, is_unseen, is_whole, may_have_more};
+pub use premise::{
+    Premise, drops, has_drops, is_seen_at_home, is_seen_at_pins, is_unseen, is_whole, may_have_more,
+};
 pub use search::Limit;
 pub use seen::{Seen, Wire};
 pub use sight::{seen_of, seen_on};

@@ -1,7 +1,7 @@
 //! What the header of a record says of how it was seen.
 ghost use Rattle.std.specs.Prelude.{◌≡◌};
 ghost use Rattle.std.specs.List.{list_any};
-ghost use Rattle.tlwire_search.specs.Premises.{is_home_line, is_of_pins, is_seen_at_home, is_seen_at_pins, is_unseen_on, is_whole, is_whole_line, may_have_more};
+ghost use Rattle.tlwire_search.specs.Premises.{drops, has_drops, is_drop_line, is_drop_of, is_home_line, is_of_pins, is_seen_at_home, is_seen_at_pins, is_unseen_on, is_whole, is_whole_line, may_have_more};
 
 use crate::seen::Wire;
 use tl_types::ClientId;
@@ -25,6 +25,10 @@ pub enum Premise {
     MemoryUnseen,
     /// `cores unseen`: nobody watched the cores.
     CoresUnseen,
+    /// `drops client N`: this client may give up a clean copy without a word.
+    ClientDrops(ClientId),
+    /// `drops clients`: each client may.
+    ClientsDrop,
 }
 
 impl Premise {
@@ -61,6 +65,24 @@ impl Premise {
     {
         matches!(self, Premise::AtHome)
     }
+
+    /// Whether it says that a client may give up a clean copy without a word.
+    fn is_drop_of(&self, client: ClientId) -> bool
+        ensures { result ≡ is_drop_of client self.now }
+    {
+        match self {
+            Premise::ClientDrops(c) => *c == client,
+            Premise::ClientsDrop => true,
+            _ => false,
+        }
+    }
+
+    /// Whether it says so of some client.
+    fn is_drop_line(&self) -> bool
+        ensures { result ≡ is_drop_line self.now }
+    {
+        matches!(self, Premise::ClientDrops(_) | Premise::ClientsDrop)
+    }
 }
 
 /// Whether a record is not cut.
@@ -96,4 +118,18 @@ pub fn is_seen_at_home(premises: &[Premise]) -> bool
     ensures { result ≡ is_seen_at_home premises.now }
 {
     premises.iter().any(|premise| premise.is_home_line())
+}
+
+/// Whether a client may give up a clean copy without a word.
+pub fn drops(premises: &[Premise], client: ClientId) -> bool
+    ensures { result ≡ drops premises.now client }
+{
+    premises.iter().any(|premise| premise.is_drop_of(client))
+}
+
+/// Whether some client may.
+pub fn has_drops(premises: &[Premise]) -> bool
+    ensures { result ≡ has_drops premises.now }
+{
+    premises.iter().any(|premise| premise.is_drop_line())
 }

@@ -1,4 +1,4 @@
-use Rattle.std.proofs.Common.{◌≡◌, List, ap, arith, rules, inl, inr, subst, ◌∙◌, take, true, sym}
+use Rattle.std.proofs.Common.{◌≡◌, List, ap, arith, rules, inl, inr, ◌∙◌, take}
 use Rattle.std.specs.List.{list_any}
 use Rattle.std.proofs.lemmas.List.{take_all}
 use Rattle.tlwire_record.specs.Header.{SettingState}

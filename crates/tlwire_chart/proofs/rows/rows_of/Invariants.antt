@@ -2,7 +2,7 @@ use Rattle.std.proofs.Common.{◌≡◌, ◌++◌, drop, map}
 use Rattle.std.specs.List.{All}
 use Rattle.tlchart_draw.specs.Strip.{IsUnbroken}
 use Rattle.tlchart_draw.specs.declared.strip.Row.{Row}
-use Rattle.tlwire_answer.specs.Ending.{number_at}
+use Rattle.tlwire_answer.specs.Lines.{number_at}
 use Rattle.tlwire_chart.specs.Rows.{told_at, told_by}
 use Rattle.tlwire_chart.proofs.rows.rows_of.Given as goal
 

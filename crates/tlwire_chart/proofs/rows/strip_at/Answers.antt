@@ -2,7 +2,7 @@ use Rattle.std.proofs.Common.{◌≡◌, ◌∙◌, ℕ, ◌-◌, List, arith, a
 use Rattle.tlchart_draw.proofs.Strips.{last_of-map}
 use Rattle.tlchart_draw.specs.Strip.{IsBrokenRow, last_of}
 use Rattle.tlchart_draw.specs.declared.strip.TheConstants.{LINES_BEFORE}
-use Rattle.tlwire_answer.specs.Ending.{number_at}
+use Rattle.tlwire_answer.specs.Lines.{number_at}
 use Rattle.tlwire_chart.specs.Rows.{places_before, told_at}
 use Rattle.tlwire_record.specs.Messages.{MessagesState}
 use Rattle.tlwire_search.specs.Lists.{block_of}
