@@ -9,14 +9,15 @@
  *                      that is its status (`Opens`).
  *   jv_call            the named step of the banks, and no other: the first of its refusals whose case holds is the
  *                      status, and nothing changed; or it is done, and the answer tells what it did, all fields
- *                      (`Calls`). Status 14 is told only where the log had no room, and nothing changed. A view changes
- *                      nothing.
+ *                      (`Calls`). Status 14 is told only where the log had no room, and nothing changed, but that
+ *                      JV_CALL_DRAIN and JV_CALL_FLUSH keep what they did before. A view changes nothing.
  *   jv_access          what jv_call does of a load or a store, and what it answers, without what these never tell
  *                      (`Accesses`).
  *   jv_look            what jv_call answers of a view of a number, likewise (`Looks`).
  *   jv_calls           calls one after another, each as jv_call carries it out, until one is not answered with 0
  *                      (`CallsMany`).
  *   jv_read            the events of a bank's log from a place on, each as jv_call tells it (`Reads`).
+ *   jv_memory          the memory's bytes from a block on (`Images`).
  *   jv_saw             the client's call that sends a message which was seen, done only where it sends just that one;
  *                      or what the client would send, and nothing changed (`Saws`).
  *   jj_size, jj_align, jj_open, jj_see
@@ -27,7 +28,7 @@
  *                    a judge at one client's pins, which tells of each line that is seen there at once whether it may
  *                    be seen after those before it, and of the first that may not which rule it breaks; then no legal
  *                    run of the protocol is seen so at these pins (`OpensPins`, `SeesRoom`, `EveryJudgingAtPins`).
- *   jv_echo            the request again (`echoed`); jv_echo_seen likewise (`seen_echoed`); jv_version the number 5.
+ *   jv_echo            the request again (`echoed`); jv_echo_seen likewise (`seen_echoed`); jv_version the number 6.
  * The functions that are `static inline` are C: they fill in a request and call one of these, and are tested
  * (examples/c), not proved. After any sequence of calls of an opened cache, each of which met its contract, each bank's
  * log is a run of the protocol over the image, in which every load got the bytes last stored before it; what the bank
@@ -44,8 +45,8 @@
  *      signal handler, and no fork of a process with threads in between. Two caches share nothing but malloc, which
  *      then has to serve several threads.
  *   5. `numbers` and `request` point to initialised structs, `image` to `image_len` bytes, at most 2^63 - 1;
- *      `requests`, `answers` and `events` to as many initialised structs as the number behind them says. None of them
- *      is NULL, also where the number is 0.
+ *      `requests`, `answers`, `events` and `bytes` to as many initialised structs or bytes as the number behind them
+ *      says. None of them is NULL, also where the number is 0.
  *   6. malloc, realloc and free are one allocator's, which aligns to 16. The stack has some 64 kilobytes left.
  *
  * WHAT A WRONG CALL GETS that keeps these:
@@ -68,7 +69,7 @@
 extern "C" {
 #endif
 
-#define JV_VERSION 5u
+#define JV_VERSION 6u
 
 typedef struct jv_cache jv_cache; /* all banks with their clients; opaque */
 
@@ -102,7 +103,8 @@ enum jv_status { /* the status of an answer, and why a cache is closed */
     JV_WRONG_BANK = 11,      /* the ticket belongs to another bank */
     JV_COPIES_FULL = 12,     /* the client's table of copies is full */
     JV_LINK_FULL = 13,       /* 64 messages are on the channel */
-    JV_NO_MEMORY = 14,       /* malloc or realloc answered NULL; nothing changed */
+    /* malloc or realloc answered NULL; nothing changed, but what jv_drain and jv_flush did before */
+    JV_NO_MEMORY = 14,
     JV_CLOCK_FULL = 15,      /* the clocks stand at their end */
     JV_NO_CALL = 16,         /* there is no such call */
     JV_BAD_ARGUMENT = 17,    /* a length above 8, or a param or a channel that there is not */
@@ -124,10 +126,11 @@ enum jv_call_number {
     JV_CALL_CLOSE = 0, JV_CALL_LOAD, JV_CALL_STORE, JV_CALL_ACQUIRE, JV_CALL_RELEASE, JV_CALL_ANSWER_PROBE,
     JV_CALL_TAKE_GRANT,
     JV_CALL_TAKE_RELEASE_ACK, JV_CALL_ACCEPT, JV_CALL_ADVANCE, JV_CALL_TAKE_C, JV_CALL_TAKE_GRANT_ACK, JV_CALL_EVICT,
-    JV_CALL_SERVE_MEMORY, JV_CALL_TAKE_MEMORY, JV_CALL_RESERVE, JV_CALL_FORGET,
+    JV_CALL_SERVE_MEMORY, JV_CALL_TAKE_MEMORY, JV_CALL_RESERVE, JV_CALL_FORGET, JV_CALL_DRAIN, JV_CALL_FLUSH,
     JV_VIEW_PERM = 20, JV_VIEW_DIRECTORY, JV_VIEW_PEEK, JV_VIEW_HOME, JV_VIEW_OUTWARD, JV_VIEW_HELD, JV_VIEW_RECORDED,
     JV_VIEW_EVENTS, JV_VIEW_EVENT, JV_VIEW_ROOM, JV_VIEW_COPIES, JV_VIEW_IS_QUIET, JV_VIEW_OPEN_BLOCK, JV_VIEW_MESSAGE,
-    JV_VIEW_WAITING, JV_VIEW_MEMORY, JV_VIEW_FORGOTTEN, JV_VIEW_COPY, JV_VIEW_WAITS_FOR, JV_VIEW_BANK
+    JV_VIEW_WAITING, JV_VIEW_MEMORY, JV_VIEW_FORGOTTEN, JV_VIEW_COPY, JV_VIEW_WAITS_FOR, JV_VIEW_BANK, JV_VIEW_NEXT,
+    JV_VIEW_COUNT
 };
 
 /* the last two: of the memory's link, and of no ticket */
@@ -150,7 +153,7 @@ enum jv_opcode {
 enum jv_what { /* what an answer tells */
     JV_TELLS_NOTHING, JV_TELLS_MESSAGE, JV_TELLS_MEMORY, JV_TELLS_DROPPED, JV_TELLS_LOADED, JV_TELLS_NUMBER,
     JV_TELLS_EVENT,
-    JV_TELLS_OUTWARD, JV_TELLS_BYTES
+    JV_TELLS_OUTWARD, JV_TELLS_BYTES, JV_TELLS_CALL
 };
 enum jv_event_kind { /* the kind of an event of a log: `opcode` where an answer tells one */
     /* of a client */
@@ -165,7 +168,7 @@ enum jv_event_kind { /* the kind of an event of a log: `opcode` where an answer 
 enum jv_limits { /* the most of each number; a log has no limit but the memory */
     JV_MOST_CLIENTS = 16, JV_MOST_BANKS = 8, JV_MOST_BLOCK_BYTES = 64, JV_MOST_SETS = 64, JV_MOST_WAYS = 8,
     JV_MOST_REGISTERS = 8, JV_MOST_COPIES = 64, JV_MOST_MEMORY_BLOCKS = 65536, JV_MOST_MESSAGES = 64,
-    JV_MOST_ACCESS_BYTES = 8, JV_EVENT_BYTES = 40
+    JV_MOST_ACCESS_BYTES = 8, JV_EVENT_BYTES = 40, JV_EVENT_KINDS = 18
 };
 /* what passes of a block to or from the memory */
 enum jv_outward { JV_QUIET, JV_GET, JV_DATA, JV_PUT, JV_PUT_ACK };
@@ -232,6 +235,10 @@ typedef struct { /* what a view of a number answers: a jv_answer without what it
     uint64_t serial;  /* the number; of status 18: why */
 } jv_number;
 
+typedef struct { /* how many events of each kind (jv_event_kind) */
+    uint64_t of[JV_EVENT_KINDS];
+} jv_event_counts;
+
 #if defined(__cplusplus) && __cplusplus >= 201103L
 #define JV_ASSERT_(holds, name) static_assert(holds, #name)
 #elif defined(__STDC_VERSION__) && __STDC_VERSION__ >= 201112L
@@ -259,6 +266,7 @@ JV_AT_(jv_accessed, bytes, 16);
 JV_AT_(jv_accessed, len, 24); JV_ASSERT_(sizeof(jv_accessed) == 32, whole_accessed);
 JV_AT_(jv_number, status, 0); JV_AT_(jv_number, what, 4); JV_AT_(jv_number, serial, 8);
 JV_ASSERT_(sizeof(jv_number) == 16, whole_number);
+JV_ASSERT_(sizeof(jv_event_counts) == 144, whole_event_counts);
 JV_AT_(jv_numbers, version, 0); JV_AT_(jv_numbers, clients, 8); JV_AT_(jv_numbers, banks, 16);
 JV_AT_(jv_numbers, block_bytes, 24); JV_AT_(jv_numbers, sets, 32); JV_AT_(jv_numbers, ways, 40);
 JV_AT_(jv_numbers, registers, 48); JV_AT_(jv_numbers, copies, 56); JV_AT_(jv_numbers, memory_blocks, 64);
@@ -286,6 +294,11 @@ size_t jv_calls(jv_cache *cache, const jv_request *requests, size_t requests_len
    have places, each as jv_event tells it. `serial` of the answer is how many (JV_TELLS_NUMBER); status 10 where there
    is no such bank, 19 where the first is forgotten, 18 of a closed cache. jv_read_events asks it. */
 jv_number jv_read(jv_cache *cache, const jv_request *request, jv_answer *events, size_t events_len);
+
+/* The memory's bytes from the block `request->place` on, by rising address: as many as there are and have room.
+   `serial` of the answer is how many (JV_TELLS_NUMBER); status 18 of a closed cache. It asks for no memory. jv_image
+   asks it. */
+jv_number jv_memory(jv_cache *cache, const jv_request *request, uint8_t *bytes, size_t room);
 
 /* A message that was seen on A, C or E of a client. The cache's own client then does what sends such a message, and
    does it only where it sends just that one, by opcode, param and bytes:
@@ -514,10 +527,21 @@ static inline jv_answer jv_forget(jv_cache *c, uint32_t bank) {
     jv_request r = jv_asks_(JV_CALL_FORGET); r.bank = bank; return jv_call(c, &r);
 }
 
+/* ---- rest: all banks, one after another. Nothing but want of memory for a log refuses these: 14 then, and what was
+   done before stays, in this bank and in those before it; a later call goes on. Answered with 0, `serial` is how many
+   events came (JV_TELLS_NUMBER), by each of which something was received: no more than what was under way could bring,
+   and 2^64 - 1 where they were more. */
+
+/* Takes all that is under way, until every bank is quiet. */
+static inline jv_answer jv_drain(jv_cache *c) { jv_request r = jv_asks_(JV_CALL_DRAIN); return jv_call(c, &r); }
+/* Does that, and then sends each block away of which home has a copy: every bank is quiet, nobody has a copy, home
+   records nobody, and the memory has the bytes last stored. */
+static inline jv_answer jv_flush(jv_cache *c) { jv_request r = jv_asks_(JV_CALL_FLUSH); return jv_call(c, &r); }
+
 /* ---- views: they change nothing. `serial` is the number where the answer tells one; status 10 where there is no such
    client, bank, block or address. Those of a client and a block or of a block look at the bank where the block lies.
    Each costs some tens of nanoseconds, and jv_recorded and jv_is_quiet as the bank has ways and copies; none as the
-   memory has blocks. */
+   memory has blocks but jv_image. */
 
 static inline jv_answer jv_of_block_(const jv_cache *c, uint32_t call, uint32_t client, uint32_t place) {
     jv_request r = jv_asks_(call); r.client = client; r.place = place; return jv_view_(c, &r);
@@ -632,6 +656,52 @@ static inline jv_answer jv_message(const jv_cache *c, jv_ticket t) {
     jv_request r = jv_asks_(JV_VIEW_MESSAGE); r.bank = t.bank; r.client = t.client; r.channel = t.channel;
     r.serial = t.serial;
     return jv_view_(c, &r);
+}
+/* A call of the bank that would be done now, but for want of memory for the log (JV_TELLS_CALL): one that takes what is
+   under way, or carries out what a register does next. `opcode` is its number (jv_call_number: JV_CALL_ANSWER_PROBE to
+   JV_CALL_TAKE_MEMORY, but JV_CALL_EVICT), with the numbers of its ticket or its block. Status 4 just where the bank is
+   quiet. */
+static inline jv_answer jv_next_call(const jv_cache *c, uint32_t bank) {
+    return jv_of_bank_(c, JV_VIEW_NEXT, bank, 0, 0);
+}
+/* The same as a request, which jv_call and jv_calls take as it is. `next` is as it was where the status is not 0. */
+static inline uint32_t jv_next(const jv_cache *c, uint32_t bank, jv_request *next) {
+    jv_answer a = jv_next_call(c, bank);
+    if (a.status) return a.status;
+    *next = jv_asks_(a.opcode);
+    next->bank = a.bank; next->client = a.client; next->channel = a.channel; next->serial = a.serial;
+    next->place = a.place;
+    return JV_OK;
+}
+/* How many events of a kind (jv_event_kind) the bank's log has, of those that are not forgotten: count before you
+   forget. Status 17 where there is no such kind. It goes over the log, so it costs as that is long. */
+static inline jv_number jv_count(const jv_cache *c, uint32_t bank, uint32_t kind) {
+    jv_request r = jv_asks_(JV_VIEW_COUNT); r.bank = bank; r.param = kind; return jv_look((jv_cache *)c, &r);
+}
+/* How many events of each kind the logs of all banks have, of those that are not forgotten; 0, or JV_CLOSED, and then
+   `counts` is as it was. */
+static inline uint32_t jv_counts(const jv_cache *c, jv_event_counts *counts) {
+    jv_event_counts all; jv_number n; uint32_t bank, kind;
+    memset(&all, 0, sizeof all);
+    for (bank = 0; bank < JV_MOST_BANKS; bank++)
+        for (kind = 0; kind < JV_EVENT_KINDS; kind++) {
+            n = jv_count(c, bank, kind);
+            if (n.status == JV_CLOSED) return n.status;
+            if (n.status == JV_OK) all.of[kind] += n.serial;
+        }
+    *counts = all;
+    return JV_OK;
+}
+/* The bytes of the memory by rising address into `bytes`, as many as there are and have room; how many they are, and 0
+   of a closed cache. It asks for no memory. What a copy of a client or of home has is not in it: after jv_flush nobody
+   has one, and these are the bytes last stored. jv_new of the same numbers with them as its image is a cache that goes
+   on from there, but for the logs, the clocks, the tickets' serials and the order of the ways in each set, which are as
+   at reset. */
+static inline size_t jv_image(const jv_cache *c, uint8_t *bytes, size_t room) {
+    jv_request r = jv_asks_(JV_VIEW_MEMORY); jv_number n;
+    if (!room) return 0;
+    n = jv_memory((jv_cache *)c, &r, bytes, room);
+    return n.status == JV_OK ? (size_t)n.serial : 0;
 }
 
 /* ---- a judge of events beside a bench

@@ -1131,6 +1131,9 @@ class Home {
     // Whether home holds no block and nothing is under way. Where it does it takes all blocks back, with their Probes
     // and writebacks: ask again after each cycle, and send no Acquire until it is so.
     bool flush();
+    // The bytes of the memory from `base` on, as it has them: after flush() those last stored. std::logic_error where
+    // the memory is one's own, which has them.
+    std::vector<uint8_t> image() const;
     // Keeps the home in a file: memory, options, counts, choices and the cycle. std::logic_error where flush() is not
     // yet true, std::runtime_error where the file cannot be written; what it had then stays.
     void save(const std::string &file) const;

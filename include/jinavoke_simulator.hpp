@@ -36,6 +36,8 @@ inline void Home::peek(uint64_t address, uint8_t *bytes, size_t len) const {
 
 // ---- checkpoint
 
+// Not jv_flush, which answers each Probe as the model's client would. The clients are on the links: each Probe has to
+// be sent to them, and they answer with what they stored.
 inline bool Home::flush() {
     if (home_blocks_.empty() && is_quiet()) return true;
     uint32_t full = 0; // a bit for each bank that is not asked
@@ -50,6 +52,12 @@ inline bool Home::flush() {
             full |= 1u << bank;
     }
     return false;
+}
+inline std::vector<uint8_t> Home::image() const {
+    if (options_.memory) throw std::logic_error("jinavoke: an image, and a memory of one's own, which has the bytes");
+    std::vector<uint8_t> bytes(pasts_.size() * bus_.block_bytes);
+    jv_image(cache_, bytes.data(), bytes.size());
+    return bytes;
 }
 inline void Home::save(const std::string &file) const {
     if (!home_blocks_.empty() || !is_quiet())
@@ -344,10 +352,10 @@ template <class F> void Home::each_block(F f) const {
     auto tell = [&](uint64_t address) {
         if (std::any_of(bytes.begin(), bytes.begin() + len, [](uint8_t it) { return it != 0; })) f(address, bytes);
     };
-    if (!options_.memory) for (uint32_t block = 0; block < pasts_.size(); block++) {
-        const jv_answer it = jv_memory_block(cache_, block);
-        std::copy(it.bytes, it.bytes + len, bytes.begin());
-        tell(address_of(block));
+    const std::vector<uint8_t> all = options_.memory ? std::vector<uint8_t>() : image();
+    for (size_t at = 0; at < all.size(); at += len) {
+        std::copy_n(all.begin() + long(at), len, bytes.begin());
+        tell(options_.base + at);
     }
     if (options_.memory) for (const auto &it : options_.memory->ranges()) {
         const uint64_t last = options_.base + options_.memory_bytes, from = std::max(it.first, options_.base);

@@ -164,6 +164,14 @@ void jvd_saw(void *cache, int client, int channel, int opcode, int param, int bl
     tell(jv_saw(static_cast<jv_cache *>(cache), &s), status, what, told, told_serial, data);
 }
 const char *jvd_status_name(int status) { return jv_status_name(uint32_t(status)); }
+// The bytes of the memory in hexadecimal digits, as jvd_new takes them; they lie there until the next call of this.
+const char *jvd_image(void *cache) {
+    static std::string digits;
+    std::vector<uint8_t> bytes(size_t(JV_MOST_MEMORY_BLOCKS) * JV_MOST_BLOCK_BYTES);
+    const size_t len = jv_image(static_cast<jv_cache *>(cache), bytes.data(), bytes.size());
+    digits = jinavoke::words::hex(bytes.data(), len);
+    return digits.c_str();
+}
 
 // ---- a judge of events
 
@@ -431,6 +439,15 @@ int jvh_peek(void *home, long long address, uint8_t *bytes, int len) {
     } catch (const std::exception &why) { static_cast<Links *>(home)->failed = why.what(); }
     return -1;
 }
+// As jvh_peek, of 1 to 64 bytes, for a vector: 0 behind them.
+int jvh_peek_wide(void *home, long long address, int len, uint32_t *data) {
+    uint8_t bytes[JV_MOST_BLOCK_BYTES] = {};
+    const bool is_legal = len >= 1 && len <= int(sizeof bytes);
+    if (!is_legal) static_cast<Links *>(home)->failed = "jinavoke: 1 to 64 bytes";
+    const int told = is_legal ? jvh_peek(home, address, bytes, len) : -1;
+    std::memcpy(data, bytes, sizeof bytes);
+    return told;
+}
 int jvh_flush(void *home) { return home_of(home).flush(); }
 int jvh_save(void *home, const char *file) {
     try {
@@ -446,9 +463,7 @@ void *jvh_restore(const char *file, void *behind, const char *wire_file, const c
         auto adapt = [&](jinavoke::Options &o) { if (own && o.memory_bytes) o.memory = own.get(); };
         auto links = std::make_unique<Links>(jinavoke::Home::restore(file, adapt));
         const jinavoke::Home &home = links->home;
-        std::vector<uint8_t> bytes(home.options().memory ? 0 : size_t(home.options().numbers.memory_blocks
-            * home.options().numbers.block_bytes));
-        if (!bytes.empty()) home.peek(home.options().base, bytes.data(), bytes.size());
+        const std::vector<uint8_t> bytes = home.options().memory ? std::vector<uint8_t>() : home.image();
         links->behind = std::move(own);
         links->record<jinavoke::WireRecord>(wire_file, bytes);
         links->record<jinavoke::EventRecord>(events_file, bytes);

@@ -52,7 +52,8 @@ def closed(path):
     uses = dict(
         ask=lambda: cache.ask("perm"), step=lambda: cache.step("perm"), ticket=lambda: cache.ticket("acquire"),
         saw=cache.saw, events=cache.events, goes_on=lambda: list(begun), many=lambda: cache.many(jv.asked("perm")),
-        batch=cache.batch, run=batch.run, enter=cache.__enter__)
+        batch=cache.batch, run=batch.run, enter=cache.__enter__, drain=cache.drain, flush=cache.flush,
+        image=cache.image, next_call=cache.next_call, counts=cache.counts, make=lambda: cache.make(jv.asked("perm")))
     for name, use in uses.items():
         want(f"a closed cache, {name}", is_refused(use, ValueError, "the cache is closed"))
     uses = dict(judge=lambda: judge.see("load"), pins=lambda: pins.see("load"), enter=judge.__enter__)
@@ -97,6 +98,15 @@ def numbers_of_requests(path):
         for words, status in rows:
             told = cache.saw(**{"channel": jv.JV_A, "opcode": 6, "param": jv.JV_NTOT, **words}).status
             want(f"seen {words}: status {told}", told == status)
+        for name, use in dict(next_call=cache.next_call, counts=cache.counts).items():
+            for bank in 1, BEYOND, BEYOND + 1, 2**64, -1:
+                why = raised_by(lambda: use(bank))
+                want(f"{name} of bank {bank}: {why}", isinstance(why, jv.Refused) and why.status == jv.JV_OUT_OF_RANGE)
+            for bank in "0", 0.0, b"":
+                want(f"{name} of bank {bank!r}", is_refused(lambda: use(bank), TypeError))
+        want("a request that there is not", is_refused(lambda: cache.make("drain"), AttributeError))
+        why = raised_by(lambda: cache.make(jv.asked("advance", place=BEYOND)))
+        want(f"a request of a number that there is not: {why}", isinstance(why, jv.Refused) and why.status == 10)
         want("none of them did anything", cache.ask("events").serial == 0)
 
 

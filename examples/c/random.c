@@ -32,18 +32,20 @@ static void judge(const jv_request *r, const jv_answer *a, uint64_t before, uint
     int ok = a->status <= 19 && (a->status != JV_FORGOTTEN || r->call == JV_VIEW_EVENT) && a->len <= 64;
     by_status[a->status & 31]++;
     if (a->status) ok = ok && is_zero(a) && (a->serial == 0 || a->status == JV_CLOSED) && after == before;
-    if (a->status == 0 && r->call >= 15) ok = ok && after == before;
+    if (a->status == 0 && (r->call == JV_CALL_DRAIN || r->call == JV_CALL_FLUSH)) ok = ok && after == before + a->serial;
+    else if (a->status == 0 && r->call >= 15) ok = ok && after == before;
     if (a->status == 0 && r->call >= 1 && r->call <= 14) ok = ok && after == before + (r->call != JV_CALL_EVICT);
     if (r->call == JV_CALL_RESERVE) ok = ok && (a->status == 0 || a->status == JV_OUT_OF_RANGE || a->status == JV_NO_MEMORY);
     if (r->call == JV_CALL_FORGET) ok = ok && (a->status == 0 || a->status == JV_OUT_OF_RANGE);
-    if (r->call > 16 && (r->call < 20 || r->call > 39)) ok = ok && a->status == JV_NO_CALL;
+    if (r->call == JV_CALL_DRAIN || r->call == JV_CALL_FLUSH) ok = ok && a->status == 0 && a->what == JV_TELLS_NUMBER;
+    if (r->call > 18 && (r->call < 20 || r->call > 41)) ok = ok && a->status == JV_NO_CALL;
     if (!ok && ++wrong < 10) printf("call %u: status %u what %u, %llu events, then %llu\n", r->call, a->status, a->what,
         (unsigned long long)before, (unsigned long long)after);
 }
 /* The same request by the call that tells least, as jv_call tells it. The others of these calls know no such request. */
 static jv_answer short_call(jv_cache *c, const jv_request *r) {
     static const uint32_t numbers[] = {JV_VIEW_PERM, JV_VIEW_DIRECTORY, JV_VIEW_PEEK, JV_VIEW_HELD, JV_VIEW_RECORDED, JV_VIEW_EVENTS,
-        JV_VIEW_ROOM, JV_VIEW_COPIES, JV_VIEW_FORGOTTEN, JV_VIEW_WAITS_FOR, JV_VIEW_BANK};
+        JV_VIEW_ROOM, JV_VIEW_COPIES, JV_VIEW_FORGOTTEN, JV_VIEW_WAITS_FOR, JV_VIEW_BANK, JV_VIEW_COUNT};
     int is_access = r->call == JV_CALL_LOAD || r->call == JV_CALL_STORE, is_number = 0;
     size_t i; jv_answer a; jv_accessed x; jv_number n;
     for (i = 0; i < sizeof numbers / sizeof *numbers; i++) is_number |= r->call == numbers[i];
@@ -105,7 +107,7 @@ static void feed(jv_cache *c, jv_cache *twin, jv_cache *third, long steps) {
     long i; int k; size_t n = 0;
     for (i = 0; i < steps; i++) {
         jv_request r; jv_answer a, b; uint64_t before = events(c);
-        r.call = 1 + (uint32_t)some(40); r.index = (uint32_t)some(9); r.client = (uint32_t)some(4); r.place = (uint32_t)some(64);
+        r.call = 1 + (uint32_t)some(42); r.index = (uint32_t)some(9); r.client = (uint32_t)some(4); r.place = (uint32_t)some(64);
         r.param = (uint32_t)some(3); r.bank = (uint32_t)some(2); r.channel = (uint32_t)some(5); r.len = (uint32_t)some(9);
         r.serial = some(8);
         if (r.call == 0) r.call = 1;                         /* not the one that closes */
@@ -142,7 +144,7 @@ static void edges(void) { /* numbers and images that do not open */
 }
 int main(int argc, char **argv) {
     const jv_numbers n = {1, 4, 2, 8, 1, 2, 2, 4, 8};
-    uint32_t why; jv_cache *c, *twin, *third; jv_request r; jv_answer a; jv_ticket t; int i;
+    uint32_t why; jv_cache *c, *twin, *third; jv_request r; jv_answer a; jv_ticket t; jv_event_counts counts; int i;
     state = argc > 1 ? (uint64_t)atol(argv[1]) * 2654435761u + 1 : 1;
     if (!jv_fits()) { printf("the header is not the archive's\n"); return 1; }
     edges();
@@ -157,11 +159,15 @@ int main(int argc, char **argv) {
     asked[0] = jv_asks_(JV_CALL_LOAD); told[0].status = JV_CLOSED; told[0].serial = JV_CLOSED;
     by_many(third, 1);
     if (jv_read(third, asked, told, 1).status != JV_CLOSED) { printf("events of a closed cache\n"); wrong++; }
+    if (jv_memory(third, asked, told[0].bytes, 64).status != JV_CLOSED) { printf("memory of a closed cache\n"); wrong++; }
+    if (jv_next(third, 0, asked) != JV_CLOSED || jv_counts(third, &counts) != JV_CLOSED || jv_image(third, told[0].bytes, 64)) {
+        printf("what a closed cache tells\n"); wrong++;
+    }
     jv_free(third);
     memset(&a, 0, sizeof a); a.status = 3; t = jv_sent(&a);
     if (jv_accept(c, t).status != JV_BAD_ARGUMENT || jv_store(c, 0, 0, NULL, 0, 0).status != JV_OUT_OF_RANGE) { printf("a bad ticket is taken\n"); wrong++; }
     jv_close(c); jv_close(c);
-    for (r = jv_asks_(0); r.call < 40; r.call++) {
+    for (r = jv_asks_(0); r.call < 42; r.call++) {
         a = jv_call(c, &r);
         if (r.call == JV_CALL_LOAD || r.call == JV_VIEW_PERM) { jv_answer b = short_call(c, &r); if (memcmp(&a, &b, sizeof a)) wrong++; }
         if (a.status != JV_CLOSED || a.serial != JV_CLOSED || !is_zero(&a)) { printf("call %u of a closed cache: %u\n", r.call, a.status); wrong++; }

@@ -15,6 +15,7 @@
 //   drops=0                 1: each L1 drops its clean victims, and sends no Release
 //   copies=16               for how many copies of a client the home has room
 //   spots=24 stall=4        how many blocks; a beat is stalled in one of so many cycles (0: never)
+//   flush=0                 1: at the end home takes all blocks back, and the memory is compared with the scoreboard
 //   most=1                  the run ends after so many faults (0: never)
 //   plain=0                 1: a home without a model in Jinavoke's place
 //   judge=0                 1: each step of the home is handed to a judge, whose faults are told in place of the home's
@@ -214,6 +215,12 @@ static void print(const Outcome &out, const Home &home, const Bench<Home> &bench
         std::cout << "; " << home.inferred() << " drops inferred, " << home.rooms() << " evictions for room";
     std::cout << "; " << uint64_t(double(home.cycle()) / seconds) << " cycles a second, " << kibibytes() << " KiB\n";
 }
+// The end of a test: home takes all blocks back, and then the memory has what was stored last. Whether it has.
+static bool has_all(jinavoke::Home &home, Bench<jinavoke::Home> &bench, const Board &board) {
+    for (uint64_t i = 0; i < 30000 && !home.flush(); i++) bench.cycle(false);
+    const std::vector<uint8_t> image = home.image();
+    return home.flush() && std::equal(board.bytes.begin(), board.bytes.end(), image.begin());
+}
 using Hears = std::function<void(std::function<void()>)>; // has a function called at each fault of the home
 template <class Home> static Outcome run(const Settings &s, Home &home, Board &board, const Hears &hears) {
     Outcome out;
@@ -229,6 +236,11 @@ template <class Home> static Outcome run(const Settings &s, Home &home, Board &b
     auto goes_on = [&] { return most == 0 || out.faults + out.wrong < most; };
     while (goes_on() && home.cycle() < cycles && bench.accesses < accesses) bench.cycle(true);
     for (uint64_t i = 0; goes_on() && i < 30000 && (i < 200 || !home.is_quiet()); i++) bench.cycle(false);
+    if constexpr (std::is_same_v<Home, jinavoke::Home>) {
+        bool is_compared = s.number("flush", 0) && goes_on();
+        if (is_compared && !has_all(home, bench, board)) bench.wrong(0, "the memory has other bytes at the end");
+        else if (is_compared) std::cout << "the memory has what was stored last\n";
+    }
     print(out, home, bench, std::chrono::duration<double>(std::chrono::steady_clock::now() - from).count());
     return out;
 }

@@ -2,6 +2,7 @@
 // judges; a message of TileLink that the model has not is told, and not as a fault of the client. Status 1 where it is
 // otherwise.
 #include "jinavoke_dpi.cpp"
+#include <climits>
 #include <iostream>
 
 static int wrong = 0;
@@ -181,6 +182,28 @@ static void masks() {
     jvh_free(home);
 }
 
+// The newest bytes for a vector; and a cache's memory in the digits that a new one takes.
+static void peeks() {
+    void *home = jvh_new(2, 1, 64, 16, 4, 8, 64, 4096, 0, 8, 16, 16, 1, 3, 20, 0, 20000, 0, 1, 0, 0, "00112233", "",
+                         "");
+    uint32_t data[16];
+    std::fill(std::begin(data), std::end(data), ~0u);
+    const bool is_told = jvh_peek_wide(home, 1, 3, data) == 1 && data[0] == 0x332211;
+    want(is_told && std::count(std::begin(data) + 1, std::end(data), 0u) == 15, "a peek of bytes", 3);
+    for (int len : {0, -1, 65, INT_MAX}) {
+        want(jvh_peek_wide(home, 0, len, data) == -1 && *jvh_failed(home), "no peek of bytes", len);
+        want(data[0] == 0 && !*jvh_failed(home), "and nothing is told:", len);
+    }
+    for (long long address : {4096 * 64 - 2ll, 4096 * 64ll, -4ll})
+        want(jvh_peek_wide(home, address, 4, data) == -1 && *jvh_failed(home), "no peek of 4 bytes at", address);
+    want(jvh_flush(home) == 1, "a home at reset holds nothing:", 1);
+    jvh_free(home);
+    int status = -1;
+    void *cache = jvd_new(2, 1, 8, 1, 1, 1, 1, 2, "0011223344556677", &status);
+    want(status == 0 && std::string(jvd_image(cache)) == "00112233445566770000000000000000", "an image of bytes", 16);
+    jvd_free(cache);
+}
+
 static int seen(void *judge, int event, int place) { // the status of an event of client 0 with nothing shown
     const uint32_t none[JV_MOST_BLOCK_BYTES / 4] = {};
     int rule = 0;
@@ -241,6 +264,7 @@ int main() {
     records();
     ranges();
     masks();
+    peeks();
     judges();
     judges_at_pins();
     for (uint32_t bus : {8u, 16u, 32u, 64u}) want(is_made(bus), "a bus of", bus);

@@ -2,12 +2,13 @@
 // memory of any size. docs/SIMULATOR.md explains it part by part. Words are KEY=VALUE:
 //   cores=16 banks=8 accesses=1000000 memory=1073741824 window=65536 lines=128 seed=1
 //   events=PREFIX   the steps of each bank, as records for `tlcheck`: PREFIX.0, PREFIX.1 ..
+//   judge=1         hands each step of the banks to a judge, which tells the first that is not legal
 //   json=FILE       the counts as JSON; their table is printed
 //   half=FILE       stops after half of the accesses, and keeps the home there; half= goes on after the same pause
 //   restore=FILE    goes on from such a file, to be given the same words
 //   ticks=1         ticks each cycle, and asks for nothing that is due
 // The last line says how many loads were wrong, how many faults there were, and a sum of the memory's bytes. Status 1
-// where one of them was.
+// where one of them was, or a step was not legal.
 #include "core.hpp"
 #include <chrono>
 #include <iostream>
@@ -89,6 +90,7 @@ class Simulator {
         home_->on_fault = [](const jinavoke::Fault &f) { std::cout << f.text(); };
         program_ = {o.seed, home_->clients(), o.base, o.memory_bytes};
         if (words.has("events")) record();
+        if (words.number("judge", 0)) judge();
         for (uint32_t k = 0; k < home_->clients(); k++)
             cores_.emplace_back(*home_, queue_, program_, k, size_t(words.number("lines", 128)));
     }
@@ -129,9 +131,24 @@ class Simulator {
     void record() {
         for (uint32_t bank = 0; bank < home_->banks(); bank++) {
             files_.emplace_back(words_.text("events") + "." + std::to_string(bank));
-            records_.emplace_back(files_.back(), home_->options(), std::vector<uint8_t>(), bank);
+            records_.emplace_back(files_.back(), home_->options(), image(), bank);
             home_->watch(&records_.back());
         }
+    }
+    void judge() {
+        judge_ = std::make_unique<jinavoke::EventJudge>(home_->options(), image());
+        judge_->on_fault = [this](const std::string &said) {
+            illegal_++;
+            std::cout << "judge: " << said << "\n";
+        };
+        home_->watch(judge_.get());
+    }
+    // The bytes that the banks begin with: behind a window 0.
+    std::vector<uint8_t> image() const {
+        const jinavoke::Options &o = home_->options();
+        std::vector<uint8_t> bytes(o.has_window() ? 0 : size_t(o.memory_bytes));
+        if (!bytes.empty()) home_->peek(o.base, bytes.data(), bytes.size());
+        return bytes;
     }
     int say(std::chrono::steady_clock::time_point begun) {
         const auto &counts = home_->counts();
@@ -143,13 +160,14 @@ class Simulator {
         for (const Core &core : cores_) wrong += core.wrong;
         std::cout << home_->cycle() << " cycles in " << steps_ << " steps, " << seconds << " s, " << dram_.pages()
                   << " pages, " << 100 * double(counts.refused_calls()) / std::max(calls, 1.0)
-                  << " of 100 calls refused\n"
-                  << wrong << " wrong, " << home_->faults() << " faults, sum " << std::hex << sum_of(dram_) << "\n";
-        return wrong || home_->faults();
+                  << " of 100 calls refused\n";
+        if (judge_) std::cout << judge_->taken() << " steps judged, " << illegal_ << " not legal\n";
+        std::cout << wrong << " wrong, " << home_->faults() << " faults, sum " << std::hex << sum_of(dram_) << "\n";
+        return wrong || home_->faults() || illegal_;
     }
 
     const Words &words_;
-    uint64_t accesses_, steps_ = 0;
+    uint64_t accesses_, steps_ = 0, illegal_ = 0;
     bool ticks_;
     Dram dram_;
     std::unique_ptr<Home> home_;
@@ -158,6 +176,7 @@ class Simulator {
     std::deque<Core> cores_;
     std::deque<std::ofstream> files_;
     std::deque<jinavoke::EventRecord> records_;
+    std::unique_ptr<jinavoke::EventJudge> judge_;
 };
 
 int main(int argc, char **argv) {

@@ -621,6 +621,8 @@ static void halves() {
         home.peek(s.options.base, a.data(), a.size());
         it->peek(s.options.base, b.data(), b.size());
         expect(a == b && (!has_window || bytes_in(one) == bytes_in(two)), "two halves end with other bytes");
+        if (has_window) throws<std::logic_error>("has the bytes", "an image of one's own", [&] { (void)home.image(); });
+        else expect(home.image() == a && it->image() == b, "an image is the memory from its base on");
     }
 }
 static void damaged() {

@@ -4,6 +4,7 @@
     cache = jv.Cache(clients=2, banks=1, block_bytes=8, sets=1, ways=2, registers=2, copies=2, memory_blocks=4)
     asked = cache.ticket("acquire", client=0, place=0, param=jv.JV_NTOT)
     cache.step("accept", **asked)
+    cache.drain()                                     # takes what is under way, until every bank is quiet
 
 A design's links have a home of their own, `jv.Home` (links.py).
 
@@ -150,7 +151,7 @@ class Seen(Asking):
 
 
 class Number(c.Structure):
-    """What `jv_read` answers (jv_number)."""
+    """What `jv_read` and `jv_memory` answer (jv_number)."""
     _fields_ = [("status", c.c_uint32), ("what", c.c_uint32), ("serial", c.c_uint64)]
 
 
@@ -258,6 +259,7 @@ def library(path):
     lib.jv_open.argtypes, lib.jv_open.restype = [c.POINTER(Numbers), c.c_char_p, c.c_size_t, c.c_void_p], None
     lib.jv_call.argtypes, lib.jv_call.restype = [c.c_void_p, c.POINTER(Request)], Answer
     lib.jv_read.argtypes, lib.jv_read.restype = [c.c_void_p, c.POINTER(Request), c.c_void_p, c.c_size_t], Number
+    lib.jv_memory.argtypes, lib.jv_memory.restype = [c.c_void_p, c.POINTER(Request), c.c_char_p, c.c_size_t], Number
     lib.jv_echo_seen.argtypes, lib.jv_echo_seen.restype = [c.POINTER(Seen)], Answer
     lib.jv_saw.argtypes, lib.jv_saw.restype = [c.c_void_p, c.POINTER(Seen)], Answer
     lib.jj_size.restype = lib.jj_align.restype = c.c_size_t
@@ -291,6 +293,12 @@ def number_of_call(call):
     if number is None:
         raise ValueError(f"there is no call or view {call!r}")
     return number
+
+
+@functools.lru_cache(maxsize=None)
+def kinds_of_events():
+    """The kinds of events in the order of their numbers, named as in the header (JV_EVENT_..) in small letters."""
+    return [it.removeprefix("JV_EVENT_").lower() for it in enums()["jv_event_kind"]]
 
 
 class Handle:
@@ -382,10 +390,12 @@ class Batch:
 
 
 class Cache(Opened):
-    """A cache at reset over an image. Its numbers are those of jv_numbers; the version is 2 where none is given."""
+    """A cache at reset over an image. Its numbers are those of jv_numbers; the version is 2 where none is given.
+    `numbers` has them, so that `Cache(cache.image(), **cache.numbers)` goes on from a cache that was flushed."""
 
     def __init__(self, image=b"", path=None, **numbers):
-        numbers, image = Numbers(**{"version": 2, **numbers}), octets(image)
+        self.numbers = {"version": 2, **numbers}
+        numbers, image = Numbers(**self.numbers), octets(image)
         self.lend(path, "jv")
         self.lib.jv_open(numbers, image, len(image), self.handle)
         why = self.ask("room")
@@ -414,10 +424,18 @@ class Cache(Opened):
 
     def step(self, call, **words):
         """The answer of a call that is done; Refused where it is not."""
-        answer = self.ask(call, **words)
+        return self.done(call, self.ask(call, **words))
+
+    @staticmethod
+    def done(what, answer):
+        """The answer of what is done; Refused where it is not."""
         if answer.status:
-            raise Refused(call, answer.status)
+            raise Refused(what, answer.status)
         return answer
+
+    def make(self, request):
+        """The answer of a request (`asked`, `next_call`) that is done; Refused where it is not."""
+        return self.done(name_of("JV_", request.call, "jv_call_number"), self.call("jv_call", request))
 
     def ticket(self, call, **words):
         """The ticket of the message that a call sends; Refused where it is not done, ValueError where it sends none."""
@@ -438,6 +456,42 @@ class Cache(Opened):
                 return
             yield from read[:count]
             request.serial += count
+
+    def drain(self):
+        """Takes all that is under way, until every bank is quiet: how many events came. Refused where there is no
+        memory for a log (JV_NO_MEMORY); what came before stays, and a later drain goes on."""
+        return self.step("drain").serial
+
+    def flush(self):
+        """Drains, and then sends each block away of which home has a copy: how many events came. Then no client and no
+        home has a copy, and the memory has the bytes last stored. Refused as a drain."""
+        return self.step("flush").serial
+
+    def image(self):
+        """The bytes of the memory: after `flush` those last stored."""
+        size = operator.index(self.numbers["memory_blocks"]) * operator.index(self.numbers["block_bytes"])
+        memory = c.create_string_buffer(size)
+        self.done("image", self.call("jv_memory", asked("memory"), memory, size))
+        return memory.raw
+
+    def next_call(self, bank=0):
+        """The request of a call that moves the bank on, for `make`, `many` or `batch`: it would be done now, and
+        something is received by it. None where the bank is quiet; Refused where there is no such bank."""
+        told = self.ask("next", bank=bank)
+        if told.status == enums()["jv_status"]["JV_NOTHING_THERE"]:
+            return None
+        self.done("next_call", told)
+        return Request(call=told.opcode, place=told.place, **{name: getattr(told, name) for name in TICKET})
+
+    def counts(self, bank=None):
+        """How many events of each kind the log of a bank has, or where none is named those of all banks: by the names
+        of `kinds_of_events`. What is forgotten is not counted. Refused where there is no such bank."""
+        kinds, banks = kinds_of_events(), range(self.numbers["banks"]) if bank is None else [bank]
+        counted = dict.fromkeys(kinds, 0)
+        asks = (asked("count", bank=it, param=number) for it in banks for number in range(len(kinds)))
+        for kind, answer in zip(kinds * len(banks), self.many(*asks)):
+            counted[kind] += self.done("counts", answer).serial
+        return counted
 
     def end(self, at):
         self.lib.jv_call(at, Request())  # JV_CALL_CLOSE is 0

@@ -7,13 +7,16 @@ use Rattle.tl_map.specs.Numbers.{Numbers as Shape}
 use Rattle.tl_map.specs.Refusals.{numbers_of, refusal_of}
 use Rattle.tl_map.specs.declared.numbers.GeometryError.{GeometryError}
 use Rattle.tl_map.specs.declared.numbers.GeometryNumbers.{GeometryNumbers}
+use Rattle.tl_protocol.specs.declared.event.Event.{Event}
 use Rattle.tl_bank_spec.specs.View.{View}
+use Rattle.tl_bank_spec.specs.Views.{IsQuiet}
 use Rattle.tl_bank_spec.specs.declared.refusal.Refusal.{Refusal}
 use Rattle.tl_types.specs.declared.kind.Kind.{Kind}
 use Rattle.tl_types.specs.declared.message.Message.{Message}
 use Rattle.tl_script_words.specs.declared.step.Step.{Step}
 use Rattle.tl_trace.specs.NetworkState.{AreFresh, HasRoom, IsFresh, IsForgotten, IsReserved, IsReset, NetworkState, SharedBankState, bank_asked, bank_at}
 use Rattle.tl_trace.specs.NetworkSteps.{IsNetworkStep}
+use Rattle.tl_trace.specs.Rests.{IsAway, IsCutShort, Takes}
 use Rattle.tl_text.specs.declared.answer.Answer.{Answer as Shown}
 use Rattle.tl_embed.specs.Asked.{asked}
 use Rattle.tl_embed.specs.Calls.{AsksFor, Calls, CallsOn, GoesOn, IsPlayed, IsStarved}
@@ -22,6 +25,7 @@ use Rattle.tl_embed.specs.Histories.{AreCalls, Asking, EveryHistory, IsAsked, Is
 use Rattle.tl_embed.specs.Saw.{AreStored, AsCompared, AsLed, Compared, SawsOn, SeenDoes, SeesOn, Stores, inferred, step_on_c, store_of}
 use Rattle.tl_embed.specs.Seen.{seen_asks}
 use Rattle.tl_embed.specs.Told.{only}
+use Rattle.tl_embed.specs.Rests.{RestBelow, Rests}
 use Rattle.tl_embed.specs.Opens.{OpensBy, OpensOver, as_given, closed}
 use Rattle.tl_embed.specs.declared.answer.Answer.{Answer}
 use Rattle.tl_embed.specs.declared.cache.Cache.{Cache}
@@ -147,6 +151,53 @@ forget-asked bank old new told h =
       | inr absent ↦ none-later old new (h.absent absent).0
     ]
 
+-- a bank that received something
+takes-later : (old new : SharedBankState) (events : List Event) → Takes old new events → IsLater old.bank new.bank
+takes-later old new events h = record {
+  geometry = ap (λ (v : View). v.geometry) h.receives.is;
+  number = ap (λ (v : View). v.number) h.receives.is;
+  image = ap (λ (v : View). v.image) h.receives.is;
+  since = events;
+  log = ap (λ (v : View). v.log) h.receives.is;
+}
+
+-- a bank that is shown, with its shares
+site-of : (o : Option SharedBankState) (before : View) → option_map (λ (s : SharedBankState). s.bank) o ≡ Some before
+    → (s : SharedBankState) × (o ≡ Some s) × (s.bank ≡ before)
+site-of None before h = cc
+site-of (Some s) before h = (s, refl, some-same h)
+
+-- banks that rested
+below-later : (ends : View → Type 0) (place count : ℕ) (old new : NetworkState) → RestBelow ends place count old new → AreLater old new
+below-later ends place count old new h number before at =
+    let site = site-of (slice_get old.shared_banks number) before at in
+    elim (below-or number place) [
+      | inl l ↦
+          let r = h.rested number site.0 l site.1 in
+          record {
+            after = r.after.bank;
+            is = ap (λ (o : Option SharedBankState). option_map (λ (s : SharedBankState). s.bank) o) r.is;
+            later = subst (λ (v : View). IsLater v r.after.bank) site.2 (takes-later site.0 r.after r.events r.takes);
+          }
+      | inr le ↦
+          same-in new.shared_banks number before
+          (ap (λ (o : Option SharedBankState). option_map (λ (s : SharedBankState). s.bank) o) (h.behind number le) ∙ at)
+    ]
+
+-- a bank that found no memory
+cut-later : (place : ℕ) (old new : NetworkState) → IsCutShort place old new → AreLater old new
+cut-later place old new h number before at =
+    subst (λ (x : NetworkState). IsLaterIn x.shared_banks number before) (sym h.at.is)
+    (set-later old.shared_banks place number h.at.shared_bank h.at.left before h.at.is_site
+    (takes-later h.at.shared_bank h.at.left h.at.events h.at.takes) at)
+
+-- all banks, or up to one that found no memory
+rests-later : (ends : View → Type 0) (old new : NetworkState) (told : Answer) → Rests ends old new told → AreLater old new
+rests-later ends old new told (inl all) = below-later ends old.geometry.banks all.1.count old new all.1.all
+rests-later ends old new told (inr short) =
+    later-then old short.0.mid new (below-later ends short.0.place short.0.count old short.0.mid short.0.first)
+    (cut-later short.0.place short.0.mid new short.0.cut)
+
 -- what a request asks for
 asks-later : (what : Asked) (old new : NetworkState) (r : Request) (told : Answer) → AsksFor what old r new told → AreLater old new
 asks-later (a.Step step) old new r told (inl played) = step-of-network r.index step old new played.shown played.does
@@ -154,6 +205,8 @@ asks-later (a.Step step) old new r told (inr starved) = none-later old new starv
 asks-later a.BadArgument old new r told h = none-later old new h.0
 asks-later a.Reserve old new r told h = room-asked r.bank r.serial old new told h
 asks-later a.Forget old new r told h = forget-asked r.bank old new told h
+asks-later a.Drain old new r told h = rests-later IsQuiet old new told h
+asks-later a.Flush old new r told h = rests-later IsAway old new told h
 asks-later a.Other old new r told h = none-later old new h.same
 
 -- a step that was made, or found no memory

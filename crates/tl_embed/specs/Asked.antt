@@ -78,4 +78,6 @@ asked r =
     else if r.call == 14 then a.Step (block_asked TakeMemory r)
     else if r.call == 15 then a.Reserve
     else if r.call == 16 then a.Forget
+    else if r.call == 17 then a.Drain
+    else if r.call == 18 then a.Flush
     else a.Other

@@ -1,12 +1,15 @@
 -- What one call does to a cache, and what it answers.
 use Rattle.std.specs.Prelude.{◌≡◌, ◌≢◌, ◌⊎◌, ℕ, ◌==◌, Bool, true, false, Option, Some, None, if◌then◌else◌}
+use Rattle.tl_bank_spec.specs.Views.{IsQuiet}
 use Rattle.tl_script_words.specs.declared.step.Step.{Step}
 use Rattle.tl_text.specs.declared.answer.Answer.{Answer as Shown}
 use Rattle.tl_trace.specs.NetworkSteps.{IsNetworkStep, IsStarvedNetwork}
 use Rattle.tl_trace.specs.NetworkState.{NetworkState}
+use Rattle.tl_trace.specs.Rests.{IsAway}
 use Rattle.tl_embed.specs.Asked.{asked}
 use Rattle.tl_embed.specs.Events.{Forgets, Reserves}
 use Rattle.tl_embed.specs.Opens.{closed}
+use Rattle.tl_embed.specs.Rests.{Rests}
 use Rattle.tl_embed.specs.Told.{number_wide, only, step_told, wide}
 use Rattle.tl_embed.specs.Views.{Views}
 use Rattle.tl_embed.specs.declared.answer.Accessed.{Accessed}
@@ -38,6 +41,8 @@ AsksFor (a.Step step) old r new told = IsPlayed r.index step old new told ⊎ Is
 AsksFor a.BadArgument old r new told = (new ≡ old) × (told ≡ only 17)
 AsksFor a.Reserve old r new told = Reserves r.bank r.serial old new told
 AsksFor a.Forget old r new told = Forgets r.bank old new told
+AsksFor a.Drain old r new told = Rests IsQuiet old new told
+AsksFor a.Flush old r new told = Rests IsAway old new told
 AsksFor a.Other old r new told = Others old r new told
 
 -- The cache stays open, and its banks do what is asked.
@@ -62,7 +67,7 @@ pub record Accesses (old : Cache) (r : Request) (new : Cache) (told : Accessed) 
   pub store : r.call ≡ 2 → Calls old r new (wide told)
   pub other : r.call ≢ 1 → r.call ≢ 2 → (new ≡ old) × (wide told ≡ only 16)
 
--- the views that tell a number, each in a few steps of the processor
+-- the views that tell a number
 abbrev pub tells_number : ℕ → Bool
 tells_number call =
     if call == 20 then true
@@ -75,7 +80,8 @@ tells_number call =
     else if call == 30 then true
     else if call == 36 then true
     else if call == 38 then true
-    else call == 39
+    else if call == 39 then true
+    else call == 41
 
 -- What such a view shows, told in fewer bytes; another call is none of these. Nothing changes.
 pub record Looks (old : Cache) (r : Request) (new : Cache) (told : Number) : Type 0 where

@@ -2,8 +2,11 @@ pub mod Asked
 pub mod Calls
 pub mod Events
 pub mod Histories
+pub mod Images
 pub mod Many
+pub mod Next
 pub mod Opens
+pub mod Rests
 pub mod Saw
 pub mod Seen
 pub mod Told

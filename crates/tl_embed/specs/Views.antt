@@ -1,6 +1,7 @@
 -- What the views of a cache answer: each what its bank's view shows. They are told apart: 10 is what is not there, 4 an empty place,
 -- 16 no such view, 17 no such channel.
 use Rattle.std.specs.Prelude.{◌≡◌, ◌≢◌, ◌<◌, ◌≤◌, ◌+◌, ℕ, ◌==◌, Bool, true, false, List, length, nat_lt, slice_get, Option, Some, None, if◌then◌else◌}
+use Rattle.std.specs.List.{count_by}
 use Rattle.std.specs.List.Sorted.{IsNonDecreasing, IsPermutation}
 use Rattle.tl_types.specs.Permission.{rank}
 use Rattle.tl_types.specs.declared.channel.Channel.{Channel}
@@ -20,8 +21,9 @@ use Rattle.tl_bank_spec.specs.View.{View}
 use Rattle.tl_bank_spec.specs.Views.{IsQuiet, copy_perm_at, outward_at, own_blocks, pairs_at, peeked, recorded_at}
 use Rattle.tl_trace.specs.NetworkState.{NetworkState, bank_at}
 use Rattle.tl_embed.specs.Asked.{channel_at, ticket_named}
-use Rattle.tl_embed.specs.Events.{event_shown}
-use Rattle.tl_embed.specs.Told.{message_of, message_told, number_told, only, outward_told, with_bytes}
+use Rattle.tl_embed.specs.Events.{event_number, event_shown}
+use Rattle.tl_embed.specs.Next.{NextTold}
+use Rattle.tl_embed.specs.Told.{kept_events, message_of, message_told, number_told, only, outward_told, with_bytes}
 use Rattle.tl_embed.specs.declared.answer.Answer.{Answer}
 use Rattle.tl_embed.specs.declared.request.Request.{Request}
 
@@ -103,6 +105,11 @@ abbrev pub copies_told : Option ℕ → Answer
 copies_told None = only 10
 copies_told (Some copies) = number_told copies
 
+-- how many of the events that are not forgotten are of a kind, or that there is no such kind
+abbrev pub count_told : View → ℕ → Answer
+count_told v kind =
+    if nat_lt kind 18 then number_told (count_by (λ e. event_number e == kind) (kept_events v)) else only 17
+
 -- a view of a bank
 abbrev pub bank_told : View → Request → Answer
 bank_told v r =
@@ -111,6 +118,7 @@ bank_told v r =
     else if r.call == 27 then number_told (length v.log)
     else if r.call == 29 then number_told v.room
     else if r.call == 36 then number_told v.forgotten
+    else if r.call == 41 then count_told v r.param
     else copies_told (if no_client v r.client then None else Some (copies_at v r.client))
 
 -- 1 where nothing is under way in a bank, else 0
@@ -147,7 +155,8 @@ pub record BankTells (v : View) (r : Request) (told : Answer) : Type 0 where
   pub quiet : r.call ≡ 31 → QuietTold v told
   pub open_block : r.call ≡ 32 → OpenTold v r.serial told
   pub waiting : r.call ≡ 34 → told ≡ waiting_told v r.client (channel_at r.channel) r.serial
-  pub other : r.call ≢ 28 → r.call ≢ 31 → r.call ≢ 32 → r.call ≢ 34 → told ≡ bank_told v r
+  pub next : r.call ≡ 40 → NextTold v told
+  pub other : r.call ≢ 28 → r.call ≢ 31 → r.call ≢ 32 → r.call ≢ 34 → r.call ≢ 40 → told ≡ bank_told v r
 
 -- ## Of a ticket
 
@@ -178,4 +187,6 @@ pub record Views (network : NetworkState) (r : Request) (told : Answer) : Type 0
   pub forgotten : r.call ≡ 36 → BankShows (bank_at network r.bank) r told
   pub copy : 37 ≤ r.call → r.call ≤ 39 → told ≡ block_told network r
   pub below : r.call < 20 → told ≡ only 16
-  pub above : 39 < r.call → told ≡ only 16
+  pub next : r.call ≡ 40 → BankShows (bank_at network r.bank) r told
+  pub count : r.call ≡ 41 → BankShows (bank_at network r.bank) r told
+  pub above : 41 < r.call → told ≡ only 16

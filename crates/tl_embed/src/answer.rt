@@ -14,7 +14,7 @@ pub struct Answer {
     pub status: u32,
     /// What there is to tell: 0 nothing more, 1 a message of a client's link, 2 a message between home and the memory,
     /// 3 home dropped its copy, 4 the bytes of a load, 5 a number, 6 an event, 7 what passes between home and the
-    /// memory, 8 bytes.
+    /// memory, 8 bytes, 9 a call.
     pub what: u32,
     /// The bank of a ticket, with `serial`, of a drop, or of a message between home and the memory.
     pub bank: u32,
@@ -22,7 +22,7 @@ pub struct Answer {
     pub client: u32,
     /// The channel of a ticket: 0 to 4 for A to E; 5 and 6 for A and D of the memory's link.
     pub channel: u32,
-    /// The opcode of a message, or the number of an event's kind.
+    /// The opcode of a message, the number of an event's kind, or that of a call.
     pub opcode: u32,
     /// The param of a message.
     pub param: u32,

@@ -7,6 +7,7 @@ ghost use Rattle.tl_embed.specs.Opens.{Opens, as_given, closed};
 
 use crate::answer::Answer;
 use crate::request::{Asked, Request};
+use crate::rest::{drain, flush};
 use crate::tell::{step_told, tell_step};
 use crate::views::tell_view;
 use std::alloc::Global;
@@ -129,7 +130,7 @@ fn close(cache: &mut Cache)
     *cache = closed(18);
 }
 
-/// Carries out a step, makes room for more, or shows something.
+/// Carries out a step, makes room for more, brings all banks to rest, or shows something.
 fn ask(network: &mut Network, request: &Request, told: &mut Answer)
     ensures { AsksFor (asked request.now) network.old request.now network.new told.new }
 {
@@ -138,6 +139,8 @@ fn ask(network: &mut Network, request: &Request, told: &mut Answer)
         Asked::BadArgument => told.set_status(17),
         Asked::Forget => forget(network, BankNo::new(request.bank), told),
         Asked::Reserve => reserve_into(network, BankNo::new(request.bank), request.serial, told),
+        Asked::Drain => drain(network, told),
+        Asked::Flush => flush(network, told),
         Asked::Other => tell_view(network, request, told),
     }
 }

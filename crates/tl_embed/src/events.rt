@@ -1,5 +1,6 @@
 //! What is told of the events of a bank's log.
-ghost use Rattle.std.specs.Prelude.{◌≡◌};
+ghost use Rattle.std.specs.Prelude.{◌≡◌, ◌==◌};
+ghost use Rattle.std.specs.List.{count_by};
 ghost use Rattle.tl_types.specs.Codes.{code_of};
 ghost use Rattle.tl_bank_spec.specs.View.{shape_of};
 ghost use Rattle.tl_protocol.specs.Protocol.{block_of};
@@ -80,6 +81,19 @@ fn event_number(event: &Event) -> u32
         Event::SendPut(_) => 16,
         Event::TakePutAck(_) => 17,
     }
+}
+
+/// How many of these events are of the kind with a number.
+pub fn count_kind(events: &[Event], kind: u32) -> usize
+    ensures { result ≡ count_by (λ e. event_number e == kind) events.now }
+{
+    let mut count = 0;
+    for event in events {
+        if event_number(event) == kind {
+            count += 1;
+        }
+    }
+    count
 }
 
 /// Tells what an event carries beside its block.

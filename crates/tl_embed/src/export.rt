@@ -5,6 +5,7 @@ ghost use Rattle.std.specs.Borrow.{full_share, sem};
 ghost use Rattle.std.specs.Mem.{type_size};
 ghost use Rattle.std.specs.Ptr.{lies_at, room_at};
 ghost use Rattle.tl_embed.specs.Calls.{Accesses, Calls, Looks};
+ghost use Rattle.tl_embed.specs.Images.{Images};
 ghost use Rattle.tl_embed.specs.Many.{CallsMany, Reads};
 ghost use Rattle.tl_embed.specs.Opens.{Opens};
 ghost use Rattle.tl_embed.specs.Saw.{Saws};
@@ -15,6 +16,7 @@ ghost use Rattle.tl_embed.specs.declared.cache.Cache.{Cache};
 use crate::access::access;
 use crate::answer::{Accessed, Answer, Number};
 use crate::cache::{Cache, Numbers, call, opened};
+use crate::image::image;
 use crate::many::{calls, read};
 use crate::request::Request;
 use crate::saw::saw;
@@ -23,12 +25,12 @@ use crate::views::look;
 use std::alloc::Global;
 
 /// Which interface this is: it rises with each change of a struct, a number or a meaning.
-const VERSION: u32 = 5;
+const VERSION: u32 = 6;
 
 /// Which interface this is.
 #[unsafe(no_mangle)]
 pub extern "C" fn jv_version() -> u32
-    ensures { result ≡ 5 }
+    ensures { result ≡ 6 }
 {
     VERSION
 }
@@ -111,6 +113,17 @@ pub unsafe extern "C" fn jv_read(cache: *mut u8, request: &Request, events: &mut
         ∗ ⌜ Reads before request.now events.old after events.new result ⌝) }
 {
     read(unsafe { &mut *(cache as *mut Cache) }, request, events)
+}
+
+/// Tells bytes of the memory of the cache at a pointer where `jv_open` put one.
+#[unsafe(no_mangle)]
+pub unsafe extern "C" fn jv_memory(cache: *mut u8, request: &Request, bytes: &mut [u8]) -> Number
+    ghost before: { Cache }
+    requires* { sem 𝓛 (lies_at the_row full_share cache before) }
+    ensures* { ∃ₛ (λ (after : Cache). sem 𝓛 (lies_at the_row full_share cache after)
+        ∗ ⌜ Images before request.now bytes.old after bytes.new result ⌝) }
+{
+    image(unsafe { &mut *(cache as *mut Cache) }, request, bytes)
 }
 
 /// Carries out a load or a store of the cache at a pointer where `jv_open` put one.

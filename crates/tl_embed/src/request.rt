@@ -13,7 +13,7 @@ use tl_types::{AccessBytes, BankNo, BlockNo, Channel, ClientId, Ticket, grow_at,
 pub struct Request {
     /// Which call: 0 close, 1 load, 2 store, 3 acquire, 4 release, 5 answer_probe, 6 take_grant, 7 take_release_ack, 8
     /// accept, 9 advance, 10 take_c, 11 take_grant_ack, 12 evict, 13 serve_memory, 14 take_memory, 15 reserve, 16
-    /// forget; from 20 on the views.
+    /// forget, 17 drain, 18 flush; from 20 on the views.
     pub call: u32,
     /// The index of the access, which its event in the log has.
     pub index: u32,
@@ -21,7 +21,7 @@ pub struct Request {
     pub client: u32,
     /// The block, or the address of an access.
     pub place: u32,
-    /// The param of an Acquire or a Release.
+    /// The param of an Acquire or a Release, or the number of an event's kind.
     pub param: u32,
     /// The bank, also of a ticket.
     pub bank: u32,
@@ -46,6 +46,10 @@ pub enum Asked {
     Reserve,
     /// That a bank forgets its log so far.
     Forget,
+    /// That all banks come to rest.
+    Drain,
+    /// That they do, and that home then sends each block away that it has.
+    Flush,
     /// None of these.
     Other,
 }
@@ -72,6 +76,8 @@ impl Request {
             14 => Asked::Step(self.by_block(BlockCall::TakeMemory)),
             15 => Asked::Reserve,
             16 => Asked::Forget,
+            17 => Asked::Drain,
+            18 => Asked::Flush,
             _ => Asked::Other,
         }
     }

@@ -6,11 +6,12 @@ ghost use Rattle.tl_bank.specs.Contents.{copy_at, line_at, memory_at};
 ghost use Rattle.tl_embed.specs.Asked.{channel_at, ticket_named};
 ghost use Rattle.tl_embed.specs.Calls.{Looks, tells_number};
 ghost use Rattle.tl_embed.specs.Told.{message_told, number_told, number_wide};
-ghost use Rattle.tl_embed.specs.Views.{BankTells, OpenTold, QuietTold, Views, awaited_told, bank_for, bank_told, block_told, byte_told, copy_or_none, dirty_number, home_of, home_told, memory_told, ticket_told, waiting_told};
+ghost use Rattle.tl_embed.specs.Views.{BankTells, OpenTold, QuietTold, Views, awaited_told, bank_for, bank_told, block_told, byte_told, count_told, copy_or_none, dirty_number, home_of, home_told, memory_told, ticket_told, waiting_told};
 
 use crate::answer::{Answer, Number};
 use crate::cache::Cache;
-use crate::events::tell_event_at;
+use crate::events::{count_kind, tell_event_at};
+use crate::next::tell_next;
 use crate::request::{Request, channel_at};
 use crate::tell::{message_of, tell_message, tell_number, tell_outward};
 use tl_bank::Bank;
@@ -20,15 +21,15 @@ use tl_types::{Awaited, BankNo, BlockNo, ClientId, Message, Perm, Ticket};
 
 /// Tells what a request that asks for no step shows: 20 perm, 21 directory, 22 peek, 23 home, 24 outward, 25 held,
 /// 26 recorded, 27 events, 28 event, 29 room, 30 copies, 31 is_quiet, 32 open block, 33 message, 34 waiting, 35 memory,
-/// 36 forgotten, 37 copy, 38 waits for, 39 the bank of a block; 16 where it is none of these. It stands apart from
-/// the steps.
+/// 36 forgotten, 37 copy, 38 waits for, 39 the bank of a block, 40 the next call, 41 a count; 16 where it is none of
+/// these. It stands apart from the steps.
 #[inline(never)]
 pub fn tell_view(network: &Network, request: &Request, told: &mut Answer)
     ensures { Views network.now request.now told.new }
 {
     match request.call {
         20..=24 | 35 | 37..=39 => tell_of_block(network, request, told),
-        25..=32 | 34 | 36 => match network.bank(BankNo::new(request.bank)) {
+        25..=32 | 34 | 36 | 40 | 41 => match network.bank(BankNo::new(request.bank)) {
             Some(bank) => tell_of_bank(bank, request, told),
             None => told.set_status(10),
         },
@@ -37,11 +38,12 @@ pub fn tell_view(network: &Network, request: &Request, told: &mut Answer)
     }
 }
 
-/// A view of a number, as `call` shows it; 16 where the call is none of them (20 to 22, 25 to 27, 29, 30, 36, 38, 39).
+/// A view of a number, as `call` shows it; 16 where the call is none of them (20 to 22, 25 to 27, 29, 30, 36, 38, 39,
+/// 41).
 pub fn look(cache: &mut Cache, request: &Request) -> Number
     ensures { Looks cache.old request.now cache.new result }
 {
-    if !matches!(request.call, 20..=22 | 25..=27 | 29 | 30 | 36 | 38 | 39) {
+    if !matches!(request.call, 20..=22 | 25..=27 | 29 | 30 | 36 | 38 | 39 | 41) {
         return Number::only(16);
     }
     match &cache.network {
@@ -58,7 +60,7 @@ fn number_view(network: &Network, request: &Request) -> Number
     requires { tells_number request.now.call ≡ true }
     ensures { Views network.now request.now (number_wide result) }
 {
-    if request.call <= 22 || request.call >= 38 {
+    if request.call <= 22 || request.call == 38 || request.call == 39 {
         return number_of_block(network, request);
     }
     match network.bank(BankNo::new(request.bank)) {
@@ -246,6 +248,7 @@ fn tell_of_bank(bank: &Bank, request: &Request, told: &mut Answer)
         31 => tell_quiet(bank, told),
         32 => tell_open(bank, request.serial, told),
         34 => tell_waiting(bank, request, told),
+        40 => tell_next(bank, told),
         _ => number_of_bank(bank, request).tell(told),
     }
 }
@@ -260,11 +263,22 @@ fn number_of_bank(bank: &Bank, request: &Request) -> Number
         27 => Number::told(bank.events() as u64),
         29 => Number::told(bank.room() as u64),
         36 => Number::told(bank.forgotten() as u64),
+        41 => count_told(bank, request.param),
         _ => match bank.copies_of(ClientId::new(request.client)) {
             Some(copies) => Number::told(copies),
             None => Number::only(10),
         },
     }
+}
+
+/// How many of the events that are not forgotten are of a kind: 17 where there is no such kind.
+fn count_told(bank: &Bank, kind: u32) -> Number
+    ensures { number_wide result ≡ count_told bank.now kind }
+{
+    if kind >= 18 {
+        return Number::only(17);
+    }
+    Number::told(count_kind(bank.log(), kind) as u64)
 }
 
 /// Tells whether nothing is under way.

@@ -7,4 +7,6 @@ pub mod Foreseen
 pub mod Places
 pub mod Posted
 pub mod Resets
+pub mod Rests
+pub mod Shares
 pub mod Starved

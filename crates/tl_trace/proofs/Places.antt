@@ -17,7 +17,7 @@ use Rattle.tl_trace.specs.NetworkState.{HasRoom, IsForgotten, IsReserved, IsShor
 use Rattle.tl_trace.proofs.Starved.{step-room}
 
 -- a list of the same length takes the other's place
-refill-whole : {X : Type 0} (xs ws : List X) → length ws ≡ length xs → refill (length xs) xs ws ≡ ws
+pub refill-whole : {X : Type 0} (xs ws : List X) → length ws ≡ length xs → refill (length xs) xs ws ≡ ws
 refill-whole xs ws same = grind (arith, common_steps)
 
 -- a share that was handed to the bank, and written back

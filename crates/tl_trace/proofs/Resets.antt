@@ -29,7 +29,7 @@ pub count-more : (shared_banks more : List SharedBankState) (shared_bank : Share
 count-more shared_banks more shared_bank n count after = rw after (omega (arith, length-append shared_banks (shared_bank ∷ [])))
 
 -- a share for each client
-length-first_shares : (bank n : ℕ) → length (first_shares bank n) ≡ n
+pub length-first_shares : (bank n : ℕ) → length (first_shares bank n) ≡ n
 length-first_shares bank zero = refl
 length-first_shares bank (suc n) =
     let last : ShareView = record { client = n; bank = bank; count = 0 } in

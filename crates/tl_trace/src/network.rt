@@ -1,10 +1,12 @@
 //! All banks, and the steps that are asked of them.
-ghost use Rattle.std.specs.Prelude.{◌≡◌, ◌<◌, ◌≤◌, ◌*◌, IfErr, IfOk, OnErr, OnOk, length, slice_index, slice_set};
+ghost use Rattle.std.specs.Prelude.{◌≡◌, ◌<◌, ◌≤◌, ◌*◌, IfErr, IfOk, MatchResult, OnErr, OnOk, length, slice_index, slice_set};
 ghost use Rattle.tl_trace.specs.Closing.{Close};
 ghost use Rattle.tl_trace.specs.NetworkSteps.{AreNetworkSteps, IsNetworkStep, IsRefusedNetwork, IsStarvedNetwork};
 ghost use Rattle.std.specs.Option.{option_map};
 ghost use Rattle.tl_script_words.specs.declared.step.TicketCall.{TicketCall};
 ghost use Rattle.tl_trace.specs.NetworkState.{AreCoherent, AreFresh, IsForgotten, IsReset, IsReserved, IsShort, bank_at};
+ghost use Rattle.tl_bank_spec.specs.Views.{IsQuiet};
+ghost use Rattle.tl_trace.specs.Rests.{IsAway, IsCutShort, RestsAt};
 ghost use Rattle.tl_trace.specs.Would.{WouldComeTo};
 
 use crate::asked::{bank_asked, bank_of_block, bank_or_first, client_named};
@@ -175,6 +177,27 @@ impl Network {
         ensures { IsForgotten bank self.old self.new }
     {
         self.shared_banks[bank.index()].forget();
+    }
+
+    /// Takes what is under way in a bank until it is quiet: how many events came, by each of which something was
+    /// received. The error is `Memory` where there was none for one more; what was received before that stays, and a
+    /// later call goes on.
+    pub fn drain(&mut self, bank: BankNo) -> Result<u64, Refusal>
+        requires { bank < self.now.geometry.banks }
+        ensures { MatchResult result (λ count. RestsAt IsQuiet bank count self.old self.new)
+            (λ refusal. (refusal ≡ Refusal.Memory) × IsCutShort bank self.old self.new) }
+    {
+        self.shared_banks[bank.index()].drain()
+    }
+
+    /// Drains a bank, and then sends each block away of which home has a copy: nobody has one then, and the memory has
+    /// the bytes last stored. The answer and the error are as at `drain`.
+    pub fn flush(&mut self, bank: BankNo) -> Result<u64, Refusal>
+        requires { bank < self.now.geometry.banks }
+        ensures { MatchResult result (λ count. RestsAt IsAway bank count self.old self.new)
+            (λ refusal. (refusal ≡ Refusal.Memory) × IsCutShort bank self.old self.new) }
+    {
+        self.shared_banks[bank.index()].flush()
     }
 
     /// The clock of a client; 0 for a client that is not there.

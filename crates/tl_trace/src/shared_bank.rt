@@ -1,6 +1,9 @@
 //! A bank with its clients' shares.
-ghost use Rattle.std.specs.Prelude.{◌≡◌, ℕ, ◌<◌, ◌≤◌, ◌*◌, IfErr, IfOk, MatchResult, OnErr, OnOk, length};
+ghost use Rattle.std.specs.Prelude.{◌≡◌, ℕ, ◌<◌, ◌≤◌, ◌*◌, List, IfErr, IfOk, MatchResult, OnErr, OnOk, length};
+ghost use Rattle.tl_protocol.specs.declared.event.Event.{Event};
 ghost use Rattle.tl_bank_spec.specs.Steps.{Forgets};
+ghost use Rattle.tl_bank_spec.specs.Views.{IsQuiet};
+ghost use Rattle.tl_trace.specs.Rests.{IsAway, Takes};
 ghost use Rattle.tl_trace.specs.NetworkSteps.{IsRefusedAt, IsStarvedAt, IsStepAt};
 ghost use Rattle.tl_types.specs.declared.message.Body.{Body};
 ghost use Rattle.tl_script_words.specs.declared.step.TicketCall.{TicketCall};
@@ -14,6 +17,7 @@ use arrayvec::ArrayVec;
 use std::alloc::{AllocError, Global};
 use std::marker::Model;
 use tl_bank::{Bank, Refusal, Share};
+use tl_bank_rest::{drain, flush};
 use tl_map::Geometry;
 use tl_script_words::Step;
 use tl_text::Answer;
@@ -30,13 +34,14 @@ pub(crate) struct SharedBank {
 
 impl Model for SharedBank {
     ghost use Rattle.std.specs.Prelude.{◌<◌, length};
+    ghost use Rattle.tl_bank_rest.specs.Shares.{AreShares};
     ghost use Rattle.tl_trace.specs.NetworkState.{SharedBankState};
 
     ghost Value = { SharedBankState };
 
     ghost view = { λ s. record { bank = s.bank; shares = s.shares.items } };
 
-    ghost invariant = { λ s. 0 < length s.shares.items };
+    ghost invariant = { λ s. (0 < length s.shares.items) × AreShares s.bank s.shares.items };
 }
 
 impl SharedBank {
@@ -77,7 +82,10 @@ impl SharedBank {
     {
         let place = self.share_place(client_named(step));
         let share = &mut self.shares[place];
-        act(&mut self.bank, share, clock, index, step, answer)
+        let done = act(&mut self.bank, share, clock, index, step, answer);
+        // For the prover: the log is a run, so the shares are the clients' own.
+        let _log = self.bank.log();
+        done
     }
 
     /// A load, asked of the bank with the clock of the client, which becomes the stamp of the access.
@@ -97,7 +105,10 @@ impl SharedBank {
     {
         // For the prover: the client has a share here, which an access leaves as it is.
         let _place = self.share_place(client);
-        load_bytes(&mut self.bank, clock, index, client, address, len)
+        let loaded = load_bytes(&mut self.bank, clock, index, client, address, len);
+        // For the prover: the log is a run.
+        let _log = self.bank.log();
+        loaded
     }
 
     /// A store, asked of the bank with the clock of the client, which becomes the stamp of the access.
@@ -117,7 +128,10 @@ impl SharedBank {
     {
         // For the prover: the client has a share here, which an access leaves as it is.
         let _place = self.share_place(client);
-        store_bytes(&mut self.bank, clock, index, client, address, bytes)
+        let stored = store_bytes(&mut self.bank, clock, index, client, address, bytes);
+        // For the prover: the log is a run.
+        let _log = self.bank.log();
+        stored
     }
 
     /// What a Release would send, or the first refusal that stands against it, but for want of memory.
@@ -168,6 +182,27 @@ impl SharedBank {
         ensures forgets { Forgets self.old.bank self.new.bank }
     {
         self.bank.forget();
+    }
+
+    /// Takes what is under way in the bank until it is quiet. How many events came; the error is `Memory` where there
+    /// was none for one more, and what was received before that stays.
+    pub(crate) fn drain(&mut self) -> Result<u64, Refusal>
+        ensures takes { (events : List Event) × Takes self.old self.new events
+            × IfOk result (λ count. length events ≡ count) }
+        ensures short { IfErr result (λ refusal. (refusal ≡ Refusal.Memory) × (self.new.bank.room ≡ 0)) }
+        ensures quiet { OnOk result (IsQuiet self.new.bank) }
+    {
+        drain(&mut self.bank, &mut self.shares)
+    }
+
+    /// Does that, and then sends each block away of which home has a copy.
+    pub(crate) fn flush(&mut self) -> Result<u64, Refusal>
+        ensures takes { (events : List Event) × Takes self.old self.new events
+            × IfOk result (λ count. length events ≡ count) }
+        ensures short { IfErr result (λ refusal. (refusal ≡ Refusal.Memory) × (self.new.bank.room ≡ 0)) }
+        ensures away { OnOk result (IsAway self.new.bank) }
+    {
+        flush(&mut self.bank, &mut self.shares)
     }
 
     /// The place of a client's share; that of client 0's for a client that is not there.
