@@ -1,4 +1,6 @@
-//! The names of the scripts.
+//! The names of the scripts and records.
+
+use tlcheck_coverage::{Form, Way};
 
 /// Traces, and runs that stall or whose script is refused: each has one answer.
 pub const DECIDED: &[(&str, bool)] = &[
@@ -88,25 +90,48 @@ pub const CHARTED_MESSAGES: &[&str] = &[
 ];
 
 /// Records of messages that are explained, not decided or refused, and have none.
-pub const NOT_CHARTED_MESSAGES: &[&str] = &["a-miss", "no-such-sink", "two-writers"];
+pub const NOT_CHARTED_MESSAGES: &[&str] = &[
+    "a-grant-comes-too-late",
+    "a-miss",
+    "a-release-is-never-acknowledged",
+    "no-such-sink",
+    "two-writers",
+];
 
-/// Records of messages.
-pub const RECORDS: &[&str] = &[
+/// Records of messages, each a file.
+pub const MESSAGES: &[&str] = &[
+    "a-grant-comes-in-time.txt",
+    "a-grant-comes-too-late.txt",
     "a-late-core.txt",
     "a-late-write-back.txt",
     "a-memory-past-the-last-address.txt",
     "a-miss.txt",
     "a-premise-that-is-none.txt",
+    "a-probe-ack-before-its-probe.txt",
     "a-probe-before-an-earlier-grant.txt",
+    "a-probe-is-never-answered.txt",
+    "a-release-is-never-acknowledged.txt",
     "accepts-without-a-grant.txt",
     "addresses-of-64-bits.txt",
+    "an-acquire-is-never-granted.txt",
+    "an-end-that-is-none.txt",
     "answers-before-its-get.txt",
     "answers-before-its-release-ack.txt",
     "answers-in-another-order.txt",
     "asks-a-line-early.txt",
+    "asks-anew-for-what-it-has.txt",
     "asks-before-its-release-ack.txt",
     "delayed.txt",
     "denied.txt",
+    "drops-a-branch-that-home-still-records.txt",
+    "drops-a-clean-copy-before-a-probe.txt",
+    "drops-a-clean-tip.txt",
+    "drops-a-dirty-copy-before-a-probe.txt",
+    "drops-a-dirty-tip.txt",
+    "drops-as-another-client-may.txt",
+    "drops-in-both-forms.txt",
+    "drops-of-no-client.txt",
+    "drops-said-twice.txt",
     "gives-dirty-bytes-up-without-them.txt",
     "grant-acks-in-another-order.txt",
     "grants-before-it-takes-a-release.txt",
@@ -137,4 +162,106 @@ pub const RECORDS: &[&str] = &[
     "unwatched-grants-old-bytes.txt",
     "upgrades-behind-a-probe-ack.txt",
     "was-cut.txt",
+];
+
+/// Records of events that are not among others, since one has no line feed and one is no text.
+pub const EVENTS: &[&str] = &[
+    "record-one-line-without-an-end.txt",
+    "record-a-byte-that-is-no-text.txt",
+];
+
+/// Records of which it is told what they have reached.
+#[derive(Clone, Copy)]
+pub struct Reached {
+    /// The file with what is told.
+    pub file: &'static str,
+    pub form: Form,
+    /// Whether it is told what this project's home reaches.
+    pub by_home: bool,
+    /// Each record's name there, and its file.
+    pub records: &'static [(&'static str, &'static str)],
+}
+
+const ONE: (&str, &str) = ("one", "record-one-client.txt");
+
+const TWO: (&str, &str) = ("two", "record-two-clients.txt");
+
+/// A name that a page has to write otherwise.
+const MARKED: (&str, &str) = ("<one>", "record-one-client.txt");
+
+/// What records have reached; `tlcheck` itself is run on `one` with what home reaches.
+pub const REACHED: &[Reached] = &[
+    Reached {
+        file: "reached-by-one.out",
+        form: Form::Text,
+        by_home: false,
+        records: &[ONE],
+    },
+    Reached {
+        file: "reached-by-two.out",
+        form: Form::Text,
+        by_home: false,
+        records: &[ONE, TWO],
+    },
+    Reached {
+        file: "reached-by-two-with-home.out",
+        form: Form::Text,
+        by_home: true,
+        records: &[ONE, TWO],
+    },
+    Reached {
+        file: "reached-twice.out",
+        form: Form::Text,
+        by_home: false,
+        records: &[
+            ("a", "record-one-client.txt"),
+            ("b", "record-one-client.txt"),
+        ],
+    },
+    Reached {
+        file: "reached-until-it-broke.out",
+        form: Form::Text,
+        by_home: false,
+        records: &[ONE, ("b", "record-serves-without-a-get.txt")],
+    },
+    Reached {
+        file: "reached-by-no-record.out",
+        form: Form::Text,
+        by_home: false,
+        records: &[("c", "record-without-a-shape.txt")],
+    },
+    Reached {
+        file: "reached-by-one.html",
+        form: Form::Page,
+        by_home: false,
+        records: &[MARKED],
+    },
+    Reached {
+        file: "reached-by-one-with-home.html",
+        form: Form::Page,
+        by_home: true,
+        records: &[MARKED],
+    },
+];
+
+/// Words for a situation, and how the way into it is told.
+pub const WAYS: &[(&str, Way)] = &[
+    ("1.100", Way::Record),
+    ("1.320", Way::Record),
+    ("1.130", Way::Script),
+    ("1.320", Way::Script),
+    ("1.100", Way::Script),
+    ("2.1408", Way::Record),
+    ("2.1403", Way::Script),
+    ("", Way::Record),
+    ("1", Way::Record),
+    ("1.", Way::Record),
+    (".1", Way::Record),
+    ("0.1", Way::Record),
+    ("1.0", Way::Record),
+    ("4.1", Way::Record),
+    ("1.01", Way::Record),
+    ("1.1.1", Way::Record),
+    ("-1.1", Way::Record),
+    ("1.1 ", Way::Record),
 ];

@@ -107,11 +107,25 @@ fn all_follow(plain: &mut Plain, events: &[Event]) -> bool {
     true
 }
 
+/// What is shown of the block: how many clients hold it, for how many home records it, and the client's first byte.
+fn shown(plain: &Plain) -> Option<(usize, usize, Option<u8>)> {
+    let block = block();
+    if block.number() >= plain.shape().blocks {
+        return None;
+    }
+    let byte = match plain.read(client(), 0, 1) {
+        Some(bytes) => bytes.as_slice().first().copied(),
+        None => None,
+    };
+    Some((plain.held(block), plain.recorded(block), byte))
+}
+
 #[test]
 fn an_acquire_brings_sixteen_events(rt: HostRuntime) -> Result<(), Fail> {
     let mut plain = Plain::new(rt.alloc(), SHAPE, &[])?;
     assert!(rt; all_follow(&mut plain, &granted()));
     assert!(rt; all_follow(&mut plain, &[store()]));
+    assert_eq!(rt; shown(&plain), Some((1, 1, Some(9))));
     assert!(rt; all_follow(&mut plain, &taken_away()));
     let first = granted().iter().filter(|event| is_received(event)).count();
     let second = taken_away()

@@ -1,5 +1,5 @@
 //! Tests of a bank by its public calls: small scripts of calls, what is shown amid a race, the age of copies, how
-//! far a run goes by itself, what brings a bank to rest, and a random walk beside the plain map.
+//! far a run goes by itself, and what brings a bank to rest.
 #![tactic(auto)]
 
 #[cfg(test)]
@@ -18,5 +18,3 @@ mod rest;
 mod session;
 #[cfg(test)]
 mod steps;
-#[cfg(test)]
-mod walk;

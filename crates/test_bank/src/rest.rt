@@ -280,53 +280,6 @@ fn a_new_bank_goes_on_over_the_image(rt: HostRuntime) -> Result<(), Fail> {
     Ok(())
 }
 
-/// Two banks of that geometry.
-const TWO_BANKS: GeometryNumbers = GeometryNumbers {
-    banks: 2,
-    ..NUMBERS
-};
-
-/// A drain and a flush with the shares of another bank, with too few, and with one that stands for nobody.
-type Wrong = [Result<u64, Refusal>; 6];
-
-/// What those answer, and whether nothing has changed.
-fn refused(session: &mut Session, other: &mut Session) -> (Wrong, bool) {
-    let is_asked = session.asks(0, 0, Grow::NtoT);
-    let answers = [
-        session.drain_with(other),
-        session.flush_with(other),
-        session.drain_with_first(1),
-        session.flush_with_first(1),
-        {
-            session.forget_share(client(1));
-            session.drain()
-        },
-        session.flush(),
-    ];
-    (answers, is_asked && session.events() == 1)
-}
-
-/// The same at two new banks.
-fn wrong_shares(alloc: Global) -> Result<(Wrong, bool), Fail> {
-    let mut session = Session::of(alloc, TWO_BANKS, 0, &[])?;
-    let mut other = Session::of(alloc, TWO_BANKS, 1, &[])?;
-    Ok(refused(&mut session, &mut other))
-}
-
-#[test]
-fn wrong_shares_are_refused(rt: HostRuntime) -> Result<(), Fail> {
-    let answers = [
-        Err(Refusal::WrongBank),
-        Err(Refusal::WrongBank),
-        Err(Refusal::OutOfRange),
-        Err(Refusal::OutOfRange),
-        Err(Refusal::OutOfRange),
-        Err(Refusal::OutOfRange),
-    ];
-    assert_eq!(rt; wrong_shares(rt.alloc())?, (answers, true));
-    Ok(())
-}
-
 /// Whether a call that serves all clients was done, or refused for want of memory.
 fn is_done(answer: Result<u64, Refusal>) -> bool {
     answer.is_ok() || answer == Err(Refusal::Memory)

@@ -7,7 +7,7 @@ use std::test::Fail;
 use tl_bank::{Action, Bank, Refusal, Share, When};
 use tl_bank_rest::{Receiving, drain, flush, image_of, next_call};
 use tl_map::{Geometry, GeometryNumbers};
-use tl_protocol::{CachedCopy, Event};
+use tl_protocol::CachedCopy;
 use tl_types::{Awaited, BankNo, BlockNo, CLIENTS, Channel, ClientId, Grow, Perm, Prune, Ticket};
 
 /// What a call answers: the ticket of the message that it sent, if it sent one.
@@ -196,37 +196,9 @@ impl Session {
         drain(&mut self.bank, self.shares.as_mut_slice())
     }
 
-    /// Drains the bank with the shares of another one. The errors are those of `drain`.
-    pub fn drain_with(&mut self, other: &mut Session) -> Result<u64, Refusal> {
-        drain(&mut self.bank, other.shares.as_mut_slice())
-    }
-
-    /// Drains the bank with the first so many shares. The errors are those of `drain`, and `OutOfRange` where there are
-    /// not so many.
-    pub fn drain_with_first(&mut self, count: usize) -> Result<u64, Refusal> {
-        let Some(shares) = self.shares.as_mut_slice().get_mut(..count) else {
-            return Err(Refusal::OutOfRange);
-        };
-        drain(&mut self.bank, shares)
-    }
-
     /// Flushes the bank. The errors are those of `flush`.
     pub fn flush(&mut self) -> Result<u64, Refusal> {
         flush(&mut self.bank, self.shares.as_mut_slice())
-    }
-
-    /// Flushes the bank with the shares of another one. The errors are those of `flush`.
-    pub fn flush_with(&mut self, other: &mut Session) -> Result<u64, Refusal> {
-        flush(&mut self.bank, other.shares.as_mut_slice())
-    }
-
-    /// Flushes the bank with the first so many shares. The errors are those of `flush`, and `OutOfRange` where there
-    /// are not so many.
-    pub fn flush_with_first(&mut self, count: usize) -> Result<u64, Refusal> {
-        let Some(shares) = self.shares.as_mut_slice().get_mut(..count) else {
-            return Err(Refusal::OutOfRange);
-        };
-        flush(&mut self.bank, shares)
     }
 
     /// The bytes of the bank's memory. The error is want of memory for them.
@@ -245,11 +217,6 @@ impl Session {
     /// How many events were logged that are not forgotten.
     pub fn kept(&self) -> usize {
         self.bank.log().len()
-    }
-
-    /// The last event of the log.
-    pub fn last_event(&self) -> Option<&Event> {
-        self.bank.log().last()
     }
 
     /// For how many steps there is room.

@@ -1,6 +1,5 @@
-//! Tests of the lower layers by their public calls: the codes of TileLink and copies of messages, where blocks lie, the
-//! memory as a whole, which no bank makes, a bank's ways, channels and tables by themselves, and inboxes and bells
-//! between threads.
+//! Tests of the lower layers by their public calls: the codes of TileLink, where blocks lie, the memory as a whole, which
+//! no bank makes, a bank's ways, channels and tables by themselves, and inboxes and bells between threads.
 #![tactic(auto)]
 
 #[cfg(test)]
@@ -13,8 +12,6 @@ mod links;
 mod map;
 #[cfg(test)]
 mod memory;
-#[cfg(test)]
-mod messages;
 #[cfg(test)]
 mod pairs;
 #[cfg(test)]

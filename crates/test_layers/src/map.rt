@@ -1,5 +1,5 @@
 use std::test::Fail;
-use tl_map::{Geometry, GeometryError, GeometryNumbers, Place, Set, Tag};
+use tl_map::{Geometry, GeometryNumbers, Place, Set, Tag};
 use tl_types::{BankNo, BlockNo};
 
 const NUMBERS: GeometryNumbers = GeometryNumbers {
@@ -106,38 +106,6 @@ fn four_banks(rt: HostRuntime) -> Result<(), Fail> {
 #[test]
 fn a_block_more(rt: HostRuntime) -> Result<(), Fail> {
     assert!(rt; is_place(of_four_banks(65_536)?, 27, (0, 2, 1)));
-    Ok(())
-}
-
-/// How many bytes there are, the size of a block, and the block and the offset of the address 0x1f.
-fn bytes_of(geometry: Geometry) -> [u32; 4] {
-    [
-        geometry.memory_bytes(),
-        geometry.block_size(),
-        geometry.block_at(0x1f).number(),
-        geometry.offset(0x1f),
-    ]
-}
-
-/// Whether one block has eight bytes from 0x18 on, from 0x19 on, and one byte at 0x20.
-fn are_in_one_block(geometry: Geometry) -> [bool; 3] {
-    [
-        geometry.has_bytes(0x18, 8),
-        geometry.has_bytes(0x19, 8),
-        geometry.has_bytes(0x20, 1),
-    ]
-}
-
-#[test]
-fn bytes_in_one_block(rt: HostRuntime) -> Result<(), Fail> {
-    let geometry = Geometry::new(GeometryNumbers {
-        memory_blocks: 4,
-        ..NUMBERS
-    })?;
-    assert_eq!(rt;
-        (bytes_of(geometry), are_in_one_block(geometry)),
-        ([32, 3, 3, 7], [true, false, false])
-    );
     Ok(())
 }
 
@@ -250,11 +218,4 @@ fn the_first_refusal(rt: HostRuntime) {
     for (numbers, refusal) in REFUSALS {
         assert_eq!(rt; refusal_of(*numbers), *refusal);
     }
-}
-
-#[test]
-fn a_refusal_prints_its_number(rt: HostRuntime) -> Result<(), Fail> {
-    let text = GeometryError::Version.to_string(rt.alloc())?;
-    assert_eq!(rt; text.as_str(), "28");
-    Ok(())
 }

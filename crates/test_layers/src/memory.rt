@@ -1,18 +1,17 @@
-//! What no clause says: that a memory is made with ample room, the whole or a bank's part, and a Put and a Get of
-//! blocks of each size.
+//! What no clause says: that a whole memory is made with ample room, and a Put and a Get of blocks of each size. A bank
+//! makes its part of a memory.
 use std::alloc::Global;
 use std::marker::Model;
 use std::test::Fail;
 use tl_map::{Geometry, GeometryNumbers};
 use tl_memory::{Burst, Memory, Reply, Request};
-use tl_types::BankNo;
 
 /// A geometry of four blocks.
-fn four_blocks(banks: i64, block_bytes: i64) -> Result<Geometry, Fail> {
+fn four_blocks(block_bytes: i64) -> Result<Geometry, Fail> {
     Ok(Geometry::new(GeometryNumbers {
         version: 1,
         clients: 1,
-        banks,
+        banks: 1,
         block_bytes,
         sets: 1,
         ways: 1,
@@ -68,7 +67,7 @@ impl Model for Blocks {
 impl Blocks {
     /// The whole memory of four blocks.
     fn new(alloc: Global, block_bytes: u32, image: &[u8]) -> Result<Blocks, Fail> {
-        let geometry = four_blocks(1, i64::from(block_bytes))?;
+        let geometry = four_blocks(i64::from(block_bytes))?;
         let bytes = geometry.memory_bytes();
         if bytes != block_bytes.saturating_mul(4) || image.len() > bytes as usize {
             return Err("another memory".into());
@@ -76,22 +75,6 @@ impl Blocks {
         Ok(Blocks {
             memory: Memory::new(alloc, geometry, image)?,
         })
-    }
-
-    /// The part of bank 1 of two, of four blocks of eight bytes.
-    fn of_bank(alloc: Global, image: &[u8]) -> Result<Blocks, Fail> {
-        let geometry = four_blocks(2, 8)?;
-        if image.len() > geometry.memory_bytes() as usize {
-            return Err("a longer image".into());
-        }
-        Ok(Blocks {
-            memory: Memory::of_bank(alloc, geometry, BankNo::new(1), image)?,
-        })
-    }
-
-    /// Whether it has a block of a size at an address.
-    fn has(&self, size: u32, address: u32) -> bool {
-        self.memory.has(&Request::Get { size, address })
     }
 
     /// Serves a Put of these beats at an address. Whether it has the block, and acknowledges its size.
@@ -166,30 +149,5 @@ fn a_put_is_read_back(rt: HostRuntime) -> Result<(), Fail> {
             )
         );
     }
-    Ok(())
-}
-
-/// Whether a bank's part has the other bank's blocks, whether the second of its own was put, and what they hold then.
-type BankAfterPut = ([bool; 2], bool, [Option<Ends>; 2]);
-
-/// The same of a memory of two banks.
-fn bank_after_put(alloc: Global) -> Result<BankAfterPut, Fail> {
-    let image = [1, 2, 3, 4, 5, 6, 7, 8, 9, 10, 11, 12];
-    let mut blocks = Blocks::of_bank(alloc, &image)?;
-    let others = [blocks.has(3, 0), blocks.has(3, 24)];
-    let was_put = blocks.put(3, 16, counted(1));
-    Ok((others, was_put, [blocks.get(3, 8), blocks.get(3, 16)]))
-}
-
-#[test]
-fn a_bank_keeps_its_own_blocks(rt: HostRuntime) -> Result<(), Fail> {
-    assert_eq!(rt;
-        bank_after_put(rt.alloc())?,
-        (
-            [false, false],
-            true,
-            [Some((9, 0, 8)), Some((0x80, 0x87, 8))]
-        )
-    );
     Ok(())
 }

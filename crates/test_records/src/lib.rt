@@ -1,26 +1,13 @@
-//! Tests of records by the public calls: whole records and their verdicts, each damage of one, entries and states as
-//! lines, messages that are explained or not, readers that fail, judges beside a bench, what records and homes reached,
-//! and the names of refusals in a chart.
+//! Tests of records by the public calls: readers that fail, judges beside a bench, the tables of situations and of what
+//! homes reach, scripts into situations, and the names of refusals in a chart.
 #![tactic(auto)]
 
 #[cfg(test)]
 mod bench;
 #[cfg(test)]
-mod brief;
-#[cfg(test)]
-mod coverage;
-#[cfg(test)]
-mod damages;
-#[cfg(test)]
-mod examples;
-#[cfg(test)]
-mod explained;
-#[cfg(test)]
 mod home;
 #[cfg(test)]
 mod names;
-#[cfg(test)]
-mod pins;
 #[cfg(test)]
 mod pins_bench;
 #[cfg(test)]
@@ -28,8 +15,8 @@ mod readers;
 #[cfg(test)]
 mod scripts;
 #[cfg(test)]
-mod situations;
+mod seen;
 #[cfg(test)]
-mod states;
+mod situations;
 #[cfg(test)]
 mod unseen;

@@ -1,14 +1,16 @@
 //! A judge at a client's pins beside a bench: lines in numbers, a verdict at once, and the same verdict as of the whole
 //! record.
-use crate::explained::{Damage, GRANT_BEHIND, GRANTED_BEFORE, IN_ORDER, WITHOUT_CORES, seen_in};
-use crate::{explained, pins};
+use crate::seen::{
+    AT_PINS, Damage, GRANT_BEHIND, GRANTED_BEFORE, IN_ORDER, PINS, RACE, WITHOUT_CORES, at_pins,
+    race,
+};
 use std::alloc::{AllocError, Global};
 use std::test::Fail;
 use tl_rules::Shape;
 use tl_types::{BLOCK_BYTES, ClientId, code};
 use tlcheck_embed::{JudgeNumbers, breach_told};
 use tlwire_embed::{PinsLine, PinsNumbers, PinsRoom, PinsVerdict, opened, see};
-use tlwire_pins::{Cores, first_wrong};
+use tlwire_pins::{Cores, Tap, first_wrong};
 use tlwire_search::Seen;
 
 /// What is seen, with no bytes: of a message the channel, the opcode and the param.
@@ -112,7 +114,11 @@ fn wrong_at(
     if shape.block_bytes == 0 || shape.block_bytes > BLOCK_BYTES as u32 {
         return Ok(None);
     }
-    let found = first_wrong(alloc, shape, ClientId::new(client), cores, seen)?;
+    let tap = Tap {
+        cores,
+        drops: false,
+    };
+    let found = first_wrong(alloc, shape, ClientId::new(client), tap, seen)?;
     Ok(found.map(|wrong| (wrong.place, breach_told(&wrong.breach).rule)))
 }
 
@@ -130,9 +136,9 @@ fn agrees(
 
 #[test]
 fn a_judge_stops_where_the_record_is_wrong_at_the_pins(rt: HostRuntime) -> Result<(), Fail> {
-    for (places, cores, _) in pins::AT_PINS {
-        let seen = pins::lines(rt.alloc(), *places)?;
-        let agrees = agrees(rt.alloc(), pins::SHAPE, 0, *cores, &seen)?;
+    for (places, cores) in AT_PINS {
+        let seen = at_pins(rt.alloc(), *places)?;
+        let agrees = agrees(rt.alloc(), PINS, 0, *cores, &seen)?;
         assert!(rt; agrees, "at {places:?} {cores:?}");
     }
     Ok(())
@@ -154,9 +160,9 @@ const RECORDS: &[(Damage, &[usize], Cores)] = &[
 #[test]
 fn a_judge_stops_where_a_record_of_two_clients_is_wrong(rt: HostRuntime) -> Result<(), Fail> {
     for (damage, order, cores) in RECORDS {
-        let seen = seen_in(rt.alloc(), *damage, *order)?;
+        let seen = race(rt.alloc(), *damage, *order)?;
         for client in 0..2 {
-            let agrees = agrees(rt.alloc(), explained::SHAPE, client, *cores, &seen)?;
+            let agrees = agrees(rt.alloc(), RACE, client, *cores, &seen)?;
             assert!(rt; agrees, "at {damage:?} {order:?} {cores:?} {client}");
         }
     }
@@ -177,7 +183,7 @@ fn granted(room: &mut PinsRoom) -> ((u32, u32, u32, u32), (u32, u32, u32, u32)) 
 
 #[test]
 fn a_fault_is_told_again(rt: HostRuntime) {
-    let mut room = judge(rt.alloc(), explained::SHAPE, 0, Cores::Watched);
+    let mut room = judge(rt.alloc(), RACE, 0, Cores::Watched);
     let (asks, grant) = granted(&mut room);
     let other = numbers(2, 1, 0, (0, 6, 1));
     let of_the_other = told(&see(&mut room, &other));
@@ -200,8 +206,8 @@ fn a_fault_is_told_again(rt: HostRuntime) {
 
 #[test]
 fn what_is_no_line_changes_nothing(rt: HostRuntime) {
-    let mut watched = judge(rt.alloc(), explained::SHAPE, 0, Cores::Watched);
-    let mut unseen = judge(rt.alloc(), explained::SHAPE, 0, Cores::Unseen);
+    let mut watched = judge(rt.alloc(), RACE, 0, Cores::Watched);
+    let mut unseen = judge(rt.alloc(), RACE, 0, Cores::Unseen);
     let what = see(&mut watched, &numbers(3, 0, 0, (0, 6, 1))).status;
     let client = see(&mut watched, &numbers(2, 2, 0, (0, 6, 1))).status;
     let block = see(&mut watched, &numbers(2, 0, 1, (0, 6, 1))).status;
@@ -220,8 +226,8 @@ fn what_is_no_line_changes_nothing(rt: HostRuntime) {
 #[test]
 fn a_closed_judge_says_why(rt: HostRuntime) {
     let line = numbers(2, 0, 0, (0, 6, 1));
-    let mut of_none = judge(rt.alloc(), explained::SHAPE, 2, Cores::Watched);
-    let mut shut = judge(rt.alloc(), explained::SHAPE, 1, Cores::Watched);
+    let mut of_none = judge(rt.alloc(), RACE, 2, Cores::Watched);
+    let mut shut = judge(rt.alloc(), RACE, 1, Cores::Watched);
     let shuts = told(&see(&mut shut, &numbers(255, 0, 0, (0, 0, 0))));
     let client = see(&mut of_none, &line).why;
     let by_its_caller = see(&mut shut, &line);

@@ -1,5 +1,5 @@
 //! Tests of what is concluded from a run by public calls, where no script leads: logs that have an order and logs that
-//! have none, each cause of a refusal, and the largest script.
+//! have none, banks that have not run, shares and stamps of two banks, and the largest script.
 #![tactic(auto)]
 
 #[cfg(test)]

@@ -8,7 +8,6 @@ use tl_protocol::Event;
 use tl_runner_report::{RunError, conclude};
 use tl_script::{Script, read_script};
 use tl_text::Report;
-use tl_tickets::{Missing, gather};
 use tl_types::{BankNo, BlockNo, CLIENTS, Channel, ClientId, Grow, Ticket};
 
 /// A script, its banks, and the list of shares of each. Its model says nothing, so that a test of many calls has their
@@ -91,12 +90,6 @@ fn share_of(lists: &mut [Vec<Share>], number: usize, client: u32) -> Option<&mut
     list.as_mut_slice().get_mut(client as usize)
 }
 
-/// Whether a report has this text. `None` where a request for memory was refused.
-fn has_text(alloc: Global, report: &Report, wanted: &str) -> Option<bool> {
-    let text = report.text(alloc).ok()?;
-    Some(text.as_str() == wanted)
-}
-
 /// The events of a bank's log.
 fn events(bank: &Bank) -> &[Event] {
     bank.log()
@@ -175,12 +168,6 @@ impl Setting {
         take_block(bank, share, ClientId::new(client), BlockNo::new(block)).ok()
     }
 
-    /// A bank forgets its log so far.
-    pub(crate) fn forget(&mut self, number: usize) -> Option<()> {
-        self.bank(number)?.forget();
-        Some(())
-    }
-
     /// A client stores a byte: the stamp.
     pub(crate) fn store(
         &mut self,
@@ -212,64 +199,34 @@ impl Setting {
 
 /// What is concluded.
 impl Setting {
-    /// What is concluded for a script.
-    fn conclude(&self, alloc: Global, script: &Script) -> Result<Report, RunError> {
-        conclude(alloc, script, &self.banks, &self.lists)
+    /// What is concluded for the script.
+    fn conclude(&self, alloc: Global) -> Result<Report, RunError> {
+        conclude(alloc, &self.script, &self.banks, &self.lists)
     }
 
     /// The report that is concluded. `None` where there is none.
     pub(crate) fn report(&self, alloc: Global) -> Option<Report> {
-        self.conclude(alloc, &self.script).ok()
-    }
-
-    /// Whether the report that is concluded has this text. `None` where there is none, or a request for memory was
-    /// refused.
-    pub(crate) fn shows(&self, alloc: Global, wanted: &str) -> Option<bool> {
-        has_text(alloc, &self.report(alloc)?, wanted)
+        self.conclude(alloc).ok()
     }
 
     /// How many clients and banks the report has that is concluded: nothing where a request for memory was refused.
     /// `None` where there is no report for another cause.
     pub(crate) fn sizes(&self, alloc: Global) -> Option<Option<(usize, usize)>> {
-        match self.conclude(alloc, &self.script) {
+        match self.conclude(alloc) {
             Ok(report) => Some(Some((report.clients.len(), report.banks.len()))),
             Err(RunError::Memory) => Some(None),
             Err(_) => None,
         }
     }
 
-    /// Whether nothing is concluded for the script of another setting, since it is not what these banks carried out.
-    pub(crate) fn is_other_for(&self, alloc: Global, setting: &Setting) -> bool {
-        matches!(
-            &self.conclude(alloc, &setting.script),
-            Err(RunError::NotOrdered)
-        )
-    }
-
     /// Whether nothing is concluded, since the script is not what the banks carried out.
     pub(crate) fn is_other(&self, alloc: Global) -> bool {
-        self.is_other_for(alloc, self)
+        matches!(&self.conclude(alloc), Err(RunError::NotOrdered))
     }
 
     /// Whether nothing is concluded, since these are not all shares.
     pub(crate) fn lacks_shares(&self, alloc: Global) -> bool {
-        matches!(&self.conclude(alloc, &self.script), Err(RunError::Shares))
-    }
-
-    /// How many copies shares count, where they are those of bank 0.
-    pub(crate) fn gather(&self, shares: &[Share]) -> Result<u64, Missing> {
-        match self.banks.as_slice().first() {
-            Some(bank) => gather(bank, shares),
-            None => Err(Missing),
-        }
-    }
-
-    /// The shares of bank 0.
-    pub(crate) fn shares(&self) -> &[Share] {
-        match self.lists.as_slice().first() {
-            Some(list) => list.as_slice(),
-            None => &[],
-        }
+        matches!(&self.conclude(alloc), Err(RunError::Shares))
     }
 
     /// Whether a bank's log has just these accesses, as stamp, client and index, in order.
@@ -281,48 +238,10 @@ impl Setting {
     }
 }
 
-/// Banks and shares in other places.
+/// Shares in other places.
 impl Setting {
-    /// The banks in reverse.
-    pub(crate) fn reverse_banks(&mut self) {
-        self.banks.reverse();
-    }
-
     /// The lists of shares in reverse.
     pub(crate) fn reverse_lists(&mut self) {
         self.lists.reverse();
-    }
-
-    /// One more list, without shares.
-    pub(crate) fn push_list(&mut self, alloc: Global) -> Option<()> {
-        self.lists.push(Vec::new(alloc)).ok()
-    }
-
-    /// Without the last list of shares. Whether there was one.
-    pub(crate) fn pop_list(&mut self) -> bool {
-        self.lists.pop().is_some()
-    }
-
-    /// Without the last bank. Whether there was one.
-    pub(crate) fn pop_bank(&mut self) -> bool {
-        self.banks.pop().is_some()
-    }
-
-    /// The shares of bank 0 in reverse.
-    pub(crate) fn reverse_shares(&mut self) {
-        if let Some(list) = self.lists.as_mut_slice().first_mut() {
-            list.reverse();
-        }
-    }
-
-    /// Takes the last share of bank 0.
-    pub(crate) fn pop_share(&mut self) -> Option<Share> {
-        self.lists.as_mut_slice().first_mut()?.pop()
-    }
-
-    /// Adds a share to those of bank 0.
-    pub(crate) fn push_share(&mut self, share: Share) -> Option<()> {
-        let list = self.lists.as_mut_slice().first_mut()?;
-        list.push(share).ok()
     }
 }

@@ -8,7 +8,7 @@ use std::time::Clock;
 use tl_bank::{Bank, Share};
 use tl_client::{Agent, Command, Locked, Turn};
 use tl_map::{Geometry, GeometryNumbers};
-use tl_types::{AccessBytes, BankNo, BlockNo, ClientId, Perm};
+use tl_types::{BankNo, BlockNo, ClientId, Perm};
 
 /// One client with one copy, one bank with one way and one register, and four blocks of eight bytes.
 const NUMBERS: GeometryNumbers = GeometryNumbers {
@@ -101,36 +101,6 @@ fn gate_of<R: Wait + Clock>(
 
 fn load(address: u32) -> Command {
     Command::Load { address, len: 1 }
-}
-
-fn store(address: u32, byte: u8) -> Command {
-    let bytes = match AccessBytes::from_slice(&[byte]) {
-        Some(bytes) => bytes,
-        None => AccessBytes::new(),
-    };
-    Command::Store { address, bytes }
-}
-
-fn drop_of(address: u32) -> Command {
-    Command::Drop { address }
-}
-
-#[test]
-fn a_dropped_block_is_given_up(rt: HostRuntime) {
-    let commands = [store(0, 0xab), drop_of(0)];
-    assert_eq!(rt;
-        outcome_of(&rt, rt.alloc(), &commands),
-        Some((2, None, 0, Perm::None))
-    );
-}
-
-#[test]
-fn a_dropped_block_is_read_again(rt: HostRuntime) {
-    let commands = [store(0, 0xab), drop_of(0), load(0)];
-    assert_eq!(rt;
-        outcome_of(&rt, rt.alloc(), &commands),
-        Some((3, Some(0xab), 1, Perm::None))
-    );
 }
 
 #[test]
