@@ -140,6 +140,9 @@ pub const MESSAGES: &[&str] = &[
     "grants-old-bytes-behind-a-skew.txt",
     "grants-old-bytes.txt",
     "keeps-a-stale-copy.txt",
+    "leaves-out-a-device.txt",
+    "leaves-out-an-instruction-cache.txt",
+    "leaves-out-the-rest-of-the-memory.txt",
     "loads-a-line-early.txt",
     "no-such-sink.txt",
     "nobody-watched-the-cores.txt",
@@ -162,6 +165,7 @@ pub const MESSAGES: &[&str] = &[
     "unwatched-grants-old-bytes.txt",
     "upgrades-behind-a-probe-ack.txt",
     "was-cut.txt",
+    "writes-beside-the-caches.txt",
 ];
 
 /// Records of events that are not among others, since one has no line feed and one is no text.

@@ -1,5 +1,5 @@
 -- What the answer to a record of messages ends with.
-use Rattle.std.specs.Prelude.{◌≡◌, ◌<◌, ℕ, true, false, List, length, take, Option, Some, None, Ok, Err, if◌then◌else◌}
+use Rattle.std.specs.Prelude.{◌≡◌, ◌<◌, ℕ, true, false, List, length, take, Option, Some, None, if◌then◌else◌}
 use Rattle.std.specs.List.{list_any}
 use Rattle.tlwire_search.specs.Explained.{Explains}
 use Rattle.tlwire_search.specs.Premises.{drops, has_drops}
@@ -18,10 +18,6 @@ use Rattle.tlwire_closed.specs.declared.premise.Way.{Way}
 use Rattle.tlwire_answer.specs.Named.{is_told, names, premise_of}
 use Rattle.tlwire_answer.specs.Waits.{unmet_of}
 use Rattle.tlwire_record.specs.Messages.{MessagesState}
-use Rattle.tlwire_record.specs.Read.{IsRead}
-use Rattle.tlwire_record.specs.declared.record.ReadFault.TheVariants as read
-use Rattle.tlwire_answer.specs.declared.ending.Ending.{Ending}
-use Rattle.tlwire_answer.specs.declared.ending.Ending.TheVariants.{Usage, Answered, Wrong as WrongLine, Empty, Memory, File}
 use Rattle.tlwire_answer.specs.declared.sets.Sets.{Sets}
 use Rattle.tlwire_answer.specs.declared.sets.Sets.TheVariants.{Stuck, Open}
 use Rattle.tlwire_answer.specs.declared.verdict.Verdict.{Verdict}
@@ -141,22 +137,3 @@ IsWrongAt m client (Some w) = IsNo m w × MayAt m (take w.place m.seen) client
 abbrev pub IsFirstOf : MessagesState → ℕ → Option Wrong → Type 0
 IsFirstOf m clients None = MayBelow m clients m.seen
 IsFirstOf m clients (Some w) = IsNo m w × MayBelow m clients (take w.place m.seen)
-
--- What may be said of a record's lines: what was seen is what they say, and what is said of it holds; or the first line that is outside
--- the format, and what is wrong with it; or that there is nothing seen.
-abbrev pub MayEnd : List (List ℕ) → Ending → Type 0
-MayEnd lines Usage = ⊥
-MayEnd lines (Answered m verdict) = IsRead lines (Ok m) × IsJudged m verdict
-MayEnd lines (WrongLine line cause) = IsRead lines (Err (read.Line line cause))
-MayEnd lines Empty = IsRead lines (Err read.Empty)
-MayEnd lines Memory = Unit {0}
-MayEnd lines File = Unit {0}
-
--- what may be said of what was seen
-abbrev pub IsEnding : MessagesState → Ending → Type 0
-IsEnding seen Usage = ⊥
-IsEnding seen (Answered m verdict) = (m ≡ seen) × IsJudged m verdict
-IsEnding seen (WrongLine line cause) = ⊥
-IsEnding seen Empty = ⊥
-IsEnding seen Memory = Unit {0}
-IsEnding seen File = ⊥

@@ -1,5 +1,5 @@
 -- What an answer ends with, what is written then, and its status (this project's own format).
-use Rattle.std.specs.Prelude.{◌≡◌, ◌≢◌, ℕ, List, [], ◌++◌, length, codes, decimal, Option, Some, None, if◌then◌else◌}
+use Rattle.std.specs.Prelude.{◌≡◌, ◌≢◌, ℕ, Bool, List, [], ◌++◌, length, codes, decimal, Option, Some, None, if◌then◌else◌}
 use Rattle.std.specs.Io.KnownBytes.{Appends}
 use Rattle.std.specs.List.{flat_map}
 use Rattle.tl_protocol.specs.declared.event.Event.{Event}
@@ -13,6 +13,7 @@ use Rattle.tl_streams.specs.declared.reading.ReadError.TheVariants as read
 use Rattle.tlcheck_rules.specs.declared.judge.Breach.{Breach}
 use Rattle.tlcheck_record.specs.Reason.{reason_text}
 use Rattle.tlcheck_record.specs.State.{copy_text, wait_text}
+use Rattle.tlwire_search.specs.Premises.{has_drops}
 use Rattle.tlwire_search.specs.declared.search.Limit.{Limit}
 use Rattle.tlwire_search.specs.declared.search.Limit.TheVariants.{NoWay, Depth, Events}
 use Rattle.tlwire_closed.specs.declared.answer.Hindrance.{Hindrance}
@@ -28,13 +29,15 @@ use Rattle.tlwire_pins.specs.declared.view.View.{View}
 use Rattle.tlcheck_record.specs.Cause.{is_outside, sentence}
 use Rattle.tlwire_record.specs.Messages.{MessagesState}
 use Rattle.tlcheck_record.specs.declared.cause.Cause.{Cause}
+use Rattle.tlwire_answer.specs.Advice.{advised_line}
 use Rattle.tlwire_answer.specs.Lines.{number_at, text_at}
 use Rattle.tlwire_answer.specs.Run.{run_text}
-use Rattle.tlwire_answer.specs.Waits.{unmet_text, waits_text}
+use Rattle.tlwire_answer.specs.Waits.{left_text, tail_text, unmet_text}
 use Rattle.tlwire_answer.specs.declared.ending.Ending.{Ending}
 use Rattle.tlwire_answer.specs.declared.ending.Ending.TheVariants.{Usage, Answered, Wrong as WrongLine, Empty, Memory, File}
 use Rattle.tlwire_answer.specs.declared.order.Order.{Order}
 use Rattle.tlwire_answer.specs.declared.order.Order.TheVariants.{AtPins, Between, AtHome, AtClients}
+use Rattle.tlwire_answer.specs.declared.verdict.Undecided.{Undecided}
 use Rattle.tlwire_answer.specs.declared.verdict.Verdict.{Verdict}
 use Rattle.tlwire_answer.specs.declared.verdict.Verdict.TheVariants.{Explained, Impossible, RuledOut, NotDecided, OtherOrder, Unmet}
 use Rattle.tlwire_answer.specs.declared.ending.Form.{Form}
@@ -105,21 +108,25 @@ limit_text NoWay = codes "no event that was tried leads there"
 limit_text Depth = codes "each of a row of 96 events asks for another one first"
 limit_text Events = codes "4096 events did not lead there"
 
--- why no closed set says that it is unlawful, where one was sought
-abbrev pub sets_text : Option Reason → List ℕ
-sets_text None = []
-sets_text (Some NoContradiction) = codes "; in each block a state comes past all lines"
-sets_text (Some TooManyStates) = codes "; a block has more states than are kept"
+-- why no closed set says that it is unlawful, where one was sought, or where a client drops clean copies
+abbrev pub sets_text : Bool → Option Reason → List ℕ
+sets_text drops None = if drops then codes "; no closed set is made where a client drops clean copies" else []
+sets_text drops (Some NoContradiction) = codes "; in each block a state comes past all lines"
+sets_text drops (Some TooManyStates) = codes "; a block has more states than are kept"
 
--- and that nothing more is said
-abbrev pub limit_line : Limit → Option Reason → List ℕ
-limit_line limit sets =
-    codes "\n" ++ limit_text limit ++ sets_text sets ++ codes "; this is no verdict that it is unlawful\n"
+-- that nothing more is said: why closed sets say nothing, and which line of the header would have decided it
+abbrev pub undecided_text : Bool → Undecided → List ℕ
+undecided_text drops u =
+    sets_text drops u.sets ++ codes "; this is no verdict that it is unlawful\n" ++ advised_line u.advice
+
+-- what ended an attempt, behind the line that it did not reach
+abbrev pub limit_line : Limit → Bool → Undecided → List ℕ
+limit_line limit drops u = codes "\n" ++ limit_text limit ++ undecided_text drops u
 
 -- the line that no attempt reached, and what ended it
-abbrev pub not_decided_text : ℕ → List ℕ → Limit → Option Reason → List ℕ
-not_decided_text number line limit sets =
-    codes "not decided: line " ++ decimal number ++ codes ": " ++ line ++ limit_line limit sets
+abbrev pub not_decided_text : ℕ → List ℕ → Limit → Bool → Undecided → List ℕ
+not_decided_text number line limit drops u =
+    codes "not decided: line " ++ decimal number ++ codes ": " ++ line ++ limit_line limit drops u
 
 -- where the order is another one
 abbrev pub order_text : Order → List ℕ
@@ -129,10 +136,9 @@ order_text AtHome = codes "at home's pins"
 order_text AtClients = codes "at the clients' pins"
 
 -- a run that was found is seen in another order there
-abbrev pub other_order_text : Order → Option Reason → List ℕ
-other_order_text order sets =
-    codes "not decided: the run that was found has another order " ++ order_text order ++ sets_text sets
-    ++ codes "; this is no verdict that it is unlawful\n"
+abbrev pub other_order_text : Order → Bool → Undecided → List ℕ
+other_order_text order drops u =
+    codes "not decided: the run that was found has another order " ++ order_text order ++ undecided_text drops u
 
 -- what a line breaks that may not be seen at its client's pins
 abbrev pub rule_line : ℕ → Breach → List ℕ
@@ -177,21 +183,23 @@ abbrev pub ruled_out_text : List ℕ → ℕ → List ℕ → Stuck → List ℕ
 ruled_out_text numbers number line stuck =
     stuck_line number ++ line ++ (block_line stuck.block ++ flat_map (stop_line numbers) stuck.stops.items)
 
--- what is written of a run that was found: how much it explains, with the exchanges; or the run alone
+-- what is written of a run that was found: how much it explains, with what stands behind it; or the run alone
 abbrev pub explained_text : Form → List (List ℕ) → MessagesState → List Event → List ℕ
-explained_text Summary lines m events = summary_line m events ++ waits_text lines m
+explained_text Summary lines m events = summary_line m events ++ tail_text lines m
 explained_text Run lines m events = run_of m events
 
 -- what is written of what was said
 abbrev pub answer_text : Form → List (List ℕ) → MessagesState → Verdict → List ℕ
 answer_text form lines m (Explained events) = explained_text form lines m events.items
-answer_text form lines m (Impossible w) = impossible_text (number_at m.lines w.place) (text_at lines (number_at m.lines w.place)) w
+answer_text form lines m (Impossible w) =
+    impossible_text (number_at m.lines w.place) (text_at lines (number_at m.lines w.place)) w ++ left_text m
 answer_text form lines m (RuledOut stuck) =
-    ruled_out_text m.lines (number_at m.lines stuck.place) (text_at lines (number_at m.lines stuck.place)) stuck
+    ruled_out_text m.lines (number_at m.lines stuck.place) (text_at lines (number_at m.lines stuck.place)) stuck ++ left_text m
 answer_text form lines m (NotDecided place limit sets) =
-    not_decided_text (number_at m.lines place) (text_at lines (number_at m.lines place)) limit sets ++ waits_text lines m
-answer_text form lines m (OtherOrder order sets) = other_order_text order sets ++ waits_text lines m
-answer_text form lines m (Unmet unmet) = unmet_text lines m unmet ++ waits_text lines m
+    not_decided_text (number_at m.lines place) (text_at lines (number_at m.lines place)) limit (has_drops m.setting.premises) sets
+    ++ tail_text lines m
+answer_text form lines m (OtherOrder order sets) = other_order_text order (has_drops m.setting.premises) sets ++ tail_text lines m
+answer_text form lines m (Unmet unmet) = unmet_text lines m unmet ++ tail_text lines m
 
 -- what is written of an ending that is an answer
 abbrev pub ending_text : Form → List (List ℕ) → Ending → List ℕ

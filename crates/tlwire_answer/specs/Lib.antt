@@ -1,4 +1,6 @@
+pub mod Advice
 pub mod Answer
+pub mod Replies
 pub mod Ending
 pub mod Lines
 pub mod Run

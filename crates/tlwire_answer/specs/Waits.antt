@@ -1,5 +1,5 @@
 -- What the header expects of the exchanges of a record, and what is told of them (this project's own format).
-use Rattle.std.specs.Prelude.{ℕ, List, [], ◌++◌, codes, decimal, Option, Some, None, if◌then◌else◌}
+use Rattle.std.specs.Prelude.{ℕ, ◌==◌, List, [], ◌++◌, length, codes, decimal, Option, Some, None, if◌then◌else◌}
 use Rattle.std.specs.List.{flat_map}
 use Rattle.tlwire_exchanges.specs.Opened.{exchanges_of}
 use Rattle.tlwire_exchanges.specs.Times.{cycle_at, first, is_longer, is_open, longest_closed, open_for}
@@ -56,9 +56,13 @@ response_text AccessAck = codes "AccessAck"
 abbrev pub line_text : Told → ℕ → List ℕ
 line_text t number = head_text t ++ codes ": line " ++ decimal number
 
+-- so many cycles
+abbrev pub cycles_text : ℕ → List ℕ
+cycles_text cycles = if cycles == 1 then codes "1 cycle" else decimal cycles ++ codes " cycles"
+
 -- since when it is open, and for how many cycles
 abbrev pub since_text : ℕ → ℕ → List ℕ
-since_text since cycles = codes ", since cycle " ++ decimal since ++ codes ", for " ++ decimal cycles ++ codes " cycles"
+since_text since cycles = codes ", since cycle " ++ decimal since ++ codes ", for " ++ cycles_text cycles
 
 -- the number of the line of its answer, or that there is none
 abbrev pub answer_line : Response → Option ℕ → List ℕ
@@ -96,3 +100,15 @@ waits_text lines m =
 abbrev pub unmet_text : List (List ℕ) → MessagesState → Unmet → List ℕ
 unmet_text lines m (TooLong o) = wait_text told.TooLong lines m o
 unmet_text lines m (NotQuiet o) = wait_text told.NotQuiet lines m o
+
+-- how many lines are left out, where some are
+abbrev pub left_count : ℕ → List ℕ
+left_count count = if count == 0 then [] else codes "lines left out: " ++ decimal count ++ codes "\n"
+
+-- the same of a record
+abbrev pub left_text : MessagesState → List ℕ
+left_text m = left_count (length m.left_lines)
+
+-- What stands behind an answer: how many lines are left out, and the exchanges.
+abbrev pub tail_text : List (List ℕ) → MessagesState → List ℕ
+tail_text lines m = left_text m ++ waits_text lines m

@@ -3,13 +3,15 @@ ghost use Rattle.std.specs.Prelude.{◌≡◌, ◌++◌, Some, IfOk, OnOk, slice
 ghost use Rattle.std.specs.List.{flat_map};
 ghost use Rattle.tl_streams.specs.Written.{AppendsBeginning};
 ghost use Rattle.tl_script_words.specs.Words.{texts};
-ghost use Rattle.tlwire_answer.specs.Ending.{answer_text, ending_of_read, ending_of_words, explained_text, fault_line, fault_text, hindrance_text, impossible_text, limit_line, limit_text, not_decided_text, order_text, other_order_text, rule_line, ruled_out_text, sets_text, side_text, stop_line, stuck_line, block_line, run_of, status_of, summary_line, summary_text, view_line};
+ghost use Rattle.tlwire_answer.specs.Ending.{answer_text, ending_of_read, ending_of_words, explained_text, fault_line, fault_text, hindrance_text, impossible_text, limit_line, limit_text, not_decided_text, order_text, other_order_text, rule_line, ruled_out_text, sets_text, side_text, stop_line, stuck_line, block_line, run_of, status_of, summary_line, summary_text, undecided_text, view_line};
 ghost use Rattle.tlwire_answer.specs.Lines.{lent_line, number_at, text_at};
+ghost use Rattle.tlwire_search.specs.Premises.{has_drops};
 
+use crate::advice::AdvisedLine;
 use crate::order::Order;
 use crate::run::RunText;
-use crate::verdict::Verdict;
-use crate::waits::{unmet_text, with_waits};
+use crate::verdict::{Undecided, Verdict};
+use crate::waits::{unmet_text, with_left, with_tail};
 use std::alloc::{AllocError, Global};
 use std::fmt;
 use std::fmt::Write as WriteText;
@@ -22,7 +24,7 @@ use tlcheck_rules::Breach;
 use tlwire_closed::{Hindrance, Reason, Side, Stop, Stuck};
 use tlwire_pins::{View, Wrong};
 use tlwire_record::Messages;
-use tlwire_search::Limit;
+use tlwire_search::{Limit, has_drops};
 
 /// What is written of a run that was found.
 #[derive(Clone, Copy, Debug, PartialEq, Eq)]
@@ -202,7 +204,7 @@ fn explained(
     match form {
         Form::Summary => {
             push_summary(&mut text, messages, events)?;
-            with_waits(alloc, text.into_bytes(), lines, messages)
+            with_tail(alloc, text.into_bytes(), lines, messages)
         }
         Form::Run => {
             push_run(&mut text, messages, events)?;
@@ -227,16 +229,25 @@ impl fmt::Display for LimitText {
     }
 }
 
-// Why no closed set says that it is unlawful, where one was sought.
+// Why no closed set says that it is unlawful, where one was sought, or where a client drops clean copies.
 #[derive(Clone, Copy)]
-struct SetsText(Option<Reason>);
+struct SetsText {
+    drops: bool,
+    reason: Option<Reason>,
+}
 
 impl fmt::Display for SetsText {
-    ghost output = { λ x. Some (sets_text x.0) };
+    ghost output = { λ x. Some (sets_text x.drops x.reason) };
 
     fn fmt<W: fmt::Write>(&self, f: &mut fmt::Formatter<W>) -> fmt::Result {
-        match self.0 {
-            None => Ok(()),
+        match self.reason {
+            None => {
+                if self.drops {
+                    f.write_str("; no closed set is made where a client drops clean copies")
+                } else {
+                    Ok(())
+                }
+            }
             Some(Reason::NoContradiction) => {
                 f.write_str("; in each block a state comes past all lines")
             }
@@ -245,23 +256,41 @@ impl fmt::Display for SetsText {
     }
 }
 
+// That nothing more is said: why closed sets say nothing, and which line of the header would have decided it.
+#[derive(Clone, Copy)]
+struct UndecidedText {
+    drops: bool,
+    undecided: Undecided,
+}
+
+impl fmt::Display for UndecidedText {
+    ghost output = { λ x. Some (undecided_text x.drops x.undecided) };
+
+    fn fmt<W: fmt::Write>(&self, f: &mut fmt::Formatter<W>) -> fmt::Result {
+        let sets = SetsText {
+            drops: self.drops,
+            reason: self.undecided.sets,
+        };
+        let advice = AdvisedLine(self.undecided.advice);
+        write!(
+            f,
+            "{sets}; this is no verdict that it is unlawful\n{advice}"
+        )
+    }
+}
+
 // What ended an attempt, behind the line that it did not reach.
 #[derive(Clone, Copy)]
 struct LimitLine {
     limit: Limit,
-    sets: Option<Reason>,
+    rest: UndecidedText,
 }
 
 impl fmt::Display for LimitLine {
-    ghost output = { λ x. Some (limit_line x.limit x.sets) };
+    ghost output = { λ x. Some (limit_line x.limit x.rest.drops x.rest.undecided) };
 
     fn fmt<W: fmt::Write>(&self, f: &mut fmt::Formatter<W>) -> fmt::Result {
-        write!(
-            f,
-            "\n{}{}; this is no verdict that it is unlawful\n",
-            LimitText(self.limit),
-            SetsText(self.sets)
-        )
+        write!(f, "\n{}{}", LimitText(self.limit), self.rest)
     }
 }
 
@@ -270,11 +299,11 @@ fn not_decided(
     number: u64,
     line: &[u8],
     limit: Limit,
-    sets: Option<Reason>,
+    rest: UndecidedText,
 ) -> Result<Vec<u8>, AllocError>
-    ensures { IfOk result (λ text. text.items ≡ not_decided_text number line.now limit sets) }
+    ensures { IfOk result (λ text. text.items ≡ not_decided_text number line.now limit rest.drops rest.undecided) }
 {
-    let ended = LimitLine { limit, sets };
+    let ended = LimitLine { limit, rest };
     let head = format!(in alloc; "not decided: line {number}: ")?;
     let tail = format!(in alloc; "{ended}")?;
     let mut text = head.into_bytes();
@@ -300,13 +329,12 @@ impl fmt::Display for OrderText {
     }
 }
 
-fn other_order(alloc: Global, order: Order, sets: Option<Reason>) -> Result<Vec<u8>, AllocError>
-    ensures { IfOk result (λ text. text.items ≡ other_order_text order sets) }
+fn other_order(alloc: Global, order: Order, rest: UndecidedText) -> Result<Vec<u8>, AllocError>
+    ensures { IfOk result (λ text. text.items ≡ other_order_text order rest.drops rest.undecided) }
 {
     let place = OrderText(order);
-    let reason = SetsText(sets);
     let text = format!(in alloc;
-        "not decided: the run that was found has another order {place}{reason}; this is no verdict that it is unlawful\n"
+        "not decided: the run that was found has another order {place}{rest}"
     )?;
     Ok(text.into_bytes())
 }
@@ -503,6 +531,17 @@ fn ruled_out(
     Ok(text)
 }
 
+/// That nothing more is said of a record.
+fn undecided_text(messages: &Messages, undecided: Undecided) -> UndecidedText
+    ensures drops { result.drops ≡ has_drops messages.now.setting.premises }
+    ensures undecided { result.undecided ≡ undecided }
+{
+    UndecidedText {
+        drops: has_drops(messages.setting().premises()),
+        undecided,
+    }
+}
+
 /// What is written of what was said. Err is a refused request for memory.
 pub fn text_of(
     alloc: Global,
@@ -517,30 +556,29 @@ pub fn text_of(
         Verdict::Explained(events) => explained(alloc, form, lines, messages, events),
         Verdict::Impossible(wrong) => {
             let number = number_at(messages, wrong.place);
-            impossible(alloc, number, text_at(lines, number), wrong)
+            let text = impossible(alloc, number, text_at(lines, number), wrong)?;
+            with_left(alloc, text, messages)
         }
         Verdict::RuledOut(stuck) => {
             let number = number_at(messages, stuck.place);
-            ruled_out(
-                alloc,
-                messages.lines(),
-                number,
-                text_at(lines, number),
-                stuck,
-            )
+            let line = text_at(lines, number);
+            let text = ruled_out(alloc, messages.lines(), number, line, stuck)?;
+            with_left(alloc, text, messages)
         }
-        Verdict::NotDecided(place, limit, sets) => {
+        Verdict::NotDecided(place, limit, undecided) => {
             let number = number_at(messages, *place);
-            let text = not_decided(alloc, number, text_at(lines, number), *limit, *sets)?;
-            with_waits(alloc, text, lines, messages)
+            let line = text_at(lines, number);
+            let rest = undecided_text(messages, *undecided);
+            let text = not_decided(alloc, number, line, *limit, rest)?;
+            with_tail(alloc, text, lines, messages)
         }
-        Verdict::OtherOrder(order, sets) => {
-            let text = other_order(alloc, *order, *sets)?;
-            with_waits(alloc, text, lines, messages)
+        Verdict::OtherOrder(order, undecided) => {
+            let text = other_order(alloc, *order, undecided_text(messages, *undecided))?;
+            with_tail(alloc, text, lines, messages)
         }
         Verdict::Unmet(unmet) => {
             let text = unmet_text(alloc, lines, messages, *unmet)?;
-            with_waits(alloc, text, lines, messages)
+            with_tail(alloc, text, lines, messages)
         }
     }
 }

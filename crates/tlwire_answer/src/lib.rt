@@ -2,6 +2,7 @@
 //! attempt reached.
 #![tactic(auto)]
 
+mod advice;
 mod ending;
 mod named;
 mod order;
@@ -12,8 +13,9 @@ mod sets;
 mod verdict;
 mod waits;
 
+pub use advice::Advice;
 pub use ending::{Ending, Form, show, text_of};
 pub use order::Order;
 pub use reply::{answer, judge_lines, tell_ending};
-pub use verdict::Verdict;
+pub use verdict::{Undecided, Verdict};
 pub use waits::Unmet;

@@ -2,23 +2,36 @@
 ghost use Rattle.std.specs.Prelude.{◌≡◌};
 ghost use Rattle.tl_script_words.specs.Words.{texts};
 ghost use Rattle.tlwire_record.specs.Reading.{lines_of};
-ghost use Rattle.tlwire_answer.specs.Answer.{IsEnding, MayEnd};
+ghost use Rattle.tlwire_answer.specs.Answer.{IsJudged};
 ghost use Rattle.tlwire_answer.specs.Ending.{IsTold, Tells, status_of};
+ghost use Rattle.tlwire_answer.specs.Replies.{IsEnding, MayEnd};
 ghost use Rattle.tlwire_answer.specs.declared.ending.Ending.{Ending};
 
+use crate::advice::with_advice;
 use crate::ending::{Ending, Form, show, text_of};
-use crate::verdict::judge;
+use crate::verdict::{Verdict, judge};
 use std::alloc::Global;
 use std::io::Write;
 use tl_streams::{Watcher, write_whole};
 use tlwire_record::{Messages, ReadFault, read, split_lines};
+
+/// That verdict, with a line of the header that would have decided it, where it is none.
+fn advised(alloc: Global, mut messages: Messages, verdict: Verdict) -> Ending
+    requires { IsJudged messages verdict }
+    ensures { IsEnding messages result }
+{
+    match with_advice(alloc, &mut messages, verdict) {
+        Ok(verdict) => Ending::Answered(messages, verdict),
+        Err(_) => Ending::Memory,
+    }
+}
 
 /// What the answer to what was seen ends with.
 fn answered<T: Watcher>(alloc: Global, messages: Messages, watcher: &mut T) -> Ending
     ensures { IsEnding messages result }
 {
     match judge(alloc, &messages, watcher) {
-        Ok(verdict) => Ending::Answered(messages, verdict),
+        Ok(verdict) => advised(alloc, messages, verdict),
         Err(_) => Ending::Memory,
     }
 }

@@ -1,9 +1,10 @@
 //! What is said of what was seen.
-ghost use Rattle.std.specs.Prelude.{ℕ, Some, IfOk, IfSome};
+ghost use Rattle.std.specs.Prelude.{◌≡◌, ℕ, Some, None, IfOk, IfSome};
 ghost use Rattle.tlwire_answer.specs.Answer.{IsExplainedInFull, IsFirstOf, IsFound, IsJudged, IsRuledOut, IsSets, IsVerdict, MayAtPins, with_lines};
 ghost use Rattle.tlwire_record.specs.Messages.{MessagesState};
 ghost use Rattle.tlwire_search.specs.Explained.{Explains, IsExplanation};
 
+use crate::advice::Advice;
 use crate::named::is_all_in_order;
 use crate::order::{Order, other_order};
 use crate::pins::wrong_at_pins;
@@ -18,8 +19,18 @@ use tlwire_record::Messages;
 use tlwire_rounds::explain_in_rounds;
 use tlwire_search::{Explanation, Limit, Seen, explain, has_drops};
 
-/// How many messages, loads and stores a record has, at most, for which a run is sought in rounds.
-const SEEN_IN_ROUNDS: usize = 10_000;
+/// How many messages, loads and stores a record has, at most, for which a run is sought in rounds, and a line of the
+/// header that would decide it.
+pub(crate) const MOST_SEEN: usize = 10_000;
+
+/// What is told where neither was found.
+#[derive(Clone, Copy, Debug, PartialEq, Eq)]
+pub struct Undecided {
+    /// Why closed sets say nothing, where one was sought.
+    pub sets: Option<Reason>,
+    /// A line of the header that would have decided it, where it is true.
+    pub advice: Option<Advice>,
+}
 
 /// What is said of what was seen.
 #[derive(Drop)]
@@ -30,13 +41,33 @@ pub enum Verdict {
     Impossible(Wrong),
     /// No lawful run is seen so, by a closed set of states of one block.
     RuledOut(Stuck),
-    /// Neither was found; the attempt ended before the thing seen at this place, by this. Closed sets say nothing for
-    /// this reason, where one was sought.
-    NotDecided(usize, Limit, Option<Reason>),
-    /// A run was found that has what was seen on each wire, but not in this order. Of closed sets the same.
-    OtherOrder(Order, Option<Reason>),
+    /// Neither was found; the attempt ended before the thing seen at this place, by this.
+    NotDecided(usize, Limit, Undecided),
+    /// A run was found that has what was seen on each wire, but not in this order.
+    OtherOrder(Order, Undecided),
     /// It is not impossible, and not as the header expects.
     Unmet(Unmet),
+}
+
+/// Nothing.
+fn nothing_told() -> Undecided
+    ensures sets { result.sets ≡ None }
+    ensures advice { result.advice ≡ None }
+{
+    Undecided {
+        sets: None,
+        advice: None,
+    }
+}
+
+impl Undecided {
+    /// The same, with the reason for which closed sets say nothing.
+    fn with_sets(self, sets: Option<Reason>) -> Undecided
+        ensures sets { result.sets ≡ sets }
+        ensures advice { result.advice ≡ self.advice }
+    {
+        Undecided { sets, ..self }
+    }
 }
 
 /// That a run explains these lines, where it has each order that the header asks for.
@@ -50,7 +81,7 @@ fn ordered(
     ensures { IfOk result (IsFound (with_lines messages.now seen.now)) }
 {
     match other_order(alloc, messages, seen, &run)? {
-        Some(order) => Ok(Verdict::OtherOrder(order, None)),
+        Some(order) => Ok(Verdict::OtherOrder(order, nothing_told())),
         None => Ok(Verdict::Explained(run)),
     }
 }
@@ -68,7 +99,11 @@ fn weighed_run(
 {
     match explanation {
         Explanation::Explained(run) => ordered(alloc, messages, seen, run),
-        Explanation::NotExplained(place, limit) => Ok(Verdict::NotDecided(place, limit, None)),
+        Explanation::NotExplained(place, limit) => Ok(Verdict::NotDecided(
+            place,
+            limit,
+            nothing_told(),
+        )),
     }
 }
 
@@ -118,7 +153,7 @@ fn explained(alloc: Global, messages: &Messages, seen: &[Seen]) -> Result<Verdic
     if let Verdict::Explained(_) = &verdict {
         return Ok(verdict);
     }
-    if seen.len() > SEEN_IN_ROUNDS {
+    if seen.len() > MOST_SEEN {
         return Ok(verdict);
     }
     let again = explained_in_rounds(alloc, messages, seen)?;
@@ -163,8 +198,12 @@ fn with_reason(verdict: Verdict, reason: Option<Reason>) -> Verdict
     ensures { (m : MessagesState) → IsVerdict m verdict → IsVerdict m result }
 {
     match verdict {
-        Verdict::NotDecided(place, limit, _) => Verdict::NotDecided(place, limit, reason),
-        Verdict::OtherOrder(order, _) => Verdict::OtherOrder(order, reason),
+        Verdict::NotDecided(place, limit, undecided) => {
+            Verdict::NotDecided(place, limit, undecided.with_sets(reason))
+        }
+        Verdict::OtherOrder(order, undecided) => {
+            Verdict::OtherOrder(order, undecided.with_sets(reason))
+        }
         verdict => verdict,
     }
 }

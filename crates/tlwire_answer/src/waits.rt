@@ -5,7 +5,7 @@ ghost use Rattle.tl_script_words.specs.Words.{texts};
 ghost use Rattle.tlwire_exchanges.specs.Opened.{exchanges_of};
 ghost use Rattle.tlwire_exchanges.specs.Times.{cycle_at, open_for};
 ghost use Rattle.tlwire_answer.specs.Lines.{number_at};
-ghost use Rattle.tlwire_answer.specs.Waits.{answer_line, answer_number, head_text, line_text, longest_text, not_quiet, open_text, response_text, since_text, too_long, unmet_by, unmet_of, unmet_text, wait_text, waits_text};
+ghost use Rattle.tlwire_answer.specs.Waits.{answer_line, answer_number, cycles_text, head_text, left_count, left_text, line_text, longest_text, not_quiet, open_text, response_text, since_text, tail_text, too_long, unmet_by, unmet_of, unmet_text, wait_text, waits_text};
 
 use crate::ending::{number_at, number_in, text_at};
 use std::alloc::{AllocError, Global};
@@ -128,6 +128,22 @@ impl fmt::Display for LineText {
     }
 }
 
+// So many cycles.
+#[derive(Clone, Copy)]
+struct CyclesText(u32);
+
+impl fmt::Display for CyclesText {
+    ghost output = { λ x. Some (cycles_text x.0) };
+
+    fn fmt<W: fmt::Write>(&self, f: &mut fmt::Formatter<W>) -> fmt::Result {
+        if self.0 == 1 {
+            f.write_str("1 cycle")
+        } else {
+            write!(f, "{} cycles", self.0)
+        }
+    }
+}
+
 // Since when it is open, and for how many cycles.
 #[derive(Clone, Copy)]
 struct SinceText {
@@ -141,8 +157,9 @@ impl fmt::Display for SinceText {
     fn fmt<W: fmt::Write>(&self, f: &mut fmt::Formatter<W>) -> fmt::Result {
         write!(
             f,
-            ", since cycle {}, for {} cycles",
-            self.since, self.cycles
+            ", since cycle {}, for {}",
+            self.since,
+            CyclesText(self.cycles)
         )
     }
 }
@@ -296,7 +313,7 @@ fn push_longest(
 }
 
 /// A text with each exchange that is open at the end, in the order of their lines, and the longest wait of the others.
-pub(crate) fn with_waits(
+fn with_waits(
     alloc: Global,
     mut text: Vec<u8>,
     lines: &[&[u8]],
@@ -309,6 +326,49 @@ pub(crate) fn with_waits(
     let longest = longest_closed(messages.cycles(), messages.end(), &exchanges);
     push_longest(alloc, &mut text, lines, messages, longest)?;
     Ok(text)
+}
+
+// How many lines are left out.
+#[derive(Clone, Copy)]
+struct LeftCount(usize);
+
+impl fmt::Display for LeftCount {
+    ghost output = { λ x. Some (left_count x.0) };
+
+    fn fmt<W: fmt::Write>(&self, f: &mut fmt::Formatter<W>) -> fmt::Result {
+        if self.0 == 0 {
+            Ok(())
+        } else {
+            write!(f, "lines left out: {}\n", self.0)
+        }
+    }
+}
+
+/// A text with how many lines are left out, where some are.
+pub(crate) fn with_left(
+    alloc: Global,
+    mut text: Vec<u8>,
+    messages: &Messages,
+) -> Result<Vec<u8>, AllocError>
+    ensures { IfOk result (λ after. after.items ≡ text.items ++ left_text messages.now) }
+{
+    let count = LeftCount(messages.left_lines().len());
+    let line = format!(in alloc; "{count}")?;
+    text.extend_from_slice(line.as_bytes())?;
+    Ok(text)
+}
+
+/// A text with what stands behind an answer: how many lines are left out, and the exchanges.
+pub(crate) fn with_tail(
+    alloc: Global,
+    text: Vec<u8>,
+    lines: &[&[u8]],
+    messages: &Messages,
+) -> Result<Vec<u8>, AllocError>
+    ensures { IfOk result (λ after. after.items ≡ text.items ++ tail_text (texts lines.now) messages.now) }
+{
+    let text = with_left(alloc, text, messages)?;
+    with_waits(alloc, text, lines, messages)
 }
 
 /// The exchange that is not as the header expects.

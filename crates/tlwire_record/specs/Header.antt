@@ -1,5 +1,5 @@
 -- The lines before the messages (this project's own format).
-use Rattle.std.specs.Prelude.{ℕ, ◌%◌, ◌*◌, ◌+◌, ◌++◌, ◌==◌, ◌&&◌, ◌||◌, nat_le, nat_lt, Bool, false, List, [], ◌∷◌, codes, bytes_eq, None, Result, Ok, Err, if◌then◌else◌}
+use Rattle.std.specs.Prelude.{ℕ, ◌%◌, ◌*◌, ◌+◌, ◌++◌, ◌==◌, ◌&&◌, ◌||◌, nat_le, nat_lt, Bool, false, List, [], ◌∷◌, take, codes, bytes_eq, None, Result, Ok, Err, if◌then◌else◌}
 use Rattle.std.specs.List.{list_any}
 use Rattle.tl_protocol.specs.declared.shape.Shape.{Shape}
 use Rattle.tlcheck_record.specs.Header.{is_in_range}
@@ -13,16 +13,19 @@ use Rattle.tlcheck_record.specs.declared.cause.Cause.TheVariants as cause
 use Rattle.tlwire_record.specs.declared.header.TheConstants.{REACH}
 use Rattle.tlwire_record.specs.declared.header.Sources.{Sources}
 use Rattle.tlwire_record.specs.declared.expects.Expects.{Expects}
+use Rattle.tlwire_record.specs.declared.ignored.Ignored.{Ignored}
 use Rattle.tlwire_search.specs.declared.premise.Premise.{Premise}
 use Rattle.tlwire_search.specs.declared.premise.Premise.TheVariants.{AtClient, AtClients, AtHome, Between, Skew, Whole, MemoryUnseen, CoresUnseen}
 
--- The memory, the clients and their sources, and how the record was seen, in the order of their lines; what is expected of its exchanges.
+-- The memory, the clients and their sources, and how the record was seen, in the order of their lines; what is expected of its exchanges,
+-- and whose lines are left out.
 pub record SettingState : Type 0 where
   pub shape : Shape
   pub base : ℕ
   pub sources : List Sources
   pub premises : List Premise
   pub expects : Expects
+  pub ignored : List Ignored
 
 -- nothing
 abbrev pub nothing_expected : Expects
@@ -74,7 +77,7 @@ is_fit shape base = is_in_range shape && (base % shape.block_bytes == 0) && ends
 
 -- the setting of these numbers, where they are fit
 abbrev pub fitting : Shape → ℕ → Result SettingState Cause
-fitting shape base = if is_fit shape base then Ok (record { shape = shape; base = base; sources = []; premises = []; expects = nothing_expected }) else Err cause.Range
+fitting shape base = if is_fit shape base then Ok (record { shape = shape; base = base; sources = []; premises = []; expects = nothing_expected; ignored = [] }) else Err cause.Range
 
 -- `clients=NUM block=NUM blocks=NUM base=ADDR`, behind the word `shape`
 unfoldable pub numbers_in : List (List ℕ) → Result SettingState Cause
@@ -113,6 +116,10 @@ with_sources setting s = record setting { sources = setting.sources ++ s ∷ [] 
 -- the setting with what a line of sources gives
 abbrev pub sources_taken : SettingState → List (List ℕ) → Result SettingState Cause
 sources_taken setting words = sources_in setting.shape words >>= (λ s. Ok (with_sources setting s))
+
+-- one line more of whose lines are left out
+abbrev pub with_ignored : SettingState → Ignored → SettingState
+with_ignored setting i = record setting { ignored = setting.ignored ++ i ∷ [] }
 
 -- ## How the record was seen
 
@@ -177,6 +184,10 @@ premise_in shape word rest =
 -- one line more that says how
 abbrev pub with_premise : SettingState → Premise → SettingState
 with_premise setting p = record setting { premises = setting.premises ++ p ∷ [] }
+
+-- of the lines that say how, the first so many
+abbrev pub with_first_premises : SettingState → ℕ → SettingState
+with_first_premises setting count = record setting { premises = take count setting.premises }
 
 -- the same, where no earlier line says it already
 abbrev pub new_premise : SettingState → List ℕ → List (List ℕ) → Result Premise Cause

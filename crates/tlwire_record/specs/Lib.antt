@@ -4,6 +4,7 @@ pub mod Drops
 pub mod Expects
 pub mod Fields
 pub mod Header
+pub mod Left
 pub mod Line
 pub mod Messages
 pub mod Place

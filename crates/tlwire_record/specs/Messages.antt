@@ -13,7 +13,8 @@ use Rattle.tlwire_search.specs.declared.seen.Wire.TheVariants as wire
 use Rattle.tlwire_search.specs.declared.seen.Seen.TheVariants.{OnLink, OnMemory, Load as Loads, Store as Stores}
 use Rattle.tlwire_record.specs.Code.{is_on_link, kind_of, name_of, role_of}
 use Rattle.tlcheck_record.specs.Cause.{◌>>=◌}
-use Rattle.tlwire_record.specs.Header.{SettingState, owns}
+use Rattle.tlwire_record.specs.Header.{SettingState, owns, with_first_premises, with_premise}
+use Rattle.tlwire_record.specs.Left.{LeftState, none_left, said_left}
 use Rattle.tlwire_record.specs.Place.{has_its_data, has_other_fields, is_set, is_size, offset_of}
 use Rattle.tlwire_record.specs.Tables.{TableState, no_tables, taken}
 use Rattle.tlcheck_record.specs.declared.cause.Cause.{Cause}
@@ -112,26 +113,53 @@ said_taken setting t link (said.Store address bytes) =
     owner_of link >>= (λ c. offset_of setting.shape setting.base address bytes >>= (λ offset. Ok (Stores c offset bytes, t)))
 said_taken setting t link (said.Message channel opcode f) = message_taken setting t link channel opcode f
 
--- What was seen, in the order of the lines, each with the number of its line and its cycle; the cycle of the last line, and what is open.
+-- What was seen, in the order of the lines, each with the number of its line and its cycle; the cycle of the last line, and what is open;
+-- and the lines that are left out.
 pub record MessagesState : Type 0 where
   pub setting : SettingState
   pub image : List ℕ
   pub cycle : ℕ
   pub tables : TableState
+  pub left : LeftState
   pub seen : List Seen
   pub lines : List ℕ
   pub cycles : List ℕ
+  pub left_lines : List ℕ
 
 -- nothing was seen
 abbrev pub began : SettingState → List ℕ → MessagesState
-began setting image = record { setting = setting; image = image; cycle = 0; tables = no_tables; seen = []; lines = []; cycles = [] }
+began setting image = record { setting = setting; image = image; cycle = 0; tables = no_tables; left = none_left; seen = []; lines = []; cycles = []; left_lines = [] }
 
 -- the line with this number has what is seen of it, and nothing else changes but the cycle and what is open
+abbrev pub line_seen : MessagesState → ℕ → Line → Result MessagesState Cause
+line_seen m number line =
+    if is_unwatched m.setting.premises (unwatched_wire line.link line.said) then Err cause.Unwatched
+    else
+    said_taken m.setting m.tables line.link line.said
+    >>= (λ s. Ok (record m { cycle = line.cycle; tables = s.1; seen = m.seen ++ s.0 ∷ []; lines = m.lines ++ number ∷ []; cycles = m.cycles ++ line.cycle ∷ [] }))
+
+-- the line with this number is left out
+abbrev pub line_left : MessagesState → ℕ → ℕ → MessagesState
+line_left m number cycle = record m { cycle = cycle; left_lines = m.left_lines ++ number ∷ [] }
+
+-- the line with this number, where it is left out, or else is seen
+abbrev pub line_of : MessagesState → ℕ → Line → Option LeftState → Result MessagesState Cause
+line_of m number line None = line_seen m number line
+line_of m number line (Some left) = Ok (line_left (record m { left = left }) number line.cycle)
+
+-- the line with this number
 abbrev pub line_taken : MessagesState → ℕ → Line → Result MessagesState Cause
 line_taken m number line =
     if nat_lt line.cycle m.cycle then Err cause.Backwards
     else if not (is_there m.setting.shape.clients line.link) then Err cause.Client
-    else if is_unwatched m.setting.premises (unwatched_wire line.link line.said) then Err cause.Unwatched
-    else
-    said_taken m.setting m.tables line.link line.said
-    >>= (λ s. Ok (record m { cycle = line.cycle; tables = s.1; seen = m.seen ++ s.0 ∷ []; lines = m.lines ++ number ∷ []; cycles = m.cycles ++ line.cycle ∷ [] }))
+    else line_of m number line (said_left m.setting m.left line.link line.said)
+
+-- ## With one line more in its header
+
+-- a record whose header says more of how it was seen
+abbrev pub supposing : MessagesState → Premise → MessagesState
+supposing m p = record m { setting = with_premise m.setting p }
+
+-- a record with the first so many of these lines
+abbrev pub with_first : MessagesState → ℕ → MessagesState
+with_first m count = record m { setting = with_first_premises m.setting count }

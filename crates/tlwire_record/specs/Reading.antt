@@ -6,6 +6,7 @@ use Rattle.tlcheck_record.specs.Cause.{◌>>=◌}
 use Rattle.tlcheck_record.specs.Words.{image_in, is_blank, text_in}
 use Rattle.tlwire_record.specs.Expects.{expects_taken, is_expects_word}
 use Rattle.tlwire_record.specs.Header.{SettingState, is_premise_word, is_title, premise_taken, setting_in, sources_taken}
+use Rattle.tlwire_record.specs.Left.{ignored_taken}
 use Rattle.tlwire_record.specs.Line.{line_in}
 use Rattle.tlwire_record.specs.Messages.{MessagesState, began, line_taken}
 use Rattle.tlcheck_record.specs.declared.cause.Cause.{Cause}
@@ -17,12 +18,14 @@ use Rattle.tlwire_record.specs.declared.stage.Stage.TheVariants.{Fresh, Titled, 
 abbrev pub going : MessagesState → ℕ → List (List ℕ) → Result Stage Cause
 going m number words = line_in words >>= (λ line. line_taken m number line >>= (λ after. Ok (Going after)))
 
--- a line behind the shape: sources, how the record was seen, what is expected of it, the image, or the first of what was seen
+-- a line behind the shape: sources, how the record was seen, what is expected of it, whose lines are left out, the image, or the first of
+-- what was seen
 abbrev pub shaped_by : SettingState → ℕ → List ℕ → List (List ℕ) → List (List ℕ) → Result Stage Cause
 shaped_by setting number word rest words =
     if bytes_eq word (codes "source") then sources_taken setting rest >>= (λ s. Ok (Shaped s))
     else if is_premise_word word then premise_taken setting word rest >>= (λ s. Ok (Shaped s))
     else if is_expects_word word then expects_taken setting word rest >>= (λ s. Ok (Shaped s))
+    else if bytes_eq word (codes "ignored") then ignored_taken setting rest >>= (λ s. Ok (Shaped s))
     else if bytes_eq word (codes "image") then image_in setting.shape rest >>= (λ image. Ok (Going (began setting image)))
     else going (began setting []) number words
 

@@ -1,14 +1,15 @@
 //! The lines before the messages: the title, the shape, whose the sources are, the image.
-ghost use Rattle.std.specs.Prelude.{◌≡◌, ◌<◌, ◌≤◌, [], ◌∷◌, Ok};
+ghost use Rattle.std.specs.Prelude.{◌≡◌, ◌<◌, ◌≤◌, [], ◌∷◌, Ok, OnErr, OnOk};
 ghost use Rattle.std.specs.List.{list_any};
 ghost use Rattle.tl_script_words.specs.Words.{texts};
 ghost use Rattle.tlcheck_record.specs.Cause.{Gives};
-ghost use Rattle.tlwire_record.specs.Header.{address_at, address_part, ends_in_reach, fitting, has_source, has_sources, is_fit, is_of, is_title, number_at, number_part, numbers_in, owns, setting_in, sources_in, sources_taken, with_premise, with_sources};
+ghost use Rattle.tlwire_record.specs.Header.{address_at, address_part, ends_in_reach, fitting, has_source, has_sources, is_fit, is_of, is_title, number_at, number_part, numbers_in, owns, setting_in, sources_in, sources_taken, with_first_premises, with_ignored, with_premise, with_sources};
 
 use crate::address::read_wide_address;
 use crate::expects::{Expects, nothing_expected};
 use crate::fields::split_pair;
-use std::alloc::Global;
+use crate::ignored::Ignored;
+use std::alloc::{AllocError, Global};
 use std::marker::Model;
 use tl_rules::Shape;
 use tl_types::{BLOCK_BYTES, BLOCKS, ClientId};
@@ -34,6 +35,7 @@ pub struct Setting {
     sources: Vec<Sources>,
     premises: Vec<Premise>,
     expects: Expects,
+    ignored: Vec<Ignored>,
 }
 
 impl Model for Setting {
@@ -50,6 +52,7 @@ impl Model for Setting {
           sources = s.sources.items;
           premises = s.premises.items;
           expects = s.expects;
+          ignored = s.ignored.items;
         } };
 
     ghost invariant = { λ s. (0 < s.shape.block_bytes) × (s.shape.block_bytes ≤ BLOCK_BYTES)
@@ -58,7 +61,7 @@ impl Model for Setting {
 
 impl Sources {
     /// Whether a source lies between them, and the client is theirs.
-    fn has(&self, client: ClientId, source: u32) -> bool
+    pub(crate) fn has(&self, client: ClientId, source: u32) -> bool
         ensures { result ≡ has_source client source self.now }
     {
         self.client == client && self.from <= source && source <= self.to
@@ -125,6 +128,21 @@ impl Setting {
         self.expects
     }
 
+    /// The agents and the addresses whose lines are left out.
+    pub fn ignored(&self) -> &[Ignored]
+        ensures { result.now ≡ self.now.ignored }
+    {
+        &self.ignored
+    }
+
+    /// One more of these.
+    pub(crate) fn add_ignored(&mut self, ignored: Ignored) -> Result<(), LineError>
+        ensures { Gives (λ _. self.new) result (Ok (with_ignored self.old ignored)) }
+    {
+        self.ignored.push(ignored)?;
+        Ok(())
+    }
+
     /// This is expected.
     pub(crate) fn set_expects(&mut self, expects: Expects)
         ensures { self.new ≡ record self.old { expects = expects } }
@@ -138,6 +156,22 @@ impl Setting {
     {
         self.premises.push(premise)?;
         Ok(())
+    }
+
+    /// One line more that says how, as `add_premise` has it, for a reader of a record that is whole.
+    pub(crate) fn suppose(&mut self, premise: Premise) -> Result<(), AllocError>
+        ensures supposed { OnOk result (self.new ≡ with_premise self.old premise) }
+        ensures kept { OnErr result (self.new ≡ self.old) }
+    {
+        self.premises.push(premise)?;
+        Ok(())
+    }
+
+    /// Of these lines the first so many are left.
+    pub(crate) fn withdraw(&mut self, count: usize)
+        ensures { self.new ≡ with_first_premises self.old count }
+    {
+        self.premises.truncate(count);
     }
 
     /// One line of sources more.
@@ -238,6 +272,7 @@ fn fitting(alloc: Global, shape: Shape, base: u64) -> Result<Setting, Cause>
             sources: Vec::new(alloc),
             premises: Vec::new(alloc),
             expects: nothing_expected(),
+            ignored: Vec::new(alloc),
         })
     } else {
         Err(Cause::Range)

@@ -7,10 +7,11 @@ ghost use Rattle.tlwire_record.specs.Messages.{began, has_own_source, is_there, 
 use crate::code::{is_on_link, kind_of, name_of, role_of};
 use crate::fields::Fields;
 use crate::header::Setting;
+use crate::left::LeftOut;
 use crate::line::{Line, Link, Said};
 use crate::place::{has_its_data, has_other_fields, is_set, is_size, offset_of};
 use crate::tables::Tables;
-use std::alloc::Global;
+use std::alloc::{AllocError, Global};
 use std::marker::Model;
 use tl_types::{AccessBytes, BlockNo, Channel, ClientId, Kind};
 use tlcheck_record::{Cause, LineError};
@@ -138,9 +139,11 @@ pub struct Messages {
     image: Vec<u8>,
     cycle: u32,
     tables: Tables,
+    left: LeftOut,
     seen: Vec<Seen>,
     lines: Vec<u64>,
     cycles: Vec<u32>,
+    left_lines: Vec<u64>,
 }
 
 impl Model for Messages {
@@ -153,14 +156,17 @@ impl Model for Messages {
       image = m.image.items;
       cycle = m.cycle;
       tables = m.tables;
+      left = m.left;
       seen = m.seen.items;
       lines = m.lines.items;
       cycles = m.cycles.items;
+      left_lines = m.left_lines.items;
     } };
 }
 
 impl Messages {
-    ghost use Rattle.tlwire_record.specs.Messages.{line_taken, message_taken, said_taken};
+    ghost use Rattle.std.specs.Prelude.{Ok, OnErr, OnOk};
+    ghost use Rattle.tlwire_record.specs.Messages.{line_left, line_taken, message_taken, said_taken, supposing, with_first};
 
     /// The memory, the clients and their sources.
     pub fn setting(&self) -> &Setting
@@ -197,11 +203,34 @@ impl Messages {
         &self.cycles
     }
 
+    /// The number of each line that was left out.
+    pub fn left_lines(&self) -> &[u64]
+        ensures { result.now ≡ self.now.left_lines }
+    {
+        &self.left_lines
+    }
+
     /// The cycle of the last line.
     pub fn end(&self) -> u32
         ensures { result ≡ self.now.cycle }
     {
         self.cycle
+    }
+
+    /// One line more of the header says how the record was seen. Err is a refused request for memory, and nothing is
+    /// changed.
+    pub fn suppose(&mut self, premise: Premise) -> Result<(), AllocError>
+        ensures supposed { OnOk result (self.new ≡ supposing self.old premise) }
+        ensures kept { OnErr result (self.new ≡ self.old) }
+    {
+        self.setting.suppose(premise)
+    }
+
+    /// Of these lines the first so many are left.
+    pub fn withdraw(&mut self, count: usize)
+        ensures { self.new ≡ with_first self.old count }
+    {
+        self.setting.withdraw(count);
     }
 
     /// Nothing was seen.
@@ -213,9 +242,11 @@ impl Messages {
             image,
             cycle: 0,
             tables: Tables::new(alloc),
+            left: LeftOut::new(alloc),
             seen: Vec::new(alloc),
             lines: Vec::new(alloc),
             cycles: Vec::new(alloc),
+            left_lines: Vec::new(alloc),
         }
     }
 
@@ -281,6 +312,15 @@ impl Messages {
         }
     }
 
+    /// The line with this number is left out.
+    fn leave_out(&mut self, number: u64, cycle: u32) -> Result<(), LineError>
+        ensures { Gives (λ _. self.new) result (Ok (line_left self.old number cycle)) }
+    {
+        self.cycle = cycle;
+        self.left_lines.push(number)?;
+        Ok(())
+    }
+
     /// Takes the line with this number.
     pub(crate) fn take(&mut self, number: u64, line: Line) -> Result<(), LineError>
         ensures { Gives (λ _. self.new) result (line_taken self.old number line) }
@@ -291,6 +331,9 @@ impl Messages {
         }
         if !is_there(self.setting.shape().clients, &link) {
             return Err(LineError::Wrong(Cause::Client));
+        }
+        if self.left.take(&self.setting, &link, &said)? {
+            return self.leave_out(number, cycle);
         }
         if is_unwatched(self.setting.premises(), unwatched_wire(&link, &said)) {
             return Err(LineError::Wrong(Cause::Unwatched));

@@ -7,6 +7,7 @@ ghost use Rattle.tlwire_record.specs.Reading.{after_text, going, next, next_shap
 
 use crate::expects::{is_expects_word, take_expects};
 use crate::header::{Setting, is_title, parse_setting, take_sources};
+use crate::ignored::take_ignored;
 use crate::line::parse_line;
 use crate::messages::Messages;
 use crate::premise::{is_premise_word, take_premise};
@@ -62,6 +63,7 @@ fn shaped_by(
         "source" => Ok(Stage::Shaped(take_sources(alloc, setting, rest)?)),
         _ if is_premise_word(word) => Ok(Stage::Shaped(take_premise(setting, word, rest)?)),
         _ if is_expects_word(word) => Ok(Stage::Shaped(take_expects(setting, word, rest)?)),
+        "ignored" => Ok(Stage::Shaped(take_ignored(setting, rest)?)),
         "image" => {
             let image = read_image(alloc, setting.shape(), rest)?;
             Ok(Stage::Going(Messages::begin(alloc, setting, image)))

@@ -23,7 +23,7 @@ pub struct Id {
 
 impl Id {
     /// That number on that link.
-    fn on(link: &Link, number: u32) -> Id
+    pub(crate) fn on(link: &Link, number: u32) -> Id
         ensures { result ≡ id_on link.now number }
     {
         let client = match link {

@@ -1,0 +1,186 @@
+//! A line of the header that would have decided a record, where it is true.
+ghost use Rattle.std.specs.Prelude.{◌≡◌, Some, IfOk, IfSome, IsTrue};
+ghost use Rattle.std.specs.List.{list_any};
+ghost use Rattle.tlwire_answer.specs.Advice.{Decides, IsAdvised, advice_text, advised_line, is_decided, is_unwatched_by, stands_with};
+ghost use Rattle.tlwire_answer.specs.Answer.{IsJudged};
+ghost use Rattle.tlwire_search.specs.Premises.{is_unseen_on};
+
+use crate::verdict::{MOST_SEEN, Undecided, Verdict, judge};
+use std::alloc::{AllocError, Global};
+use std::fmt;
+use tl_types::Channel;
+use tlwire_record::Messages;
+use tlwire_search::{Premise, Seen, Wire, is_unseen};
+
+/// A line of the header that is tried.
+#[derive(Clone, Copy, Debug, PartialEq, Eq)]
+pub enum Advice {
+    /// `seen between`
+    Between,
+    /// `seen at clients`
+    AtClients,
+    /// `seen at home`
+    AtHome,
+    /// `memory unseen`
+    MemoryUnseen,
+    /// `cores unseen`
+    CoresUnseen,
+    /// `whole`
+    Whole,
+}
+
+/// All of them, in the order in which they are tried.
+const ALL: [Advice; 6] = [
+    Advice::Between,
+    Advice::AtClients,
+    Advice::AtHome,
+    Advice::MemoryUnseen,
+    Advice::CoresUnseen,
+    Advice::Whole,
+];
+
+impl fmt::Display for Advice {
+    ghost output = { λ a. Some (advice_text a) };
+
+    fn fmt<W: fmt::Write>(&self, f: &mut fmt::Formatter<W>) -> fmt::Result {
+        match self {
+            Advice::Between => f.write_str("seen between"),
+            Advice::AtClients => f.write_str("seen at clients"),
+            Advice::AtHome => f.write_str("seen at home"),
+            Advice::MemoryUnseen => f.write_str("memory unseen"),
+            Advice::CoresUnseen => f.write_str("cores unseen"),
+            Advice::Whole => f.write_str("whole"),
+        }
+    }
+}
+
+// That a line would decide it, where one would.
+#[derive(Clone, Copy)]
+pub(crate) struct AdvisedLine(pub(crate) Option<Advice>);
+
+impl fmt::Display for AdvisedLine {
+    ghost output = { λ x. Some (advised_line x.0) };
+
+    fn fmt<W: fmt::Write>(&self, f: &mut fmt::Formatter<W>) -> fmt::Result {
+        match self.0 {
+            Some(advice) => write!(
+                f,
+                "`{advice}` in the header would decide it, where that is true\n"
+            ),
+            None => Ok(()),
+        }
+    }
+}
+
+impl Advice {
+    ghost use Rattle.tlwire_answer.specs.Advice.{premise_of};
+
+    /// What it says of how the record was seen.
+    fn premise(self) -> Premise
+        ensures { result ≡ premise_of self }
+    {
+        match self {
+            Advice::Between => Premise::Between,
+            Advice::AtClients => Premise::AtClients,
+            Advice::AtHome => Premise::AtHome,
+            Advice::MemoryUnseen => Premise::MemoryUnseen,
+            Advice::CoresUnseen => Premise::CoresUnseen,
+            Advice::Whole => Premise::Whole,
+        }
+    }
+}
+
+/// Whether a line stands where a premise says that nobody watched.
+fn is_unwatched_by(premise: Premise, seen: &Seen) -> bool
+    ensures { result ≡ is_unwatched_by premise seen.now }
+{
+    match seen {
+        Seen::OnLink(_, _, _) => false,
+        Seen::OnMemory(_, _) => is_unseen(&[premise], Wire::Memory(Channel::A)),
+        Seen::Load(client, _, _) | Seen::Store(client, _, _) => {
+            is_unseen(&[premise], Wire::Core(*client))
+        }
+    }
+}
+
+/// Whether a record may say so: none of its lines stands where nobody watched.
+fn stands_with(lines: &[Seen], premise: Premise) -> bool
+    ensures { result ≡ stands_with lines.now premise }
+{
+    !lines.iter().any(|seen| is_unwatched_by(premise, seen))
+}
+
+/// Whether it is a run, or that there is none.
+fn is_decided(verdict: &Verdict) -> bool
+    ensures { result ≡ is_decided verdict.now }
+{
+    match verdict {
+        Verdict::Explained(_) | Verdict::Impossible(_) | Verdict::RuledOut(_) => true,
+        Verdict::NotDecided(_, _, _) | Verdict::OtherOrder(_, _) | Verdict::Unmet(_) => false,
+    }
+}
+
+/// Whether a line more of the header decides a record, which stays as it is.
+fn decides(alloc: Global, messages: &mut Messages, advice: Advice) -> Result<bool, AllocError>
+    ensures kept { messages.new ≡ messages.old }
+    ensures decides { IfOk result (λ yes. IsTrue yes → Decides messages.old advice) }
+{
+    let premise = advice.premise();
+    if !stands_with(messages.seen(), premise) {
+        return Ok(false);
+    }
+    let count = messages.setting().premises().len();
+    messages.suppose(premise)?;
+    let verdict = judge(alloc, messages, &mut ());
+    messages.withdraw(count);
+    Ok(is_decided(&verdict?))
+}
+
+/// The first line that decides a record, which stays as it is; none of a record of more than `MOST_SEEN` lines.
+fn advice_to(alloc: Global, messages: &mut Messages) -> Result<Option<Advice>, AllocError>
+    ensures kept { messages.new ≡ messages.old }
+    ensures decides { IfOk result (λ advice. IfSome advice (Decides messages.old)) }
+{
+    if messages.seen().len() > MOST_SEEN {
+        return Ok(None);
+    }
+    for advice in &ALL {
+        if decides(alloc, messages, *advice)? {
+            return Ok(Some(*advice));
+        }
+    }
+    Ok(None)
+}
+
+/// A verdict, with a line of the header that would have decided it, where it is none. The record stays as it is. Err is
+/// a refused request for memory.
+pub(crate) fn with_advice(
+    alloc: Global,
+    messages: &mut Messages,
+    verdict: Verdict,
+) -> Result<Verdict, AllocError>
+    requires { IsJudged messages.now verdict }
+    ensures kept { messages.new ≡ messages.old }
+    ensures judged { IfOk result (λ v. IsJudged messages.old v) }
+    ensures advised { IfOk result (λ v. IsAdvised messages.old v) }
+{
+    match verdict {
+        Verdict::NotDecided(place, limit, undecided) => {
+            let advice = advice_to(alloc, messages)?;
+            let undecided = Undecided {
+                advice,
+                ..undecided
+            };
+            Ok(Verdict::NotDecided(place, limit, undecided))
+        }
+        Verdict::OtherOrder(order, undecided) => {
+            let advice = advice_to(alloc, messages)?;
+            let undecided = Undecided {
+                advice,
+                ..undecided
+            };
+            Ok(Verdict::OtherOrder(order, undecided))
+        }
+        verdict => Ok(verdict),
+    }
+}
