@@ -864,7 +864,7 @@ static inline const char *jj_rule_name(uint32_t rule) {
 /* ---- a judge of messages at one client's pins
 
    It is handed what a monitor sees at the pins of one client, a line at a time, and tells of each at once whether it
-   may be seen there after those before it, as `tlwire` does of a record that is `seen at client N` (docs/WIRE.md).
+   may be seen there after those before it, as `tlwire` does of a record that is `seen at client N` (docs/RECORD.md).
    Where it may not, no legal run of the protocol, over any image, is seen so, whatever home and the other clients do:
    so it needs no image and no event of home. Hand in a message on A or C as the client sends it, one on D as the client
    takes it, a load and a store as the core makes them. Lines of another client and messages on B and E may be handed in

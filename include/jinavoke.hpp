@@ -2625,7 +2625,7 @@ inline std::ostream &writable(std::ostream &out) {
     return out;
 }
 
-// What was seen on the links, for `tlwire` (docs/WIRE.md): one bank's. A line waits where the record's order wants
+// What was seen on the links, for `tlwire` (docs/RECORD.md): one bank's. A line waits where the record's order wants
 // another before it: a GrantAck for its Grant, and a source that is used again for the answer that frees it.
 class WireRecord : public Watch {
   public:

@@ -5,7 +5,7 @@ page.py has PAGE                standard input stands in the page, as lines of o
 page.py code PAGE FROM TO       prints the blocks between the first line with the text FROM and the next one with TO
 page.py steps PAGE SCRIPT       the page's table of steps and answers: standard input, the trace of the script, has them
 page.py plants PAGE PLANTED BENCH   the page's table of plants, in the order of the file PLANTED: what BENCH tells of
-                                    each
+                                    each, but for the last column
 
 A block is lines that begin with four spaces. Status 1 where the page is otherwise, which is told.
 """
@@ -84,15 +84,15 @@ def cell(fault, wrong):
 
 
 def plants(page, planted, bench):
-    shown = [it for it in rows(page, 4) if re.fullmatch(r"(`[a-z ]+`|scoreboard), [\d,]+", it[1])]
+    shown = [it for it in rows(page, 5) if re.fullmatch(r"(`[a-z ]+`|scoreboard), [\d,]+", it[1])]
     names = [line.split()[0] for line in lines_of(planted)]
     wrong = 0
     for row, plant in zip(shown, names):
         alone = told(bench, plant, plain=1)[1]
         got = [cell(*told(bench, plant)), cell(*told(bench, plant, taps=0)), f"{alone:,}" if alone else "never"]
-        if got != row[1:]:
+        if got != row[1:4]:
             wrong += 1
-            print(f"{plant}: the page has {row[1:]}, the bench tells {got}")
+            print(f"{plant}: the page has {row[1:4]}, the bench tells {got}")
     if not shown:
         print(f"{page} has no table of plants")
     return int(wrong > 0 or not shown)
