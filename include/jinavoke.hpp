@@ -108,6 +108,7 @@ struct Message { // its beats joined
     uint32_t len = 0;     // of its data, else 0
     Bytes bytes{};
     bool is_inferred = false; // nobody saw it: the model's client sent it for one that dropped its copy
+    bool is_clean = false; // on C, with taps: its data are those of a Tip to which nobody told a store
     std::optional<uint32_t> size; // of a request without a cache and of its answer: the base-2 logarithm of the bytes
 
     std::string kind() const { // as in a trace
@@ -239,6 +240,7 @@ struct Access { // of a core, 1 to 8 bytes of one block
     uint64_t address = 0;
     uint32_t len = 0;
     std::array<uint8_t, 8> bytes{};
+    bool is_inferred = false; // nobody told it: the model's client needs it for the data that its client sent
 };
 struct Event { // a step of the model: jv_event_kind
     uint32_t kind = 0, bank = 0, client = 0, block = 0, param = 0;
@@ -265,6 +267,7 @@ struct PokeLine { // bytes of one block were written behind the home
 struct Watch { // is told all that Home sees and does; a fault's own message comes before the fault
     virtual ~Watch() = default;
     virtual void message(const Message &) {}
+    virtual void begun(const Message &) {} // on D, of several beats: its first was taken
     virtual void access(const Access &) {}
     virtual void memory(const MemoryMessage &) {}
     virtual void event(const Event &) {}
@@ -975,6 +978,7 @@ class Home {
             g->is_begun = true;
             link.acquires.erase(down.m.source);
         }
+        if (link.d_beat == 0 && bus_.beats_of(down.m.len) > 1) begin(down.m);
         link.d_since = cycle_;
         if (++link.d_beat < bus_.beats_of(down.m.len)) return;
         Down whole = std::move(down);
@@ -1020,7 +1024,9 @@ class Home {
             torn->client = client_of(k, torn->source).value_or(anyone_on(k));
             fault(Cause::Beats, *torn, torn->kind() + " is broken off: a later beat has other fields");
         }
-        if (!m || !has_client(k, *m) || !is_sound(*m, beat)) return;
+        if (!m || !has_client(k, *m)) return;
+        m->is_clean = is_of_clean_copy(*m);
+        if (!is_sound(*m, beat)) return;
         count_c(*m);
         bool has_source = m->is_release() && use(link.releases, *m, "Release");
         take(clients_[m->client], Held{*m, std::nullopt, cycle_, cycle_, JV_OK, has_source});
@@ -1616,6 +1622,10 @@ class Home {
         keep(m);
         for (Watch *w : watches_) w->message(m);
     }
+    void begin(Message m) { // the first beat of what will be told
+        m.cycle = cycle_;
+        for (Watch *w : watches_) w->begun(m);
+    }
     void keep(const Message &m) { // for the texts of faults
         if (recent_.size() < 1024) recent_.push_back(m); else recent_[told_ % 1024] = m;
         told_++;
@@ -2148,6 +2158,12 @@ class Home {
         if (a.stores) tell_stores(m, a);
         return a;
     }
+    // Whether a message has the data of a Tip to which nobody told a store: the model's client makes one then.
+    bool is_of_clean_copy(const Message &m) const {
+        if (!options_.has_taps || !m.len || !(m.is_release() || m.is_answer()) || !has_block(m)) return false;
+        const uint32_t block = block_of(m.address);
+        return block != Window::nowhere && jv_copy(cache_, m.client, block).serial == JV_COPY_CLEAN_TIP && has_bytes(m);
+    }
     bool has_bytes(const Message &m) const {
         return std::memcmp(jv_copy(cache_, m.client, block_of(m.address)).bytes, m.bytes.data(), m.len) == 0;
     }
@@ -2159,7 +2175,7 @@ class Home {
         for (size_t i = 0; i < n; i++) {
             const jv_answer &e = made[i];
             const uint64_t address = address_of(e.place) + e.address % bus_.block_bytes;
-            Access x = {cycle_, m.bank, m.client, true, address, e.len, {}};
+            Access x = {cycle_, m.bank, m.client, true, address, e.len, {}, true};
             std::copy_n(e.bytes, e.len, x.bytes.begin());
             for (Watch *w : watches_) w->access(x);
             note(JV_EVENT_STORE, m.bank, m.client, e.place, 0, nullptr, &x);
@@ -2625,11 +2641,25 @@ inline std::ostream &writable(std::ostream &out) {
     return out;
 }
 
+// What `tlwire` is to expect of a record (docs/RECORD.md, "What is open"): it answers with what is not so.
+struct Expected {
+    bool ends_quiet = false; // the bench runs on until nothing is under way
+    uint64_t patience = 0;   // so many cycles an exchange may be open; 0: for ever
+};
+
 // What was seen on the links, for `tlwire` (docs/RECORD.md): one bank's. A line waits where the record's order wants
-// another before it: a GrantAck for its Grant, and a source that is used again for the answer that frees it.
+// another before it: a GrantAck for its Grant, and a source that is used again for the answer that frees it. `image` is
+// the home's; a memory of one's own is read for it. The record is made before the first message.
+//
+// The header says that each message is seen between its sending and its taking. That is so: D and B are told when their
+// first beat is taken, and home has sent them before; A, E and the last beat of C when they fire, and home takes them
+// behind that; the memory's messages as they are sent. It does not say so beside agents, for which the model's clients
+// have copies that nobody sees; nor where clients may drop copies, which it says; nor where they may give up more than
+// a Probe asks for, which `tlwire` never permits.
 class WireRecord : public Watch {
   public:
-    WireRecord(std::ostream &out, const Options &o, const std::vector<uint8_t> &image = {}, uint32_t bank = 0)
+    WireRecord(std::ostream &out, const Options &o, const std::vector<uint8_t> &image = {}, uint32_t bank = 0,
+               const Expected &expected = {})
         : out_(writable(out)), options_(o), bank_(bank),
           size_(Bus{uint32_t(o.numbers.block_bytes), o.beat_bytes}.size()) {
         if (o.has_window())
@@ -2640,26 +2670,28 @@ class WireRecord : public Watch {
             Options::Range its = o.cached.empty() ? Options::Range{0, 0, o.sources - 1} : o.cached[size_t(k)];
             out_ << "source client=" << k << " from=" << its.from << " to=" << its.to << "\n";
         }
-        if (!image.empty()) out_ << "image " << words::hex(image.data(), image.size()) << "\n";
+        const bool may_drop = o.silent_branch || o.silent_tip;
+        if (is_unseen()) out_ << "cores unseen\n";
+        if (may_drop) out_ << "drops clients\n";
+        if (o.uncached.empty() && !may_drop && !o.gives_more) out_ << "seen between\n";
+        if (expected.ends_quiet) out_ << "ends quiet\n";
+        if (expected.patience) out_ << "patience " << expected.patience << "\n";
+        const std::vector<uint8_t> first = o.memory && image.empty() ? bytes_of(o) : image;
+        if (!first.empty()) out_ << "image " << words::hex(first.data(), first.size()) << "\n";
     }
     void message(const Message &m) override {
         if (m.bank != bank_) return;
         if (m.size) return unknown(m);
-        if (must_wait(m)) { waiting_.push_back(m); return; }
-        write(m);
-        for (size_t i = 0; i < waiting_.size();) {
-            Message next = waiting_[i];
-            if (must_wait(next)) { i++; continue; }
-            waiting_.erase(waiting_.begin() + long(i));
-            next.cycle = m.cycle;
-            write(next);
-            i = 0;
-        }
+        if (m.channel == JV_D && m.len > options_.beat_bytes) return; // it stands at its first beat
+        if (m.is_clean) infer(m);
+        put(m);
+    }
+    void begun(const Message &m) override {
+        if (m.bank == bank_ && !m.size) put(m);
     }
     void access(const Access &x) override {
-        if (x.bank != bank_) return;
-        out_ << x.cycle << " c" << x.client << (x.is_store ? " store " : " load ") << words::address(x.address) << " "
-             << words::hex(x.bytes.data(), x.len) << "\n";
+        if (x.bank != bank_ || is_unseen() || (x.is_inferred && options_.has_taps)) return;
+        put(x);
     }
     void memory(const MemoryMessage &m) override {
         if (m.bank != bank_) return;
@@ -2671,6 +2703,37 @@ class WireRecord : public Watch {
     }
 
   private:
+    // Nobody tells loads and stores. (Those of agents stand in a record all the same.)
+    bool is_unseen() const { return !options_.has_taps && options_.uncached.empty(); }
+    static std::vector<uint8_t> bytes_of(const Options &o) { // of a memory of one's own, up to the last that is not 0
+        std::vector<uint8_t> bytes(size_t(o.memory_bytes), 0);
+        o.memory->read(o.base, bytes.data(), bytes.size());
+        while (!bytes.empty() && bytes.back() == 0) bytes.pop_back();
+        return bytes;
+    }
+    // The store that a message with the data of a clean Tip stands for, where `tlwire` knows data of a dirty one alone.
+    void infer(const Message &m) {
+        Access x = {m.cycle, m.bank, m.client, true, m.address, std::min(m.len, 8u), {}, true};
+        std::copy_n(m.bytes.begin(), x.len, x.bytes.begin());
+        out_ << "# inferred\n";
+        put(x);
+    }
+    void put(const Access &x) {
+        out_ << x.cycle << " c" << x.client << (x.is_store ? " store " : " load ") << words::address(x.address) << " "
+             << words::hex(x.bytes.data(), x.len) << "\n";
+    }
+    void put(const Message &m) { // now, or where the record's order has room for it
+        if (must_wait(m)) { waiting_.push_back(m); return; }
+        write(m);
+        for (size_t i = 0; i < waiting_.size();) {
+            Message next = waiting_[i];
+            if (must_wait(next)) { i++; continue; }
+            waiting_.erase(waiting_.begin() + long(i));
+            next.cycle = m.cycle;
+            write(next);
+            i = 0;
+        }
+    }
     void unknown(const Message &m) { // `tlwire` knows no agents: a comment
         out_ << "# " << m.cycle << " c" << m.client << " " << "ABCDE"[m.channel] << " " << m.shown() << " source="
              << m.source << " address=" << words::address(m.address) << "\n";

@@ -68,12 +68,13 @@ struct Links { // a home with its records, the texts of the faults that were not
             script = f.script;
         };
     }
-    template <class Record> void record(const char *file, const std::vector<uint8_t> &image) {
+    template <class Record, class... More>
+    void record(const char *file, const std::vector<uint8_t> &image, const More &...more) {
         if (!*file) return;
         auto stream = std::make_unique<std::ofstream>(file);
         if (!*stream) throw std::runtime_error(std::string("jinavoke: ") + file + " cannot be written");
         files.push_back({file, std::move(stream)});
-        records.push_back(std::make_unique<Record>(*files.back().stream, home.options(), image));
+        records.push_back(std::make_unique<Record>(*files.back().stream, home.options(), image, 0u, more...));
         home.watch(records.back().get());
     }
     ~Links() { // a record that is not whole is told
@@ -125,6 +126,7 @@ template <class Call> void in_home(void *at, Call call) {
         call(links.home);
     } catch (const std::exception &why) { links.failed = why.what(); }
 }
+jinavoke::Expected expected_of(int ends_quiet, long long patience) { return {ends_quiet != 0, uint64_t(patience)}; }
 jinavoke::Beat beat_of(int opcode, int param, int size, int source, long long address) {
     jinavoke::Beat beat;
     beat.opcode = uint32_t(opcode); beat.param = uint32_t(param); beat.source = uint32_t(source);
@@ -258,13 +260,14 @@ const char *jpd_said(void *judge) { return static_cast<jinavoke::PinsJudge *>(ju
 
 // As jvh_new, with what a tile needs. `clients` are those with a cache. `uncached` has the sources of each agent
 // without one, and `cached` those of each client, or is empty: LINK:FROM-TO, with blanks between, as "0:8-8 2:8-11".
-// `behind` is of jvh_behind, and the home's from then on; or NULL.
-void *jvh_new_behind(void *behind, int clients, int banks, int block_bytes, int sets, int ways, int registers,
-                     int copies, int blocks, long long base, int beat_bytes, int sources, int sinks, int has_taps,
-                     int pace, int memory_cycles, int evict_every, int patience, int slack, int seed,
-                     int silent_branch, int gives_more, int silent_tip, int acquire_perm, int cleans,
-                     const char *cached, const char *uncached, const char *image, const char *wire_file,
-                     const char *events_file) {
+// `behind` is of jvh_behind, and the home's from then on; or NULL. `ends_quiet` and `wire_patience` are what the record
+// for `tlwire` says of its end, or 0.
+void *jvh_new_expected(void *behind, int clients, int banks, int block_bytes, int sets, int ways, int registers,
+                       int copies, int blocks, long long base, int beat_bytes, int sources, int sinks, int has_taps,
+                       int pace, int memory_cycles, int evict_every, int patience, int slack, int seed,
+                       int silent_branch, int gives_more, int silent_tip, int acquire_perm, int cleans,
+                       const char *cached, const char *uncached, const char *image, const char *wire_file,
+                       const char *events_file, int ends_quiet, long long wire_patience) {
     std::unique_ptr<Behind> own(static_cast<Behind *>(behind));
     jinavoke::Options o;
     o.numbers = {2, clients, banks, block_bytes, sets, ways, registers, copies, blocks};
@@ -282,10 +285,20 @@ void *jvh_new_behind(void *behind, int clients, int banks, int block_bytes, int 
         o.numbers.clients += int64_t(o.uncached.size());
         auto links = std::make_unique<Links>(o, bytes);
         links->behind = std::move(own);
-        links->record<jinavoke::WireRecord>(wire_file, bytes);
+        links->record<jinavoke::WireRecord>(wire_file, bytes, expected_of(ends_quiet, wire_patience));
         links->record<jinavoke::EventRecord>(events_file, bytes);
         return links.release();
     });
+}
+void *jvh_new_behind(void *behind, int clients, int banks, int block_bytes, int sets, int ways, int registers,
+                     int copies, int blocks, long long base, int beat_bytes, int sources, int sinks, int has_taps,
+                     int pace, int memory_cycles, int evict_every, int patience, int slack, int seed,
+                     int silent_branch, int gives_more, int silent_tip, int acquire_perm, int cleans,
+                     const char *cached, const char *uncached, const char *image, const char *wire_file,
+                     const char *events_file) {
+    return jvh_new_expected(behind, clients, banks, block_bytes, sets, ways, registers, copies, blocks, base,
+        beat_bytes, sources, sinks, has_taps, pace, memory_cycles, evict_every, patience, slack, seed, silent_branch,
+        gives_more, silent_tip, acquire_perm, cleans, cached, uncached, image, wire_file, events_file, 0, 0);
 }
 void *jvh_new_wide(int clients, int banks, int block_bytes, int sets, int ways, int registers, int copies, int blocks,
                    long long base, int beat_bytes, int sources, int sinks, int has_taps, int pace, int memory_cycles,
@@ -457,7 +470,8 @@ int jvh_save(void *home, const char *file) {
     return -1;
 }
 // NULL where it failed, and standard error says why. The latencies are those of the file.
-void *jvh_restore(const char *file, void *behind, const char *wire_file, const char *events_file) {
+void *jvh_restore_expected(const char *file, void *behind, const char *wire_file, const char *events_file,
+                           int ends_quiet, long long wire_patience) {
     std::unique_ptr<Behind> own(static_cast<Behind *>(behind));
     try {
         auto adapt = [&](jinavoke::Options &o) { if (own && o.memory_bytes) o.memory = own.get(); };
@@ -465,13 +479,16 @@ void *jvh_restore(const char *file, void *behind, const char *wire_file, const c
         const jinavoke::Home &home = links->home;
         const std::vector<uint8_t> bytes = home.options().memory ? std::vector<uint8_t>() : home.image();
         links->behind = std::move(own);
-        links->record<jinavoke::WireRecord>(wire_file, bytes);
+        links->record<jinavoke::WireRecord>(wire_file, bytes, expected_of(ends_quiet, wire_patience));
         links->record<jinavoke::EventRecord>(events_file, bytes);
         return links.release();
     } catch (const std::exception &why) {
         std::fprintf(stderr, "%s\n", why.what());
         return nullptr;
     }
+}
+void *jvh_restore(const char *file, void *behind, const char *wire_file, const char *events_file) {
+    return jvh_restore_expected(file, behind, wire_file, events_file, 0, 0);
 }
 // The numbers of a home in the order of jvh_new_wide, from `clients` to `cleans`.
 void jvh_numbers(void *home, long long *out) {

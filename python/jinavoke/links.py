@@ -70,8 +70,9 @@ def ranges(all_of):
 def library(path):
     lib = loaded(path)
     numbers = [c.c_longlong if name == "base" else c.c_int for name in NUMBERS]
-    lib.jvh_new_wide.argtypes, lib.jvh_new_wide.restype = [*numbers, *[c.c_char_p] * 5], c.c_void_p
     at, number, wide, out = c.c_void_p, c.c_int, c.c_longlong, c.POINTER(c.c_int)
+    lib.jvh_new_expected.argtypes = [at, *numbers, *[c.c_char_p] * 5, number, wide]
+    lib.jvh_new_expected.restype = at
     for name, words, result in [
             ("free", [], None), ("a_wide", [number] * 5 + [wide, wide, c.c_char_p, c.c_char_p], None),
             ("c", [number] * 5 + [wide, c.c_char_p], None),
@@ -110,9 +111,10 @@ def library_file():
 
 class Home(Simulated, Opened):
     """A home of `clients` links. `image` is the memory's first bytes; `wire` and `events` name files for records, which
-    `close` ends (OSError where one cannot be written). `memory_blocks` is another name of `blocks`. `uncached` has the
-    sources of each agent without a cache, and `cached` those of each client, where one link has several: (link, first,
-    last).
+    `close` ends (OSError where one cannot be written). `ends_quiet` and `wire_patience` are what the first says of its
+    end: that the bench runs on until `is_quiet`, and how many cycles an exchange may be open. `memory_blocks` is
+    another name of `blocks`. `uncached` has the sources of each agent without a cache, and `cached` those of each
+    client, where one link has several: (link, first, last).
 
     For a simulator: `memory_bytes` of memory behind the home, of which `blocks` are a window where it is longer, and
     `memory` with read(address, count), write(address, data), and where it likes ready(address, count, is_write, sent,
@@ -121,7 +123,7 @@ class Home(Simulated, Opened):
     kind = "home"
 
     def __init__(self, image=b"", wire="", events="", path=None, cached=(), uncached=(), memory=None, memory_bytes=0,
-                 latencies=None, **numbers):
+                 latencies=None, ends_quiet=False, wire_patience=0, **numbers):
         if "memory_blocks" in numbers:
             if "blocks" in numbers:
                 raise TypeError("memory_blocks is another name of blocks: one of them")
@@ -133,21 +135,23 @@ class Home(Simulated, Opened):
         self.lib = library(path or library_file())
         files = [record_file(it) for it in (wire, events)]
         words = [ranges(cached), ranges(uncached), octets(image).hex().encode(), *files]
+        expected = bool(ends_quiet), fitting("wire_patience", wire_patience, 63)
         behind, self.behind = behind_of(self.lib, memory, memory_bytes, latencies)
-        at = self.lib.jvh_new_behind(behind, *self.numbers.values(), *words)
+        at = self.lib.jvh_new_expected(behind, *self.numbers.values(), *words, *expected)
         if not at:
             raise ValueError("there is no cache of these numbers")
         self.begin(at)
 
     @classmethod
-    def restore(cls, file, wire="", events="", path=None, memory=None):
+    def restore(cls, file, wire="", events="", path=None, memory=None, ends_quiet=False, wire_patience=0):
         """The home that `save` kept in a file; ValueError where it is none, cut short, damaged or of another version
         (standard error says which). `memory` as when it was made: it gets the bytes of the file."""
         self = cls.__new__(cls)
         self.lib = library(path or library_file())
         files = [record_file(it) for it in (wire, events)]
+        expected = bool(ends_quiet), fitting("wire_patience", wire_patience, 63)
         behind, self.behind = behind_of(self.lib, memory, 1, None)
-        at = self.lib.jvh_restore(os.fsencode(file), behind, *files)
+        at = self.lib.jvh_restore_expected(os.fsencode(file), behind, *files, *expected)
         if not at:
             raise ValueError(f"{file} is no checkpoint that can be restored")
         numbers = (c.c_longlong * len(NUMBERS))()

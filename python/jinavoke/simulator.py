@@ -17,8 +17,8 @@ def declare(lib):
     at, number, wide = c.c_void_p, c.c_int, c.c_longlong
     lib.jvh_behind.argtypes = [wide, c.c_void_p, c.c_void_p, c.c_void_p, c.POINTER(wide)]
     lib.jvh_behind.restype = c.c_void_p
-    lib.jvh_new_behind.argtypes, lib.jvh_new_behind.restype = [c.c_void_p, *lib.jvh_new_wide.argtypes], c.c_void_p
-    lib.jvh_restore.argtypes, lib.jvh_restore.restype = [c.c_char_p, at, c.c_char_p, c.c_char_p], c.c_void_p
+    lib.jvh_restore_expected.argtypes = [c.c_char_p, at, c.c_char_p, c.c_char_p, number, wide]
+    lib.jvh_restore_expected.restype = c.c_void_p
     for name, words, result in [
             ("failed", [], c.c_char_p), ("counts", [number], c.c_char_p), ("reset_counts", [], None),
             ("next_due", [], c.c_ulonglong), ("advance_to", [wide], number),
