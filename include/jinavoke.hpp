@@ -2706,7 +2706,8 @@ class WireRecord : public Watch {
     // Nobody tells loads and stores. (Those of agents stand in a record all the same.)
     bool is_unseen() const { return !options_.has_taps && options_.uncached.empty(); }
     static std::vector<uint8_t> bytes_of(const Options &o) { // of a memory of one's own, up to the last that is not 0
-        std::vector<uint8_t> bytes(size_t(o.memory_bytes), 0);
+        const uint64_t most = uint64_t(JV_MOST_MEMORY_BLOCKS) * JV_MOST_BLOCK_BYTES;
+        std::vector<uint8_t> bytes(size_t(std::min(o.memory_bytes, most)), 0);
         o.memory->read(o.base, bytes.data(), bytes.size());
         while (!bytes.empty() && bytes.back() == 0) bytes.pop_back();
         return bytes;

@@ -171,7 +171,7 @@ def numbers(path):
         print(f"the last address: {home.faults().splitlines()[0]}")
         wrong += home.fault_count() != 1
     wrong += refused("a home", ValueError, [
-        made(clients=2**32 + 2), made(clients=0), made(clients=-1), made(banks=2**32 + 1), made(base=2**64),
+        made(wire_patience=-1), made(clients=2**32 + 2), made(clients=0), made(clients=-1), made(banks=2**32 + 1), made(base=2**64),
         made(pace=-1), made(sinks=2**32 + 16), made(seed=2**32), made(blocks=2**32 + 64)])
     wrong += refused("a home", TypeError, [made(blocks=4, memory_blocks=4), made(clints=2), made(image=5)])
     with jv.Home(path=path, seed=2**32 - 1, base=2**64 - 2**20) as home:
@@ -190,9 +190,11 @@ def records(path):
         wrong += refused("a record", IsADirectoryError, [made(wire=folder), made(events=pathlib.Path(folder))])
         wrong += refused("a home with a record", ValueError, [made(wire=old, clients=99)])
         wrong += pathlib.Path(old).read_text(encoding="utf-8") != "kept"
-        with jv.Home(path=path, wire=pathlib.Path(there)):
+        with jv.Home(path=path, wire=pathlib.Path(there), has_taps=0, ends_quiet=True, wire_patience=9):
             pass
-        return wrong + (not pathlib.Path(there).read_text(encoding="utf-8").startswith("jvwire 1\n"))
+        lines = pathlib.Path(there).read_text(encoding="utf-8").splitlines()
+        is_well = lines[0] == "jvwire 1" and lines[-4:] == ["cores unseen", "seen between", "ends quiet", "patience 9"]
+        return wrong + (not is_well)
 
 
 def threads(path, cycles=2000):

@@ -155,6 +155,42 @@ static void records() {
         want(home == nullptr, "no home for DPI whose record cannot be opened:", *wire != 0);
     }
 }
+// What the header of a record says of how it was seen, by what the options say of the clients.
+static std::string header_of(const jinavoke::Options &o, const jinavoke::Expected &expected = {}) {
+    std::ostringstream out;
+    jinavoke::WireRecord record(out, o, {}, 0, expected);
+    const std::string text = out.str();
+    size_t at = text.find('\n') + 1; // behind the first line, that of the shape, and those of sources
+    while (text.compare(at, 5, "shape") == 0 || text.compare(at, 6, "source") == 0) at = text.find('\n', at) + 1;
+    return text.substr(at);
+}
+static void headers() {
+    struct Ones : jinavoke::Memory {
+        void read(uint64_t, uint8_t *to, size_t len) override { std::memset(to, 0, len); to[1] = 0xff; }
+        void write(uint64_t, const uint8_t *, size_t) override {}
+    } ones;
+    auto says = [](const char *what, const std::string &wanted, auto change) {
+        jinavoke::Options o = small();
+        change(o);
+        want(header_of(o) == wanted, what, 0);
+    };
+    says("a record with taps", "seen between\n", [](auto &) {});
+    says("a record without taps", "cores unseen\nseen between\n", [](auto &o) { o.has_taps = false; });
+    says("a record of Branches that are dropped", "drops clients\n", [](auto &o) { o.silent_branch = true; });
+    says("a record of Tips that are dropped", "drops clients\n", [](auto &o) { o.silent_tip = true; });
+    says("a record of more that is given up", "", [](auto &o) { o.gives_more = true; });
+    says("a record beside agents", "", [](auto &o) {
+        o.numbers.clients++;
+        o.uncached = {{2, 0, 15}};
+        o.has_taps = false;
+    });
+    says("a record of a memory of one's own", "seen between\nimage 00ff\n", [&](auto &o) {
+        o.memory = &ones;
+        o.memory_bytes = uint64_t(o.numbers.memory_blocks * o.numbers.block_bytes);
+    });
+    const std::string end = header_of(small(), {true, 500});
+    want(end == "seen between\nends quiet\npatience 500\n", "what is expected of a record: patience", 500);
+}
 static void *wide_for_dpi(const char *cached, const char *uncached) {
     return jvh_new_wide(2, 1, 64, 16, 4, 8, 64, 4096, 0, 8, 16, 16, 1, 3, 20, 0, 20000, 0, 1, 0, 0, 1, 1, 1, cached,
         uncached, "", "", "");
@@ -262,6 +298,7 @@ int main() {
     edges();
     ends();
     records();
+    headers();
     ranges();
     masks();
     peeks();

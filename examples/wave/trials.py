@@ -119,7 +119,9 @@ def fails(what, wave, text, status, word, *words, name="wave.vcd"):
 
 
 SOURCE, UNSEEN = "source client=0 from=0 to=15", ["memory unseen", "cores unseen"]
-HEAD = [SOURCE, *UNSEEN]
+BETWEEN = "seen between"
+NO_RESET = "# the wave does not show the reset on, so nothing is said of how it was seen"
+HEAD = [SOURCE, *UNSEEN, BETWEEN]
 RESET = {"rst": 1}
 MISS = [RESET, {**RESET, "l0.a_valid": "x"}, {"rst": 0},
         fired(0, "a", opcode=6, param=1, source=3, address=0x80000010),
@@ -154,13 +156,16 @@ def names():
         gives(f"bits of a vector, {bits}", packed, map_of(names=ALL + f'\n"d.source" = "top.s{bits}"'), RECORD)
     seen = BASE + '\nseen = ["seen at clients", "whole"]\nimage = "zero"\nsources = [[3, 3]]'
     premises = ["source client=0 from=3 to=3", *UNSEEN, "seen at clients", "whole"]
-    gives("how it was seen", miss, map_of(more=seen), premises + RECORD[4:])
-    gives("an image", miss, map_of(more=BASE + '\nimage = "0011"'), HEAD + ["image 0011"] + RECORD[4:])
+    gives("how it was seen", miss, map_of(more=seen), premises + RECORD[5:])
+    gives("an image", miss, map_of(more=BASE + '\nimage = "0011"'), HEAD + ["image 0011"] + RECORD[5:])
+    nothing = RECORD[:3] + RECORD[4:]
+    gives("nothing of how it was seen", miss, map_of(more=BASE + "\nseen = []"), nothing)
+    gives("a wave that begins behind the reset", vcd(pins(), MISS[2:]), map_of(), [*RECORD[:3], NO_RESET, *RECORD[4:]])
 
 
 def orders():
     """Messages stand at their first beats, and those behind one that is not whole wait for it."""
-    two = [{"rst": 0}, {**fired(0, "a", opcode=6, param=0, source=0, address=0x80000000),
+    two = [RESET, {"rst": 0}, {**fired(0, "a", opcode=6, param=0, source=0, address=0x80000000),
                         **fired(1, "a", opcode=6, param=0, source=1, address=0x80000010)},
            fired(0, "d", opcode=5, param=1, source=0, sink=0, data=1),
            {**fired(1, "c", opcode=4, param=5, address=0x80000020), **fired(0, "e", sink=0)},
@@ -171,17 +176,17 @@ def orders():
     sources = [SOURCE, "source client=1 from=0 to=15"]
     data = "01000000000000000200000000000000"
     gives("two links", vcd(pins(2), two), map_of(2), sources + UNSEEN + [
-        f"image {data}", "1 c0 A 6 param=0 size=4 source=0 address=0x80000000",
+        BETWEEN, f"image {data}", "1 c0 A 6 param=0 size=4 source=0 address=0x80000000",
         "1 c1 A 6 param=0 size=4 source=1 address=0x80000010", f"2 c0 D 5 param=1 size=4 source=0 sink=0 data={data}",
         "3 c0 E 0 sink=0", "3 c1 C 4 param=5 size=4 address=0x80000020", "4 c0 B 6 param=2 size=4 address=0x80000000",
         "5 c0 C 7 param=1 size=4 source=2 address=0x80000000 data=03000000000000000400000000000000",
         "5 c1 D 6 param=0 size=4 source=1"])
-    far = [{"rst": 0}, *(fired(0, "a", opcode=6, param=0, source=n, address=it)
+    far = [RESET, {"rst": 0}, *(fired(0, "a", opcode=6, param=0, source=n, address=it)
                          for n, it in enumerate((0xffff_ffff_0000, 0x40, 0xffff_ffff_0000)))]
     gives("addresses that are folded", vcd(pins(), far), map_of(more=""), HEAD + [
         "# block 0 is 0xffffffff0000", "# block 1 is 0x00000040", "1 c0 A 6 param=0 size=4 source=0 address=0x00000000",
         "2 c0 A 6 param=0 size=4 source=1 address=0x00000010", "3 c0 A 6 param=0 size=4 source=2 address=0x00000000"])
-    narrow = [{"rst": 0}, fired(0, "a", opcode=6, param=1, source=0, address=0x80000008),
+    narrow = [RESET, {"rst": 0}, fired(0, "a", opcode=6, param=1, source=0, address=0x80000008),
               fired(0, "d", opcode=5, param=0, source=0, sink=0, data=0x1111111111111111_2222222222222222),
               fired(0, "c", opcode=7, param=1, source=0, address=0x80000008, data=0x3333333333333333_4444444444444444)]
     wide = {name: 128 if name.endswith("data") else width for name, width in pins().items()}
@@ -197,6 +202,12 @@ def further():
               tapped(store=0, size=3, address=0x80000018, data=1)]
     gives("taps", vcd({**pins(), **TAPS}, cycles), map_of(names=WITH_TAPS), [
         SOURCE, "memory unseen", *RECORD[3:], "6 c0 store 0x80000012 bbaa", "7 c0 load 0x80000018 0100000000000000"])
+    for what, store in ("load", 0), ("store", 1):
+        there = {**fired(0, "c", opcode=4, param=1, address=0x80000010),
+                 **tapped(store=store, size=0, address=0x80000010, data=7)}
+        lines = [f"6 c0 {what} 0x80000010 07", "6 c0 C 4 param=1 size=4 address=0x80000010"]
+        gives(f"a {what} in the cycle of a ProbeAck", vcd({**pins(), **TAPS}, [*MISS, there]), map_of(names=WITH_TAPS),
+              [SOURCE, "memory unseen", *RECORD[3:], *(reversed(lines) if store else lines)])
     link = dict(a_valid=1, a_ready=1, a_opcode=3, a_source=4, a_address=32, a_data=64, d_valid=1, d_ready=1, d_opcode=3,
                 d_source=4, d_data=64)
     memory = {f"m.{name}": width for name, width in link.items()}
@@ -207,8 +218,8 @@ def further():
                 for it in (0x0706050403020100, 0x0f0e0d0c0b0a0908)]
     wave = vcd({**pins(), **memory}, [*MISS[:4], asked, *answered, *MISS[4:]])
     gives("the memory's link", wave, map_of(names=names), [
-        SOURCE, "cores unseen", RECORD[3], RECORD[4], "2 m A 4 size=4 source=7 address=0x80000010",
-        f"3 m D 1 size=4 source=7 data={DATA}", "5" + RECORD[5][1:], "7" + RECORD[6][1:]])
+        SOURCE, "cores unseen", BETWEEN, *RECORD[4:6], "2 m A 4 size=4 source=7 address=0x80000010",
+        f"3 m D 1 size=4 source=7 data={DATA}", "5" + RECORD[6][1:], "7" + RECORD[7][1:]])
     more = {"l0.d_denied": 1, "l0.a_size": 4}
     names = ALL + "".join(f'\n"{it}" = "top.l{{k}}.{it.replace(".", "_")}"' for it in ("d.denied", "a.size"))
     status, lines, _ = made(vcd({**pins(), **more}, [{**it, **more} for it in MISS]), map_of(names=names))
@@ -227,8 +238,8 @@ def uncached():
     rest = [f"image {'00' * 16}{DATA}", "2 c0 A 6 param=1 size=4 source=3 address=0x80000010",
             f"3 c0 D 5 param=0 size=4 source=3 sink=2 data={DATA}", "7 c0 E 0 sink=2"]
     said = "# 3 beats of agents without a cache are left out, so each client's pins stand alone"
-    gives("a Get that is left out", wave, map_of(more=more), [*HEAD, said, "seen at client 0", *rest], "--uncached")
-    gives("a Get of any source", wave, map_of(), [*HEAD, said, *rest], "--uncached")
+    gives("a Get that is left out", wave, map_of(more=more), [*HEAD[:3], said, "seen at client 0", *rest], "--uncached")
+    gives("a Get of any source", wave, map_of(), [*HEAD[:3], said, *rest], "--uncached")
     other = more.replace("from = 8", "from = 10")
     fails("a Get of another source", wave, map_of(more=other), 3, "Get of source 9, which is none of", "--uncached")
     other = more.replace("from = 8", "client = 1, from = 8")
@@ -298,7 +309,7 @@ def faults():
     short = vcd(pins(), MISS[:6])
     fails("a burst that never ends", short, map_of(), 3, "c0 D: the message of time 45 stops after 1 of its beats")
     cut = "# cut: a message is not all there, and 0 lines behind it are left out"
-    gives("a burst that never ends, cut", short, map_of(), [*HEAD, RECORD[4], cut], "--cut")
+    gives("a burst that never ends, cut", short, map_of(), [*HEAD, RECORD[5], cut], "--cut")
     fails("a second reset", vcd(pins(), [*MISS, RESET]), map_of(), 3, "time 85, cycle 6: the reset top.rst is on again")
     fails("a reset that never ends", vcd(pins(), [RESET] * 4), map_of(), 3, "time 35: the reset top.rst never ends")
     stands = map_of().replace("top.clk", "top.l0.b_valid")
