@@ -171,8 +171,8 @@ def numbers(path):
         print(f"the last address: {home.faults().splitlines()[0]}")
         wrong += home.fault_count() != 1
     wrong += refused("a home", ValueError, [
-        made(wire_patience=-1), made(clients=2**32 + 2), made(clients=0), made(clients=-1), made(banks=2**32 + 1), made(base=2**64),
-        made(pace=-1), made(sinks=2**32 + 16), made(seed=2**32), made(blocks=2**32 + 64)])
+        made(clients=2**32 + 2), made(clients=0), made(clients=-1), made(banks=2**32 + 1), made(base=2**64),
+        made(pace=-1), made(sinks=2**32 + 16), made(seed=2**32), made(blocks=2**32 + 64), made(wire_patience=-1)])
     wrong += refused("a home", TypeError, [made(blocks=4, memory_blocks=4), made(clints=2), made(image=5)])
     with jv.Home(path=path, seed=2**32 - 1, base=2**64 - 2**20) as home:
         home.tick()
