@@ -38,18 +38,18 @@ ignored_sources shape s =
     else if nat_le s.from s.to then Ok (its.Sources s)
     else Err cause.Premise
 
--- `from NUM to NUM`, behind a client's number
-unfoldable pub sources_between : Shape → ℕ → List (List ℕ) → Result Ignored Cause
-sources_between shape client (from ∷ first ∷ to ∷ last ∷ []) =
-    if is_range from to then
-    number_in first >>= (λ a. number_in last >>= (λ b. ignored_sources shape (record { client = client; from = a; to = b })))
-    else Err cause.Premise
-sources_between shape client _ = Err cause.Premise
+-- `from NUM to NUM`
+unfoldable pub numbers_between : List (List ℕ) → Result (ℕ × ℕ) Cause
+numbers_between (from ∷ first ∷ to ∷ last ∷ []) =
+    if is_range from to then number_in first >>= (λ a. number_in last >>= (λ b. Ok (a, b))) else Err cause.Premise
+numbers_between _ = Err cause.Premise
 
 -- `NUM from NUM to NUM`, behind `client`
 unfoldable pub sources_ignored_in : Shape → List (List ℕ) → Result Ignored Cause
 sources_ignored_in shape [] = Err cause.Premise
-sources_ignored_in shape (client ∷ rest) = number_in client >>= (λ c. sources_between shape c rest)
+sources_ignored_in shape (client ∷ rest) =
+    number_in client
+    >>= (λ c. numbers_between rest >>= (λ n. ignored_sources shape (record { client = c; from = n.0; to = n.1 })))
 
 -- addresses from one to another
 abbrev pub ignored_addresses : ℕ → ℕ → Result Ignored Cause
