@@ -18,6 +18,7 @@ use Rattle.tlwire_record.specs.declared.fields.Fields.{Fields}
 use Rattle.tlwire_record.specs.declared.header.Sources.{Sources}
 use Rattle.tlwire_record.specs.declared.ignored.Ignored.{Ignored}
 use Rattle.tlwire_record.specs.declared.ignored.Ignored.TheVariants as its
+use Rattle.tlwire_record.specs.declared.left.TheConstants.{SIZES}
 use Rattle.tlwire_record.specs.declared.line.Link.{Link}
 use Rattle.tlwire_record.specs.declared.line.Link.TheVariants.{Client, Memory}
 use Rattle.tlwire_record.specs.declared.line.Said.{Said}
@@ -37,16 +38,18 @@ ignored_sources shape s =
     else if nat_le s.from s.to then Ok (its.Sources s)
     else Err cause.Premise
 
+-- `from NUM to NUM`
+unfoldable pub numbers_between : List (List ℕ) → Result (ℕ × ℕ) Cause
+numbers_between (from ∷ first ∷ to ∷ last ∷ []) =
+    if is_range from to then number_in first >>= (λ a. number_in last >>= (λ b. Ok (a, b))) else Err cause.Premise
+numbers_between _ = Err cause.Premise
+
 -- `NUM from NUM to NUM`, behind `client`
 unfoldable pub sources_ignored_in : Shape → List (List ℕ) → Result Ignored Cause
-sources_ignored_in shape (client ∷ from ∷ first ∷ to ∷ last ∷ []) =
-    if is_range from to then
+sources_ignored_in shape [] = Err cause.Premise
+sources_ignored_in shape (client ∷ rest) =
     number_in client
-    >>= (λ c. number_in first
-    >>= (λ a. number_in last
-    >>= (λ b. ignored_sources shape (record { client = c; from = a; to = b }))))
-    else Err cause.Premise
-sources_ignored_in shape _ = Err cause.Premise
+    >>= (λ c. numbers_between rest >>= (λ n. ignored_sources shape (record { client = c; from = n.0; to = n.1 })))
 
 -- addresses from one to another
 abbrev pub ignored_addresses : ℕ → ℕ → Result Ignored Cause
@@ -97,15 +100,16 @@ ends_before setting address bytes = nat_le (address + bytes) setting.base
 abbrev pub is_apart : SettingState → ℕ → ℕ → Bool
 is_apart setting address bytes = is_behind setting address || ends_before setting address bytes
 
--- the bytes of a message: 2 to its size, and a block's where no size stands (TileLink 1.8, section 4)
-abbrev pub bytes_of : Shape → Option ℕ → ℕ
-bytes_of shape None = shape.block_bytes
-bytes_of shape (Some size) = 2 ^ size
+-- a message of this size from an address on ends before it: it has 2 to its size bytes, and a block's where no size stands (TileLink 1.8,
+-- section 4)
+abbrev pub message_ends_before : SettingState → ℕ → Option ℕ → Bool
+message_ends_before setting address None = ends_before setting address setting.shape.block_bytes
+message_ends_before setting address (Some size) = nat_lt size SIZES && ends_before setting address (2 ^ size)
 
 -- a message with an address is of none of the memory's bytes
 abbrev pub is_elsewhere : SettingState → Option ℕ → Option ℕ → Bool
 is_elsewhere setting None size = false
-is_elsewhere setting (Some address) size = is_apart setting address (bytes_of setting.shape size)
+is_elsewhere setting (Some address) size = is_behind setting address || message_ends_before setting address size
 
 -- a Get or an Intent, which writes nothing (TileLink 1.8, section 7)
 abbrev pub writes_nothing : Channel → ℕ → Bool

@@ -3,7 +3,7 @@ ghost use Rattle.std.specs.Prelude.{◌≡◌};
 ghost use Rattle.std.specs.List.{list_any};
 ghost use Rattle.tl_script_words.specs.Words.{texts};
 ghost use Rattle.tlcheck_record.specs.Cause.{Gives};
-ghost use Rattle.tlwire_record.specs.Left.{addresses_ignored_in, ignored_addresses, ignored_in, ignored_sources, ignored_taken, is_range, names_address, names_source, sources_ignored_in};
+ghost use Rattle.tlwire_record.specs.Left.{addresses_ignored_in, ignored_addresses, ignored_in, ignored_sources, ignored_taken, is_range, names_address, names_source, numbers_between, sources_ignored_in};
 
 use crate::address::read_wide_address;
 use crate::header::{Setting, Sources};
@@ -71,23 +71,37 @@ fn ignored_sources(shape: Shape, sources: Sources) -> Result<Ignored, Cause>
     }
 }
 
-/// `NUM from NUM to NUM`, behind `client`.
-#[tactic(auto, unfolding(crate::specs::Left::sources_ignored_in))]
-fn sources_of(shape: Shape, words: &[&str]) -> Result<Ignored, Cause>
-    ensures { result ≡ sources_ignored_in shape (texts words.now) }
+/// `from NUM to NUM`.
+#[tactic(auto, unfolding(crate::specs::Left::numbers_between))]
+fn numbers_between(words: &[&str]) -> Result<(u32, u32), Cause>
+    ensures { result ≡ numbers_between (texts words.now) }
 {
     match *words {
-        [client, from, first, to, last] => {
+        [from, first, to, last] => {
             if is_range(from, to) {
-                let client = ClientId::new(read_number(client)?);
                 let from = read_number(first)?;
                 let to = read_number(last)?;
-                ignored_sources(shape, Sources { client, from, to })
+                Ok((from, to))
             } else {
                 Err(Cause::Premise)
             }
         }
         _ => Err(Cause::Premise),
+    }
+}
+
+/// `NUM from NUM to NUM`, behind `client`.
+#[tactic(auto, unfolding(crate::specs::Left::sources_ignored_in))]
+fn sources_of(shape: Shape, words: &[&str]) -> Result<Ignored, Cause>
+    ensures { result ≡ sources_ignored_in shape (texts words.now) }
+{
+    match words {
+        [] => Err(Cause::Premise),
+        [client, rest @ ..] => {
+            let client = ClientId::new(read_number(client)?);
+            let (from, to) = numbers_between(rest)?;
+            ignored_sources(shape, Sources { client, from, to })
+        }
     }
 }
 

@@ -1,7 +1,7 @@
 //! Lines that are left out: of the agents and at the addresses that the header names, and their answers.
 ghost use Rattle.std.specs.Prelude.{◌≡◌, Ok};
 ghost use Rattle.tlcheck_record.specs.Cause.{Gives};
-ghost use Rattle.tlwire_record.specs.Left.{bytes_of, ends_before, has_id, is_access_ignored, is_apart, is_at_named, is_behind, is_elsewhere, is_grant, is_ignored, is_named, is_of_agent, is_release, with_id, without_id, writes_nothing};
+ghost use Rattle.tlwire_record.specs.Left.{ends_before, is_access_ignored, is_at_named, is_behind, is_elsewhere, is_grant, is_ignored, is_named, is_of_agent, is_release, message_ends_before, with_id, writes_nothing};
 ghost use Rattle.tlwire_record.specs.Tables.{id_on};
 
 use crate::fields::Fields;
@@ -15,8 +15,8 @@ use std::marker::Model;
 use tl_types::{AccessBytes, Channel};
 use tlcheck_record::LineError;
 
-/// Sizes below it are of fewer bytes than addresses of 64 bits reach.
-const SIZES: u32 = 64;
+/// Messages of this size and above have more bytes than addresses of 64 bits reach.
+pub const SIZES: u32 = 64;
 
 /// The opcode of a ReleaseAck on D (TileLink 1.8, section 6).
 const RELEASE_ACK: u32 = 6;
@@ -39,7 +39,7 @@ fn ends_before(setting: &Setting, address: u64, bytes: u64) -> bool
 
 /// Whether a message of this size from an address on does.
 fn message_ends_before(setting: &Setting, address: u64, size: Option<u32>) -> bool
-    ensures { result ≡ ends_before setting.now address (bytes_of setting.now.shape size) }
+    ensures { result ≡ message_ends_before setting.now address size }
 {
     match size {
         None => ends_before(setting, address, setting.shape().block_bytes as u64),
