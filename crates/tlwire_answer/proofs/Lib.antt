@@ -1,3 +1,4 @@
+pub mod Advised
 mod Asked
 mod Clients
 mod Firsts

@@ -1,5 +1,5 @@
 -- A line of the header that would have decided a record, where it is true (this project's own format).
-use Rattle.std.specs.Prelude.{◌≡◌, not, Bool, true, false, ℕ, List, [], ◌∷◌, ◌++◌, codes, Option, Some, None, IfSome}
+use Rattle.std.specs.Prelude.{◌≡◌, Bool, true, false, ℕ, List, [], ◌∷◌, ◌++◌, codes, Option, Some, None, IfSome}
 use Rattle.std.specs.List.{list_any}
 use Rattle.tl_types.specs.declared.channel.Channel.TheVariants as channel
 use Rattle.tlwire_search.specs.Premises.{is_unseen_on}
@@ -25,15 +25,15 @@ premise_of its.CoresUnseen = premise.CoresUnseen
 premise_of its.Whole = premise.Whole
 
 -- a line stands where a premise says that nobody watched
-abbrev pub is_unwatched_by : Premise → Seen → Bool
+unfoldable pub is_unwatched_by : Premise → Seen → Bool
 is_unwatched_by p (OnLink c block shown) = false
 is_unwatched_by p (OnMemory block shown) = list_any (is_unseen_on (wire.Memory channel.A)) (p ∷ [])
 is_unwatched_by p (Loads c offset bytes) = list_any (is_unseen_on (wire.Core c)) (p ∷ [])
 is_unwatched_by p (Stores c offset bytes) = list_any (is_unseen_on (wire.Core c)) (p ∷ [])
 
--- none does
-abbrev pub stands_with : List Seen → Premise → Bool
-stands_with lines p = not (list_any (is_unwatched_by p) lines)
+-- some does
+abbrev pub is_forbidden : List Seen → Premise → Bool
+is_forbidden lines p = list_any (is_unwatched_by p) lines
 
 -- it is a run, or that there is none
 abbrev pub is_decided : Verdict → Bool
@@ -46,7 +46,7 @@ is_decided (Unmet unmet) = false
 
 -- With one line more in its header, which the record's lines allow, what is said of the record is decided.
 pub record Decides (m : MessagesState) (a : Advice) : Type 0 where
-  pub allowed : stands_with m.seen (premise_of a) ≡ true
+  pub allowed : is_forbidden m.seen (premise_of a) ≡ false
   pub verdict : Verdict
   pub judged : IsJudged (supposing m (premise_of a)) verdict
   pub decided : is_decided verdict ≡ true

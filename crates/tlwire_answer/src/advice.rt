@@ -1,7 +1,7 @@
 //! A line of the header that would have decided a record, where it is true.
 ghost use Rattle.std.specs.Prelude.{◌≡◌, Some, IfOk, IfSome, IsTrue};
 ghost use Rattle.std.specs.List.{list_any};
-ghost use Rattle.tlwire_answer.specs.Advice.{Decides, IsAdvised, advice_text, advised_line, is_decided, is_unwatched_by, stands_with};
+ghost use Rattle.tlwire_answer.specs.Advice.{Decides, IsAdvised, advice_text, advised_line, is_decided, is_forbidden, is_unwatched_by};
 ghost use Rattle.tlwire_answer.specs.Answer.{IsJudged};
 ghost use Rattle.tlwire_search.specs.Premises.{is_unseen_on};
 
@@ -91,6 +91,7 @@ impl Advice {
 }
 
 /// Whether a line stands where a premise says that nobody watched.
+#[tactic(auto, unfolding(crate::specs::Advice::is_unwatched_by))]
 fn is_unwatched_by(premise: Premise, seen: &Seen) -> bool
     ensures { result ≡ is_unwatched_by premise seen.now }
 {
@@ -103,11 +104,11 @@ fn is_unwatched_by(premise: Premise, seen: &Seen) -> bool
     }
 }
 
-/// Whether a record may say so: none of its lines stands where nobody watched.
-fn stands_with(lines: &[Seen], premise: Premise) -> bool
-    ensures { result ≡ stands_with lines.now premise }
+/// Whether some line does, so that the header may not say so.
+fn is_forbidden(lines: &[Seen], premise: Premise) -> bool
+    ensures { result ≡ is_forbidden lines.now premise }
 {
-    !lines.iter().any(|seen| is_unwatched_by(premise, seen))
+    lines.iter().any(|seen| is_unwatched_by(premise, seen))
 }
 
 /// Whether it is a run, or that there is none.
@@ -126,7 +127,7 @@ fn decides(alloc: Global, messages: &mut Messages, advice: Advice) -> Result<boo
     ensures decides { IfOk result (λ yes. IsTrue yes → Decides messages.old advice) }
 {
     let premise = advice.premise();
-    if !stands_with(messages.seen(), premise) {
+    if is_forbidden(messages.seen(), premise) {
         return Ok(false);
     }
     let count = messages.setting().premises().len();
@@ -137,6 +138,7 @@ fn decides(alloc: Global, messages: &mut Messages, advice: Advice) -> Result<boo
 }
 
 /// The first line that decides a record, which stays as it is; none of a record of more than `MOST_SEEN` lines.
+#[tactic(auto, using(crate::proofs::Advised::decides_same))]
 fn advice_to(alloc: Global, messages: &mut Messages) -> Result<Option<Advice>, AllocError>
     ensures kept { messages.new ≡ messages.old }
     ensures decides { IfOk result (λ advice. IfSome advice (Decides messages.old)) }

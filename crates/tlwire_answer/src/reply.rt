@@ -16,6 +16,7 @@ use tl_streams::{Watcher, write_whole};
 use tlwire_record::{Messages, ReadFault, read, split_lines};
 
 /// That verdict, with a line of the header that would have decided it, where it is none.
+#[tactic(auto, using(crate::proofs::Advised::said_same))]
 fn advised(alloc: Global, mut messages: Messages, verdict: Verdict) -> Ending
     requires { IsJudged messages verdict }
     ensures { IsEnding messages result }
