@@ -193,7 +193,8 @@ class Inserted:
     def words(self, channel, opcode, **fields):
         rng = self.rng
         out = [f"{key}={value}" for key, value in fields.items() if value is not None]
-        out += [f"mask={rng.randrange(256)}"] * (channel in "AB" and rng.random() < 0.2) + ["corrupt=1"] * (channel in "ACD" and rng.random() < 0.05)
+        out += [f"mask={rng.randrange(256)}"] * (channel in "AB" and rng.random() < 0.2)
+        out += ["corrupt=1"] * (channel in "ACD" and rng.random() < 0.05)
         rng.shuffle(out)
         return [channel, str(opcode), *out]
 
@@ -215,14 +216,16 @@ class Inserted:
     def released(self, link, source, address, bits):
         rng = self.rng
         opcode = rng.choice([6, 7])
-        given = self.words("C", opcode, param=rng.randrange(3), size=bits, source=source, address=f"0x{address:x}") + (self.data(1 << bits) if opcode == 7 else [])
+        given = self.words("C", opcode, param=rng.randrange(3), size=bits, source=source, address=f"0x{address:x}")
+        given += self.data(1 << bits) if opcode == 7 else []
         return [[link, *given], [link, *self.words("D", 6, size=bits, source=source)]]
 
     def probed(self, link, source, address, bits):
         rng = self.rng
         opcode = rng.choice([4, 5])
         probe = self.words("B", 6, param=rng.randrange(3), size=bits, source=source, address=f"0x{address:x}")
-        answer = self.words("C", opcode, param=rng.randrange(6), size=bits, source=source, address=f"0x{address:x}") + (self.data(1 << bits) if opcode == 5 else [])
+        answer = self.words("C", opcode, param=rng.randrange(6), size=bits, source=source, address=f"0x{address:x}")
+        answer += self.data(1 << bits) if opcode == 5 else []
         return [[link, *probe], [link, *answer]]
 
     def agents_lines(self):
@@ -285,7 +288,9 @@ class Inserted:
         near = rng.randrange(len(self.lines) + 1)
         places = sorted(rng.choice([near, rng.randrange(len(self.lines) + 1)]) for _ in lines)
         first, last = places[0], len(self.lines) + 1 if len(lines) == 1 else places[-1]
-        if any((link, source) == (l, s) and first <= q and p <= last for l, s, p, q in self.spans) or source is not None and not self.is_free(link, source, first, last):
+        if any((link, source) == (l, s) and first <= q and p <= last for l, s, p, q in self.spans):
+            return
+        if source is not None and not self.is_free(link, source, first, last):
             return
         self.spans.append((link, source, first, last))
         order = rng.random()
