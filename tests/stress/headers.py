@@ -368,6 +368,8 @@ def tried(program, kind, seed):
     if kind != "expected":
         inserted = Inserted(rng, walk.clients, lines, base, end_of_memory)
         header, more = inserted.header(), inserted.all_added(rng)
+        if kind == "left out" and not inserted.added:
+            return None
     # (in the first record a line that is ignored stands for each line more of the header)
     quiet, patience, expects = False, [], []
     first = len(head) + 2
