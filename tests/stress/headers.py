@@ -228,6 +228,10 @@ class Inserted:
         answer += self.data(1 << bits) if opcode == 5 else []
         return [[link, *probe], [link, *answer]]
 
+    def size(self):
+        """The logarithm of a message's bytes: mostly of few, at times of more than there are addresses."""
+        return self.rng.randint(0, 6) if self.rng.random() < 0.95 else self.rng.choice([12, 63, 64, 100])
+
     def agents_lines(self):
         """An exchange of an agent that is named."""
         rng = self.rng
@@ -235,7 +239,7 @@ class Inserted:
         a, b = self.agents[c]
         # (those of judged messages are below 50,000)
         source = b if a == b else rng.randint(max(a, 50_000), b)
-        bits = rng.randint(0, 6)
+        bits = self.size()
         opcode = rng.choice([4, 4, 4, 5, 5, 0, 1, 2, 3, "acquire", "release", "probe"])
         if opcode in (4, 5) and rng.random() < 0.6:
             address = rng.randrange(self.base, self.end) >> bits << bits
@@ -255,7 +259,7 @@ class Inserted:
             size = rng.randint(1, 8)
             address = self.apart(size, True)
             return address is not None and (link, None, [[link, rng.choice(["load", "store"]), f"0x{address:x}", bytes(size).hex()]]) or None
-        bits = rng.randint(0, 6)
+        bits = self.size()
         address = self.apart(1 << bits, True)
         opcode = rng.choice([0, 1, 2, 3, 4, 5] if link == "m" else [0, 1, 2, 3, 4, 5, "acquire", "acquire", "release", "release", "probe", "probe"])
         source = rng.choice([rng.randint(0, 30), 60_000 + self.fresh()])
