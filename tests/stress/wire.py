@@ -6,12 +6,13 @@ Each bank of a trace is a record of messages: each message that was sent, with a
 load and store. Each record is given to tlwire twice as `whole`: with each message at its sending, and with each one
 later, as buffers would delay it: somewhere before it is taken, the messages of a channel in their order. Both must be
 explained; with --tlcheck the run that `tlwire --run` prints must be lawful, but for the order of a channel over all
-blocks, which an explanation need not keep. Then it is given as it is seen at the
-clients' pins (what a client has not taken is not seen), whole and cut at some line, with all that is seen, without the
-memory's link, without the cores, without both: none of these may be impossible. Then N damages (10) of the record that
-is whole, and N of the one at the clients' pins: a line dropped, a byte or a parameter changed, two lines of a channel
-of a link exchanged. Prints how many of these are explained, impossible, not decided, and faults, and ends with status 1
-where an answer was another.
+blocks, which an explanation need not keep. Each is given once more, with `ends quiet`, `patience NUM` or both in its
+header, and the answer must be the one that headers.py reckons. Then it is given as it is seen at the clients' pins
+(what a client has not taken is not seen), whole and cut at some line, with all that is seen, without the memory's link,
+without the cores, without both: none of these may be impossible. Then N damages (10) of the record that is whole, and N
+of the one at the clients' pins: a line dropped, a byte or a parameter changed, two lines of a channel of a link
+exchanged. Prints how many of these are explained, impossible, not decided, and faults, and ends with status 1 where an
+answer was another.
 """
 import os
 import random
@@ -20,6 +21,7 @@ import sys
 import tempfile
 from concurrent.futures import ThreadPoolExecutor
 
+import headers
 from soak import PATIENCE, GivenTrace, Trace, places
 
 CODES = {
@@ -297,6 +299,19 @@ class Wire:
                 return f"the run: status {status}: {output.decode()}{fault.decode()}"
         return None
 
+    def expected(self, rng, head, lines):
+        """What is wrong with the answer to such a record, whose header expects something of its exchanges."""
+        texts, end = [" ".join(line) for line in lines], int(lines[-1][0])
+        quiet, patience, expects = headers.expectation(rng, headers.exchanges(list(enumerate(texts, 1))), end)
+        head = headed(head, *expects)
+        all_of = headers.exchanges(list(enumerate(texts, len(head) + 1)))
+        wrong = headers.unmet(all_of, end, quiet, patience)
+        status, output, fault = self.ask([self.tlwire], text(head, lines))
+        first, rest = headers.parted(output.decode())
+        if (status, rest) != (1 if wrong else 0, headers.behind(all_of, end)) or wrong and first != wrong:
+            return f"status {status}: {output.decode()}{fault.decode()}instead of {wrong}{headers.behind(all_of, end)}"
+        return None
+
     def trace(self, seed):
         rng = random.Random(f"wire {seed}")
         trace, wrong = self.grown(seed)
@@ -307,7 +322,8 @@ class Wire:
             entries = [line for line in given.splitlines() if not line.startswith(("clients", "image"))]
             for delayed in (False, True):
                 head, lines = record(trace, entries, rng, delayed)
-                wrong = self.explained(headed(head, "whole"), lines)
+                whole = headed(head, "whole")
+                wrong = self.explained(whole, lines) or lines and self.expected(random.Random(f"{seed} {bank} {delayed}"), whole, lines)
                 records, messages = records + 1, messages + len(lines)
                 if wrong:
                     said.append(f"trace {seed}, bank {bank}, delayed {delayed}: {wrong}")
