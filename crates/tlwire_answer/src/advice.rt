@@ -5,12 +5,15 @@ ghost use Rattle.tlwire_answer.specs.Advice.{Decides, IsAdvised, advice_text, ad
 ghost use Rattle.tlwire_answer.specs.Answer.{IsJudged};
 ghost use Rattle.tlwire_search.specs.Premises.{is_unseen_on};
 
-use crate::verdict::{MOST_SEEN, Undecided, Verdict, judge};
+use crate::verdict::{Undecided, Verdict, judge};
 use std::alloc::{AllocError, Global};
 use std::fmt;
 use tl_types::Channel;
 use tlwire_record::Messages;
 use tlwire_search::{Premise, Seen, Wire, is_unseen};
+
+/// How many messages, loads and stores a record has, at most, for which lines of the header are tried.
+const MOST_ADVISED: usize = 1_000;
 
 /// A line of the header that is tried.
 #[derive(Clone, Copy, Debug, PartialEq, Eq)]
@@ -137,13 +140,14 @@ fn decides(alloc: Global, messages: &mut Messages, advice: Advice) -> Result<boo
     Ok(is_decided(&verdict?))
 }
 
-/// The first line that decides a record, which stays as it is; none of a record of more than `MOST_SEEN` lines.
+/// The first line that decides a record, which stays as it is; none of a record of more than `MOST_ADVISED`
+/// messages, loads and stores.
 #[tactic(auto, using(crate::proofs::Advised::decides_same))]
 fn advice_to(alloc: Global, messages: &mut Messages) -> Result<Option<Advice>, AllocError>
     ensures kept { messages.new ≡ messages.old }
     ensures decides { IfOk result (λ advice. IfSome advice (Decides messages.old)) }
 {
-    if messages.seen().len() > MOST_SEEN {
+    if messages.seen().len() > MOST_ADVISED {
         return Ok(None);
     }
     for advice in &ALL {

@@ -19,9 +19,8 @@ use tlwire_record::Messages;
 use tlwire_rounds::explain_in_rounds;
 use tlwire_search::{Explanation, Limit, Seen, explain, has_drops};
 
-/// How many messages, loads and stores a record has, at most, for which a run is sought in rounds, and a line of the
-/// header that would decide it.
-pub(crate) const MOST_SEEN: usize = 10_000;
+/// How many messages, loads and stores a record has, at most, for which a run is sought in rounds.
+const MOST_SEEN: usize = 10_000;
 
 /// What is told where neither was found.
 #[derive(Clone, Copy, Debug, PartialEq, Eq)]
