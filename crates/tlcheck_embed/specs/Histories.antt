@@ -5,6 +5,7 @@ use Rattle.tl_protocol.specs.declared.shape.Shape.{Shape}
 use Rattle.tlcheck_rules.specs.Judged.{Breaks, IsPermitted}
 use Rattle.tlcheck_rules.specs.declared.entry.Entry.{Entry}
 use Rattle.tlcheck_rules.specs.declared.judge.Breach.{Breach}
+use Rattle.tlcheck_rules.specs.declared.order.ChannelOrder.{ChannelOrder}
 use Rattle.tlcheck_embed.specs.Asked.{entry_of}
 use Rattle.tlcheck_embed.specs.Opens.{IsOpened, SeesRoom}
 use Rattle.tlcheck_embed.specs.Told.{breach_told, only}
@@ -33,26 +34,26 @@ AreRepeated fault (x ∷ more) =
     (x.0.event ≡ 255 → Closes x.1 more) × (x.0.event ≢ 255 → (x.1 ≡ fault) × AreRepeated fault more)
 
 -- An entry breaks this first after a log: 31 and the rule are told.
-pub record IsToldBroken (shape : Shape) (image : List ℕ) (log : List Event) (entry : Entry) (told : Verdict) : Type 0 where
+pub record IsToldBroken (order : ChannelOrder) (shape : Shape) (image : List ℕ) (log : List Event) (entry : Entry) (told : Verdict) : Type 0 where
   pub breach : Breach
-  pub breaks : Breaks shape image log entry breach
+  pub breaks : Breaks order shape image log entry breach
   pub status : told.status ≡ 31
   pub rule : told.rule ≡ (breach_told breach).rule
 
 -- What is told of entries after a log, until the judge is closed: of numbers that are no entry 17; of one that is permitted 0, and so on
 -- after it; of the first that is not which rule it breaks, or want of memory, and that of each behind it.
-abbrev pub AreToldAfter : Shape → List ℕ → List Event → List (BenchEntry × Verdict) → Type 0
-AreToldAfter shape image log [] = Unit {0}
-AreToldAfter shape image log (x ∷ more) =
+abbrev pub AreToldAfter : ChannelOrder → Shape → List ℕ → List Event → List (BenchEntry × Verdict) → Type 0
+AreToldAfter order shape image log [] = Unit {0}
+AreToldAfter order shape image log (x ∷ more) =
     (x.0.event ≡ 255 → Closes x.1 more)
     × (x.0.event ≢ 255
-    → ((entry_of x.0 ≡ None) × (x.1 ≡ only 17) × AreToldAfter shape image log more)
+    → ((entry_of x.0 ≡ None) × (x.1 ≡ only 17) × AreToldAfter order shape image log more)
     ⊎ ((entry : Entry) × (entry_of x.0 ≡ Some entry)
-    × (((x.1.status ≡ 0) × IsPermitted shape image log entry × AreToldAfter shape image (log ++ entry.event ∷ []) more)
-    ⊎ ((IsToldBroken shape image log entry x.1 ⊎ (x.1 ≡ only 14)) × AreRepeated x.1 more))))
+    × (((x.1.status ≡ 0) × IsPermitted order shape image log entry × AreToldAfter order shape image (log ++ entry.event ∷ []) more)
+    ⊎ ((IsToldBroken order shape image log entry x.1 ⊎ (x.1 ≡ only 14)) × AreRepeated x.1 more))))
 
 -- Whatever a judge that was opened sees, it tells just that.
 abbrev pub EveryJudging : Type 0
 EveryJudging =
-    (shape : Shape) (image : List ℕ) (seen : List (BenchEntry × Verdict)) (made end : JudgeRoom)
-    → IsOpened shape image made → AreSeen made seen end → AreToldAfter shape image [] seen
+    (order : ChannelOrder) (shape : Shape) (image : List ℕ) (seen : List (BenchEntry × Verdict)) (made end : JudgeRoom)
+    → IsOpened order shape image made → AreSeen made seen end → AreToldAfter order shape image [] seen

@@ -4,6 +4,7 @@ use Rattle.tl_protocol.specs.declared.event.Event.{Event}
 use Rattle.tl_protocol.specs.declared.shape.Shape.{Shape}
 use Rattle.tlcheck_rules.specs.Judged.{Breaks, Follows, IsPermitted}
 use Rattle.tlcheck_rules.specs.declared.entry.Entry.{Entry}
+use Rattle.tlcheck_rules.specs.declared.order.ChannelOrder.{ChannelOrder}
 use Rattle.tlcheck_rules.specs.declared.judge.Breach.{Breach}
 use Rattle.tlcheck_embed.specs.Asked.{entry_of}
 use Rattle.tlcheck_embed.specs.Told.{breach_told, only, with_state}
@@ -11,10 +12,10 @@ use Rattle.tlcheck_embed.specs.declared.bench.Bench.{Bench}
 use Rattle.tlcheck_embed.specs.declared.entry.BenchEntry.{BenchEntry}
 use Rattle.tlcheck_embed.specs.declared.verdict.Verdict.{Verdict}
 
--- At reset over an image, and nothing was refused.
-pub record IsFresh (shape : Shape) (image : List ℕ) (b : Bench) : Type 0 where
+-- At reset over an image in an order of the channels, and nothing was refused.
+pub record IsFresh (order : ChannelOrder) (shape : Shape) (image : List ℕ) (b : Bench) : Type 0 where
   pub lawful : b.fault ≡ None
-  pub follows : Follows shape image [] b.judge
+  pub follows : Follows order shape image [] b.judge
 
 -- a judge with what each later call tells
 abbrev pub kept : Bench → Verdict → Bench
@@ -25,8 +26,8 @@ pub record Takes (old : Bench) (entry : Entry) (new : Bench) (told : Verdict) : 
   pub tells : told ≡ with_state new.judge entry.event (only 0)
   pub lawful : new.fault ≡ None
   pub follows :
-      (shape : Shape) (image : List ℕ) (log : List Event) → Follows shape image log old.judge
-      → IsPermitted shape image log entry × Follows shape image (log ++ entry.event ∷ []) new.judge
+      (order : ChannelOrder) (shape : Shape) (image : List ℕ) (log : List Event) → Follows order shape image log old.judge
+      → IsPermitted order shape image log entry × Follows order shape image (log ++ entry.event ∷ []) new.judge
 
 -- It breaks this first, which is told and kept, with the state before it; the judge stays where it is.
 pub record Refuses (old : Bench) (entry : Entry) (new : Bench) (told : Verdict) : Type 0 where
@@ -34,7 +35,7 @@ pub record Refuses (old : Bench) (entry : Entry) (new : Bench) (told : Verdict) 
   pub tells : told ≡ with_state old.judge entry.event (breach_told breach)
   pub keeps : new ≡ kept old told
   pub breaks :
-      (shape : Shape) (image : List ℕ) (log : List Event) → Follows shape image log old.judge → Breaks shape image log entry breach
+      (order : ChannelOrder) (shape : Shape) (image : List ℕ) (log : List Event) → Follows order shape image log old.judge → Breaks order shape image log entry breach
 
 -- A request for memory was refused: that is told and kept.
 pub record Starves (new : Bench) (told : Verdict) : Type 0 where

@@ -6,7 +6,7 @@ use crate::verdict::{Verdict, breach_told, with_state};
 use std::alloc::{AllocError, Global};
 use tl_rules::Shape;
 use tl_types::{BLOCK_BYTES, BLOCKS};
-use tlcheck_rules::{Entry, Judge, Refusal};
+use tlcheck_rules::{ChannelOrder, Entry, Judge, Refusal};
 
 /// Where the entries so far lead, until one is not permitted.
 #[derive(Drop)]
@@ -18,13 +18,18 @@ pub struct Bench {
 impl Bench {
     ghost use Rattle.tlcheck_embed.specs.Sees.{IsFresh, Judges, Sees, SeesAt, kept};
 
-    /// A judge at reset over an image. The error is want of memory.
-    pub fn new(alloc: Global, shape: Shape, image: &[u8]) -> Result<Bench, AllocError>
+    /// A judge at reset over an image, in an order of the channels. The error is want of memory.
+    pub fn new(
+        alloc: Global,
+        order: ChannelOrder,
+        shape: Shape,
+        image: &[u8],
+    ) -> Result<Bench, AllocError>
         requires bytes { (0 < shape.block_bytes) × (shape.block_bytes ≤ BLOCK_BYTES) }
         requires blocks { shape.blocks ≤ BLOCKS }
-        ensures { IfOk result (λ b. IsFresh shape image.now b) }
+        ensures { IfOk result (λ b. IsFresh order shape image.now b) }
     {
-        let judge = Judge::new(alloc, shape, image)?;
+        let judge = Judge::new(alloc, order, shape, image)?;
         Ok(Bench { judge, fault: None })
     }
 

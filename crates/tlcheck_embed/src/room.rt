@@ -1,12 +1,13 @@
 //! A judge in a room of a caller in C: open, or closed for a reason.
 ghost use Rattle.std.specs.Prelude.{◌≡◌, None};
-ghost use Rattle.tlcheck_embed.specs.Opens.{OpensJudge, OpensOver, SeesRoom, closed, shape_of, shape_refusal};
+ghost use Rattle.tlcheck_embed.specs.Opens.{OpensJudge, OpensOver, SeesRoom, closed, numbers_refusal, order_of, shape_of, shape_refusal};
 
 use crate::bench::Bench;
 use crate::entry::BenchEntry;
 use crate::verdict::Verdict;
 use std::alloc::Global;
 use tl_rules::Shape;
+use tlcheck_rules::ChannelOrder;
 
 /// The numbers of a judge.
 #[repr(C)]
@@ -18,23 +19,25 @@ pub struct JudgeNumbers {
     pub block_bytes: u32,
     /// How many blocks the memory has: 1 to 65,536.
     pub memory_blocks: u32,
+    /// The order of a channel that is asked for: 0 that of the whole channel, 1 that of each block alone.
+    pub order: u32,
 }
 
 /// A judge, until it is closed.
 #[derive(Drop)]
 pub struct JudgeRoom {
-    /// 0 where it was opened; else why it is closed: 20, 22, 27, 10 or 14 as `opened` says, 18 by its caller.
+    /// 0 where it was opened; else why it is closed: 20, 22, 27, 17, 10 or 14 as `opened` says, 18 by its caller.
     pub status: u32,
     /// The judge, where it is open.
     pub bench: Option<Bench>,
 }
 
 /// A judge at reset over an image; one that is closed where a number is not lawful (20 clients, 22 block bytes, 27
-/// memory blocks), the image is longer than the memory (10) or there is no memory (14).
+/// memory blocks, 17 the order), the image is longer than the memory (10) or there is no memory (14).
 pub fn opened(alloc: Global, numbers: &JudgeNumbers, image: &[u8]) -> JudgeRoom
     ensures { OpensJudge numbers.now image.now result }
 {
-    match shape_refusal(numbers) {
+    match numbers_refusal(numbers) {
         Some(status) => closed(status),
         None => opened_over(alloc, numbers, image),
     }
@@ -42,19 +45,41 @@ pub fn opened(alloc: Global, numbers: &JudgeNumbers, image: &[u8]) -> JudgeRoom
 
 /// The same where the numbers are lawful.
 fn opened_over(alloc: Global, numbers: &JudgeNumbers, image: &[u8]) -> JudgeRoom
-    requires { shape_refusal numbers.now ≡ None }
+    requires { numbers_refusal numbers.now ≡ None }
     ensures { OpensOver numbers.now image.now result }
 {
     let bytes = numbers.block_bytes as usize * numbers.memory_blocks as usize;
     if image.len() > bytes {
         return closed(10);
     }
-    match Bench::new(alloc, shape_of(numbers), image) {
+    match Bench::new(alloc, order_of(numbers), shape_of(numbers), image) {
         Ok(bench) => JudgeRoom {
             status: 0,
             bench: Some(bench),
         },
         Err(_) => closed(14),
+    }
+}
+
+/// The order of a channel that is asked for.
+fn order_of(numbers: &JudgeNumbers) -> ChannelOrder
+    ensures { result ≡ order_of numbers.now }
+{
+    if numbers.order == 0 {
+        ChannelOrder::Whole
+    } else {
+        ChannelOrder::EachBlock
+    }
+}
+
+/// The status of the first number that is not lawful: 20 clients, 22 block bytes, 27 memory blocks, 17 the order.
+fn numbers_refusal(numbers: &JudgeNumbers) -> Option<u32>
+    ensures { result ≡ numbers_refusal numbers.now }
+{
+    match shape_refusal(numbers) {
+        Some(status) => Some(status),
+        None if numbers.order > 1 => Some(17),
+        None => None,
     }
 }
 
@@ -69,7 +94,7 @@ pub fn shape_of(numbers: &JudgeNumbers) -> Shape
     }
 }
 
-/// The status of the first number that is not lawful: 20 clients, 22 block bytes, 27 memory blocks.
+/// The status of the first number of the shape that is not lawful: 20 clients, 22 block bytes, 27 memory blocks.
 pub fn shape_refusal(numbers: &JudgeNumbers) -> Option<u32>
     ensures { result ≡ shape_refusal numbers.now }
 {

@@ -6,6 +6,7 @@ use Rattle.tl_protocol.specs.Protocol.{Block, block_of}
 use Rattle.tl_protocol.specs.Runs.{end_of}
 use Rattle.tl_rules.specs.Plain.{state_of_plain}
 use Rattle.tl_rules.specs.PlainState.{PlainState}
+use Rattle.tlcheck_rules.specs.declared.order.ChannelOrder.{ChannelOrder}
 use Rattle.tlcheck_rules.specs.Judged.{Follows, IsPermitted, JudgeState}
 use Rattle.tlcheck_rules.specs.Rules.{client_of}
 use Rattle.tlcheck_rules.specs.declared.entry.Entry.{Entry}
@@ -18,35 +19,35 @@ use Rattle.tlcheck_home.specs.declared.tally.Mark.{Mark}
 
 -- the situation that the judge shows is that after the log
 shown_situation :
-    (shape : Shape) (image : List ℕ) (log : List Event) (judge : JudgeState) (e : Event) → Follows shape image log judge
+    (order : ChannelOrder) (shape : Shape) (image : List ℕ) (log : List Event) (judge : JudgeState) (e : Event) → Follows order shape image log judge
     → block_of shape e < shape.blocks
     → situation_of judge.plain.shape.clients (state_of_plain judge.plain (block_of judge.plain.shape e)) e
     ≡ situation_after shape image log e
-shown_situation shape image log judge e follows inside =
+shown_situation order shape image log judge e follows inside =
     ap (λ (s : Shape). situation_of s.clients (state_of_plain judge.plain (block_of s e)) e) follows.same_shape
     ∙ ap (λ (b : Block). situation_of shape.clients b e) (sym (follows.ended (block_of shape e) inside))
 
 -- an entry that was permitted is seen where its situation was counted
 pub seen :
-    (shape : Shape) (image : List ℕ) (log : List Event) (entry : Entry) (mark : Mark) (before after : JudgeState)
+    (order : ChannelOrder) (shape : Shape) (image : List ℕ) (log : List Event) (entry : Entry) (mark : Mark) (before after : JudgeState)
     (old new : TallyState) (s : Situation)
-    → Follows shape image log before → IsPermitted shape image log entry → Follows shape image (log ++ entry.event ∷ []) after
+    → Follows order shape image log before → IsPermitted order shape image log entry → Follows order shape image (log ++ entry.event ∷ []) after
     → s ≡ situation_of before.plain.shape.clients (state_of_plain before.plain (block_of before.plain.shape entry.event)) entry.event
-    → IsNoted s mark old new → IsSeen shape image log entry mark after old new
-seen shape image log entry mark before after old new s follows permitted later is noted = record {
+    → IsNoted s mark old new → IsSeen order shape image log entry mark after old new
+seen order shape image log entry mark before after old new s follows permitted later is noted = record {
   permitted = permitted;
   follows = later;
   noted = subst (λ (x : Situation). IsNoted x mark old new)
-      (is ∙ shown_situation shape image log before entry.event follows permitted.may.0) noted;
+      (is ∙ shown_situation order shape image log before entry.event follows permitted.may.0) noted;
 }
 
 -- an entry that was permitted has a situation
 pub never_unseen :
-    (shape : Shape) (image : List ℕ) (log : List Event) (entry : Entry) (before : JudgeState) → 0 < shape.clients
-    → Follows shape image log before → IsPermitted shape image log entry
+    (order : ChannelOrder) (shape : Shape) (image : List ℕ) (log : List Event) (entry : Entry) (before : JudgeState) → 0 < shape.clients
+    → Follows order shape image log before → IsPermitted order shape image log entry
     → (block_of before.plain.shape entry.event < before.plain.shape.blocks → client_of entry.event < before.plain.shape.clients → ⊥)
     → ⊥
-never_unseen shape image log entry before some follows permitted none =
+never_unseen order shape image log entry before some follows permitted none =
     let same : (block_of shape entry.event < shape.blocks → client_of entry.event < shape.clients → ⊥)
     = subst (λ (s : Shape). block_of s entry.event < s.blocks → client_of entry.event < s.clients → ⊥) follows.same_shape none in
     same permitted.may.0
@@ -54,20 +55,20 @@ never_unseen shape image log entry before some follows permitted none =
 
 -- what is seen of an entry that was permitted, whatever its situation
 pub seen_as :
-    (shape : Shape) (image : List ℕ) (log : List Event) (entry : Entry) (mark : Mark) (before after : JudgeState) (plain : PlainState)
+    (order : ChannelOrder) (shape : Shape) (image : List ℕ) (log : List Event) (entry : Entry) (mark : Mark) (before after : JudgeState) (plain : PlainState)
     (old new : TallyState) (s : Situation) → plain ≡ before.plain
-    → Follows shape image log before → IsPermitted shape image log entry → Follows shape image (log ++ entry.event ∷ []) after
-    → IsSituationIn plain entry.event (Some s) → IsNoted s mark old new → IsSeen shape image log entry mark after old new
-seen_as shape image log entry mark before after plain old new s same follows permitted later is noted =
-    seen shape image log entry mark before after old new s follows permitted later
+    → Follows order shape image log before → IsPermitted order shape image log entry → Follows order shape image (log ++ entry.event ∷ []) after
+    → IsSituationIn plain entry.event (Some s) → IsNoted s mark old new → IsSeen order shape image log entry mark after old new
+seen_as order shape image log entry mark before after plain old new s same follows permitted later is noted =
+    seen order shape image log entry mark before after old new s follows permitted later
     (subst (λ (p : PlainState). IsSituationIn p entry.event (Some s)) same is) noted
 
 -- it has one
 pub never_none :
-    (shape : Shape) (image : List ℕ) (log : List Event) (entry : Entry) (before : JudgeState) (plain : PlainState) → plain ≡ before.plain
-    → 0 < shape.clients → Follows shape image log before → IsPermitted shape image log entry → IsSituationIn plain entry.event None → ⊥
-never_none shape image log entry before plain same some follows permitted is =
-    never_unseen shape image log entry before some follows permitted
+    (order : ChannelOrder) (shape : Shape) (image : List ℕ) (log : List Event) (entry : Entry) (before : JudgeState) (plain : PlainState) → plain ≡ before.plain
+    → 0 < shape.clients → Follows order shape image log before → IsPermitted order shape image log entry → IsSituationIn plain entry.event None → ⊥
+never_none order shape image log entry before plain same some follows permitted is =
+    never_unseen order shape image log entry before some follows permitted
     (subst (λ (p : PlainState). IsSituationIn p entry.event None) same is)
 
 -- what follows of what holds of a result that is Ok

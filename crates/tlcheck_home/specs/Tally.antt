@@ -6,6 +6,7 @@ use Rattle.tl_protocol.specs.declared.shape.Shape.{Shape}
 use Rattle.tl_protocol.specs.Protocol.{block_of}
 use Rattle.tl_rules.specs.Plain.{state_of_plain}
 use Rattle.tl_rules.specs.PlainState.{PlainState}
+use Rattle.tlcheck_rules.specs.declared.order.ChannelOrder.{ChannelOrder}
 use Rattle.tlcheck_rules.specs.Rules.{client_of}
 use Rattle.tlcheck_situations.specs.Situation.{situation_of}
 use Rattle.tlcheck_rules.specs.Judged.{Follows, IsPermitted, JudgeState}
@@ -75,9 +76,9 @@ IsNoted s mark old new =
     ⊎ (((k : ℕ) → slice_get old.situations k ≢ Some s) × IsCountedBeyond old new)
 
 -- An entry is permitted after a log, and its event is counted in the situation that it is in after that log.
-pub record IsSeen (shape : Shape) (image : List ℕ) (log : List Event) (entry : Entry) (mark : Mark) (judge : JudgeState) (old new : TallyState) : Type 0 where
-  pub permitted : IsPermitted shape image log entry
-  pub follows : Follows shape image (log ++ entry.event ∷ []) judge
+pub record IsSeen (order : ChannelOrder) (shape : Shape) (image : List ℕ) (log : List Event) (entry : Entry) (mark : Mark) (judge : JudgeState) (old new : TallyState) : Type 0 where
+  pub permitted : IsPermitted order shape image log entry
+  pub follows : Follows order shape image (log ++ entry.event ∷ []) judge
   pub noted : IsNoted (situation_after shape image log entry.event) mark old new
 
 -- the situation of an event, as a map of the state shows it; none where the event's block or its client is not there

@@ -2,6 +2,7 @@
 ghost use Rattle.std.specs.Prelude.{◌≡◌, ◌≢◌, ◌↔◌, ◌<◌, ◌+◌, ◌∷◌, ◌++◌, ℕ, List, [], Some, IfErr, IfOk, IsSome, IsTrue, OnErr, OnOk, length};
 ghost use Rattle.tl_protocol.specs.declared.event.Event.{Event};
 ghost use Rattle.tl_protocol.specs.declared.shape.Shape.{Shape};
+ghost use Rattle.tlcheck_rules.specs.declared.order.ChannelOrder.{ChannelOrder};
 ghost use Rattle.tlcheck_rules.specs.Judged.{Breaks, Follows, IsPermitted};
 ghost use Rattle.tlcheck_rules.specs.declared.judge.Breach.{Breach};
 ghost use Rattle.tlcheck_rules.specs.declared.judge.Refusal.TheVariants.{Broken};
@@ -205,17 +206,18 @@ impl Tally {
     /// then. What is not counted leaves the tally as it was, and its tables stay in any case.
     pub fn see(&mut self, judge: &mut Judge, entry: &Entry, mark: Mark) -> Result<(), Refusal>
         ensures ok { OnOk result
-            ((shape : Shape) (image : List ℕ) (log : List Event)
-            → Follows shape image log judge.old → 0 < shape.clients
-            → IsSeen shape image log entry.now mark judge.new self.old self.new) }
+            ((order : ChannelOrder) (shape : Shape) (image : List ℕ) (log : List Event)
+            → Follows order shape image log judge.old → 0 < shape.clients
+            → IsSeen order shape image log entry.now mark judge.new self.old self.new) }
         ensures permitted { OnOk result
-            ((shape : Shape) (image : List ℕ) (log : List Event)
-            → Follows shape image log judge.old
-            → IsPermitted shape image log entry.now × Follows shape image (log ++ entry.now.event ∷ []) judge.new) }
+            ((order : ChannelOrder) (shape : Shape) (image : List ℕ) (log : List Event)
+            → Follows order shape image log judge.old
+            → IsPermitted order shape image log entry.now
+            × Follows order shape image (log ++ entry.now.event ∷ []) judge.new) }
         ensures broken { IfErr result
             (λ refusal. (breach : Breach) → refusal ≡ Broken breach
-            → (shape : Shape) (image : List ℕ) (log : List Event)
-            → Follows shape image log judge.old → Breaks shape image log entry.now breach) }
+            → (order : ChannelOrder) (shape : Shape) (image : List ℕ) (log : List Event)
+            → Follows order shape image log judge.old → Breaks order shape image log entry.now breach) }
         ensures tables { HasTablesOf self.old self.new }
         ensures uncounted { OnErr result (self.new ≡ self.old) }
         ensures unchanged { IfErr result

@@ -107,7 +107,7 @@ module _ (text left : List ℕ) (count : ℕ) (stage : Stage) (at : IsAt text le
 
     pub broken : (b : BrokenEntry) → Takes (after_line at.reading line) (Err (bad_entry b)) → IsOutcome text (Broken (count + 1) b)
     broken b t = record {
-      shape = t.shape;
+      head = t.head;
       image = t.image;
       entries = t.entries;
       entry = t.entry;
@@ -131,7 +131,7 @@ module _ (text left : List ℕ) (count : ℕ) (stage : Stage) (at : IsAt text le
   end_at (going s image entries) Fresh h e = absurd h
   end_at (going s image entries) (Shaped shape) h e = absurd h
   end_at (going s image entries) (Judging judge n) h e =
-      record { shape = s; image = image; entries = entries; reads = e; lawful = h.1; counted = h.2; end = h.0 }
+      record { head = s; image = image; entries = entries; reads = e; lawful = h.1; counted = h.2; end = h.0 }
 
   pub ended : take_through 10 left ≡ [] → IsOutcome text (ending_of stage)
   ended none =

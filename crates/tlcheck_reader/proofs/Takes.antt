@@ -4,6 +4,7 @@ use Rattle.std.proofs.lemmas.List.{append-nil}
 use Rattle.tlcheck_record.specs.Cause.{◌>>=◌, Refuses}
 use Rattle.tlcheck_record.specs.declared.cause.Cause.{Cause}
 use Rattle.tlcheck_record.specs.declared.cause.LineError.{LineError}
+use Rattle.tlcheck_record.specs.declared.header.Head.{Head}
 use Rattle.tlcheck_record.specs.declared.cause.LineError.TheVariants.{Wrong, Memory as no_memory}
 use Rattle.tl_protocol.specs.Protocol.{block_of}
 use Rattle.tl_protocol.specs.declared.event.Event.{Event}
@@ -11,12 +12,13 @@ use Rattle.tl_protocol.specs.declared.shape.Shape.{Shape}
 use Rattle.tlcheck_rules.specs.Judged.{Breaks, Follows, IsLawful, IsLawfulAfter, IsPermitted, JudgeState, events_of}
 use Rattle.tlcheck_rules.specs.declared.entry.Entry.{Entry}
 use Rattle.tlcheck_rules.specs.declared.judge.Breach.{Breach}
+use Rattle.tlcheck_rules.specs.declared.order.ChannelOrder.{ChannelOrder}
 use Rattle.tlcheck_reader.specs.declared.outcome.LineFault.{LineFault}
 use Rattle.tlcheck_reader.specs.declared.outcome.LineFault.TheVariants.{Unreadable as bad_line, Broken as bad_entry, Memory}
 use Rattle.tlcheck_reader.specs.declared.outcome.Stage.{Stage}
 use Rattle.tlcheck_reader.specs.declared.outcome.Stage.TheVariants.{Fresh, Shaped, Judging}
 use Rattle.tlcheck_record.specs.Entry.{entry_of}
-use Rattle.tlcheck_record.specs.Header.{image_of, shape_of}
+use Rattle.tlcheck_record.specs.Header.{head_of, image_of}
 use Rattle.tlcheck_record.specs.Words.{is_blank, text_in}
 use Rattle.tlcheck_reader.specs.Outcome.{Agrees, IsJudged, Takes, fault_of, stopped_at}
 use Rattle.tlcheck_reader.specs.Reading.{Reading, fresh, shaped, going, after_text, image_or_entry, next, with_entry}
@@ -32,33 +34,33 @@ length_more [] entry = refl
 length_more (x ∷ rest) entry = omega (arith, length_more rest entry)
 
 -- entries stay lawful with one more that is permitted
-pub lawful_more : (shape : Shape) (image : List ℕ) (log : List Event) (entries : List Entry) (entry : Entry)
-    → IsLawfulAfter shape image log entries → IsPermitted shape image (log ++ events_of entries) entry
-    → IsLawfulAfter shape image log (entries ++ entry ∷ [])
-lawful_more shape image log [] entry h p = (subst (λ (es : List Event). IsPermitted shape image es entry) (append-nil log) p, tt)
-lawful_more shape image log (x ∷ rest) entry h p = (
+pub lawful_more : (order : ChannelOrder) (shape : Shape) (image : List ℕ) (log : List Event) (entries : List Entry) (entry : Entry)
+    → IsLawfulAfter order shape image log entries → IsPermitted order shape image (log ++ events_of entries) entry
+    → IsLawfulAfter order shape image log (entries ++ entry ∷ [])
+lawful_more order shape image log [] entry h p = (subst (λ (es : List Event). IsPermitted order shape image es entry) (append-nil log) p, tt)
+lawful_more order shape image log (x ∷ rest) entry h p = (
   h.0,
-  lawful_more shape image (log ++ x.event ∷ []) rest entry h.1
-      (subst (λ (es : List Event). IsPermitted shape image es entry) (sym (append_assoc log (x.event ∷ []) (events_of rest))) p),
+  lawful_more order shape image (log ++ x.event ∷ []) rest entry h.1
+      (subst (λ (es : List Event). IsPermitted order shape image es entry) (sym (append_assoc log (x.event ∷ []) (events_of rest))) p),
 )
 
 -- the judge goes on
-pub judged : (shape : Shape) (image : List ℕ) (entries : List Entry) (entry : Entry) (judge : JudgeState) (count number : ℕ)
-    → IsLawful shape image entries → length entries ≡ count → number ≡ count + 1
-    → IsPermitted shape image (events_of entries) entry → Follows shape image (events_of entries ++ entry.event ∷ []) judge
-    → IsJudged shape image entries entry (Ok (Judging judge number))
-judged shape image entries entry judge count number lawful same next_ permitted follows = (
-  subst (λ (es : List Event). Follows shape image es judge) (sym (events_more entries entry)) follows,
-  lawful_more shape image [] entries entry lawful permitted,
+pub judged : (head : Head) (image : List ℕ) (entries : List Entry) (entry : Entry) (judge : JudgeState) (count number : ℕ)
+    → IsLawful head.order head.shape image entries → length entries ≡ count → number ≡ count + 1
+    → IsPermitted head.order head.shape image (events_of entries) entry → Follows head.order head.shape image (events_of entries ++ entry.event ∷ []) judge
+    → IsJudged head image entries entry (Ok (Judging judge number))
+judged head image entries entry judge count number lawful same next_ permitted follows = (
+  subst (λ (es : List Event). Follows head.order head.shape image es judge) (sym (events_more entries entry)) follows,
+  lawful_more head.order head.shape image [] entries entry lawful permitted,
   omega (arith, same, next_, length_more entries entry),
 )
 
 -- the judge stops at an entry that breaks something, and is where it was
-pub stopped : (shape : Shape) (image : List ℕ) (entries : List Entry) (entry : Entry) (old new : JudgeState) (count number : ℕ) (breach : Breach)
-    → length entries ≡ count → number ≡ count + 1 → new ≡ old → Follows shape image (events_of entries) old
-    → Breaks shape image (events_of entries) entry breach → IsJudged shape image entries entry (Err (stopped_at new entry number breach))
-stopped shape image entries entry old new count number breach same next_ kept follows breaks =
-    let before : Follows shape image (events_of entries) new = subst (λ (j : JudgeState). Follows shape image (events_of entries) j) (sym kept) follows in
+pub stopped : (head : Head) (image : List ℕ) (entries : List Entry) (entry : Entry) (old new : JudgeState) (count number : ℕ) (breach : Breach)
+    → length entries ≡ count → number ≡ count + 1 → new ≡ old → Follows head.order head.shape image (events_of entries) old
+    → Breaks head.order head.shape image (events_of entries) entry breach → IsJudged head image entries entry (Err (stopped_at new entry number breach))
+stopped head image entries entry old new count number breach same next_ kept follows breaks =
+    let before : Follows head.order head.shape image (events_of entries) new = subst (λ (j : JudgeState). Follows head.order head.shape image (events_of entries) j) (sym kept) follows in
     record {
       breaks = breaks;
       counted = omega (arith, same, next_);
@@ -67,14 +69,14 @@ stopped shape image entries entry old new count number breach same next_ kept fo
     }
 
 -- what was judged is what a line with that entry leads to
-pub takes_entry : (shape : Shape) (image : List ℕ) (entries : List Entry) (entry : Entry) (result : Result Stage LineFault)
-    → IsLawful shape image entries → IsJudged shape image entries entry result
-    → Takes (Ok (going shape image (entries ++ entry ∷ []))) result
-takes_entry shape image entries entry (Ok stage) lawful h = (going shape image (entries ++ entry ∷ []), refl, h)
-takes_entry shape image entries entry (Err (bad_line cause)) lawful h = absurd h
-takes_entry shape image entries entry (Err (bad_entry broken)) lawful h =
-    record { shape = shape; image = image; entries = entries; entry = entry; reads = refl; lawful = lawful; stops = h }
-takes_entry shape image entries entry (Err Memory) lawful h = tt
+pub takes_entry : (head : Head) (image : List ℕ) (entries : List Entry) (entry : Entry) (result : Result Stage LineFault)
+    → IsLawful head.order head.shape image entries → IsJudged head image entries entry result
+    → Takes (Ok (going head image (entries ++ entry ∷ []))) result
+takes_entry head image entries entry (Ok stage) lawful h = (going head image (entries ++ entry ∷ []), refl, h)
+takes_entry head image entries entry (Err (bad_line cause)) lawful h = absurd h
+takes_entry head image entries entry (Err (bad_entry broken)) lawful h =
+    record { head = head; image = image; entries = entries; entry = entry; reads = refl; lawful = lawful; stops = h }
+takes_entry head image entries entry (Err Memory) lawful h = tt
 
 -- a text that cannot be read
 pub takes_none : (then_ : Result Reading Cause) (error : LineError) → Refuses error then_ → Takes then_ (Err (fault_of error))
@@ -89,63 +91,63 @@ refused_on value f no_memory h = tt
 -- ## By the stage
 
 -- the first line
-pub first : (text : List ℕ) (shape : Shape) → shape_of text ≡ Ok shape → (reading : Reading) → Agrees reading Fresh → Takes (next reading text) (Ok (Shaped shape))
-first text shape e fresh h = (shaped shape, ap (λ (s : Result Shape Cause). s >>= (λ x. Ok (shaped x))) e, refl)
-first text shape e (shaped s) h = absurd h
-first text shape e (going s image entries) h = absurd h
+pub first : (text : List ℕ) (head : Head) → head_of text ≡ Ok head → (reading : Reading) → Agrees reading Fresh → Takes (next reading text) (Ok (Shaped head))
+first text head e fresh h = (shaped head, ap (λ (s : Result Head Cause). s >>= (λ x. Ok (shaped x))) e, refl)
+first text head e (shaped s) h = absurd h
+first text head e (going s image entries) h = absurd h
 
-pub first_none : (text : List ℕ) (error : LineError) → Refuses error (shape_of text) → (reading : Reading) → Agrees reading Fresh → Takes (next reading text) (Err (fault_of error))
-first_none text error e fresh h = takes_none _ error (refused_on (shape_of text) (λ shape. Ok (shaped shape)) error e)
+pub first_none : (text : List ℕ) (error : LineError) → Refuses error (head_of text) → (reading : Reading) → Agrees reading Fresh → Takes (next reading text) (Err (fault_of error))
+first_none text error e fresh h = takes_none _ error (refused_on (head_of text) (λ head. Ok (shaped head)) error e)
 first_none text error e (shaped s) h = absurd h
 first_none text error e (going s image entries) h = absurd h
 
 -- a line with an entry
 pub entry : (text : List ℕ) (judge : JudgeState) (count : ℕ) (entry : Entry) (result : Result Stage LineFault) → entry_of text ≡ Ok entry
-    → ((shape : Shape) (image : List ℕ) (entries : List Entry) → Follows shape image (events_of entries) judge → IsLawful shape image entries → length entries ≡ count → IsJudged shape image entries entry result)
+    → ((head : Head) (image : List ℕ) (entries : List Entry) → Follows head.order head.shape image (events_of entries) judge → IsLawful head.order head.shape image entries → length entries ≡ count → IsJudged head image entries entry result)
     → (reading : Reading) → Agrees reading (Judging judge count) → Takes (next reading text) result
 entry text judge count e result at j fresh h = absurd h
 entry text judge count e result at j (shaped s) h = absurd h
-entry text judge count e result at j (going shape image entries) h =
-    subst (λ (o : Result Entry Cause). Takes (o >>= (λ (x : Entry). Ok (going shape image (entries ++ x ∷ [])))) result) (sym at)
-    (takes_entry shape image entries e result h.1 (j shape image entries h.0 h.1 h.2))
+entry text judge count e result at j (going head image entries) h =
+    subst (λ (o : Result Entry Cause). Takes (o >>= (λ (x : Entry). Ok (going head image (entries ++ x ∷ [])))) result) (sym at)
+    (takes_entry head image entries e result h.1 (j head image entries h.0 h.1 h.2))
 
 pub entry_none : (text : List ℕ) (judge : JudgeState) (count : ℕ) (error : LineError) → Refuses error (entry_of text)
     → (reading : Reading) → Agrees reading (Judging judge count) → Takes (next reading text) (Err (fault_of error))
 entry_none text judge count error e fresh h = absurd h
 entry_none text judge count error e (shaped s) h = absurd h
-entry_none text judge count error e (going shape image entries) h =
-    takes_none _ error (refused_on (entry_of text) (λ x. Ok (going shape image (entries ++ x ∷ []))) error e)
+entry_none text judge count error e (going head image entries) h =
+    takes_none _ error (refused_on (entry_of text) (λ x. Ok (going head image (entries ++ x ∷ []))) error e)
 
 -- a line with an image
-pub image : (text image : List ℕ) (shape : Shape) (judge : JudgeState) → image_of shape text ≡ Ok (Some image) → Follows shape image [] judge
-    → (reading : Reading) → Agrees reading (Shaped shape) → Takes (next reading text) (Ok (Judging judge 0))
-image text bytes shape judge at f fresh h = absurd h
-image text bytes shape judge at f (shaped s) h = (
+pub image : (text image : List ℕ) (head : Head) (judge : JudgeState) → image_of head.shape text ≡ Ok (Some image) → Follows head.order head.shape image [] judge
+    → (reading : Reading) → Agrees reading (Shaped head) → Takes (next reading text) (Ok (Judging judge 0))
+image text bytes head judge at f fresh h = absurd h
+image text bytes head judge at f (shaped s) h = (
   going s bytes [],
-  ap (λ (x : Shape). image_of x text >>= (λ i. image_or_entry s text i)) (sym h) ∙ ap (λ (o : Result (Option (List ℕ)) Cause). o >>= (λ i. image_or_entry s text i)) at,
-  (subst (λ (x : Shape). Follows x bytes [] judge) h f, tt, refl),
+  ap (λ (x : Head). image_of x.shape text >>= (λ i. image_or_entry s text i)) (sym h) ∙ ap (λ (o : Result (Option (List ℕ)) Cause). o >>= (λ i. image_or_entry s text i)) at,
+  (subst (λ (x : Head). Follows x.order x.shape bytes [] judge) h f, tt, refl),
 )
-image text bytes shape judge at f (going s i entries) h = absurd h
+image text bytes head judge at f (going s i entries) h = absurd h
 
 -- the first entry, where there is no image
-pub no_image : (text : List ℕ) (shape : Shape) (judge : JudgeState) (result : Result Stage LineFault) → image_of shape text ≡ Ok None
-    → Follows shape [] [] judge
+pub no_image : (text : List ℕ) (head : Head) (judge : JudgeState) (result : Result Stage LineFault) → image_of head.shape text ≡ Ok None
+    → Follows head.order head.shape [] [] judge
     → ((reading : Reading) → Agrees reading (Judging judge 0) → Takes (next reading text) result)
-    → (reading : Reading) → Agrees reading (Shaped shape) → Takes (next reading text) result
-no_image text shape judge result none f j fresh h = absurd h
-no_image text shape judge result none f j (shaped s) h =
+    → (reading : Reading) → Agrees reading (Shaped head) → Takes (next reading text) result
+no_image text head judge result none f j fresh h = absurd h
+no_image text head judge result none f j (shaped s) h =
     subst (λ (o : Result Reading Cause). Takes o result)
-    (sym (ap (λ (x : Shape). image_of x text >>= (λ i. image_or_entry s text i)) (sym h) ∙ ap (λ (o : Result (Option (List ℕ)) Cause). o >>= (λ i. image_or_entry s text i)) none))
-    (j (going s [] []) (subst (λ (x : Shape). Follows x [] [] judge) h f, tt, refl))
-no_image text shape judge result none f j (going s i entries) h = absurd h
+    (sym (ap (λ (x : Head). image_of x.shape text >>= (λ i. image_or_entry s text i)) (sym h) ∙ ap (λ (o : Result (Option (List ℕ)) Cause). o >>= (λ i. image_or_entry s text i)) none))
+    (j (going s [] []) (subst (λ (x : Head). Follows x.order x.shape [] [] judge) h f, tt, refl))
+no_image text head judge result none f j (going s i entries) h = absurd h
 
 -- an image that cannot be read
-pub bad_image : (text : List ℕ) (shape : Shape) (error : LineError) → Refuses error (image_of shape text)
-    → (reading : Reading) → Agrees reading (Shaped shape) → Takes (next reading text) (Err (fault_of error))
-bad_image text shape error e fresh h = absurd h
-bad_image text shape error e (shaped s) h =
-    takes_none _ error (refused_on (image_of s text) (λ i. image_or_entry s text i) error (subst (λ (x : Shape). Refuses error (image_of x text)) h e))
-bad_image text shape error e (going s i entries) h = absurd h
+pub bad_image : (text : List ℕ) (head : Head) (error : LineError) → Refuses error (image_of head.shape text)
+    → (reading : Reading) → Agrees reading (Shaped head) → Takes (next reading text) (Err (fault_of error))
+bad_image text head error e fresh h = absurd h
+bad_image text head error e (shaped s) h =
+    takes_none _ error (refused_on (image_of s.shape text) (λ i. image_or_entry s text i) error (subst (λ (x : Head). Refuses error (image_of x.shape text)) h e))
+bad_image text head error e (going s i entries) h = absurd h
 
 -- ## Blank lines, and those that are no text
 

@@ -1,7 +1,6 @@
 -- What a check of a record's text answers.
 use Rattle.std.specs.Prelude.{◌≡◌, ℕ, ◌+◌, ◌<◌, ◌≤◌, List, [], ◌∷◌, ◌++◌, length, Option, Some, None, Result, Ok, Err}
 use Rattle.tl_types.specs.declared.limits.TheConstants.{BLOCKS, BLOCK_BYTES}
-use Rattle.tl_protocol.specs.declared.shape.Shape.{Shape}
 use Rattle.tl_protocol.specs.Protocol.{block_of}
 use Rattle.tlcheck_rules.specs.Judged.{Breaks, Follows, IsLawful, JudgeState, events_of}
 use Rattle.tlcheck_rules.specs.declared.entry.Entry.{Entry}
@@ -14,6 +13,7 @@ use Rattle.tlcheck_reader.specs.declared.outcome.Outcome.TheVariants.{Lawful, Br
 use Rattle.tlcheck_reader.specs.declared.outcome.Stage.{Stage}
 use Rattle.tlcheck_reader.specs.declared.outcome.Stage.TheVariants.{Fresh, Shaped, Judging}
 use Rattle.tlcheck_record.specs.declared.cause.Cause.{Cause}
+use Rattle.tlcheck_record.specs.declared.header.Head.{Head}
 use Rattle.tlcheck_record.specs.declared.cause.LineError.{LineError}
 use Rattle.tlcheck_record.specs.declared.cause.LineError.TheVariants.{Wrong, Memory as no_memory}
 use Rattle.tlcheck_reader.specs.Lines.{lines_of}
@@ -24,17 +24,17 @@ use Rattle.tlcheck_reader.specs.Reading.{Reading, fresh, shaped, going, after_li
 -- where a check is agrees with what was read: the entries are lawful, the judge follows their events, and their number is the count
 abbrev pub Agrees : Reading → Stage → Type 0
 Agrees fresh Fresh = Unit {0}
-Agrees (shaped shape) (Shaped held) = held ≡ shape
-Agrees (going shape image entries) (Judging judge count) =
-    Follows shape image (events_of entries) judge × IsLawful shape image entries × (length entries ≡ count)
+Agrees (shaped head) (Shaped held) = held ≡ head
+Agrees (going head image entries) (Judging judge count) =
+    Follows head.order head.shape image (events_of entries) judge × IsLawful head.order head.shape image entries × (length entries ≡ count)
 Agrees reading stage = ⊥
 
 -- The entry breaks just this after those entries; it has that number and is of that block, and the judge follows those before it.
-pub record Stops (shape : Shape) (image : List ℕ) (entries : List Entry) (entry : Entry) (broken : BrokenEntry) : Type 0 where
-  pub breaks : Breaks shape image (events_of entries) entry broken.breach
+pub record Stops (head : Head) (image : List ℕ) (entries : List Entry) (entry : Entry) (broken : BrokenEntry) : Type 0 where
+  pub breaks : Breaks head.order head.shape image (events_of entries) entry broken.breach
   pub counted : length entries + 1 ≡ broken.number
-  pub block : block_of shape entry.event ≡ broken.block
-  pub before : Follows shape image (events_of entries) broken.judge
+  pub block : block_of head.shape entry.event ≡ broken.block
+  pub before : Follows head.order head.shape image (events_of entries) broken.judge
 
 -- what is said of an entry that a judge refused
 abbrev pub stopped_at : JudgeState → Entry → ℕ → Breach → LineFault
@@ -43,18 +43,18 @@ stopped_at judge entry number breach =
 
 -- this is an entry that breaks something after those that are lawful
 pub record BreaksHere (then_ : Result Reading Cause) (broken : BrokenEntry) : Type 0 where
-  pub shape : Shape
+  pub head : Head
   pub image : List ℕ
   pub entries : List Entry
   pub entry : Entry
-  pub reads : then_ ≡ Ok (going shape image (entries ++ entry ∷ []))
-  pub lawful : IsLawful shape image entries
-  pub stops : Stops shape image entries entry broken
+  pub reads : then_ ≡ Ok (going head image (entries ++ entry ∷ []))
+  pub lawful : IsLawful head.order head.shape image entries
+  pub stops : Stops head image entries entry broken
 
 -- the geometry that was read is in the range of a judge
 abbrev pub IsFit : Stage → Type 0
 IsFit Fresh = Unit {0}
-IsFit (Shaped shape) = (0 < shape.block_bytes) × (shape.block_bytes ≤ BLOCK_BYTES) × (shape.blocks ≤ BLOCKS)
+IsFit (Shaped head) = (0 < head.shape.block_bytes) × (head.shape.block_bytes ≤ BLOCK_BYTES) × (head.shape.blocks ≤ BLOCKS)
 IsFit (Judging judge count) = Unit {0}
 
 -- what a line is that could not be read
@@ -65,11 +65,11 @@ fault_of no_memory = Memory
 -- ## An entry after those that are lawful
 
 -- the judge goes on, or says what the entry breaks
-abbrev pub IsJudged : Shape → List ℕ → List Entry → Entry → Result Stage LineFault → Type 0
-IsJudged shape image entries entry (Ok stage) = Agrees (going shape image (entries ++ entry ∷ [])) stage
-IsJudged shape image entries entry (Err (bad_line cause)) = ⊥
-IsJudged shape image entries entry (Err (bad_entry broken)) = Stops shape image entries entry broken
-IsJudged shape image entries entry (Err Memory) = Unit {0}
+abbrev pub IsJudged : Head → List ℕ → List Entry → Entry → Result Stage LineFault → Type 0
+IsJudged head image entries entry (Ok stage) = Agrees (going head image (entries ++ entry ∷ [])) stage
+IsJudged head image entries entry (Err (bad_line cause)) = ⊥
+IsJudged head image entries entry (Err (bad_entry broken)) = Stops head image entries entry broken
+IsJudged head image entries entry (Err Memory) = Unit {0}
 
 -- what a text that is not blank leads to, and whether the check is there
 abbrev pub Takes : Result Reading Cause → Result Stage LineFault → Type 0
@@ -82,26 +82,26 @@ Takes then_ (Err Memory) = Unit {0}
 
 -- The record is read to its end, and each entry is permitted; the judge follows them.
 pub record IsLawfulText (text : List ℕ) (judge : JudgeState) (count : ℕ) : Type 0 where
-  pub shape : Shape
+  pub head : Head
   pub image : List ℕ
   pub entries : List Entry
-  pub reads : reading_of fresh (lines_of text) ≡ Ok (going shape image entries)
-  pub lawful : IsLawful shape image entries
+  pub reads : reading_of fresh (lines_of text) ≡ Ok (going head image entries)
+  pub lawful : IsLawful head.order head.shape image entries
   pub counted : length entries ≡ count
-  pub end : Follows shape image (events_of entries) judge
+  pub end : Follows head.order head.shape image (events_of entries) judge
 
 -- So many lines write entries of which the last breaks something, and those before it are lawful.
 pub record IsBrokenText (text : List ℕ) (line : ℕ) (broken : BrokenEntry) : Type 0 where
-  pub shape : Shape
+  pub head : Head
   pub image : List ℕ
   pub entries : List Entry
   pub entry : Entry
   pub read : List (List ℕ)
   pub rest : List (List ℕ)
   pub lines : lines_of text ≡ read ++ rest
-  pub reads : reading_of fresh read ≡ Ok (going shape image (entries ++ entry ∷ []))
-  pub lawful : IsLawful shape image entries
-  pub stops : Stops shape image entries entry broken
+  pub reads : reading_of fresh read ≡ Ok (going head image (entries ++ entry ∷ []))
+  pub lawful : IsLawful head.order head.shape image entries
+  pub stops : Stops head image entries entry broken
   pub number : length read ≡ line
 
 -- A line cannot be read, for this cause, and those before it can.
@@ -118,8 +118,8 @@ pub record IsUnreadable (text : List ℕ) (line : ℕ) (cause : Cause) : Type 0 
 -- neither image nor entry was read
 abbrev pub IsShort : Reading → Type 0
 IsShort fresh = Unit {0}
-IsShort (shaped shape) = Unit {0}
-IsShort (going shape image entries) = ⊥
+IsShort (shaped head) = Unit {0}
+IsShort (going head image entries) = ⊥
 
 -- what an outcome says of a text
 abbrev pub IsOutcome : List ℕ → Outcome → Type 0
@@ -131,7 +131,7 @@ IsOutcome text Empty = (reading : Reading) × (reading_of fresh (lines_of text) 
 -- what is said at the end of a text
 abbrev pub ending_of : Stage → Outcome
 ending_of Fresh = Empty
-ending_of (Shaped shape) = Empty
+ending_of (Shaped head) = Empty
 ending_of (Judging judge count) = Lawful judge count
 
 -- what is said where a line is not taken

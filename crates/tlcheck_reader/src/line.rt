@@ -1,8 +1,8 @@
 //! One line of a record.
 ghost use Rattle.std.specs.Prelude.{◌≡◌, ◌<◌, ◌≤◌, ℕ, List, IfOk, length};
-ghost use Rattle.tl_protocol.specs.declared.shape.Shape.{Shape};
 ghost use Rattle.tlcheck_rules.specs.declared.entry.Entry.{Entry};
 ghost use Rattle.tlcheck_rules.specs.Judged.{Follows, IsLawful, JudgeState, events_of};
+ghost use Rattle.tlcheck_record.specs.declared.header.Head.{Head};
 ghost use Rattle.tlcheck_reader.specs.Entries.{line_fault, stage_of};
 ghost use Rattle.tlcheck_reader.specs.declared.outcome.LineFault.TheVariants.{Unreadable, Memory};
 ghost use Rattle.tlcheck_reader.specs.Outcome.{Agrees, IsFit, IsJudged, Takes, fault_of, stopped_at};
@@ -10,10 +10,9 @@ ghost use Rattle.tlcheck_reader.specs.Reading.{Reading, after_text, next};
 
 use crate::outcome::{BrokenEntry, LineFault, Stage};
 use std::alloc::Global;
-use tl_rules::Shape;
 use tl_types::{BLOCK_BYTES, BLOCKS};
 use tlcheck_record::{
-    Cause, LineError, is_blank, read_entry, read_image_line, read_shape, read_text,
+    Cause, Head, LineError, is_blank, read_entry, read_head, read_image_line, read_text,
 };
 use tlcheck_rules::{Breach, Entry, Judge, Refusal};
 
@@ -74,9 +73,9 @@ pub fn line_fault(judge: Judge, fault: EntryFault) -> LineFault
 
 /// Judges one more entry, and answers how many there are.
 fn judge_entry(judge: &mut Judge, count: u64, entry: &Entry) -> Result<u64, EntryFault>
-    ensures { (shape : Shape) (image : List ℕ) (entries : List Entry)
-        → Follows shape image (events_of entries) judge.old → IsLawful shape image entries → length entries ≡ count
-        → IsJudged shape image entries entry.now (stage_of judge.new result) }
+    ensures { (head : Head) (image : List ℕ) (entries : List Entry)
+        → Follows head.order head.shape image (events_of entries) judge.old → IsLawful head.order head.shape image entries → length entries ≡ count
+        → IsJudged head image entries entry.now (stage_of judge.new result) }
 {
     if count == u64::MAX {
         return Err(EntryFault::Memory);
@@ -124,8 +123,8 @@ fn first_line(alloc: Global, text: &str) -> Result<Stage, LineFault>
     ensures takes { (reading : Reading) → Agrees reading Stage.Fresh → Takes (next reading text.now) result }
     ensures fit { IfOk result IsFit }
 {
-    match read_shape(alloc, text) {
-        Ok(shape) => Ok(Stage::Shaped(shape)),
+    match read_head(alloc, text) {
+        Ok(head) => Ok(Stage::Shaped(head)),
         Err(error) => Err(fault(error)),
     }
 }
@@ -143,18 +142,18 @@ fn entry_line(alloc: Global, mut judge: Judge, count: u64, text: &str) -> Result
 }
 
 /// Takes the line after the geometry.
-fn second_line(alloc: Global, shape: Shape, text: &str) -> Result<Stage, LineFault>
-    requires bytes { (0 < shape.block_bytes) × (shape.block_bytes ≤ BLOCK_BYTES) }
-    requires blocks { shape.blocks ≤ BLOCKS }
-    ensures takes { (reading : Reading) → Agrees reading (Stage.Shaped shape) → Takes (next reading text.now) result }
+fn second_line(alloc: Global, head: Head, text: &str) -> Result<Stage, LineFault>
+    requires bytes { (0 < head.shape.block_bytes) × (head.shape.block_bytes ≤ BLOCK_BYTES) }
+    requires blocks { head.shape.blocks ≤ BLOCKS }
+    ensures takes { (reading : Reading) → Agrees reading (Stage.Shaped head) → Takes (next reading text.now) result }
     ensures fit { IfOk result IsFit }
 {
-    match read_image_line(alloc, shape, text) {
-        Ok(Some(image)) => match Judge::new(alloc, shape, &image) {
+    match read_image_line(alloc, head.shape, text) {
+        Ok(Some(image)) => match Judge::new(alloc, head.order, head.shape, &image) {
             Ok(judge) => Ok(Stage::Judging(judge, 0)),
             Err(_) => Err(LineFault::Memory),
         },
-        Ok(None) => match Judge::new(alloc, shape, &[]) {
+        Ok(None) => match Judge::new(alloc, head.order, head.shape, &[]) {
             Ok(judge) => entry_line(alloc, judge, 0, text),
             Err(_) => Err(LineFault::Memory),
         },
@@ -170,7 +169,7 @@ fn full_line(alloc: Global, stage: Stage, text: &str) -> Result<Stage, LineFault
 {
     match stage {
         Stage::Fresh => first_line(alloc, text),
-        Stage::Shaped(shape) => second_line(alloc, shape, text),
+        Stage::Shaped(head) => second_line(alloc, head, text),
         Stage::Judging(judge, count) => entry_line(alloc, judge, count, text),
     }
 }

@@ -1,6 +1,5 @@
 //! What a check answers, and where it is.
-use tl_rules::Shape;
-use tlcheck_record::Cause;
+use tlcheck_record::{Cause, Head};
 use tlcheck_rules::{Breach, Judge};
 
 /// The first entry that is not permitted.
@@ -45,8 +44,8 @@ pub enum LineFault {
 pub enum Stage {
     /// Nothing was read.
     Fresh,
-    /// The geometry was read.
-    Shaped(Shape),
+    /// The first line was read.
+    Shaped(Head),
     /// So many entries were read.
     Judging(Judge, u64),
 }

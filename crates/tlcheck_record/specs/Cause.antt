@@ -46,6 +46,7 @@ head cause.LineEnd = codes "the line ends with CR LF, not with a line feed alone
 head cause.Mark = codes "the line begins with a byte order mark"
 head cause.Text = codes "the line is not UTF-8"
 head cause.Geometry = codes "the first line is not `clients N block_bytes N memory_blocks N`"
+head cause.Order = codes "the order is not `each_block`"
 head cause.Title = codes "the first line is not `jvwire 1`"
 head cause.Shape = codes "the line is no shape"
 head cause.Range = codes "a number of the shape is out of range"

@@ -2,10 +2,13 @@
 use Rattle.std.specs.Prelude.{ℕ, ◌==◌, ◌&&◌, ◌||◌, nat_le, Bool, List, [], ◌∷◌, codes, bytes_eq, Option, Some, None, Result, Ok, Err, if◌then◌else◌}
 use Rattle.tl_script_words.specs.Words.{words_of}
 use Rattle.tl_protocol.specs.declared.shape.Shape.{Shape}
+use Rattle.tlcheck_rules.specs.declared.order.ChannelOrder.{ChannelOrder}
+use Rattle.tlcheck_rules.specs.declared.order.ChannelOrder.TheVariants.{Whole, EachBlock}
 use Rattle.tlcheck_record.specs.Cause.{◌>>=◌}
 use Rattle.tlcheck_record.specs.Words.{image_in, number_in}
 use Rattle.tlcheck_record.specs.declared.cause.Cause.{Cause}
 use Rattle.tlcheck_record.specs.declared.cause.Cause.TheVariants as cause
+use Rattle.tlcheck_record.specs.declared.header.Head.{Head}
 use Rattle.tlcheck_record.specs.declared.header.Key.{Key}
 use Rattle.tlcheck_record.specs.declared.header.Key.TheVariants as key
 
@@ -16,10 +19,20 @@ is_in_range shape =
     && ((shape.block_bytes == 8) || (shape.block_bytes == 16) || (shape.block_bytes == 32) || (shape.block_bytes == 64))
     && nat_le 1 shape.blocks && nat_le shape.blocks 65536
 
--- the geometry, where it is in range and nothing follows it
-abbrev pub in_range : List (List ℕ) → Shape → Result Shape Cause
-in_range [] shape = if is_in_range shape then Ok shape else Err cause.Range
-in_range (word ∷ rest) shape = Err cause.MoreWords
+-- the geometry and the order, where the geometry is in range
+abbrev pub in_range : Shape → ChannelOrder → Result Head Cause
+in_range shape order = if is_in_range shape then Ok (record { shape = shape; order = order }) else Err cause.Range
+
+-- `each_block`, behind the word `order`
+unfoldable pub order_named : List (List ℕ) → Result ChannelOrder Cause
+order_named [] = Err cause.Order
+order_named (word ∷ []) = if bytes_eq word (codes "each_block") then Ok EachBlock else Err cause.Order
+order_named (word ∷ next ∷ rest) = if bytes_eq word (codes "each_block") then Err cause.MoreWords else Err cause.Order
+
+-- `order each_block`, or nothing, which asks for the order of whole channels
+unfoldable pub order_in : List (List ℕ) → Result ChannelOrder Cause
+order_in [] = Ok Whole
+order_in (word ∷ rest) = if bytes_eq word (codes "order") then order_named rest else Err cause.MoreWords
 
 -- the word of a key
 abbrev pub key_text : Key → List ℕ
@@ -31,26 +44,26 @@ key_text key.MemoryBlocks = codes "memory_blocks"
 unfoldable pub field_of : Key → List ℕ → List ℕ → Result ℕ Cause
 field_of k word value = if bytes_eq word (key_text k) then number_in value else Err cause.Geometry
 
--- `memory_blocks N`, after the clients and a block's bytes
-unfoldable pub blocks_in : ℕ → ℕ → List (List ℕ) → Result Shape Cause
+-- `memory_blocks N`, after the clients and a block's bytes, and the order
+unfoldable pub blocks_in : ℕ → ℕ → List (List ℕ) → Result Head Cause
 blocks_in clients size (word ∷ value ∷ rest) =
     field_of key.MemoryBlocks word value
-    >>= (λ n. in_range rest (record { clients = clients; block_bytes = size; blocks = n }))
+    >>= (λ n. order_in rest >>= (λ order. in_range (record { clients = clients; block_bytes = size; blocks = n }) order))
 blocks_in clients size _ = Err cause.Geometry
 
--- `block_bytes N memory_blocks N`, after the clients
-unfoldable pub bytes_in : ℕ → List (List ℕ) → Result Shape Cause
+-- `block_bytes N memory_blocks N`, after the clients, and the order
+unfoldable pub bytes_in : ℕ → List (List ℕ) → Result Head Cause
 bytes_in clients (word ∷ value ∷ rest) = field_of key.BlockBytes word value >>= (λ n. blocks_in clients n rest)
 bytes_in clients _ = Err cause.Geometry
 
--- `clients N block_bytes N memory_blocks N`
-unfoldable pub shape_in : List (List ℕ) → Result Shape Cause
-shape_in (word ∷ value ∷ rest) = field_of key.Clients word value >>= (λ n. bytes_in n rest)
-shape_in _ = Err cause.Geometry
+-- `clients N block_bytes N memory_blocks N`, and the order
+unfoldable pub head_in : List (List ℕ) → Result Head Cause
+head_in (word ∷ value ∷ rest) = field_of key.Clients word value >>= (λ n. bytes_in n rest)
+head_in _ = Err cause.Geometry
 
--- the geometry that a line writes
-abbrev pub shape_of : List ℕ → Result Shape Cause
-shape_of line = shape_in (words_of line)
+-- the geometry and the order that a line writes
+abbrev pub head_of : List ℕ → Result Head Cause
+head_of line = head_in (words_of line)
 
 -- an image that was read
 abbrev pub an_image : Result (List ℕ) Cause → Result (Option (List ℕ)) Cause

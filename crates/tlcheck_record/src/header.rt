@@ -3,7 +3,7 @@ ghost use Rattle.std.specs.Prelude.{◌≡◌, IfOk, ◌<◌, ◌≤◌, bytes_e
 ghost use Rattle.std.specs.Option.{option_map};
 ghost use Rattle.tl_script_words.specs.Words.{texts};
 ghost use Rattle.tlcheck_record.specs.Cause.{Gives};
-ghost use Rattle.tlcheck_record.specs.Header.{blocks_in, bytes_in, field_of, image_line, image_of, in_range, is_in_range, key_text, shape_in, shape_of};
+ghost use Rattle.tlcheck_record.specs.Header.{blocks_in, bytes_in, field_of, head_in, head_of, image_line, image_of, in_range, is_in_range, key_text, order_in, order_named};
 
 use crate::cause::{Cause, LineError};
 use crate::words::{read_image, read_number};
@@ -11,6 +11,15 @@ use std::alloc::Global;
 use tl_rules::Shape;
 use tl_script_words::split_words;
 use tl_types::{BLOCK_BYTES, BLOCKS};
+use tlcheck_rules::ChannelOrder;
+
+/// What the first line of a record says: how many clients and blocks there are and how large a block is, and which
+/// order of a channel is asked for.
+#[derive(Clone, Copy, Drop)]
+pub struct Head {
+    pub shape: Shape,
+    pub order: ChannelOrder,
+}
 
 fn is_in_range(shape: Shape) -> bool
     ensures { result ≡ is_in_range shape }
@@ -25,15 +34,16 @@ fn is_in_range(shape: Shape) -> bool
         && shape.blocks as usize <= BLOCKS
 }
 
-/// The geometry that a line writes: `clients N block_bytes N memory_blocks N`. `Wrong` with the cause where it writes
-/// none, `Memory` where memory is refused.
-pub fn read_shape(alloc: Global, line: &str) -> Result<Shape, LineError>
-    ensures value { Gives (λ x. x) result (shape_of line.now) }
-    ensures bytes { IfOk result (λ shape. (0 < shape.block_bytes) × (shape.block_bytes ≤ BLOCK_BYTES)) }
-    ensures blocks { IfOk result (λ shape. shape.blocks ≤ BLOCKS) }
+/// The geometry that a line writes, `clients N block_bytes N memory_blocks N`, and the order behind it:
+/// `order each_block`, or that of whole channels where there is none. `Wrong` with the cause where it writes none,
+/// `Memory` where memory is refused.
+pub fn read_head(alloc: Global, line: &str) -> Result<Head, LineError>
+    ensures value { Gives (λ x. x) result (head_of line.now) }
+    ensures bytes { IfOk result (λ head. (0 < head.shape.block_bytes) × (head.shape.block_bytes ≤ BLOCK_BYTES)) }
+    ensures blocks { IfOk result (λ head. head.shape.blocks ≤ BLOCKS) }
 {
     let words = split_words(alloc, line)?;
-    shape(&words)
+    head(&words)
 }
 
 /// A key of the geometry.
@@ -67,36 +77,68 @@ fn field(key: Key, word: &str, value: &str) -> Result<u32, LineError>
     }
 }
 
-/// The geometry, where it is in range and nothing follows it.
-fn in_range(rest: &[&str], shape: Shape) -> Result<Shape, LineError>
-    ensures value { Gives (λ x. x) result (in_range (texts rest.now) shape) }
-    ensures bytes { IfOk result (λ shape. (0 < shape.block_bytes) × (shape.block_bytes ≤ BLOCK_BYTES)) }
-    ensures blocks { IfOk result (λ shape. shape.blocks ≤ BLOCKS) }
+/// The order that the words behind the word `order` write.
+#[tactic(auto, unfolding(crate::specs::Header::order_named))]
+fn order_named(words: &[&str]) -> Result<ChannelOrder, LineError>
+    ensures { Gives (λ x. x) result (order_named (texts words.now)) }
 {
-    match rest {
-        [] => {
-            if is_in_range(shape) {
-                Ok(shape)
+    match words {
+        [] => Err(LineError::Wrong(Cause::Order)),
+        [word, rest @ ..] => {
+            if *word != "each_block" {
+                return Err(LineError::Wrong(Cause::Order));
+            }
+            if !rest.is_empty() {
+                return Err(LineError::Wrong(Cause::MoreWords));
+            }
+            Ok(ChannelOrder::EachBlock)
+        }
+    }
+}
+
+/// The order that the words behind the geometry write: that of whole channels where there are none.
+#[tactic(auto, unfolding(crate::specs::Header::order_in))]
+fn order(words: &[&str]) -> Result<ChannelOrder, LineError>
+    ensures { Gives (λ x. x) result (order_in (texts words.now)) }
+{
+    match words {
+        [] => Ok(ChannelOrder::Whole),
+        [word, rest @ ..] => {
+            if *word == "order" {
+                order_named(rest)
             } else {
-                Err(LineError::Wrong(Cause::Range))
+                Err(LineError::Wrong(Cause::MoreWords))
             }
         }
-        [_, ..] => Err(LineError::Wrong(Cause::MoreWords)),
+    }
+}
+
+/// The geometry, where it is in range.
+fn in_range(order: ChannelOrder, shape: Shape) -> Result<Head, LineError>
+    ensures value { Gives (λ x. x) result (in_range shape order) }
+    ensures bytes { IfOk result (λ head. (0 < head.shape.block_bytes) × (head.shape.block_bytes ≤ BLOCK_BYTES)) }
+    ensures blocks { IfOk result (λ head. head.shape.blocks ≤ BLOCKS) }
+{
+    if is_in_range(shape) {
+        Ok(Head { shape, order })
+    } else {
+        Err(LineError::Wrong(Cause::Range))
     }
 }
 
 #[tactic(auto, unfolding(crate::specs::Header::blocks_in))]
-fn blocks(clients: u32, block_bytes: u32, words: &[&str]) -> Result<Shape, LineError>
+fn blocks(clients: u32, block_bytes: u32, words: &[&str]) -> Result<Head, LineError>
     ensures value { Gives (λ x. x) result (blocks_in clients block_bytes (texts words.now)) }
-    ensures bytes { IfOk result (λ shape. (0 < shape.block_bytes) × (shape.block_bytes ≤ BLOCK_BYTES)) }
-    ensures blocks { IfOk result (λ shape. shape.blocks ≤ BLOCKS) }
+    ensures bytes { IfOk result (λ head. (0 < head.shape.block_bytes) × (head.shape.block_bytes ≤ BLOCK_BYTES)) }
+    ensures blocks { IfOk result (λ head. head.shape.blocks ≤ BLOCKS) }
 {
     match words {
         [] | [_] => Err(LineError::Wrong(Cause::Geometry)),
         [key, value, rest @ ..] => {
             let blocks = field(Key::MemoryBlocks, key, value)?;
+            let order = order(rest)?;
             in_range(
-                rest,
+                order,
                 Shape {
                     clients,
                     block_bytes,
@@ -108,10 +150,10 @@ fn blocks(clients: u32, block_bytes: u32, words: &[&str]) -> Result<Shape, LineE
 }
 
 #[tactic(auto, unfolding(crate::specs::Header::bytes_in))]
-fn bytes(clients: u32, words: &[&str]) -> Result<Shape, LineError>
+fn bytes(clients: u32, words: &[&str]) -> Result<Head, LineError>
     ensures value { Gives (λ x. x) result (bytes_in clients (texts words.now)) }
-    ensures bytes { IfOk result (λ shape. (0 < shape.block_bytes) × (shape.block_bytes ≤ BLOCK_BYTES)) }
-    ensures blocks { IfOk result (λ shape. shape.blocks ≤ BLOCKS) }
+    ensures bytes { IfOk result (λ head. (0 < head.shape.block_bytes) × (head.shape.block_bytes ≤ BLOCK_BYTES)) }
+    ensures blocks { IfOk result (λ head. head.shape.blocks ≤ BLOCKS) }
 {
     match words {
         [] | [_] => Err(LineError::Wrong(Cause::Geometry)),
@@ -122,11 +164,11 @@ fn bytes(clients: u32, words: &[&str]) -> Result<Shape, LineError>
     }
 }
 
-#[tactic(auto, unfolding(crate::specs::Header::shape_in))]
-fn shape(words: &[&str]) -> Result<Shape, LineError>
-    ensures value { Gives (λ x. x) result (shape_in (texts words.now)) }
-    ensures bytes { IfOk result (λ shape. (0 < shape.block_bytes) × (shape.block_bytes ≤ BLOCK_BYTES)) }
-    ensures blocks { IfOk result (λ shape. shape.blocks ≤ BLOCKS) }
+#[tactic(auto, unfolding(crate::specs::Header::head_in))]
+fn head(words: &[&str]) -> Result<Head, LineError>
+    ensures value { Gives (λ x. x) result (head_in (texts words.now)) }
+    ensures bytes { IfOk result (λ head. (0 < head.shape.block_bytes) × (head.shape.block_bytes ≤ BLOCK_BYTES)) }
+    ensures blocks { IfOk result (λ head. head.shape.blocks ≤ BLOCKS) }
 {
     match words {
         [] | [_] => Err(LineError::Wrong(Cause::Geometry)),

@@ -19,7 +19,7 @@ pub use cause::{Cause, LineError};
 pub use client::{Held, Waits};
 pub use cut::{cut_at, few_words};
 pub use entries::read_entry;
-pub use header::{read_image_line, read_shape};
+pub use header::{Head, read_head, read_image_line};
 pub use message_name::MessageName;
 pub use reason::{Breaks, Place, Reason, Source};
 pub use state::{push_end, push_state};

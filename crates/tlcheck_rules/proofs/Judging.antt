@@ -12,7 +12,7 @@ use Rattle.tl_protocol.specs.declared.event.Event.{Event}
 use Rattle.tl_protocol.specs.declared.event.Event.TheVariants.{Load, Store, SendAcquire, SendRelease, AnswerProbe, TakeGrant, TakeReleaseAck, AcceptAcquire, SendProbe, TakeC, SendGrant, TakeGrantAck, SendGet, Serve, TakeData, Drop, SendPut, TakePutAck}
 use Rattle.tl_protocol.specs.declared.shape.Shape.{Shape}
 use Rattle.tl_protocol.specs.Protocol.{Block, May, MayOn, after, block_of}
-use Rattle.tl_protocol.specs.Runs.{MayNext, after_next, end_of}
+use Rattle.tl_protocol.specs.Runs.{IsRun, MayNext, after_next, end_of}
 use Rattle.tl_protocol.proofs.Runs.{runs_grow_by_one}
 use Rattle.tl_protocol_lanes.specs.Lanes.{LinkChannel, Post, lane_of, lane_after, post_of, sent_to, take_of, taken_from}
 use Rattle.tl_protocol_lanes.specs.Lawful.{IsNext, Lawful}
@@ -24,11 +24,13 @@ use Rattle.tlcheck_rules.specs.declared.entry.Entry.{Entry}
 use Rattle.tlcheck_rules.specs.declared.entry.Shown.{Shown}
 use Rattle.tlcheck_rules.specs.declared.judge.Breach.{Breach}
 use Rattle.tlcheck_rules.specs.declared.judge.Breach.TheVariants.{NotPermitted, OutOfOrder, NotAsShown}
+use Rattle.tlcheck_rules.specs.declared.order.ChannelOrder.{ChannelOrder}
+use Rattle.tlcheck_rules.specs.declared.order.ChannelOrder.TheVariants.{Whole, EachBlock}
 use Rattle.tlcheck_rules.specs.declared.rule.Rule.{Rule}
 use Rattle.tlcheck_rules.specs.declared.rule.Rule.TheVariants.{BlockIsThere}
-use Rattle.tlcheck_rules.specs.Judged.{Allows, Breaks, Carries, EveryLawfulRecordIsALawfulLog, Follows, NoBrokenEntryIsPermitted, IsLawfulAfter, IsPermitted, IsShown, JudgeState, Rejects, events_of, own_block, post_after}
+use Rattle.tlcheck_rules.specs.Judged.{Allows, Breaks, Carries, EveryLawfulRecordIsALawfulLog, EveryLawfulRecordIsARun, EveryRecordInOrderIsLawful, Follows, NoBrokenEntryIsPermitted, IsLawfulAfter, IsPermitted, IsShown, JudgeState, Rejects, events_of, own_block, post_after}
 use Rattle.tlcheck_rules.specs.Differs.{Differs, DiffersFrom, IsMessage, bare_of, name_of}
-use Rattle.tlcheck_rules.specs.Order.{HeadIs, IsNextIn, joined, place_at, post_at, removed, waiting_in}
+use Rattle.tlcheck_rules.specs.Order.{Asks, HeadIs, IsNextIn, joined, place_at, post_at, removed, waiting_in}
 use Rattle.tlcheck_rules.specs.Rules.{IsFirstBroken, Keeps, KeepsBefore, client_of, rule_at}
 use Rattle.tlcheck_rules.proofs.Rules.{block_first, no_block, not_permitted}
 
@@ -166,7 +168,12 @@ moved shape s t e rule same f = elim (cases_lt (block_of shape e) shape.blocks) 
   | inr ge ↦ subst (λ (r : Rule). IsFirstBroken shape s e (Some r)) (is_block shape t e rule ge f) (no_block shape s e ge)
 ]
 
-module _ (image : List ℕ) (log : List Event) (j : JudgeState) (f : Follows j.plain.shape image log j) where
+-- an order asks for what is the same
+asks_same : (order : ChannelOrder) (P Q : Type 0) → P ↔ Q → Asks order P ↔ Asks order Q
+asks_same Whole P Q same = same
+asks_same EachBlock P Q same = ((λ h. tt), λ h. tt)
+
+module _ (image : List ℕ) (log : List Event) (j : JudgeState) (f : Follows j.order j.plain.shape image log j) where
   -- where the log leads, on the block of an event
   abbrev pub there : Event → Block
   there e = end_of j.plain.shape image log (block_of j.plain.shape e)
@@ -176,11 +183,11 @@ module _ (image : List ℕ) (log : List Event) (j : JudgeState) (f : Follows j.p
 
   -- the first block of a channel is that of its first message
   head : (x : ℕ) (l : Channel) (b : ℕ) → x < j.plain.shape.clients
-      → HeadIs b (waiting_in j.order x l) ↔ IsFirst b (lane_of j.plain.shape image log x l).messages
+      → HeadIs b (waiting_in j.waiting x l) ↔ IsFirst b (lane_of j.plain.shape image log x l).messages
   head x l b lt = subst (λ (bs : List ℕ). HeadIs b bs ↔ IsFirst b (lane_of j.plain.shape image log x l).messages) (sym (f.waits x l lt)) (head_is b (lane_of j.plain.shape image log x l).messages)
 
   -- an event that may come next takes the first message of its channel, as the judge says and as the log says
-  next_is : (s : Block) (b : ℕ) (e : Event) → MayOn j.plain.shape s e → IsNextIn j.order b (take_of e) ↔ IsNext j.plain.shape image log b (take_of e)
+  next_is : (s : Block) (b : ℕ) (e : Event) → MayOn j.plain.shape s e → IsNextIn j.waiting b (take_of e) ↔ IsNext j.plain.shape image log b (take_of e)
   next_is s b (Load access) m = ((λ h. tt), λ h. tt)
   next_is s b (Store access) m = ((λ h. tt), λ h. tt)
   next_is s b (SendAcquire c block grow) m = ((λ h. tt), λ h. tt)
@@ -200,13 +207,18 @@ module _ (image : List ℕ) (log : List Event) (j : JudgeState) (f : Follows j.p
   next_is s b (SendPut block) m = ((λ h. tt), λ h. tt)
   next_is s b (TakePutAck block) m = ((λ h. tt), λ h. tt)
 
+  -- and so it does in the order that is asked for
+  asked_is : (s : Block) (b : ℕ) (e : Event) → MayOn j.plain.shape s e
+      → Asks j.order (IsNextIn j.waiting b (take_of e)) ↔ Asks j.order (IsNext j.plain.shape image log b (take_of e))
+  asked_is s b e m = asks_same j.order (IsNextIn j.waiting b (take_of e)) (IsNext j.plain.shape image log b (take_of e)) (next_is s b e m)
+
   -- an entry that the judge allows is permitted
-  pub allowed : (entry : Entry) → Allows j entry → IsPermitted j.plain.shape image log entry
+  pub allowed : (entry : Entry) → Allows j entry → IsPermitted j.order j.plain.shape image log entry
   allowed entry a =
       let same : there entry.event ≡ own_block j entry.event = same_block entry.event a.may.0 in
       record {
         may = subst (λ (b : Block). May j.plain.shape b entry.event) (sym same) a.may;
-        first = (next_is (own_block j entry.event) (block_of j.plain.shape entry.event) entry.event a.may.1).0 a.first;
+        first = (asked_is (own_block j entry.event) (block_of j.plain.shape entry.event) entry.event a.may.1).0 a.first;
         shown = subst (λ (b : Block). IsShown (post_of j.plain.shape b entry.event) entry.shown) (sym same) a.shown;
       }
 
@@ -218,28 +230,29 @@ module _ (image : List ℕ) (log : List Event) (j : JudgeState) (f : Follows j.p
   may_there e m = subst (λ (b : Block). May j.plain.shape b e) (sym (same_block e m.0)) m
 
   -- an entry that the judge rejects breaks what it says
-  pub rejected : (entry : Entry) (breach : Breach) → Rejects j entry breach → Breaks j.plain.shape image log entry breach
+  pub rejected : (entry : Entry) (breach : Breach) → Rejects j entry breach → Breaks j.order j.plain.shape image log entry breach
   rejected entry (NotPermitted rule) r = (
     moved j.plain.shape (there entry.event) (own_block j entry.event) entry.event rule (λ lt. sym (same_block entry.event lt)) r,
     λ m. not_permitted j.plain.shape (own_block j entry.event) entry.event rule r (may_here entry.event m),
   )
   rejected entry OutOfOrder r = (
     may_there entry.event r.0,
-    λ first. r.1 ((next_is (own_block j entry.event) (block_of j.plain.shape entry.event) entry.event r.0.1).1 first),
+    λ first. r.1 ((asked_is (own_block j entry.event) (block_of j.plain.shape entry.event) entry.event r.0.1).1 first),
   )
   rejected entry (NotAsShown difference) r = (
     may_there entry.event r.0,
-    (next_is (own_block j entry.event) (block_of j.plain.shape entry.event) entry.event r.0.1).0 r.1,
+    (asked_is (own_block j entry.event) (block_of j.plain.shape entry.event) entry.event r.0.1).0 r.1,
     subst (λ (b : Block). Differs (post_of j.plain.shape b entry.event) entry.shown difference) (sym (same_block entry.event r.0.0)) r.2,
   )
 
   -- the judge goes on with an event that is carried out
-  pub carried : (e : Event) (new : JudgeState) → Carries j new e → Follows j.plain.shape image (log ++ e ∷ []) new
+  pub carried : (e : Event) (new : JudgeState) → Carries j new e → Follows j.order j.plain.shape image (log ++ e ∷ []) new
   carried e new k =
       let grow = (runs_grow_by_one j.plain.shape image).2 log e in
       let own : ℕ = block_of j.plain.shape e in
       let here : there e ≡ own_block j e = same_block e k.step.permitted.0 in
       record {
+        same_order = k.same_order;
         same_shape = k.step.same_shape;
         run = grow.0.1 (f.run, may_there e k.step.permitted);
         ended = λ block l.
@@ -251,7 +264,7 @@ module _ (image : List ℕ) (log : List Event) (j : JudgeState) (f : Follows j.p
               | inr other ↦ other_next j.plain.shape (end_of j.plain.shape image log) e block other ∙ (f.ended block l ∙ sym (k.step.others block other))
             ];
         waits = λ x l lt.
-            k.order x l
+            k.waits x l
             ∙ (ap (λ (bs : List ℕ). joined (post_of j.plain.shape (own_block j e) e) own x l (removed (take_of e) x l bs)) (f.waits x l lt)
             ∙ (ap (λ (b : Block). joined (post_of j.plain.shape b e) own x l (removed (take_of e) x l (map block_in (lane_of j.plain.shape image log x l).messages))) (sym here)
             ∙ (sym (map_lane j.plain.shape (there e) e x l (lane_of j.plain.shape image log x l))
@@ -259,9 +272,11 @@ module _ (image : List ℕ) (log : List Event) (j : JudgeState) (f : Follows j.p
       }
 
 -- a judge at reset follows the empty log
-pub starts : (shape : Shape) (image : List ℕ) (j : JudgeState) → IsReset shape image j.plain → ((x : ℕ) (l : Channel) → waiting_in j.order x l ≡ []) → Follows shape image [] j
-starts shape image j r empty =
+pub starts : (order : ChannelOrder) (shape : Shape) (image : List ℕ) (j : JudgeState) → j.order ≡ order → IsReset shape image j.plain
+    → ((x : ℕ) (l : Channel) → waiting_in j.waiting x l ≡ []) → Follows order shape image [] j
+starts order shape image j same r empty =
     record {
+      same_order = same;
       same_shape = r.same_shape;
       run = tt;
       ended = λ block lt. sym (r.blocks block lt);
@@ -270,24 +285,32 @@ starts shape image j r empty =
 
 -- ## Any shape that the judge follows
 
-module _ (j : JudgeState) (shape : Shape) (image : List ℕ) (log : List Event) (f : Follows shape image log j) where
-  own : Follows j.plain.shape image log j
-  own = subst (λ (sh : Shape). Follows sh image log j) (sym f.same_shape) f
+module _ (j : JudgeState) (order : ChannelOrder) (shape : Shape) (image : List ℕ) (log : List Event) (f : Follows order shape image log j) where
+  own : Follows j.order j.plain.shape image log j
+  own =
+      subst (λ (o : ChannelOrder). Follows o j.plain.shape image log j) (sym f.same_order)
+      (subst (λ (sh : Shape). Follows order sh image log j) (sym f.same_shape) f)
 
-  pub all_allowed : (entry : Entry) → Allows j entry → IsPermitted shape image log entry
-  all_allowed entry a = subst (λ (sh : Shape). IsPermitted sh image log entry) f.same_shape (allowed image log j own entry a)
+  pub all_allowed : (entry : Entry) → Allows j entry → IsPermitted order shape image log entry
+  all_allowed entry a =
+      subst (λ (o : ChannelOrder). IsPermitted o shape image log entry) f.same_order
+      (subst (λ (sh : Shape). IsPermitted j.order sh image log entry) f.same_shape (allowed image log j own entry a))
 
-  pub all_rejected : (entry : Entry) (breach : Breach) → Rejects j entry breach → Breaks shape image log entry breach
-  all_rejected entry breach r = subst (λ (sh : Shape). Breaks sh image log entry breach) f.same_shape (rejected image log j own entry breach r)
+  pub all_rejected : (entry : Entry) (breach : Breach) → Rejects j entry breach → Breaks order shape image log entry breach
+  all_rejected entry breach r =
+      subst (λ (o : ChannelOrder). Breaks o shape image log entry breach) f.same_order
+      (subst (λ (sh : Shape). Breaks j.order sh image log entry breach) f.same_shape (rejected image log j own entry breach r))
 
-  pub all_carried : (e : Event) (new : JudgeState) → Carries j new e → Follows shape image (log ++ e ∷ []) new
-  all_carried e new k = subst (λ (sh : Shape). Follows sh image (log ++ e ∷ []) new) f.same_shape (carried image log j own e new k)
+  pub all_carried : (e : Event) (new : JudgeState) → Carries j new e → Follows order shape image (log ++ e ∷ []) new
+  all_carried e new k =
+      subst (λ (o : ChannelOrder). Follows o shape image (log ++ e ∷ []) new) f.same_order
+      (subst (λ (sh : Shape). Follows j.order sh image (log ++ e ∷ []) new) f.same_shape (carried image log j own e new k))
 
 -- ## Records
 
 -- a lawful log goes on with entries that are permitted
 goes_on : (shape : Shape) (image : List ℕ) (log : List Event) (entries : List Entry) → Lawful shape image log
-    → IsLawfulAfter shape image log entries → Lawful shape image (log ++ events_of entries)
+    → IsLawfulAfter Whole shape image log entries → Lawful shape image (log ++ events_of entries)
 goes_on shape image log [] lawful h = subst (λ (es : List Event). Lawful shape image es) (sym (append-nil log)) lawful
 goes_on shape image log (entry ∷ rest) lawful h =
     subst (λ (es : List Event). Lawful shape image es) (append_assoc log (entry.event ∷ []) (events_of rest))
@@ -296,6 +319,29 @@ goes_on shape image log (entry ∷ rest) lawful h =
 -- a lawful record is a lawful log
 pub every_lawful_record : EveryLawfulRecordIsALawfulLog
 every_lawful_record shape image entries h = goes_on shape image [] entries (empty_is_lawful shape image).0 h
+
+-- a run goes on with entries that are permitted in any order
+runs_on : (order : ChannelOrder) (shape : Shape) (image : List ℕ) (log : List Event) (entries : List Entry) → IsRun shape image log
+    → IsLawfulAfter order shape image log entries → IsRun shape image (log ++ events_of entries)
+runs_on order shape image log [] run h = subst (λ (es : List Event). IsRun shape image es) (sym (append-nil log)) run
+runs_on order shape image log (entry ∷ rest) run h =
+    subst (λ (es : List Event). IsRun shape image es) (append_assoc log (entry.event ∷ []) (events_of rest))
+    (runs_on order shape image (log ++ entry.event ∷ []) rest (((runs_grow_by_one shape image).2 log entry.event).0.1 (run, h.0.may)) h.1)
+
+-- a lawful record is a run
+pub every_lawful_run : EveryLawfulRecordIsARun
+every_lawful_run order shape image entries h = runs_on order shape image [] entries tt h
+
+-- entries that are permitted in the order of whole channels are so in that of each block
+in_blocks : (shape : Shape) (image : List ℕ) (log : List Event) (entries : List Entry) → IsLawfulAfter Whole shape image log entries
+    → IsLawfulAfter EachBlock shape image log entries
+in_blocks shape image log [] h = tt
+in_blocks shape image log (entry ∷ rest) h =
+    (record { may = h.0.may; first = tt; shown = h.0.shown }, in_blocks shape image (log ++ entry.event ∷ []) rest h.1)
+
+-- a record in order is lawful for each block
+pub every_record_in_order : EveryRecordInOrderIsLawful
+every_record_in_order shape image entries h = in_blocks shape image [] entries h
 
 -- what differs from a message is not that message
 no_message : (body : Body) (shown : Shown) (d : Difference) → DiffersFrom body shown d → ¬ IsMessage body shown
@@ -314,7 +360,7 @@ differs (Some post) (Some shown) d h s = no_message post.body shown d h s
 
 -- an entry that breaks something is not permitted
 pub no_broken_entry : NoBrokenEntryIsPermitted
-no_broken_entry shape image log entry (NotPermitted rule) b p = b.1 p.may
-no_broken_entry shape image log entry OutOfOrder b p = b.1 p.first
-no_broken_entry shape image log entry (NotAsShown difference) b p =
+no_broken_entry order shape image log entry (NotPermitted rule) b p = b.1 p.may
+no_broken_entry order shape image log entry OutOfOrder b p = b.1 p.first
+no_broken_entry order shape image log entry (NotAsShown difference) b p =
     differs (post_after shape image log entry.event) entry.shown difference b.2 p.shown

@@ -1,10 +1,18 @@
--- Which blocks' messages wait on each channel, oldest first.
+-- Which blocks' messages wait on each channel, oldest first, and which order of a channel a judge asks for.
 use Rattle.std.specs.Prelude.{◌≡◌, ℕ, ◌+◌, ◌*◌, List, [], ◌∷◌, ◌++◌, drop, Option, Some, None, slice_index_or, if◌then◌else◌}
 use Rattle.tl_types.specs.Channel.{channel_index}
 use Rattle.tl_types.specs.Lane.{is_here}
 use Rattle.tl_types.specs.declared.message.Body.{Body}
 use Rattle.tl_protocol_lanes.specs.Lanes.{LinkChannel, Post}
 use Rattle.tl_types.specs.declared.channel.Channel.{Channel}
+use Rattle.tlcheck_rules.specs.declared.order.ChannelOrder.{ChannelOrder}
+use Rattle.tlcheck_rules.specs.declared.order.ChannelOrder.TheVariants.{Whole, EachBlock}
+
+-- What an order asks of an event that takes a message: that this is the first of the whole channel (TileLink leaves that to the link; it
+-- is this project's own choice); or nothing, since the protocol has the messages of each block in order (TileLink 1.8, section 8).
+abbrev pub Asks : ChannelOrder → Type 0 → Type 0
+Asks Whole first = first
+Asks EachBlock first = Unit {0}
 
 -- how many clients there are, and the blocks of the messages of their channels
 pub record Waiting : Type 0 where

@@ -3,14 +3,15 @@ ghost use Rattle.std.specs.Prelude.{◌≡◌, ◌↔◌, ◌<◌, ◌≤◌, �
 ghost use Rattle.std.specs.Option.{option_map};
 ghost use Rattle.tl_protocol.specs.declared.event.Event.{Event};
 ghost use Rattle.tl_protocol.specs.declared.shape.Shape.{Shape};
-ghost use Rattle.tlcheck_rules.specs.Judged.{EveryLawfulRecordIsALawfulLog, NoBrokenEntryIsPermitted};
+ghost use Rattle.tlcheck_rules.specs.Judged.{EveryLawfulRecordIsALawfulLog, EveryLawfulRecordIsARun, EveryRecordInOrderIsLawful, NoBrokenEntryIsPermitted};
 ghost use Rattle.tlcheck_rules.specs.declared.judge.Refusal.TheVariants.{Broken, Memory};
 ghost use Rattle.tlcheck_rules.specs.declared.judge.Breach.{Breach};
+ghost use Rattle.tlcheck_rules.specs.declared.order.ChannelOrder.{ChannelOrder};
 
 use crate::difference::{Difference, difference_of};
 use crate::entry::Entry;
 use crate::keeps::broken_rule;
-use crate::order::Order;
+use crate::order::{ChannelOrder, Waiting};
 use crate::rule::{Rule, client_of};
 use crate::sent::{sent_by, taken_channel};
 use std::alloc::{AllocError, Global};
@@ -51,7 +52,8 @@ impl From<AllocError> for Refusal {
 #[derive(Drop)]
 pub struct Judge {
     plain: Plain,
-    order: Order,
+    waiting: Waiting,
+    order: ChannelOrder,
 }
 
 impl Model for Judge {
@@ -60,28 +62,37 @@ impl Model for Judge {
 
     ghost Value = { JudgeState };
 
-    ghost view = { λ j. record { plain = j.plain; order = j.order } };
+    ghost view = { λ j. record { plain = j.plain; waiting = j.waiting; order = j.order } };
 
-    ghost invariant = { λ j. j.order.clients ≡ j.plain.shape.clients };
+    ghost invariant = { λ j. j.waiting.clients ≡ j.plain.shape.clients };
 }
 
 impl Judge {
     ghost use Rattle.tlcheck_rules.specs.Differs.{Differs};
     ghost use Rattle.tlcheck_rules.specs.Judged.{Allows, Breaks, Carries, Follows, IsPermitted, IsShown, Rejects, own_block};
-    ghost use Rattle.tlcheck_rules.specs.Order.{IsNextIn, post_at, waiting_in};
+    ghost use Rattle.tlcheck_rules.specs.Order.{Asks, IsNextIn, post_at, waiting_in};
     ghost use Rattle.tlcheck_rules.specs.Rules.{client_of};
     ghost use Rattle.tl_protocol.specs.Protocol.{May, block_of};
     ghost use Rattle.tl_protocol_lanes.specs.Lanes.{post_of, take_of};
 
-    /// A judge of a record from reset over an image. The error is want of memory.
-    pub fn new(alloc: Global, shape: Shape, image: &[u8]) -> Result<Judge, AllocError>
+    /// A judge of a record from reset over an image, in an order of the channels. The error is want of memory.
+    pub fn new(
+        alloc: Global,
+        order: ChannelOrder,
+        shape: Shape,
+        image: &[u8],
+    ) -> Result<Judge, AllocError>
         requires bytes { (0 < shape.block_bytes) × (shape.block_bytes ≤ BLOCK_BYTES) }
         requires blocks { shape.blocks ≤ BLOCKS }
-        ensures { IfOk result (λ j. Follows shape image.now [] j) }
+        ensures { IfOk result (λ j. Follows order shape image.now [] j) }
     {
         let plain = Plain::new(alloc, shape, image)?;
-        let order = Order::new(alloc, plain.shape().clients)?;
-        Ok(Judge { plain, order })
+        let waiting = Waiting::new(alloc, plain.shape().clients)?;
+        Ok(Judge {
+            plain,
+            waiting,
+            order,
+        })
     }
 
     /// The state where the entries so far lead.
@@ -93,24 +104,36 @@ impl Judge {
 
     /// The block of the message that is first on a channel.
     pub fn first_on(&self, client: ClientId, channel: Channel) -> Option<BlockNo>
-        ensures { MatchOption result (waiting_in self.now.order client channel ≡ [])
-            (λ block. waiting_in self.now.order client channel
-            ≡ block ∷ drop 1 (waiting_in self.now.order client channel)) }
+        ensures { MatchOption result (waiting_in self.now.waiting client channel ≡ [])
+            (λ block. waiting_in self.now.waiting client channel
+            ≡ block ∷ drop 1 (waiting_in self.now.waiting client channel)) }
     {
-        self.order.first(client, channel)
+        self.waiting.first(client, channel)
     }
 
     /// Whether the event takes no message, or its block's is the first on the channel.
     fn takes_first(&self, event: &Event) -> bool
         ensures { IsTrue result
-            ↔ IsNextIn self.now.order (block_of self.now.plain.shape event.now) (take_of event.now) }
+            ↔ IsNextIn self.now.waiting (block_of self.now.plain.shape event.now) (take_of event.now) }
     {
         match taken_channel(event) {
             None => true,
-            Some(channel) => match self.order.first(client_of(event), channel) {
+            Some(channel) => match self.waiting.first(client_of(event), channel) {
                 None => false,
                 Some(first) => first.number() == event.block(self.plain.shape()),
             },
+        }
+    }
+
+    /// Whether the event takes a message in the order that is asked for.
+    fn keeps_order(&self, event: &Event) -> bool
+        ensures { IsTrue result
+            ↔ Asks self.now.order (IsNextIn self.now.waiting (block_of self.now.plain.shape event.now)
+            (take_of event.now)) }
+    {
+        match self.order {
+            ChannelOrder::Whole => self.takes_first(event),
+            ChannelOrder::EachBlock => true,
         }
     }
 
@@ -139,7 +162,7 @@ impl Judge {
     fn breach_of_shown(&self, entry: &Entry) -> Option<Breach>
         requires may { May self.now.plain.shape (own_block self.now entry.now.event) entry.now.event }
         requires first { let event = entry.now.event in
-            IsNextIn self.now.order (block_of self.now.plain.shape event) (take_of event) }
+            Asks self.now.order (IsNextIn self.now.waiting (block_of self.now.plain.shape event) (take_of event)) }
         ensures { MatchOption result (Allows self.now entry.now) (λ breach. Rejects self.now entry.now breach) }
     {
         match self.difference(entry) {
@@ -155,7 +178,7 @@ impl Judge {
         if let Some(rule) = broken_rule(&self.plain, &entry.event) {
             return Some(Breach::NotPermitted(rule));
         }
-        if !self.takes_first(&entry.event) {
+        if !self.keeps_order(&entry.event) {
             return Some(Breach::OutOfOrder);
         }
         if entry.shown.is_none() {
@@ -173,8 +196,8 @@ impl Judge {
         let block = BlockNo::new(event.block(self.plain.shape()));
         self.plain.carry_out(event)?;
         let client = client_of(event);
-        self.order.leave(client, taken_channel(event));
-        self.order.join(client, &sent, block)
+        self.waiting.leave(client, taken_channel(event));
+        self.waiting.join(client, &sent, block)
     }
 
     /// Takes an entry against which `breach` has nothing. The error is want of memory; nothing is claimed of the judge
@@ -182,9 +205,10 @@ impl Judge {
     pub fn take_allowed(&mut self, entry: &Entry) -> Result<(), AllocError>
         requires { Allows self.old entry.now }
         ensures { OnOk result
-            ((shape : Shape) (image : List ℕ) (log : List Event)
-            → Follows shape image log self.old
-            → IsPermitted shape image log entry.now × Follows shape image (log ++ entry.now.event ∷ []) self.new) }
+            ((order : ChannelOrder) (shape : Shape) (image : List ℕ) (log : List Event)
+            → Follows order shape image log self.old
+            → IsPermitted order shape image log entry.now
+            × Follows order shape image (log ++ entry.now.event ∷ []) self.new) }
     {
         self.carry_out(&entry.event)?;
         Ok(())
@@ -195,13 +219,14 @@ impl Judge {
     /// then.
     pub fn step(&mut self, entry: &Entry) -> Result<(), Refusal>
         ensures ok { OnOk result
-            ((shape : Shape) (image : List ℕ) (log : List Event)
-            → Follows shape image log self.old
-            → IsPermitted shape image log entry.now × Follows shape image (log ++ entry.now.event ∷ []) self.new) }
+            ((order : ChannelOrder) (shape : Shape) (image : List ℕ) (log : List Event)
+            → Follows order shape image log self.old
+            → IsPermitted order shape image log entry.now
+            × Follows order shape image (log ++ entry.now.event ∷ []) self.new) }
         ensures broken { IfErr result
             (λ refusal. (breach : Breach) → refusal ≡ Broken breach
-            → (shape : Shape) (image : List ℕ) (log : List Event)
-            → Follows shape image log self.old → Breaks shape image log entry.now breach) }
+            → (order : ChannelOrder) (shape : Shape) (image : List ℕ) (log : List Event)
+            → Follows order shape image log self.old → Breaks order shape image log entry.now breach) }
         ensures unchanged { IfErr result
             (λ refusal. (breach : Breach) → refusal ≡ Broken breach → self.new ≡ self.old) }
     {
@@ -215,9 +240,12 @@ impl Judge {
     }
 }
 
-/// A record whose entries are each permitted after those before it is a run that takes each channel's messages in
-/// order; and an entry that breaks something is not permitted.
+/// A record whose entries are each permitted after those before it is a run, which takes each channel's messages in
+/// order where the order of whole channels was asked for; then it is permitted in that of each block, too. And an entry
+/// that breaks something is not permitted.
 pub fn every_record()
     ensures lawful { EveryLawfulRecordIsALawfulLog }
+    ensures run { EveryLawfulRecordIsARun }
+    ensures blocks { EveryRecordInOrderIsLawful }
     ensures broken { NoBrokenEntryIsPermitted }
 {}

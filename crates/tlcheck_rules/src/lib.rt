@@ -14,5 +14,6 @@ pub use difference::{Difference, Name, other_message};
 pub use entry::{Entry, Shown};
 pub use judge::{Breach, Judge, Refusal, every_record};
 pub use keeps::{broken_rule, broken_rule_on};
+pub use order::ChannelOrder;
 pub use rule::{Rule, client_of, rules_of};
 pub use sent::{sent_by, taken_channel};

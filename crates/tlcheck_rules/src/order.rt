@@ -11,14 +11,25 @@ use std::marker::Model;
 use tl_protocol::Queue;
 use tl_types::{BlockNo, Body, Channel, ClientId};
 
-/// The order of the messages on the channels of each client, by their blocks.
+/// Which order of a channel a judge asks for.
+#[derive(Clone, Copy, Debug, Drop, PartialEq, Eq)]
+pub enum ChannelOrder {
+    /// Of the whole channel: an event takes the first message of its channel, over all blocks, as links do that keep
+    /// the order in which messages were sent.
+    Whole,
+    /// Of each block alone: an event takes the first message of its channel that is of its block, as clients and homes
+    /// do that answer for several blocks in an order of their own (TileLink 1.8, section 8, permits that).
+    EachBlock,
+}
+
+/// The messages that wait on the channels of each client, by their blocks.
 #[derive(Drop)]
-pub(crate) struct Order {
+pub(crate) struct Waiting {
     clients: u32,
     queues: Vec<Queue<BlockNo>>,
 }
 
-impl Model for Order {
+impl Model for Waiting {
     ghost use Rattle.std.specs.Prelude.{◌≡◌, ◌*◌, length};
     ghost use Rattle.tlcheck_rules.specs.Order.{Waiting};
 
@@ -29,10 +40,10 @@ impl Model for Order {
     ghost invariant = { λ o. length o.queues.items ≡ o.clients * 5 };
 }
 
-impl Order {
+impl Waiting {
     /// No message waits.
     #[tactic(auto, unfolding(crate::specs::Order::waiting_in))]
-    pub(crate) fn new(alloc: Global, clients: u32) -> Result<Order, AllocError>
+    pub(crate) fn new(alloc: Global, clients: u32) -> Result<Waiting, AllocError>
         ensures clients { IfOk result (λ o. o.clients ≡ clients) }
         ensures empty { IfOk result (λ o. (x : ℕ) (k : Channel) → waiting_in o x k ≡ []) }
     {
@@ -40,7 +51,7 @@ impl Order {
         for _ in 0..clients as usize * Channel::ALL.len() {
             queues.push(Queue::new(alloc))?;
         }
-        Ok(Order { clients, queues })
+        Ok(Waiting { clients, queues })
     }
 
     /// The block of the first message of a channel.

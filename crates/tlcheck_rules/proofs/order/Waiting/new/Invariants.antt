@@ -1,5 +1,5 @@
 use Rattle.std.proofs.Common.{◌≡◌, ℕ, [], length, slice_index_or}
-use Rattle.tlcheck_rules.proofs.order.Order.new.Given as goal
+use Rattle.tlcheck_rules.proofs.order.Waiting.new.Given as goal
 
 abbrev pub invariant-loop : goal.invariant-loop
 invariant-loop l = record {
