@@ -28,7 +28,7 @@
  *                    a judge at one client's pins, which tells of each line that is seen there at once whether it may
  *                    be seen after those before it, and of the first that may not which rule it breaks; then no legal
  *                    run of the protocol is seen so at these pins (`OpensPins`, `SeesRoom`, `EveryJudgingAtPins`).
- *   jv_echo            the request again (`echoed`); jv_echo_seen likewise (`seen_echoed`); jv_version the number 6.
+ *   jv_echo            the request again (`echoed`); jv_echo_seen likewise (`seen_echoed`); jv_version the number 7.
  * The functions that are `static inline` are C: they fill in a request and call one of these, and are tested
  * (examples/c), not proved. After any sequence of calls of an opened cache, each of which met its contract, each bank's
  * log is a run of the protocol over the image, in which every load got the bytes last stored before it; what the bank
@@ -69,7 +69,7 @@
 extern "C" {
 #endif
 
-#define JV_VERSION 6u
+#define JV_VERSION 7u
 
 typedef struct jv_cache jv_cache; /* all banks with their clients; opaque */
 
@@ -713,10 +713,16 @@ static inline size_t jv_image(const jv_cache *c, uint8_t *bytes, size_t room) {
 
 typedef struct jj_judge jj_judge; /* opaque, in room of jj_size() bytes; the promises above hold of it as of a cache */
 
+/* Which order of a channel a judge asks for. JJ_WHOLE_CHANNEL: what is taken is the first message of its channel, over
+   all blocks; JJ_EACH_BLOCK: of each block alone, as TileLink has it. Take the second where a client or a home answers
+   for several blocks in an order of its own (docs/RTL.md has a table). */
+enum jj_order { JJ_WHOLE_CHANNEL = 0, JJ_EACH_BLOCK = 1 };
+
 typedef struct {
     uint32_t clients;       /* 1 to 64 (20) */
     uint32_t block_bytes;   /* 8, 16, 32, 64 (22) */
     uint32_t memory_blocks; /* 1 to 65536 (27) */
+    uint32_t order;         /* jj_order (JV_BAD_ARGUMENT) */
 } jj_numbers;
 
 /* an event, and the message that was seen to be sent by it; what an event does not use it takes no notice of */
@@ -743,8 +749,8 @@ typedef struct { /* what is not told is 0 */
     uint32_t perm;        /* what the client may do with the block (jv_perm_number): after the entry; before it where it
                              is not permitted. Of an event without a client, client 0 */
     uint32_t is_at_home;  /* 1 where home has a copy of the block, likewise */
-    uint32_t why;         /* of JV_CLOSED: 20, 22, 27, JV_OUT_OF_RANGE (the image), JV_NO_MEMORY, or JV_CLOSED by its
-                             caller */
+    uint32_t why;         /* of JV_CLOSED: 20, 22, 27, JV_BAD_ARGUMENT (the order), JV_OUT_OF_RANGE (the image),
+                             JV_NO_MEMORY, or JV_CLOSED by its caller */
     uint8_t bytes[64];
 } jj_verdict;
 
@@ -757,7 +763,7 @@ enum jj_rule { /* what an entry breaks, in words by jj_rule_name: the sentences 
     JJ_NOTHING_IS_PENDING, JJ_GRANT_ACK_WAITS, JJ_SERVES_AN_ACQUIRE, JJ_HOME_LACKS_THE_BLOCK, JJ_NOTHING_IS_OUTWARD,
     JJ_REQUEST_IS_OUTWARD, JJ_DATA_IS_OUTWARD, JJ_PUT_ACK_IS_OUTWARD, JJ_COPY_IS_CLEAN, JJ_COPY_IS_DIRTY,
     JJ_NOBODY_IS_RECORDED,
-    JJ_OUT_OF_ORDER, /* another message is first on the channel */
+    JJ_OUT_OF_ORDER, /* another message is first on the channel; never with JJ_EACH_BLOCK */
     /* the message that is shown is not the one that the event sends */
     JJ_NOTHING_IS_SENT, JJ_OTHER_MESSAGE, JJ_OTHER_PARAM, JJ_DATA_IS_MISSING, JJ_DATA_IS_EXTRA, JJ_OTHER_BYTES
 };
@@ -773,7 +779,7 @@ JV_AT_(jj_verdict, param, 12);
 JV_AT_(jj_verdict, len, 16); JV_AT_(jj_verdict, perm, 20); JV_AT_(jj_verdict, is_at_home, 24);
 JV_AT_(jj_verdict, why, 28);
 JV_AT_(jj_verdict, bytes, 32); JV_ASSERT_(sizeof(jj_verdict) == 96, whole_verdict);
-JV_ASSERT_(sizeof(jj_numbers) == 12, whole_judge_numbers);
+JV_ASSERT_(sizeof(jj_numbers) == 16, whole_judge_numbers);
 
 size_t jj_size(void);  /* how many bytes of room a judge needs */
 size_t jj_align(void); /* what the room's address divides by */
@@ -873,7 +879,8 @@ static inline const char *jj_rule_name(uint32_t rule) {
 typedef struct jp_judge jp_judge; /* opaque, in room of jp_size() bytes; the promises above hold of it as of a cache */
 
 typedef struct {
-    jj_numbers of;         /* the clients, the bytes of a block, the blocks of the memory (20, 22, 27) */
+    jj_numbers of;         /* the clients, the bytes of a block, the blocks of the memory (20, 22, 27); its order is not
+                              looked at, since a client's pins show that of each block alone */
     uint32_t client;       /* at whose pins it judges: below `clients` (JV_OUT_OF_RANGE) */
     uint32_t cores_unseen; /* 0 where the client's loads and stores are handed in, 1 where nobody watches its core
                               (JV_BAD_ARGUMENT) */
@@ -911,7 +918,7 @@ typedef struct { /* what is not told is 0 */
 } jp_verdict;
 
 JV_AT_(jp_numbers, client, 12); JV_AT_(jp_numbers, cores_unseen, 16);
-JV_ASSERT_(sizeof(jp_numbers) == 20, whole_pins_numbers);
+JV_ASSERT_(sizeof(jp_numbers) == 24, whole_pins_numbers);
 JV_AT_(jp_line, what, 0); JV_AT_(jp_line, client, 4); JV_AT_(jp_line, place, 8); JV_AT_(jp_line, channel, 12);
 JV_AT_(jp_line, opcode, 16);
 JV_AT_(jp_line, param, 20); JV_AT_(jp_line, len, 24); JV_AT_(jp_line, bytes, 28);

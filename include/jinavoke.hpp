@@ -622,8 +622,8 @@ class BlockJudge {
     uint64_t inferred_ = 0;
 };
 
-// The order of each channel of each client over the blocks, which a judge a block does not ask. A Probe's answer is in
-// none: a client may answer the Probes of several blocks in any order.
+// The order of each channel of each client over the blocks (JJ_WHOLE_CHANNEL), which a judge a block does not ask. A
+// Probe's answer is in none: a client may answer the Probes of several blocks in any order.
 class ChannelOrder {
   public:
     // Whether what an event takes is the first of its channel; what it sends is then the last.
@@ -721,7 +721,8 @@ class Judge {
         BlockJudge &judge = judge_of(block);
         const jj_verdict before = judge.told(e.client, JJ_OUT_OF_ORDER);
         jj_verdict v = judge.see(e);
-        return kept(v.status == JV_OK && !is_in_order(entry, block) ? before : v);
+        bool is_asked = numbers_.order == JJ_WHOLE_CHANNEL;
+        return kept(v.status == JV_OK && is_asked && !is_in_order(entry, block) ? before : v);
     }
     jj_verdict kept(const jj_verdict &v) { // the first fault is told again
         if (v.status && v.status != JV_BAD_ARGUMENT) fault_ = v;
@@ -742,7 +743,7 @@ class Judge {
         size_t from = std::min(image_.size(), size_t(block) * numbers_.block_bytes);
         size_t to = std::min(image_.size(), from + numbers_.block_bytes);
         std::vector<uint8_t> bytes(image_.begin() + long(from), image_.begin() + long(to));
-        jj_numbers one = {numbers_.clients, numbers_.block_bytes, 1};
+        jj_numbers one = {numbers_.clients, numbers_.block_bytes, 1, numbers_.order}; // (of one block both are the same)
         return blocks_.try_emplace(block, one, bytes, clients_, probes_).first->second;
     }
     std::string text(const jj_entry &e, const jj_verdict &v) const {
@@ -892,7 +893,8 @@ class EventJudge : public Watch {
     explicit EventJudge(const Options &o, const std::vector<uint8_t> &image = {})
         : base_(o.base), block_bytes_(uint64_t(o.numbers.block_bytes)) {
         const jv_numbers &n = o.numbers;
-        jj_numbers numbers = {uint32_t(n.clients), uint32_t(n.block_bytes), uint32_t(n.memory_blocks)};
+        jj_numbers numbers = {uint32_t(n.clients), uint32_t(n.block_bytes), uint32_t(n.memory_blocks),
+                              JJ_WHOLE_CHANNEL};
         for (int64_t bank = 0; bank < n.banks; bank++) judges_.emplace_back(numbers, image);
     }
     std::function<void(const std::string &)> on_fault = [](const std::string &) {}; // what Judge::said has

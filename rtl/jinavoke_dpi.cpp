@@ -178,15 +178,18 @@ const char *jvd_image(void *cache) {
 // ---- a judge of events
 
 // `drops_clean`: 1 where clients may drop clean copies, and send no Release; likewise below. `probes_anyone`: 1 where
-// home may probe a client that has no more than the Probe leaves it.
-void *jjd_new_wide(int clients, int block_bytes, int blocks, int drops_clean, int probes_anyone, const char *image) {
-    jj_numbers n = {uint32_t(clients), uint32_t(block_bytes), uint32_t(blocks)};
+// home may probe a client that has no more than the Probe leaves it. `each_block`: 1 where the order of a channel is
+// asked for each block alone.
+void *jjd_new_wide(int clients, int block_bytes, int blocks, int drops_clean, int probes_anyone, int each_block,
+                   const char *image) {
+    const uint32_t order = each_block ? JJ_EACH_BLOCK : JJ_WHOLE_CHANNEL;
+    jj_numbers n = {uint32_t(clients), uint32_t(block_bytes), uint32_t(blocks), order};
     return made([&] {
         return new jinavoke::Judge(n, bytes_of(image), clients_that(drops_clean), probes_of(probes_anyone));
     });
 }
 void *jjd_new(int clients, int block_bytes, int blocks, const char *image) {
-    return jjd_new_wide(clients, block_bytes, blocks, 0, 0, image);
+    return jjd_new_wide(clients, block_bytes, blocks, 0, 0, 0, image);
 }
 // The same with the structs of jinavoke.h, for Python: NULL where it is not opened, and why.
 void *jjd_open(const jj_numbers *numbers, const uint8_t *image, size_t len, int drops_clean, int probes_anyone,
@@ -223,7 +226,7 @@ const char *jjd_said(void *judge) { return static_cast<jinavoke::Judge *>(judge)
 // ---- a judge of messages at one client's pins
 
 void *jpd_new_wide(int clients, int block_bytes, int blocks, int client, int cores_unseen, int drops_clean) {
-    jp_numbers n = {{uint32_t(clients), uint32_t(block_bytes), uint32_t(blocks)}, uint32_t(client),
+    jp_numbers n = {{uint32_t(clients), uint32_t(block_bytes), uint32_t(blocks), JJ_WHOLE_CHANNEL}, uint32_t(client),
         uint32_t(cores_unseen)};
     return made([&] { return new jinavoke::PinsJudge(n, clients_that(drops_clean)); });
 }

@@ -127,26 +127,45 @@ static jv_answer step(jv_cache *c, uint32_t index) {
     return a;
 }
 static int open_both(jv_cache **c, jj_judge **j) {
-    jv_numbers n = {1, CLIENTS, 1, BYTES, 2, 1, 2, 4, BLOCKS}; jj_numbers m = {CLIENTS, BYTES, BLOCKS}; uint32_t why;
+    jv_numbers n = {1, CLIENTS, 1, BYTES, 2, 1, 2, 4, BLOCKS}; jj_numbers m = {CLIENTS, BYTES, BLOCKS, JJ_WHOLE_CHANNEL}; uint32_t why;
     *c = jv_new(&n, NULL, 0, &why);
     *j = jj_new(&m, NULL, 0, &why);
     return *c && *j;
 }
 /* A judge that is closed, or never opened, says why. */
 static void closed_ones(void) {
-    jj_numbers m = {CLIENTS, BYTES, BLOCKS}; uint8_t image[BYTES * BLOCKS + 1]; uint32_t why;
+    jj_numbers m = {CLIENTS, BYTES, BLOCKS, JJ_WHOLE_CHANNEL}; uint8_t image[BYTES * BLOCKS + 1]; uint32_t why;
     jj_judge *j; jj_entry e = jj_event(0, 0, 0, 0);
     memset(image, 0, sizeof image);
     if (jj_new(&m, image, sizeof image, &why) || why != JV_OUT_OF_RANGE) otherwise("an image that is too long");
     m.clients = 65; if (jj_new(&m, NULL, 0, &why) || why != 20) otherwise("65 clients");
     m.clients = 64; m.block_bytes = 24; if (jj_new(&m, NULL, 0, &why) || why != 22) otherwise("blocks of 24 bytes");
     m.block_bytes = 64; m.memory_blocks = 65537; if (jj_new(&m, NULL, 0, &why) || why != 27) otherwise("65537 blocks");
-    m.memory_blocks = 1; j = jj_new(&m, NULL, 0, &why);
+    m.memory_blocks = 1; m.order = 2; if (jj_new(&m, NULL, 0, &why) || why != JV_BAD_ARGUMENT) otherwise("order 2");
+    m.order = JJ_EACH_BLOCK; j = jj_new(&m, NULL, 0, &why);
     if (!j || why) otherwise("lawful numbers");
     else {
         jj_verdict v;
         jj_close(j); v = jj_see(j, &e);
         if (v.status != JV_CLOSED || v.why != JV_CLOSED) otherwise("a closed judge");
+        jj_free(j);
+    }
+}
+/* Home accepts the second of two Acquires first: one order permits that, the other does not. */
+static void both_orders(void) {
+    jj_numbers m = {CLIENTS, BYTES, BLOCKS, JJ_WHOLE_CHANNEL}; uint32_t order;
+    for (order = JJ_WHOLE_CHANNEL; order <= JJ_EACH_BLOCK; order++) {
+        jj_judge *j; jj_entry e; uint32_t block, rule = order == JJ_EACH_BLOCK ? JJ_NO_RULE : JJ_OUT_OF_ORDER;
+        m.order = order; j = jj_new(&m, NULL, 0, NULL);
+        if (!j) { otherwise("no judge of an order"); return; }
+        for (block = 0; block < 2; block++) {
+            e = jj_event(JV_EVENT_SEND_ACQUIRE, 0, block, JV_NTOB);
+            if (jj_see(j, &e).status) otherwise("an Acquire of each of two blocks");
+        }
+        e = jj_event(JV_EVENT_ACCEPT_ACQUIRE, 0, 1, 0);
+        if (jj_see(j, &e).rule != rule) otherwise("the second Acquire is accepted first");
+        e = jj_event(JV_EVENT_ACCEPT_ACQUIRE, 0, 0, 0);
+        if (jj_see(j, &e).rule != rule) otherwise("and the first behind it");
         jj_free(j);
     }
 }
@@ -161,7 +180,7 @@ static int measure(long events) {
     }
     begin = clock();
     for (rounds = 0; rounds * MOST < events; rounds++) {
-        if (rounds) { jj_numbers m = {CLIENTS, BYTES, BLOCKS}; jj_free(j); j = jj_new(&m, NULL, 0, NULL); if (!j) return 1; }
+        if (rounds) { jj_numbers m = {CLIENTS, BYTES, BLOCKS, JJ_WHOLE_CHANNEL}; jj_free(j); j = jj_new(&m, NULL, 0, NULL); if (!j) return 1; }
         for (i = 0; i < MOST; i++) if (jj_see(j, &all[i]).status) { otherwise("a lawful entry"); break; }
     }
     ns = 1e9 * (double)(clock() - begin) / CLOCKS_PER_SEC / (double)(rounds * MOST);
@@ -176,6 +195,7 @@ int main(int argc, char **argv) {
     steps = argc > 2 ? strtol(argv[2], NULL, 10) : 100000;
     at = argc > 3 ? strtol(argv[3], NULL, 10) : -1;
     closed_ones();
+    both_orders();
     if (!open_both(&c, &j)) return 1;
     printf("clients %d block_bytes %d memory_blocks %d\n", CLIENTS, BYTES, BLOCKS);
     for (n = 0; n < steps && goes_on; n++) {

@@ -59,7 +59,7 @@ static void exchange(uint8_t wrong_byte) {
 }
 /* A judge that is closed, or never opened, says why. */
 static void closed_ones(void) {
-    jp_numbers n = {{65, 24, 0}, 0, 2}; uint32_t why; jp_judge *j; jp_line l = jp_access(JP_LOAD, 0, 0, NULL, 0); jp_verdict v;
+    jp_numbers n = {{65, 24, 0, 9}, 0, 2}; uint32_t why; jp_judge *j; jp_line l = jp_access(JP_LOAD, 0, 0, NULL, 0); jp_verdict v;
     if (jp_new(&n, &why) || why != 20) otherwise("65 clients");
     n.of.clients = 2; if (jp_new(&n, &why) || why != 22) otherwise("blocks of 24 bytes");
     n.of.block_bytes = 64; if (jp_new(&n, &why) || why != 27) otherwise("no block");

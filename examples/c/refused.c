@@ -157,7 +157,7 @@ static void scenario(void) {
 static void judged(void) {
     static const uint32_t kinds[] = {JV_EVENT_SEND_ACQUIRE, JV_EVENT_ACCEPT_ACQUIRE, JV_EVENT_SEND_GET, JV_EVENT_SERVE, JV_EVENT_TAKE_DATA,
         JV_EVENT_SEND_GRANT, JV_EVENT_TAKE_GRANT, JV_EVENT_TAKE_GRANT_ACK};
-    jj_numbers n = {2, 8, 8};
+    jj_numbers n = {2, 8, 8, JJ_WHOLE_CHANNEL};
     uint32_t why, block, k;
     jj_verdict v, zero;
     jj_judge *j = jj_new(&n, NULL, 0, &why);
@@ -181,7 +181,7 @@ static void judged(void) {
 }
 /* A judge at a client's pins sees it get each block: it is opened and takes each line; or 14 is told, and from then on by each call. */
 static void judged_at_pins(void) {
-    jp_numbers n = {{2, 8, 1024}, 1, 0};
+    jp_numbers n = {{2, 8, 1024, JJ_WHOLE_CHANNEL}, 1, 0};
     uint8_t bytes[8] = {0};
     uint32_t why, block, k;
     jp_verdict v, zero;

@@ -182,14 +182,14 @@ class Run {
 // What a judge says of a log; empty where each entry is permitted.
 static std::string said_of(const std::vector<jj_entry> &log, jinavoke::Clients clients,
                            jinavoke::Probes probes = jinavoke::Probes::recorded) {
-    jinavoke::Judge judge({kClients, kBlock, kBlocks}, {}, clients, probes);
+    jinavoke::Judge judge({kClients, kBlock, kBlocks, JJ_WHOLE_CHANNEL}, {}, clients, probes);
     for (const jj_entry &e : log) judge.see(e);
     return judge.said();
 }
 // What the judges at the clients' pins say: messages on A and C as they are sent, on D as they are taken, accesses.
 static std::string said_at_pins(const std::vector<jj_entry> &log, jinavoke::Clients clients) {
     for (uint32_t k = 0; k < kClients; k++) {
-        jinavoke::PinsJudge pins({{kClients, kBlock, kBlocks}, k, 0}, clients);
+        jinavoke::PinsJudge pins({{kClients, kBlock, kBlocks, JJ_WHOLE_CHANNEL}, k, 0}, clients);
         std::map<uint32_t, jj_entry> grants; // by block
         for (const jj_entry &e : log) {
             if (e.event >= JV_EVENT_SEND_GET || e.client != k) continue;
@@ -232,9 +232,10 @@ static std::vector<jj_entry> without_a_probe(const std::vector<jj_entry> &log, s
     }
     return is_granted ? rest : std::vector<jj_entry>{}; // else it may do no harm before the log ends
 }
-// Two Acquires of a client, of which home accepts the second first: the order of A over the blocks is asked.
+// Two Acquires of a client, of which home accepts the second first: the order of A over the blocks is asked, but where
+// that of each block alone is.
 static void out_of_order() {
-    jinavoke::Judge judge({kClients, kBlock, kBlocks}, {}, jinavoke::Clients::drops_clean);
+    jinavoke::Judge judge({kClients, kBlock, kBlocks, JJ_WHOLE_CHANNEL}, {}, jinavoke::Clients::drops_clean);
     for (uint32_t block : {0u, 1u}) judge.see(JV_EVENT_SEND_ACQUIRE, 0, block, JV_NTOT);
     want(judge.said().empty(), "two Acquires: " + judge.said());
     jj_verdict v = judge.see(JV_EVENT_ACCEPT_ACQUIRE, 0, 1);
@@ -242,6 +243,12 @@ static void out_of_order() {
     std::cout << judge.said() << "\n";
     v = judge.see(JV_EVENT_ACCEPT_ACQUIRE, 0, 0);
     want(v.status == JV_NOT_PERMITTED && v.rule == JJ_OUT_OF_ORDER, "a judge says that again");
+    for (auto clients : {jinavoke::Clients::exact, jinavoke::Clients::drops_clean}) {
+        jinavoke::Judge each({kClients, kBlock, kBlocks, JJ_EACH_BLOCK}, {}, clients);
+        for (uint32_t block : {0u, 1u}) each.see(JV_EVENT_SEND_ACQUIRE, 0, block, JV_NTOT);
+        for (uint32_t block : {1u, 0u}) each.see(JV_EVENT_ACCEPT_ACQUIRE, 0, block);
+        want(each.said().empty() && each.taken() == 4, "the order of each block: " + each.said());
+    }
 }
 // What may not be beside a Probe of a client that has nothing. Client 0 acquires block 0, and home probes client 1,
 // which has nothing; then the entries of a row, of which the last one breaks the rule.
@@ -272,7 +279,8 @@ static void idle_probes() {
         {"an answer that was not sent", JJ_MESSAGE_IS_ON_C, {probe, take}},
     };
     for (const Row &row : rows) {
-        jinavoke::Judge judge({kClients, kBlock, kBlocks}, {}, jinavoke::Clients::exact, jinavoke::Probes::anyone);
+        jinavoke::Judge judge({kClients, kBlock, kBlocks, JJ_WHOLE_CHANNEL}, {}, jinavoke::Clients::exact,
+                              jinavoke::Probes::anyone);
         judge.see(JV_EVENT_SEND_ACQUIRE, 0, 0, JV_NTOT);
         for (uint32_t event : {JV_EVENT_ACCEPT_ACQUIRE, JV_EVENT_SEND_GET, JV_EVENT_SERVE, JV_EVENT_TAKE_DATA})
             judge.see(event, 0, 0);

@@ -1,9 +1,11 @@
 #!/usr/bin/env python3
-"""Judges of clients that drop clean copies, and of a home that probes anyone, from Python: judges.py [LIBRARY].
+"""Judges of clients that drop clean copies, of a home that probes anyone, and of each block's order alone, from Python:
+judges.py [LIBRARY].
 
 A copy that was clean and is dropped is permitted where the judge is told so, by events and at the client's pins; one
 that was stored to is refused, and so is a drop where the judge is not told. A Probe of a client that has nothing is
-permitted where home may probe anyone. What cannot be opened has its status, and what is closed is a ValueError.
+permitted where home may probe anyone. Messages of two blocks are taken in another order where each block's order alone
+is asked. What cannot be opened has its status, and what is closed is a ValueError.
 LIBRARY is libjinavoke_dpi.so, where it is not installed with the module. Status 1 where it is otherwise.
 """
 import pathlib
@@ -87,6 +89,13 @@ def probes_who_has_nothing():
     yield from granted(0)
 
 
+def accepts_the_second_first():
+    for block in 0, 1:
+        yield "send_acquire", dict(client=0, place=block, param=NTOB)
+    for block in 1, 0:
+        yield "accept_acquire", dict(client=0, place=block)
+
+
 def judged(path, run, **options):
     """The last verdict of a run, how many copies were dropped, and how many entries were permitted."""
     with jv.Judge(IMAGE, path=path, **SHAPE, **options) as judge:
@@ -105,6 +114,15 @@ def events(path):
     told = verdict.status, verdict.rule, verdict.perm, verdict.is_at_home
     want(f"a copy that was stored to is dropped: {told}",
          told == (jv.JV_NOT_PERMITTED, jv.JJ_STARTS_FROM_ITS_COPY, jv.JV_TIP, 1) and inferred == 0)
+
+
+def orders(path):
+    for options in {}, dict(drops_clean=True):
+        verdict, _, _ = judged(path, accepts_the_second_first, **options)
+        want(f"the second of two Acquires is accepted first, {options}: {verdict.rule}",
+             (verdict.status, verdict.rule) == (jv.JV_NOT_PERMITTED, jv.JJ_OUT_OF_ORDER))
+        verdict, _, is_permitted = judged(path, accepts_the_second_first, each_block=True, **options)
+        want(f"the same where each block's order alone is asked, {options}", is_permitted)
 
 
 def at_pins(path):
@@ -154,7 +172,7 @@ def wrong_uses(path):
 
 def main():
     path = sys.argv[1] if len(sys.argv) > 1 else None
-    for trial in events, at_pins, wrong_uses:
+    for trial in events, orders, at_pins, wrong_uses:
         trial(path)
     return 1 if wrong else 0
 

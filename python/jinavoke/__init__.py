@@ -157,7 +157,7 @@ class Number(c.Structure):
 
 class JudgeNumbers(Asking):
     """The numbers of a judge (jj_numbers)."""
-    _fields_ = [(name, c.c_uint32) for name in ("clients", "block_bytes", "memory_blocks")]
+    _fields_ = [(name, c.c_uint32) for name in ("clients", "block_bytes", "memory_blocks", "order")]
 
 
 class Entry(Asking):
@@ -546,14 +546,15 @@ class Judging(Opened):
 
 
 class Judge(Judging):
-    """A judge of events at reset over an image: clients, block_bytes, memory_blocks (jj_numbers). With `drops_clean`
-    clients may drop clean copies and send no Release, and with `probes_anyone` home may probe a client that has no
-    more than the Probe leaves it; `path` then names the library of a home of links."""
+    """A judge of events at reset over an image: clients, block_bytes, memory_blocks (jj_numbers). With `each_block` the
+    order of a channel is asked for each block alone. With `drops_clean` clients may drop clean copies and send no
+    Release, and with `probes_anyone` home may probe a client that has no more than the Probe leaves it; `path` then
+    names the library of a home of links."""
 
     prefix = "jj"
 
-    def __init__(self, image=b"", path=None, drops_clean=False, probes_anyone=False, **numbers):
-        numbers, image = JudgeNumbers(**numbers), octets(image)
+    def __init__(self, image=b"", path=None, drops_clean=False, probes_anyone=False, each_block=False, **numbers):
+        numbers, image = JudgeNumbers(order=int(each_block), **numbers), octets(image)
         opening = numbers, image, len(image)
         self.begin(path, drops_clean or probes_anyone, opening, bool(drops_clean), bool(probes_anyone))
 

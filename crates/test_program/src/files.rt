@@ -28,6 +28,43 @@ impl Write for Broken {
     }
 }
 
+/// A reader that fails once its bytes are read.
+#[derive(Drop)]
+struct FailsBehind<'a> {
+    text: &'a [u8],
+}
+
+impl Read for FailsBehind<'_> {
+    fn read(&mut self, buf: &mut [u8]) -> io::Result<usize> {
+        if self.text.is_empty() {
+            return Err(io::Error::from(ErrorKind::Other));
+        }
+        self.text.read(buf)
+    }
+}
+
+/// A writer that takes a part of the output at its first call, and fails at each later one.
+#[derive(Drop)]
+struct TakesAPart {
+    taken: Vec<u8>,
+}
+
+impl Write for TakesAPart {
+    fn write(&mut self, buf: &[u8]) -> io::Result<usize> {
+        if !self.taken.is_empty() {
+            return Err(io::Error::from(ErrorKind::Other));
+        }
+        self.taken.write(&buf[..buf.len().min(PART)])
+    }
+
+    fn flush(&mut self) -> io::Result<()> {
+        Ok(())
+    }
+}
+
+/// How many bytes the first call takes.
+const PART: usize = 8;
+
 /// The status of a job with this file and an output that takes all, and whether its fault line is this one.
 fn told_of_file<T: Threads + Wait + Clock + Sync, R: Read + Drop>(
     rt: &T,
@@ -59,6 +96,33 @@ fn files_that_are_not_read(rt: HostRuntime) {
         ),
         ((5, true), (5, true))
     );
+}
+
+#[test]
+fn a_file_that_fails_behind_its_text(rt: HostRuntime) {
+    let text = SCRIPT.as_bytes();
+    assert_eq!(rt;
+        fails(&rt, rt.alloc(), Some(FailsBehind { text })),
+        (5, true)
+    );
+}
+
+/// What a run tells whose output fails behind a part, and how many bytes it wrote.
+fn told_behind_a_part<T: Threads + Wait + Clock + Sync>(
+    rt: &T,
+    alloc: Global,
+) -> ((u8, bool), usize) {
+    let taken = Vec::new(alloc);
+    let mut output = TakesAPart { taken };
+    let job = job_of(alloc, false);
+    let file = Some(SCRIPT.as_bytes());
+    let told = told(rt, alloc, job, file, &mut output, "error file\n");
+    (told, output.taken.len())
+}
+
+#[test]
+fn an_output_that_fails_behind_a_part(rt: HostRuntime) {
+    assert_eq!(rt; told_behind_a_part(&rt, rt.alloc()), ((5, true), PART));
 }
 
 #[test]

@@ -37,6 +37,7 @@ fn judge(alloc: Global, clients: u32, image: &[u8]) -> JudgeRoom {
         clients,
         block_bytes: 8,
         memory_blocks: 2,
+        order: 0,
     };
     opened(alloc, &numbers, image)
 }

@@ -73,6 +73,7 @@ fn judge(alloc: Global, shape: Shape, client: u32, cores: Cores) -> PinsRoom {
         clients: shape.clients,
         block_bytes: shape.block_bytes,
         memory_blocks: shape.blocks,
+        order: 0,
     };
     let cores_unseen = if cores == Cores::Unseen { 1 } else { 0 };
     opened(

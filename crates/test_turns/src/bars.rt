@@ -26,12 +26,20 @@ pub const NUMBERS: GeometryNumbers = GeometryNumbers {
     memory_blocks: 1,
 };
 
-/// An agent with no commands, with its port and its mail, and the ends of the one who sends to it. Its model says
-/// nothing, so that its turns have their answers alone to carry along.
+/// Two Probes and two Grants.
+const SENT: &[(Channel, u64)] = &[
+    (Channel::B, 0),
+    (Channel::B, 1),
+    (Channel::D, 5),
+    (Channel::D, 6),
+];
+
+/// An agent, with its port and its mail, and the ends of the one who sends to it. Its model says nothing, so that its
+/// turns have their answers alone to carry along.
 #[derive(Drop)]
-struct Scene<'a> {
+pub struct Scene<'a> {
     agent: Agent<'a>,
-    port: Recorder,
+    pub port: Recorder,
     mail: Mail<'a>,
     put: Sender<'a>,
     bell: Ringer<'a>,
@@ -44,19 +52,14 @@ impl<'a> Model for Scene<'a> {
 }
 
 impl Scene<'_> {
-    /// Puts two Grants and two Probes, and then rings. Whether there was room.
-    fn send<R: Wait>(&mut self, rt: &R) -> bool {
-        for (channel, serial) in [
-            (Channel::B, 0),
-            (Channel::B, 1),
-            (Channel::D, 5),
-            (Channel::D, 6),
-        ] {
+    /// Puts tickets of these channels and serials, and then rings. Whether there was room.
+    pub fn send<R: Wait>(&mut self, rt: &R, tickets: &[(Channel, u64)]) -> bool {
+        for (channel, serial) in tickets {
             let sent = Ticket {
                 bank: BankNo::new(0),
                 client: ClientId::new(0),
-                channel,
-                serial,
+                channel: *channel,
+                serial: *serial,
             };
             if self.put.put(rt, sent).is_err() {
                 return false;
@@ -67,7 +70,7 @@ impl Scene<'_> {
 
     /// Whether a turn worked, and asked just the tickets with these serials, in order. There are two clients, of which
     /// one is never done.
-    fn asks<R: Wait + Clock>(&mut self, rt: &R, serials: &[u64]) -> bool {
+    pub fn asks<R: Wait + Clock>(&mut self, rt: &R, serials: &[u64]) -> bool {
         let turn = agent_turn(
             rt,
             &mut self.agent,
@@ -81,7 +84,7 @@ impl Scene<'_> {
 
     /// Whether the first ticket of each channel alone is asked while it is refused, and then all of them.
     fn plays<R: Wait + Clock>(&mut self, rt: &R) -> bool {
-        if !self.send(rt) || !self.asks(rt, &[5, 0]) || !self.asks(rt, &[5, 0]) {
+        if !self.send(rt, SENT) || !self.asks(rt, &[5, 0]) || !self.asks(rt, &[5, 0]) {
             return false;
         }
         self.port.refuses = false;
@@ -96,7 +99,7 @@ pub fn shares(alloc: Global, geometry: Geometry) -> Option<Vec<Share>> {
 }
 
 /// The scene of an agent with this mail. `None` where a request for memory was refused.
-fn scene_of<'a>(
+pub fn scene_of<'a>(
     alloc: Global,
     agent: Option<Agent<'a>>,
     mail: Option<Mail<'a>>,

@@ -28,3 +28,5 @@ mod silent;
 mod stops;
 #[cfg(test)]
 mod turns;
+#[cfg(test)]
+mod waits;

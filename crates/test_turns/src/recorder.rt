@@ -23,6 +23,10 @@ pub struct Recorder {
     pub why: Refusal,
     /// What each client may do with each block, as it says.
     pub perm: Perm,
+    /// Whether it sends an Acquire that it is asked for.
+    pub acquires: bool,
+    /// How many loads it was asked for.
+    pub loads: u32,
 }
 
 impl Recorder {
@@ -36,6 +40,8 @@ impl Recorder {
             prunes: Vec::new(alloc),
             why: Refusal::NotYet,
             perm: Perm::None,
+            acquires: false,
+            loads: 0,
         }
     }
 
@@ -90,6 +96,7 @@ impl Port for Recorder {
         _when: When,
     ) -> Result<Loaded, Refusal> {
         count(&self.calls);
+        self.loads = self.loads.saturating_add(1);
         Err(Refusal::NoPermission)
     }
 
@@ -106,13 +113,21 @@ impl Port for Recorder {
 
     fn acquire(
         &mut self,
-        _client: ClientId,
+        client: ClientId,
         _block: BlockNo,
         grow: Grow,
     ) -> Result<Ticket, Refusal> {
         count(&self.calls);
         let _ = self.grows.push(grow);
-        Err(self.why)
+        if !self.acquires {
+            return Err(self.why);
+        }
+        Ok(Ticket {
+            bank: BankNo::new(0),
+            client,
+            channel: Channel::A,
+            serial: 0,
+        })
     }
 
     fn release(

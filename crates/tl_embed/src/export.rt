@@ -25,12 +25,12 @@ use crate::views::look;
 use std::alloc::Global;
 
 /// Which interface this is: it rises with each change of a struct, a number or a meaning.
-const VERSION: u32 = 6;
+const VERSION: u32 = 7;
 
 /// Which interface this is.
 #[unsafe(no_mangle)]
 pub extern "C" fn jv_version() -> u32
-    ensures { result ≡ 6 }
+    ensures { result ≡ 7 }
 {
     VERSION
 }

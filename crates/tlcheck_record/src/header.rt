@@ -43,7 +43,7 @@ pub fn read_head(alloc: Global, line: &str) -> Result<Head, LineError>
     ensures blocks { IfOk result (λ head. head.shape.blocks ≤ BLOCKS) }
 {
     let words = split_words(alloc, line)?;
-    head(&words)
+    geometry(&words)
 }
 
 /// A key of the geometry.
@@ -165,7 +165,7 @@ fn bytes(clients: u32, words: &[&str]) -> Result<Head, LineError>
 }
 
 #[tactic(auto, unfolding(crate::specs::Header::head_in))]
-fn head(words: &[&str]) -> Result<Head, LineError>
+fn geometry(words: &[&str]) -> Result<Head, LineError>
     ensures value { Gives (λ x. x) result (head_in (texts words.now)) }
     ensures bytes { IfOk result (λ head. (0 < head.shape.block_bytes) × (head.shape.block_bytes ≤ BLOCK_BYTES)) }
     ensures blocks { IfOk result (λ head. head.shape.blocks ≤ BLOCKS) }
