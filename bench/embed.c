@@ -166,12 +166,34 @@ static void nobody_reads(uint32_t calls) {
     jv_free(unread);
 }
 
+#if JV_VERSION >= 6 && !defined COUNTED
+/* Each of 16 clients asks to write the block that its neighbour has, and the bank drains: an event of the drain. */
+static void comes_to_rest(uint32_t calls) {
+    uint32_t i, k; uint64_t events = 0; double nanos = 0;
+    jv_cache *c = fresh(16, 200);
+    for (i = 0; events < calls; i++) {
+        jv_answer a; double from;
+        for (k = 0; k < 16; k++) done(jv_acquire(c, k, (k + i) % 16, JV_NTOT));
+        from = now();
+        a = jv_drain(c);
+        if (i) { nanos += now() - from; events += a.serial; } /* the first one touches what was never used */
+        told(&a, JV_TELLS_NUMBER);
+        done(jv_forget(c, 0));
+    }
+    printf("drain %.2f %.0f\n", nanos / (double)events, (double)events);
+    jv_free(c);
+}
+#endif
+
 int main(int argc, char **argv) {
     uint32_t calls = argc > 1 ? (uint32_t)strtoul(argv[1], NULL, 10) : 200000;
     if (calls < 64 || calls % 2) { fprintf(stderr, "usage: embed CALLS, an even number from 64 on\n"); return 2; }
     one_bank(calls);
     two_clients(calls);
     nobody_reads(calls);
+#if JV_VERSION >= 6 && !defined COUNTED
+    comes_to_rest(calls);
+#endif
     if (wrong) fprintf(stderr, "%ld answers were otherwise (%llu)\n", wrong, (unsigned long long)sum);
     return wrong != 0;
 }

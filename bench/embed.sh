@@ -127,5 +127,6 @@ sort -k1,2 -k3,3n "$out/costs" | awk -v unit=$unit -v heads="$heads" '
         row("events", "an event, 32 read at once (`jv_read`)")
         row("forget", "`jv_forget`")
         row("unread-loads", "`jv_load`, behind a `jv_forget`")
+        row("drain", "`jv_drain`, an event: 16 clients each ask to write the block that its neighbour has")
         row("unread-ping-pong", "a block goes from one client to the other, each of the nine calls behind a `jv_forget`")
     }'
