@@ -715,7 +715,7 @@ typedef struct jj_judge jj_judge; /* opaque, in room of jj_size() bytes; the pro
 
 /* Which order of a channel a judge asks for. JJ_WHOLE_CHANNEL: what is taken is the first message of its channel, over
    all blocks; JJ_EACH_BLOCK: of each block alone, as TileLink has it. Take the second where a client or a home answers
-   for several blocks in an order of its own (docs/RTL.md has a table). */
+   for several blocks in an order of its own (docs/RECORD.md has a table). */
 enum jj_order { JJ_WHOLE_CHANNEL = 0, JJ_EACH_BLOCK = 1 };
 
 typedef struct {
