@@ -2,7 +2,6 @@
 use Rattle.std.proofs.Common.{◌≡◌, ◌≢◌, inl, inr, ◌<◌, ◌+◌, ℕ, Bool, true, false, cond, List, [], ◌∷◌, ◌++◌, length, min, Option, Some, None, IfOk, IfErr, IfSome, Result, Ok, Err, refl, sym, ◌∙◌, ap, subst, arith, append_assoc, length-append}
 use Rattle.std.proofs.lemmas.List.{append-nil}
 use Rattle.std.specs.Io.BufRead.{take_through, drop_through, strip_last}
-use Rattle.tl_protocol.specs.declared.shape.Shape.{Shape}
 use Rattle.tlcheck_rules.specs.Judged.{Follows, events_of}
 use Rattle.tlcheck_rules.specs.declared.entry.Entry.{Entry}
 use Rattle.tlcheck_record.specs.Cause.{◌>>=◌}
@@ -10,6 +9,7 @@ use Rattle.tlcheck_record.specs.Entry.{entry_of}
 use Rattle.tlcheck_record.specs.Header.{image_of}
 use Rattle.tlcheck_record.specs.Words.{is_blank, text_in}
 use Rattle.tlcheck_record.specs.declared.cause.Cause.{Cause}
+use Rattle.tlcheck_record.specs.declared.header.Head.{Head}
 use Rattle.tlcheck_reader.specs.Lines.{lines_of}
 use Rattle.tlcheck_reader.specs.Entries.{IsWhere as CheckIsWhere}
 use Rattle.tlcheck_reader.specs.Outcome.{Agrees, IsAt, IsOutcome, Takes, stop_of}
@@ -21,7 +21,7 @@ use Rattle.tlcheck_reader.specs.declared.outcome.Stage.TheVariants as check
 use Rattle.tlcheck_reader.proofs.Steps.{at_end, at_eof, cut, read_more, stops}
 use Rattle.tlcheck_home.specs.Tally.{TallyState}
 use Rattle.tlcheck_home.specs.declared.tally.Mark.{Mark}
-use Rattle.tlcheck_coverage.specs.Amid.{Counted, CountsNone, HasShape, IsAmid, IsCountedSo, IsWhere}
+use Rattle.tlcheck_coverage.specs.Amid.{Counted, CountsNone, HasHead, IsAmid, IsCountedSo, IsWhere}
 use Rattle.tlcheck_coverage.specs.Covered.{CountsLine, CountsLines, IsCovered, entries_in, mark_after}
 use Rattle.tlcheck_coverage.specs.Reading.{HasClient, IsCounting, IsEnd, IsFaultOf, IsFit, IsNoRefusal, IsRefusal, IsShaped, IsStop, checked, checked_entry, checked_line, counting_of, halted, staged}
 use Rattle.tlcheck_coverage.specs.Steps.{Begins, CountsAt, Steps}
@@ -34,7 +34,7 @@ use Rattle.tlcheck_coverage.specs.declared.reading.Halt.{Halt}
 use Rattle.tlcheck_coverage.specs.declared.reading.Stage.{Stage}
 use Rattle.tlcheck_coverage.specs.declared.reading.Stage.TheVariants.{Fresh, Shaped, Counting}
 use Rattle.tlcheck_coverage.specs.declared.tallies.TheConstants.{MOST}
-use Rattle.tlcheck_coverage.proofs.Lines.{keeps_shape, lines_more}
+use Rattle.tlcheck_coverage.proofs.Lines.{keeps_head, lines_more}
 use Rattle.tlcheck_coverage.proofs.Opening.{is_there, place_has, stays_at, tally_of, then_at}
 
 -- nothing was read yet
@@ -64,16 +64,16 @@ check_at file text left n stage initial now amid = record {
 
 -- ## A reading that has a client keeps it
 
-shape_has_client : (reading : Reading) (shape : Shape) → HasShape reading shape → 0 < shape.clients → HasClient reading
-shape_has_client fresh shape h c = tt
-shape_has_client (shaped s) shape h c = subst (λ (x : Shape). 0 < x.clients) h c
-shape_has_client (going s image entries) shape h c = subst (λ (x : Shape). 0 < x.clients) h c
+head_has_client : (reading : Reading) (head : Head) → HasHead reading head → 0 < head.shape.clients → HasClient reading
+head_has_client fresh head h c = tt
+head_has_client (shaped s) head h c = subst (λ (x : Head). 0 < x.shape.clients) h c
+head_has_client (going s image entries) head h c = subst (λ (x : Head). 0 < x.shape.clients) h c
 
--- the geometry that a stage has read is that of the reading
-stage_shape : (reading : Reading) (shape : Shape) → Agrees reading (check.Shaped shape) → HasShape reading shape
-stage_shape fresh shape h = absurd h
-stage_shape (shaped s) shape h = h
-stage_shape (going s image entries) shape h = absurd h
+-- the first line that a stage has read is that of the reading
+stage_head : (reading : Reading) (head : Head) → Agrees reading (check.Shaped head) → HasHead reading head
+stage_head fresh head h = absurd h
+stage_head (shaped s) head h = h
+stage_head (going s image entries) head h = absurd h
 
 -- ## One line
 
@@ -87,15 +87,15 @@ none_more file read last after line initial now new reads leads same kept h = (
 )
 
 -- the first line that is counted
-first_more : (file : ℕ) (read : List (List ℕ)) (last after : Reading) (line : List ℕ) (shape : Shape) (place : ℕ) (initial now new : TalliesState)
-    → reading_of fresh read ≡ Ok last → after_line last line ≡ Ok after → HasShape after shape
-    → CountsNone file read initial now → Begins (mark_after file (length read)) shape last after place now new
+first_more : (file : ℕ) (read : List (List ℕ)) (last after : Reading) (line : List ℕ) (head : Head) (place : ℕ) (initial now new : TalliesState)
+    → reading_of fresh read ≡ Ok last → after_line last line ≡ Ok after → HasHead after head
+    → CountsNone file read initial now → Begins (mark_after file (length read)) head last after place now new
     → Counted file (read ++ line ∷ []) after place initial new
-first_more file read last after line shape place initial now new reads leads geometry h b = record {
-  shape = shape;
-  geometry = geometry;
+first_more file read last after line head place initial now new reads leads first_line h b = record {
+  head = head;
+  first_line = first_line;
   opened = b.opened;
-  opens = subst (λ (s : TalliesState). Opens (min shape.clients MOST) place s b.opened) h.0 b.opens;
+  opens = subst (λ (s : TalliesState). Opens (min head.shape.clients MOST) place s b.opened) h.0 b.opens;
   before = b.counts.tally;
   there = b.counts.there;
   after = b.counts.then_;
@@ -107,14 +107,14 @@ first_more file read last after line shape place initial now new reads leads geo
 
 -- a later line
 later_more : (file : ℕ) (read : List (List ℕ)) (last after : Reading) (line : List ℕ) (place : ℕ) (initial now new : TalliesState)
-    → reading_of fresh read ≡ Ok last → after_line last line ≡ Ok after → ((shape : Shape) → HasShape last shape → HasShape after shape)
+    → reading_of fresh read ≡ Ok last → after_line last line ≡ Ok after → ((head : Head) → HasHead last head → HasHead after head)
     → Counted file read last place initial now → CountsAt (mark_after file (length read)) last after place now new
     → Counted file (read ++ line ∷ []) after place initial new
 later_more file read last after line place initial now new reads leads keeps h c =
     let same : c.tally ≡ h.after = is_there now place c.tally h.after c.there h.changes.here in
     record {
-      shape = h.shape;
-      geometry = keeps h.shape h.geometry;
+      head = h.head;
+      first_line = keeps h.head h.first_line;
       opened = h.opened;
       opens = h.opens;
       before = h.before;
@@ -132,7 +132,7 @@ none_in : (reading : Reading) (stage : Stage) → Agrees reading (checked stage)
 none_in fresh stage h never = refl
 none_in (shaped s) stage h never = refl
 none_in (going s image entries) Fresh h never = absurd h
-none_in (going s image entries) (Shaped shape) h never = absurd h
+none_in (going s image entries) (Shaped head) h never = absurd h
 none_in (going s image entries) (Counting counting) h never = absurd (never counting refl)
 
 -- what was counted with one more line, by where the reading is before it and after it
@@ -143,23 +143,23 @@ counted_more : (file : ℕ) (read : List (List ℕ)) (last after : Reading) (lin
 counted_more file read last after line Fresh Fresh initial now new reads leads a b h s =
     none_more file read last after line initial now new reads leads
     (none_in after Fresh b (λ c e. cc) ∙ sym (none_in last Fresh a (λ c e. cc))) s h
-counted_more file read last after line Fresh (Shaped shape) initial now new reads leads a b h s =
+counted_more file read last after line Fresh (Shaped head) initial now new reads leads a b h s =
     none_more file read last after line initial now new reads leads
-    (none_in after (Shaped shape) b (λ c e. cc) ∙ sym (none_in last Fresh a (λ c e. cc))) s h
+    (none_in after (Shaped head) b (λ c e. cc) ∙ sym (none_in last Fresh a (λ c e. cc))) s h
 counted_more file read last after line Fresh (Counting counting) initial now new reads leads a b h s = absurd s
-counted_more file read last after line (Shaped shape) Fresh initial now new reads leads a b h s = absurd s
-counted_more file read last after line (Shaped shape) (Shaped held) initial now new reads leads a b h s =
+counted_more file read last after line (Shaped head) Fresh initial now new reads leads a b h s = absurd s
+counted_more file read last after line (Shaped head) (Shaped held) initial now new reads leads a b h s =
     none_more file read last after line initial now new reads leads
-    (none_in after (Shaped held) b (λ c e. cc) ∙ sym (none_in last (Shaped shape) a (λ c e. cc))) s h
-counted_more file read last after line (Shaped shape) (Counting counting) initial now new reads leads a b h s =
-    first_more file read last after line shape counting.tally initial now new reads leads
-    (keeps_shape last shape (strip_last 10 line) after (stage_shape last shape a) leads) h s
+    (none_in after (Shaped held) b (λ c e. cc) ∙ sym (none_in last (Shaped head) a (λ c e. cc))) s h
+counted_more file read last after line (Shaped head) (Counting counting) initial now new reads leads a b h s =
+    first_more file read last after line head counting.tally initial now new reads leads
+    (keeps_head last head (strip_last 10 line) after (stage_head last head a) leads) h s
 counted_more file read last after line (Counting counting) Fresh initial now new reads leads a b h s = absurd s
-counted_more file read last after line (Counting counting) (Shaped shape) initial now new reads leads a b h s = absurd s
+counted_more file read last after line (Counting counting) (Shaped head) initial now new reads leads a b h s = absurd s
 counted_more file read last after line (Counting counting) (Counting d) initial now new reads leads a b h s =
     subst (λ (k : ℕ). Counted file (read ++ line ∷ []) after k initial new) (sym s.0)
     (later_more file read last after line counting.tally initial now new reads leads
-    (λ shape g. keeps_shape last shape (strip_last 10 line) after g leads) h s.1)
+    (λ head g. keeps_head last head (strip_last 10 line) after g leads) h s.1)
 
 module _ (file : ℕ) (text left : List ℕ) (n : ℕ) (stage : Stage) (initial now : TalliesState) (amid : IsAmid file text left n stage initial now)
     (some : take_through 10 left ≢ []) where
@@ -203,7 +203,7 @@ covered_as : (file : ℕ) (text : List ℕ) (read : List (List ℕ)) (reading : 
 covered_as file text read fresh counting initial now all reads a h = absurd a
 covered_as file text read (shaped s) counting initial now all reads a h = absurd a
 covered_as file text read (going s image entries) counting initial now all reads a h = record {
-  shape = s;
+  head = s;
   image = image;
   entries = entries;
   reads = ap (λ (ls : List (List ℕ)). reading_of fresh ls) all ∙ reads;
@@ -211,7 +211,7 @@ covered_as file text read (going s image entries) counting initial now all reads
   counted = a.2;
   place = counting.tally;
   opened = h.opened;
-  opens = subst (λ (x : Shape). Opens (min x.clients MOST) counting.tally initial h.opened) h.geometry h.opens;
+  opens = subst (λ (x : Head). Opens (min x.shape.clients MOST) counting.tally initial h.opened) h.first_line h.opens;
   before = h.before;
   there = h.there;
   after = h.after;
@@ -236,8 +236,8 @@ staged_as (Err fault) = refl
 -- an entry that is counted, after a reading
 sees : (mark : Mark) (reading after : Reading) (text : List ℕ) (entry : Entry) (counting next_ : CountingState) (old new : TalliesState)
     → entry_of text ≡ Ok entry → Agrees reading (checked (Counting counting)) → HasClient reading → next reading text ≡ Ok after
-    → ((shape : Shape) (image : List ℕ) (entries : List Entry) → Follows shape image (events_of entries) counting.judge → 0 < shape.clients
-    → SeesAt counting.tally shape image (events_of entries) entry mark next_.judge old new)
+    → ((head : Head) (image : List ℕ) (entries : List Entry) → Follows head.order head.shape image (events_of entries) counting.judge → 0 < head.shape.clients
+    → SeesAt counting.tally head.order head.shape image (events_of entries) entry mark next_.judge old new)
     → CountsAt mark reading after counting.tally old new
 sees mark fresh after text entry counting next_ old new at a c leads see = absurd a
 sees mark (shaped s) after text entry counting next_ old new at a c leads see = absurd a
@@ -250,14 +250,14 @@ sees mark (going s image entries) after text entry counting next_ old new at a c
       tally = seen.tally;
       there = seen.there;
       then_ = seen.then_;
-      counts = inr (record { shape = s; image = image; entry = entry; reads = same; noted = seen.seen.noted });
+      counts = inr (record { head = s; image = image; entry = entry; reads = same; noted = seen.seen.noted });
       changes = seen.changes;
     }
 
 pub entry_steps : (mark : Mark) (text : List ℕ) (entry : Entry) (counting : CountingState) (r : Result CountingState LineFault) (old new : TalliesState)
     → entry_of text ≡ Ok entry
-    → ((shape : Shape) (image : List ℕ) (entries : List Entry) → Follows shape image (events_of entries) counting.judge → 0 < shape.clients
-    → IfOk r (λ (next_ : CountingState). SeesAt counting.tally shape image (events_of entries) entry mark next_.judge old new))
+    → ((head : Head) (image : List ℕ) (entries : List Entry) → Follows head.order head.shape image (events_of entries) counting.judge → 0 < head.shape.clients
+    → IfOk r (λ (next_ : CountingState). SeesAt counting.tally head.order head.shape image (events_of entries) entry mark next_.judge old new))
     → IfOk r (λ (next_ : CountingState). next_.tally ≡ counting.tally)
     → (reading after : Reading) → Agrees reading (checked (Counting counting)) → HasClient reading → next reading text ≡ Ok after
     → IfOk (staged r) (λ (stage : Stage). Steps mark reading after (Counting counting) stage old new)
@@ -272,18 +272,18 @@ entry_place old new (Ok done) same = same
 entry_place old new (Err why) same = tt
 
 -- a line with an image
-pub image_steps : (mark : Mark) (text image : List ℕ) (shape : Shape) (counting : CountingState) (old new : TalliesState)
-    → image_of shape text ≡ Ok (Some image) → Opens (min shape.clients MOST) counting.tally old new
-    → (reading after : Reading) → Agrees reading (checked (Shaped shape)) → next reading text ≡ Ok after
-    → Steps mark reading after (Shaped shape) (Counting counting) old new
-image_steps mark text image shape counting old new at opens fresh after a leads = absurd a
-image_steps mark text image shape counting old new at opens (going s i entries) after a leads = absurd a
-image_steps mark text image shape counting old new at opens (shaped s) after a leads =
+pub image_steps : (mark : Mark) (text image : List ℕ) (head : Head) (counting : CountingState) (old new : TalliesState)
+    → image_of head.shape text ≡ Ok (Some image) → Opens (min head.shape.clients MOST) counting.tally old new
+    → (reading after : Reading) → Agrees reading (checked (Shaped head)) → next reading text ≡ Ok after
+    → Steps mark reading after (Shaped head) (Counting counting) old new
+image_steps mark text image head counting old new at opens fresh after a leads = absurd a
+image_steps mark text image head counting old new at opens (going s i entries) after a leads = absurd a
+image_steps mark text image head counting old new at opens (shaped s) after a leads =
     let on : Ok (going s image []) ≡ Ok after =
-    sym (ap (λ (x : Shape). image_of x text >>= (λ i. image_or_entry s text i)) (sym a)
+    sym (ap (λ (x : Head). image_of x.shape text >>= (λ i. image_or_entry s text i)) (sym a)
     ∙ ap (λ (o : Result (Option (List ℕ)) Cause). o >>= (λ i. image_or_entry s text i)) at) ∙ leads in
     let same : after ≡ going s image [] = cc in
-    let tally = tally_of (min shape.clients MOST) counting.tally new.tallies opens.there in
+    let tally = tally_of (min head.shape.clients MOST) counting.tally new.tallies opens.there in
     record {
       opened = new;
       opens = opens;
@@ -297,21 +297,21 @@ image_steps mark text image shape counting old new at opens (shaped s) after a l
     }
 
 -- a line that counts behind one reading counts behind another with the same entries
-counts_behind : (mark : Mark) (s : Shape) (after : Reading) (old new : TallyState) → CountsLine mark (going s [] []) after old new
+counts_behind : (mark : Mark) (s : Head) (after : Reading) (old new : TallyState) → CountsLine mark (going s [] []) after old new
     → CountsLine mark (shaped s) after old new
 counts_behind mark s after old new (inl x) = inl x
 counts_behind mark s after old new (inr x) =
-    inr (record { shape = x.shape; image = x.image; entry = x.entry; reads = x.reads; noted = x.noted })
+    inr (record { head = x.head; image = x.image; entry = x.entry; reads = x.reads; noted = x.noted })
 
 -- the first entry, where there is no image
-begins_at : (mark : Mark) (s shape : Shape) (after : Reading) (counting : CountingState) (stage : Stage) (old opened new : TalliesState)
-    → Opens (min shape.clients MOST) counting.tally old opened → Steps mark (going s [] []) after (Counting counting) stage opened new
-    → Steps mark (shaped s) after (Shaped shape) stage old new
-begins_at mark s shape after counting Fresh old opened new opens h = absurd h
-begins_at mark s shape after counting (Shaped held) old opened new opens h = absurd h
-begins_at mark s shape after counting (Counting d) old opened new opens h = record {
+begins_at : (mark : Mark) (s head : Head) (after : Reading) (counting : CountingState) (stage : Stage) (old opened new : TalliesState)
+    → Opens (min head.shape.clients MOST) counting.tally old opened → Steps mark (going s [] []) after (Counting counting) stage opened new
+    → Steps mark (shaped s) after (Shaped head) stage old new
+begins_at mark s head after counting Fresh old opened new opens h = absurd h
+begins_at mark s head after counting (Shaped held) old opened new opens h = absurd h
+begins_at mark s head after counting (Counting d) old opened new opens h = record {
   opened = opened;
-  opens = subst (λ (k : ℕ). Opens (min shape.clients MOST) k old opened) (sym h.0) opens;
+  opens = subst (λ (k : ℕ). Opens (min head.shape.clients MOST) k old opened) (sym h.0) opens;
   counts = subst (λ (k : ℕ). CountsAt mark (shaped s) after k opened new) (sym h.0) (record {
     tally = h.1.tally;
     there = h.1.there;
@@ -321,48 +321,48 @@ begins_at mark s shape after counting (Counting d) old opened new opens h = reco
   });
 }
 
-begins_if : (mark : Mark) (s shape : Shape) (after : Reading) (counting : CountingState) (r : Result Stage Halt) (old opened new : TalliesState)
-    → Opens (min shape.clients MOST) counting.tally old opened
+begins_if : (mark : Mark) (s head : Head) (after : Reading) (counting : CountingState) (r : Result Stage Halt) (old opened new : TalliesState)
+    → Opens (min head.shape.clients MOST) counting.tally old opened
     → IfOk r (λ (stage : Stage). Steps mark (going s [] []) after (Counting counting) stage opened new)
-    → IfOk r (λ (stage : Stage). Steps mark (shaped s) after (Shaped shape) stage old new)
-begins_if mark s shape after counting (Err halt) old opened new opens h = tt
-begins_if mark s shape after counting (Ok stage) old opened new opens h = begins_at mark s shape after counting stage old opened new opens h
+    → IfOk r (λ (stage : Stage). Steps mark (shaped s) after (Shaped head) stage old new)
+begins_if mark s head after counting (Err halt) old opened new opens h = tt
+begins_if mark s head after counting (Ok stage) old opened new opens h = begins_at mark s head after counting stage old opened new opens h
 
-pub entry_begins : (mark : Mark) (text : List ℕ) (shape : Shape) (counting : CountingState) (r : Result Stage Halt) (old opened new : TalliesState)
-    → image_of shape text ≡ Ok None → Follows shape [] [] counting.judge → counting.entries ≡ 0
-    → Opens (min shape.clients MOST) counting.tally old opened
+pub entry_begins : (mark : Mark) (text : List ℕ) (head : Head) (counting : CountingState) (r : Result Stage Halt) (old opened new : TalliesState)
+    → image_of head.shape text ≡ Ok None → Follows head.order head.shape [] [] counting.judge → counting.entries ≡ 0
+    → Opens (min head.shape.clients MOST) counting.tally old opened
     → ((reading after : Reading) → Agrees reading (checked (Counting counting)) → HasClient reading → next reading text ≡ Ok after
     → IfOk r (λ (stage : Stage). Steps mark reading after (Counting counting) stage opened new))
-    → (reading after : Reading) → Agrees reading (checked (Shaped shape)) → HasClient reading → next reading text ≡ Ok after
-    → IfOk r (λ (stage : Stage). Steps mark reading after (Shaped shape) stage old new)
-entry_begins mark text shape counting r old opened new none follows zero_ opens h fresh after a c leads = absurd a
-entry_begins mark text shape counting r old opened new none follows zero_ opens h (going s i entries) after a c leads = absurd a
-entry_begins mark text shape counting r old opened new none follows zero_ opens h (shaped s) after a c leads =
+    → (reading after : Reading) → Agrees reading (checked (Shaped head)) → HasClient reading → next reading text ≡ Ok after
+    → IfOk r (λ (stage : Stage). Steps mark reading after (Shaped head) stage old new)
+entry_begins mark text head counting r old opened new none follows zero_ opens h fresh after a c leads = absurd a
+entry_begins mark text head counting r old opened new none follows zero_ opens h (going s i entries) after a c leads = absurd a
+entry_begins mark text head counting r old opened new none follows zero_ opens h (shaped s) after a c leads =
     let on : next (going s [] []) text ≡ Ok after =
-    sym (ap (λ (x : Shape). image_of x text >>= (λ i. image_or_entry s text i)) (sym a)
+    sym (ap (λ (x : Head). image_of x.shape text >>= (λ i. image_or_entry s text i)) (sym a)
     ∙ ap (λ (o : Result (Option (List ℕ)) Cause). o >>= (λ i. image_or_entry s text i)) none) ∙ leads in
-    begins_if mark s shape after counting r old opened new opens
-    (h (going s [] []) after (subst (λ (x : Shape). Follows x [] [] counting.judge) a follows, tt, sym zero_) c on)
+    begins_if mark s head after counting r old opened new opens
+    (h (going s [] []) after (subst (λ (x : Head). Follows x.order x.shape [] [] counting.judge) a follows, tt, sym zero_) c on)
 
 -- the geometry
 pub first_steps : (mark : Mark) (r : Result Stage Halt) (tallies : TalliesState) → IfOk r IsShaped → (reading after : Reading)
     → IfOk r (λ (stage : Stage). Steps mark reading after Fresh stage tallies tallies)
 first_steps mark (Err halt) tallies h reading after = tt
 first_steps mark (Ok Fresh) tallies h reading after = absurd h
-first_steps mark (Ok (Shaped shape)) tallies h reading after = refl
+first_steps mark (Ok (Shaped head)) tallies h reading after = refl
 first_steps mark (Ok (Counting counting)) tallies h reading after = absurd h
 
 pub first_fits : (r : Result Stage Halt) (tallies : TalliesState) → IfOk r IsShaped → IfOk r (λ (stage : Stage). IsFit stage tallies)
 first_fits (Err halt) tallies h = tt
 first_fits (Ok Fresh) tallies h = absurd h
-first_fits (Ok (Shaped shape)) tallies h = h
+first_fits (Ok (Shaped head)) tallies h = h
 first_fits (Ok (Counting counting)) tallies h = absurd h
 
 -- a blank line
 stays : (mark : Mark) (reading : Reading) (stage : Stage) (tallies : TalliesState) → IsFit stage tallies
     → Steps mark reading reading stage stage tallies tallies
 stays mark reading Fresh tallies fit = refl
-stays mark reading (Shaped shape) tallies fit = refl
+stays mark reading (Shaped head) tallies fit = refl
 stays mark reading (Counting counting) tallies fit =
     let tally = place_has tallies.tallies counting.tally fit in (
       refl,
@@ -394,7 +394,7 @@ agreed_client : (after : Reading) (then_ : Stage) (new : TalliesState) → Agree
     → ((counting : CountingState) → then_ ≡ Counting counting → ⊥) → IsFit then_ new → HasClient after
 agreed_client fresh then_ new b never fit = tt
 agreed_client (shaped s) Fresh new b never fit = absurd b
-agreed_client (shaped s) (Shaped held) new b never fit = subst (λ (x : Shape). 0 < x.clients) b fit.clients
+agreed_client (shaped s) (Shaped held) new b never fit = subst (λ (x : Head). 0 < x.shape.clients) b fit.clients
 agreed_client (shaped s) (Counting counting) new b never fit = absurd b
 agreed_client (going s image entries) Fresh new b never fit = absurd b
 agreed_client (going s image entries) (Shaped held) new b never fit = absurd b
@@ -403,9 +403,9 @@ agreed_client (going s image entries) (Counting counting) new b never fit = absu
 never_counting : (mark : Mark) (after : Reading) (stage then_ : Stage) (old new : TalliesState) → Agrees fresh (checked stage)
     → Steps mark fresh after stage then_ old new → (counting : CountingState) → then_ ≡ Counting counting → ⊥
 never_counting mark after Fresh Fresh old new a h counting e = cc
-never_counting mark after Fresh (Shaped shape) old new a h counting e = cc
+never_counting mark after Fresh (Shaped head) old new a h counting e = cc
 never_counting mark after Fresh (Counting d) old new a h counting e = h
-never_counting mark after (Shaped shape) then_ old new a h counting e = a
+never_counting mark after (Shaped head) then_ old new a h counting e = a
 never_counting mark after (Counting d) then_ old new a h counting e = a
 
 client_kept : (mark : Mark) (last after : Reading) (stage then_ : Stage) (text : List ℕ) (old new : TalliesState) → HasClient last
@@ -414,9 +414,9 @@ client_kept : (mark : Mark) (last after : Reading) (stage then_ : Stage) (text :
 client_kept mark fresh after stage then_ text old new c a b leads h fit =
     agreed_client after then_ new b (never_counting mark after stage then_ old new a h) fit
 client_kept mark (shaped s) after stage then_ text old new c a b leads h fit =
-    shape_has_client after s (keeps_shape (shaped s) s text after refl leads) c
+    head_has_client after s (keeps_head (shaped s) s text after refl leads) c
 client_kept mark (going s image entries) after stage then_ text old new c a b leads h fit =
-    shape_has_client after s (keeps_shape (going s image entries) s text after refl leads) c
+    head_has_client after s (keeps_head (going s image entries) s text after refl leads) c
 
 -- ## Where the bytes of a reader are known
 
@@ -446,7 +446,7 @@ module _ (file : ℕ) (now : Option (List ℕ)) (n : ℕ) (stage : Stage) (initi
   covered_by : (known : Option (List ℕ)) (s : Stage) (count : ℕ) → IsWhere file known now n s initial tallies → new ≡ [] → IsCounting s count
       → IfSome known (λ text. IsCovered file text count initial tallies)
   covered_by known Fresh count w e h = absurd h
-  covered_by known (Shaped shape) count w e h = absurd h
+  covered_by known (Shaped head) count w e h = absurd h
   covered_by known (Counting counting) count w e h =
       subst (λ (k : ℕ). IfSome known (λ text. IsCovered file text k initial tallies)) h (covered_if known counting w e)
 

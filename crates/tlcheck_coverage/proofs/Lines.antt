@@ -1,58 +1,58 @@
 -- What a line leaves of a reading, and what is counted with one more.
 use Rattle.std.proofs.Common.{◌≡◌, ◌+◌, ℕ, Bool, true, false, cond, List, [], ◌∷◌, ◌++◌, length, Option, Some, None, Result, Ok, Err, refl, sym, ◌∙◌, ap, subst, arith}
-use Rattle.tl_protocol.specs.declared.shape.Shape.{Shape}
 use Rattle.tlcheck_rules.specs.declared.entry.Entry.{Entry}
 use Rattle.tlcheck_record.specs.Cause.{◌>>=◌}
 use Rattle.tlcheck_record.specs.Entry.{entry_of}
 use Rattle.tlcheck_record.specs.Header.{image_of}
 use Rattle.tlcheck_record.specs.Words.{is_blank, text_in}
 use Rattle.tlcheck_record.specs.declared.cause.Cause.{Cause}
+use Rattle.tlcheck_record.specs.declared.header.Head.{Head}
 use Rattle.tlcheck_reader.specs.Reading.{Reading, fresh, shaped, going, after_line, after_text, image_or_entry, next, reading_of}
 use Rattle.tlcheck_home.specs.Tally.{TallyState}
-use Rattle.tlcheck_coverage.specs.Amid.{HasShape}
+use Rattle.tlcheck_coverage.specs.Amid.{HasHead}
 use Rattle.tlcheck_coverage.specs.Covered.{CountsLine, CountsLines, mark_after}
 
--- an entry leaves the geometry
-entry_keeps : (s : Shape) (image : List ℕ) (entries : List Entry) (o : Result Entry Cause) (after : Reading)
-    → (o >>= (λ (entry : Entry). Ok (going s image (entries ++ entry ∷ [])))) ≡ Ok after → HasShape after s
+-- an entry leaves the first line
+entry_keeps : (s : Head) (image : List ℕ) (entries : List Entry) (o : Result Entry Cause) (after : Reading)
+    → (o >>= (λ (entry : Entry). Ok (going s image (entries ++ entry ∷ [])))) ≡ Ok after → HasHead after s
 entry_keeps s image entries (Err cause) after e = cc
 entry_keeps s image entries (Ok entry) after e =
     let same : going s image (entries ++ entry ∷ []) ≡ after = cc in
-    subst (λ (r : Reading). HasShape r s) same refl
+    subst (λ (r : Reading). HasHead r s) same refl
 
 -- an image, or the first entry, leaves it
-image_keeps : (s : Shape) (line : List ℕ) (o : Result (Option (List ℕ)) Cause) (after : Reading)
-    → (o >>= (λ i. image_or_entry s line i)) ≡ Ok after → HasShape after s
+image_keeps : (s : Head) (line : List ℕ) (o : Result (Option (List ℕ)) Cause) (after : Reading)
+    → (o >>= (λ i. image_or_entry s line i)) ≡ Ok after → HasHead after s
 image_keeps s line (Err cause) after e = cc
 image_keeps s line (Ok None) after e = entry_keeps s [] [] (entry_of line) after e
 image_keeps s line (Ok (Some image)) after e =
     let same : going s image [] ≡ after = cc in
-    subst (λ (r : Reading). HasShape r s) same refl
+    subst (λ (r : Reading). HasHead r s) same refl
 
-next_keeps : (reading : Reading) (shape : Shape) (line : List ℕ) (after : Reading) → HasShape reading shape → next reading line ≡ Ok after
-    → HasShape after shape
-next_keeps fresh shape line after h e = absurd h
-next_keeps (shaped s) shape line after h e =
-    subst (λ (x : Shape). HasShape after x) (sym h) (image_keeps s line (image_of s line) after e)
-next_keeps (going s image entries) shape line after h e =
-    subst (λ (x : Shape). HasShape after x) (sym h) (entry_keeps s image entries (entry_of line) after e)
+next_keeps : (reading : Reading) (head : Head) (line : List ℕ) (after : Reading) → HasHead reading head → next reading line ≡ Ok after
+    → HasHead after head
+next_keeps fresh head line after h e = absurd h
+next_keeps (shaped s) head line after h e =
+    subst (λ (x : Head). HasHead after x) (sym h) (image_keeps s line (image_of s.shape line) after e)
+next_keeps (going s image entries) head line after h e =
+    subst (λ (x : Head). HasHead after x) (sym h) (entry_keeps s image entries (entry_of line) after e)
 
-text_keeps : (reading : Reading) (shape : Shape) (o : Result (List ℕ) Cause) (after : Reading) → HasShape reading shape
-    → (o >>= (λ t. next reading t)) ≡ Ok after → HasShape after shape
-text_keeps reading shape (Err cause) after h e = cc
-text_keeps reading shape (Ok t) after h e = next_keeps reading shape t after h e
+text_keeps : (reading : Reading) (head : Head) (o : Result (List ℕ) Cause) (after : Reading) → HasHead reading head
+    → (o >>= (λ t. next reading t)) ≡ Ok after → HasHead after head
+text_keeps reading head (Err cause) after h e = cc
+text_keeps reading head (Ok t) after h e = next_keeps reading head t after h e
 
-blank_keeps : (reading : Reading) (shape : Shape) (text : List ℕ) (b : Bool) (after : Reading) → HasShape reading shape
-    → cond b (Ok reading) (text_in text >>= (λ t. next reading t)) ≡ Ok after → HasShape after shape
-blank_keeps reading shape text true after h e =
+blank_keeps : (reading : Reading) (head : Head) (text : List ℕ) (b : Bool) (after : Reading) → HasHead reading head
+    → cond b (Ok reading) (text_in text >>= (λ t. next reading t)) ≡ Ok after → HasHead after head
+blank_keeps reading head text true after h e =
     let same : reading ≡ after = cc in
-    subst (λ (r : Reading). HasShape r shape) same h
-blank_keeps reading shape text false after h e = text_keeps reading shape (text_in text) after h e
+    subst (λ (r : Reading). HasHead r head) same h
+blank_keeps reading head text false after h e = text_keeps reading head (text_in text) after h e
 
--- a line leaves the geometry that was read
-pub keeps_shape : (reading : Reading) (shape : Shape) (text : List ℕ) (after : Reading) → HasShape reading shape → after_text reading text ≡ Ok after
-    → HasShape after shape
-keeps_shape reading shape text after h e = blank_keeps reading shape text (is_blank text) after h e
+-- a line leaves the first line that was read
+pub keeps_head : (reading : Reading) (head : Head) (text : List ℕ) (after : Reading) → HasHead reading head → after_text reading text ≡ Ok after
+    → HasHead after head
+keeps_head reading head text after h e = blank_keeps reading head text (is_blank text) after h e
 
 -- ## One more line
 

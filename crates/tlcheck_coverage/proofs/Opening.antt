@@ -8,6 +8,7 @@ use Rattle.tlcheck_home.specs.Tally.{IsSeen, IsUncounted, TallyState}
 use Rattle.tlcheck_home.specs.declared.tally.Mark.{Mark}
 use Rattle.tlcheck_rules.specs.Judged.{JudgeState}
 use Rattle.tlcheck_rules.specs.declared.entry.Entry.{Entry}
+use Rattle.tlcheck_rules.specs.declared.order.ChannelOrder.{ChannelOrder}
 use Rattle.tlcheck_coverage.specs.Tallies.{IsChangedAt, IsOf, Opens, SeesAt, TalliesState}
 
 -- ## A list with one place changed
@@ -123,11 +124,11 @@ opens_made n place old new tally none same uncounted at home is =
 -- ## What is seen
 
 -- an entry that was seen over the tally that stood at a place
-pub sees_at : (place : ℕ) (shape : Shape) (image : List ℕ) (log : List Event) (entry : Entry) (mark : Mark) (judge : JudgeState)
+pub sees_at : (place : ℕ) (order : ChannelOrder) (shape : Shape) (image : List ℕ) (log : List Event) (entry : Entry) (mark : Mark) (judge : JudgeState)
     (tally then_ : TallyState) (old new : TalliesState) → place < length old.tallies → tally ≡ get_or old.tallies place tally
-    → new.by_home ≡ old.by_home → new.tallies ≡ set old.tallies place then_ → IsSeen shape image log entry mark judge tally then_
-    → SeesAt place shape image log entry mark judge old new
-sees_at place shape image log entry mark judge tally then_ old new inside at home is seen = record {
+    → new.by_home ≡ old.by_home → new.tallies ≡ set old.tallies place then_ → IsSeen order shape image log entry mark judge tally then_
+    → SeesAt place order shape image log entry mark judge old new
+sees_at place order shape image log entry mark judge tally then_ old new inside at home is seen = record {
   tally = tally;
   there = slice_get_read old.tallies (length old.tallies) place tally refl inside at;
   then_ = then_;

@@ -1,6 +1,6 @@
 -- What was read and counted of a record's text so far (this project's own).
 use Rattle.std.specs.Prelude.{◌≡◌, ℕ, min, List, ◌++◌, length, Option, Some, IfSome, Ok, slice_get}
-use Rattle.tl_protocol.specs.declared.shape.Shape.{Shape}
+use Rattle.tlcheck_record.specs.declared.header.Head.{Head}
 use Rattle.tlcheck_reader.specs.Lines.{lines_of}
 use Rattle.tlcheck_reader.specs.Outcome.{Agrees}
 use Rattle.tlcheck_reader.specs.Reading.{Reading, fresh, shaped, going, reading_of}
@@ -12,11 +12,11 @@ use Rattle.tlcheck_coverage.specs.declared.reading.Stage.{Stage}
 use Rattle.tlcheck_coverage.specs.declared.reading.Stage.TheVariants.{Fresh, Shaped, Counting}
 use Rattle.tlcheck_coverage.specs.declared.tallies.TheConstants.{MOST}
 
--- the geometry of a reading
-abbrev pub HasShape : Reading → Shape → Type 0
-HasShape fresh shape = ⊥
-HasShape (shaped s) shape = shape ≡ s
-HasShape (going s image entries) shape = shape ≡ s
+-- the geometry and the order of a reading
+abbrev pub HasHead : Reading → Head → Type 0
+HasHead fresh head = ⊥
+HasHead (shaped held) head = head ≡ held
+HasHead (going held image entries) head = head ≡ held
 
 -- nothing, and no line has an entry
 abbrev pub CountsNone : ℕ → List (List ℕ) → TalliesState → TalliesState → Type 0
@@ -24,10 +24,10 @@ CountsNone file read initial now = (now ≡ initial) × ((tally : TallyState) �
 
 -- The tally of the clients was opened at a place, and each line counted over it.
 pub record Counted (file : ℕ) (read : List (List ℕ)) (reading : Reading) (place : ℕ) (initial now : TalliesState) : Type 0 where
-  pub shape : Shape
-  pub geometry : HasShape reading shape
+  pub head : Head
+  pub first_line : HasHead reading head
   pub opened : TalliesState
-  pub opens : Opens (min shape.clients MOST) place initial opened
+  pub opens : Opens (min head.shape.clients MOST) place initial opened
   pub before : TallyState
   pub there : slice_get opened.tallies place ≡ Some before
   pub after : TallyState
@@ -37,7 +37,7 @@ pub record Counted (file : ℕ) (read : List (List ℕ)) (reading : Reading) (pl
 -- by where the reading is
 abbrev pub IsCountedSo : ℕ → List (List ℕ) → Reading → Stage → TalliesState → TalliesState → Type 0
 IsCountedSo file read reading Fresh initial now = CountsNone file read initial now
-IsCountedSo file read reading (Shaped shape) initial now = CountsNone file read initial now
+IsCountedSo file read reading (Shaped head) initial now = CountsNone file read initial now
 IsCountedSo file read reading (Counting counting) initial now = Counted file read reading counting.tally initial now
 
 -- So many lines were read and counted, and what is left of the text is its other lines.

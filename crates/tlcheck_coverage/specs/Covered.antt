@@ -1,8 +1,8 @@
 -- What is counted of a record: each entry once, in the situation that it is in, at its line (this project's own).
 use Rattle.std.specs.Prelude.{◌≡◌, ◌⊎◌, ℕ, ◌+◌, min, List, [], ◌∷◌, ◌++◌, length, Some, Ok, slice_get}
-use Rattle.tl_protocol.specs.declared.shape.Shape.{Shape}
 use Rattle.tlcheck_rules.specs.Judged.{IsLawful, events_of}
 use Rattle.tlcheck_rules.specs.declared.entry.Entry.{Entry}
+use Rattle.tlcheck_record.specs.declared.header.Head.{Head}
 use Rattle.tlcheck_situations.specs.Reach.{situation_after}
 use Rattle.tlcheck_home.specs.Tally.{IsNoted, TallyState}
 use Rattle.tlcheck_home.specs.declared.tally.Mark.{Mark}
@@ -14,16 +14,16 @@ use Rattle.tlcheck_coverage.specs.declared.tallies.TheConstants.{MOST}
 -- the entries that were read
 abbrev pub entries_in : Reading → List Entry
 entries_in fresh = []
-entries_in (shaped shape) = []
-entries_in (going shape image entries) = entries
+entries_in (shaped head) = []
+entries_in (going head image entries) = entries
 
 -- An entry that was read is counted in the situation that it is in after those before it.
 pub record CountsEntry (mark : Mark) (before after : Reading) (old new : TallyState) : Type 0 where
-  pub shape : Shape
+  pub head : Head
   pub image : List ℕ
   pub entry : Entry
-  pub reads : after ≡ going shape image (entries_in before ++ entry ∷ [])
-  pub noted : IsNoted (situation_after shape image (events_of (entries_in before)) entry.event) mark old new
+  pub reads : after ≡ going head image (entries_in before ++ entry ∷ [])
+  pub noted : IsNoted (situation_after head.shape image (events_of (entries_in before)) entry.event) mark old new
 
 -- a line with no entry counts nothing
 abbrev pub CountsNothing : Reading → Reading → TallyState → TallyState → Type 0
@@ -49,15 +49,15 @@ CountsLines file n reading (line ∷ rest) old new =
 -- The record is read to its end, each of its so many entries is permitted, and each is counted over the tally of its
 -- clients, of three where it has more; the other tallies are as they were.
 pub record IsCovered (file : ℕ) (text : List ℕ) (count : ℕ) (old new : TalliesState) : Type 0 where
-  pub shape : Shape
+  pub head : Head
   pub image : List ℕ
   pub entries : List Entry
-  pub reads : reading_of fresh (lines_of text) ≡ Ok (going shape image entries)
-  pub lawful : IsLawful shape image entries
+  pub reads : reading_of fresh (lines_of text) ≡ Ok (going head image entries)
+  pub lawful : IsLawful head.order head.shape image entries
   pub counted : length entries ≡ count
   pub place : ℕ
   pub opened : TalliesState
-  pub opens : Opens (min shape.clients MOST) place old opened
+  pub opens : Opens (min head.shape.clients MOST) place old opened
   pub before : TallyState
   pub there : slice_get opened.tallies place ≡ Some before
   pub after : TallyState

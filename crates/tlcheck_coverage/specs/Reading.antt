@@ -30,19 +30,19 @@ pub record IsFitShape (shape : Shape) : Type 0 where
 -- the geometry that was read is fit; the tally is one of these
 abbrev pub IsFit : Stage → TalliesState → Type 0
 IsFit Fresh now = Unit {0}
-IsFit (Shaped shape) now = IsFitShape shape
+IsFit (Shaped head) now = IsFitShape head.shape
 IsFit (Counting counting) now = counting.tally < length now.tallies
 
 -- so many entries were read
 abbrev pub IsCounting : Stage → ℕ → Type 0
 IsCounting Fresh count = ⊥
-IsCounting (Shaped shape) count = ⊥
+IsCounting (Shaped head) count = ⊥
 IsCounting (Counting counting) count = counting.entries ≡ count
 
 -- where a check of the record is
 abbrev pub checked : Stage → CheckStage
 checked Fresh = check.Fresh
-checked (Shaped shape) = check.Shaped shape
+checked (Shaped head) = check.Shaped head
 checked (Counting counting) = check.Judging counting.judge counting.entries
 
 -- why a check of the record would not take a line; where there is no table, it is as without memory
@@ -73,8 +73,8 @@ staged (Err fault) = Err (Line fault)
 -- the geometry that was read has a client
 abbrev pub HasClient : Reading → Type 0
 HasClient fresh = Unit {0}
-HasClient (shaped shape) = 0 < shape.clients
-HasClient (going shape image entries) = 0 < shape.clients
+HasClient (shaped head) = 0 < head.shape.clients
+HasClient (going head image entries) = 0 < head.shape.clients
 
 -- a record that is refused is not lawful, or cannot be read as one
 abbrev pub IsRefusal : Outcome → Type 0
@@ -83,10 +83,10 @@ IsRefusal (Broken line broken) = Unit {0}
 IsRefusal (Unreadable line cause) = Unit {0}
 IsRefusal Empty = Unit {0}
 
--- the geometry was read, and is fit
+-- the first line was read, and its geometry is fit
 abbrev pub IsShaped : Stage → Type 0
 IsShaped Fresh = ⊥
-IsShaped (Shaped shape) = IsFitShape shape
+IsShaped (Shaped head) = IsFitShape head.shape
 IsShaped (Counting counting) = ⊥
 
 -- a fault that is no refusal of the record

@@ -4,6 +4,7 @@ use Rattle.tl_protocol.specs.declared.event.Event.{Event}
 use Rattle.tl_protocol.specs.declared.shape.Shape.{Shape}
 use Rattle.tlcheck_rules.specs.Judged.{JudgeState}
 use Rattle.tlcheck_rules.specs.declared.entry.Entry.{Entry}
+use Rattle.tlcheck_rules.specs.declared.order.ChannelOrder.{ChannelOrder}
 use Rattle.tlcheck_situations.specs.Reach.{HasEvery}
 use Rattle.tlcheck_home.specs.Home.{AreThoseOfHome}
 use Rattle.tlcheck_home.specs.HomeTableState.{HomeTableState}
@@ -50,9 +51,9 @@ pub record IsChangedAt (place : ℕ) (tally : TallyState) (old new : TalliesStat
   pub others : (k : ℕ) → k ≢ place → slice_get new.tallies k ≡ slice_get old.tallies k
 
 -- An entry is permitted after a log, and counted over the tally at a place.
-pub record SeesAt (place : ℕ) (shape : Shape) (image : List ℕ) (log : List Event) (entry : Entry) (mark : Mark) (judge : JudgeState) (old new : TalliesState) : Type 0 where
+pub record SeesAt (place : ℕ) (order : ChannelOrder) (shape : Shape) (image : List ℕ) (log : List Event) (entry : Entry) (mark : Mark) (judge : JudgeState) (old new : TalliesState) : Type 0 where
   pub tally : TallyState
   pub there : slice_get old.tallies place ≡ Some tally
   pub then_ : TallyState
-  pub seen : IsSeen shape image log entry mark judge tally then_
+  pub seen : IsSeen order shape image log entry mark judge tally then_
   pub changes : IsChangedAt place then_ old new

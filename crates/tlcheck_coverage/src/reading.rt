@@ -1,8 +1,8 @@
 //! A record, read line by line, its events counted.
 ghost use Rattle.std.specs.Prelude.{◌≡◌, ◌<◌, ◌≤◌, ℕ, List, [], Option, IfErr, IfOk, IfSome, Ok, length, min};
-ghost use Rattle.tl_protocol.specs.declared.shape.Shape.{Shape};
 ghost use Rattle.tlcheck_rules.specs.Judged.{Follows, IsLawful, events_of};
 ghost use Rattle.tlcheck_rules.specs.declared.entry.Entry.{Entry};
+ghost use Rattle.tlcheck_record.specs.declared.header.Head.{Head};
 ghost use Rattle.tlcheck_reader.specs.Outcome.{Agrees, IsJudged, Takes, fault_of};
 ghost use Rattle.tlcheck_reader.specs.Reading.{Reading, after_text, next};
 ghost use Rattle.tlcheck_reader.specs.declared.outcome.LineFault.TheVariants.{Memory};
@@ -16,13 +16,14 @@ use crate::tallies::{MOST, Tallies};
 use std::alloc::Global;
 use std::io;
 use std::io::{BufRead, ErrorKind};
-use tl_rules::Shape;
 use tl_types::{BLOCK_BYTES, BLOCKS};
 use tlcheck_home::Mark;
 use tlcheck_reader::{
     EntryFault, LineFault, Outcome, is_end, line_fault, stop_at, text_of, unread,
 };
-use tlcheck_record::{LineError, is_blank, read_entry, read_image_line, read_shape, read_text};
+use tlcheck_record::{
+    Head, LineError, is_blank, read_entry, read_head, read_image_line, read_text,
+};
 use tlcheck_rules::{Entry, Judge, Refusal};
 use tlcheck_situations::TableError;
 
@@ -52,7 +53,7 @@ pub(crate) enum Halt {
 #[derive(Drop)]
 pub(crate) enum Stage {
     Fresh,
-    Shaped(Shape),
+    Shaped(Head),
     Counting(Counting),
 }
 
@@ -85,21 +86,21 @@ fn no_table(error: TableError) -> Halt
 }
 
 /// Begins to count over a record.
-fn begin(alloc: Global, tallies: &mut Tallies, shape: Shape, image: &[u8]) -> Result<Counting, Halt>
-    requires bytes { (0 < shape.block_bytes) × (shape.block_bytes ≤ BLOCK_BYTES) }
-    requires blocks { shape.blocks ≤ BLOCKS }
-    requires clients { 0 < shape.clients }
-    ensures follows { IfOk result (λ counting. Follows shape image.now [] counting.judge) }
+fn begin(alloc: Global, tallies: &mut Tallies, head: Head, image: &[u8]) -> Result<Counting, Halt>
+    requires bytes { (0 < head.shape.block_bytes) × (head.shape.block_bytes ≤ BLOCK_BYTES) }
+    requires blocks { head.shape.blocks ≤ BLOCKS }
+    requires clients { 0 < head.shape.clients }
+    ensures follows { IfOk result (λ counting. Follows head.order head.shape image.now [] counting.judge) }
     ensures none { IfOk result (λ counting. counting.entries ≡ 0) }
     ensures opens { IfOk result
-        (λ counting. Opens (min shape.clients MOST) counting.tally tallies.old tallies.new) }
+        (λ counting. Opens (min head.shape.clients MOST) counting.tally tallies.old tallies.new) }
     ensures halt { IfErr result (λ halt. halted halt ≡ Memory) }
 {
-    let tally = match tallies.place_for(alloc, shape.clients) {
+    let tally = match tallies.place_for(alloc, head.shape.clients) {
         Ok(place) => place,
         Err(error) => return Err(no_table(error)),
     };
-    match Judge::new(alloc, shape, image) {
+    match Judge::new(alloc, head.order, head.shape, image) {
         Ok(judge) => Ok(Counting {
             judge,
             entries: 0,
@@ -117,15 +118,15 @@ fn count_entry(
     mark: Mark,
 ) -> Result<(), EntryFault>
     requires { counting.old.tally < length tallies.old.tallies }
-    ensures judged { (shape : Shape) (image : List ℕ) (entries : List Entry)
-        → Follows shape image (events_of entries) counting.old.judge → IsLawful shape image entries
-        → length entries ≡ counting.old.entries
-        → IsJudged shape image entries entry.now (checked_entry (counting_of counting.new result)) }
-    ensures counted { (shape : Shape) (image : List ℕ) (entries : List Entry)
-        → Follows shape image (events_of entries) counting.old.judge → 0 < shape.clients
+    ensures judged { (head : Head) (image : List ℕ) (entries : List Entry)
+        → Follows head.order head.shape image (events_of entries) counting.old.judge
+        → IsLawful head.order head.shape image entries → length entries ≡ counting.old.entries
+        → IsJudged head image entries entry.now (checked_entry (counting_of counting.new result)) }
+    ensures counted { (head : Head) (image : List ℕ) (entries : List Entry)
+        → Follows head.order head.shape image (events_of entries) counting.old.judge → 0 < head.shape.clients
         → IfOk (counting_of counting.new result)
-        (λ next. SeesAt counting.old.tally shape image (events_of entries) entry.now mark next.judge tallies.old
-        tallies.new) }
+        (λ next. SeesAt counting.old.tally head.order head.shape image (events_of entries) entry.now mark next.judge
+        tallies.old tallies.new) }
     ensures place { counting.new.tally ≡ counting.old.tally }
     ensures size { length tallies.new.tallies ≡ length tallies.old.tallies }
 {
@@ -220,25 +221,25 @@ fn entry_line(
 fn second_line(
     alloc: Global,
     tallies: &mut Tallies,
-    shape: Shape,
+    head: Head,
     text: &str,
     mark: Mark,
 ) -> Result<Stage, Halt>
-    requires { IsFit (Stage.Shaped shape) tallies.old }
-    ensures takes { (reading : Reading) → Agrees reading (checked (Stage.Shaped shape))
+    requires { IsFit (Stage.Shaped head) tallies.old }
+    ensures takes { (reading : Reading) → Agrees reading (checked (Stage.Shaped head))
         → Takes (next reading text.now) (checked_line result) }
-    ensures counts { (reading after : Reading) → Agrees reading (checked (Stage.Shaped shape)) → HasClient reading
+    ensures counts { (reading after : Reading) → Agrees reading (checked (Stage.Shaped head)) → HasClient reading
         → next reading text.now ≡ Ok after
-        → IfOk result (λ stage. Steps mark reading after (Stage.Shaped shape) stage tallies.old tallies.new) }
+        → IfOk result (λ stage. Steps mark reading after (Stage.Shaped head) stage tallies.old tallies.new) }
     ensures fit { IfOk result (λ stage. IsFit stage tallies.new) }
 {
-    match read_image_line(alloc, shape, text) {
+    match read_image_line(alloc, head.shape, text) {
         Ok(Some(image)) => {
-            let counting = begin(alloc, tallies, shape, &image)?;
+            let counting = begin(alloc, tallies, head, &image)?;
             Ok(Stage::Counting(counting))
         }
         Ok(None) => {
-            let counting = begin(alloc, tallies, shape, &[])?;
+            let counting = begin(alloc, tallies, head, &[])?;
             entry_line(alloc, tallies, counting, text, mark)
         }
         Err(error) => Err(halt_of(error)),
@@ -251,8 +252,8 @@ fn first_line(alloc: Global, text: &str) -> Result<Stage, Halt>
         → Takes (next reading text.now) (checked_line result) }
     ensures shape { IfOk result IsShaped }
 {
-    match read_shape(alloc, text) {
-        Ok(shape) => Ok(Stage::Shaped(shape)),
+    match read_head(alloc, text) {
+        Ok(head) => Ok(Stage::Shaped(head)),
         Err(error) => Err(halt_of(error)),
     }
 }
@@ -275,7 +276,7 @@ fn full_line(
 {
     match stage {
         Stage::Fresh => first_line(alloc, text),
-        Stage::Shaped(shape) => second_line(alloc, tallies, shape, text, mark),
+        Stage::Shaped(head) => second_line(alloc, tallies, head, text, mark),
         Stage::Counting(counting) => entry_line(alloc, tallies, counting, text, mark),
     }
 }

@@ -5,6 +5,7 @@ ghost use Rattle.tl_protocol.specs.declared.shape.Shape.{Shape};
 ghost use Rattle.tlcheck_rules.specs.Judged.{Breaks, Follows, IsPermitted};
 ghost use Rattle.tlcheck_rules.specs.declared.judge.Breach.{Breach};
 ghost use Rattle.tlcheck_rules.specs.declared.judge.Refusal.TheVariants.{Broken};
+ghost use Rattle.tlcheck_rules.specs.declared.order.ChannelOrder.{ChannelOrder};
 ghost use Rattle.tlcheck_home.specs.Tally.{IsUncounted};
 ghost use Rattle.tlcheck_coverage.specs.Tallies.{HasHome, HasTables, IsOf, Opens, SeesAt};
 
@@ -153,18 +154,19 @@ impl Tallies {
     ) -> Result<(), Refusal>
         requires { place < length self.old.tallies }
         ensures ok { OnOk result
-            ((shape : Shape) (image : List ℕ) (log : List Event)
-            → Follows shape image log judge.old → 0 < shape.clients
-            → SeesAt place shape image log entry.now mark judge.new self.old self.new) }
+            ((order : ChannelOrder) (shape : Shape) (image : List ℕ) (log : List Event)
+            → Follows order shape image log judge.old → 0 < shape.clients
+            → SeesAt place order shape image log entry.now mark judge.new self.old self.new) }
         ensures size { length self.new.tallies ≡ length self.old.tallies }
         ensures permitted { OnOk result
-            ((shape : Shape) (image : List ℕ) (log : List Event)
-            → Follows shape image log judge.old
-            → IsPermitted shape image log entry.now × Follows shape image (log ++ entry.now.event ∷ []) judge.new) }
+            ((order : ChannelOrder) (shape : Shape) (image : List ℕ) (log : List Event)
+            → Follows order shape image log judge.old
+            → IsPermitted order shape image log entry.now
+            × Follows order shape image (log ++ entry.now.event ∷ []) judge.new) }
         ensures broken { IfErr result
             (λ refusal. (breach : Breach) → refusal ≡ Broken breach
-            → (shape : Shape) (image : List ℕ) (log : List Event)
-            → Follows shape image log judge.old → Breaks shape image log entry.now breach) }
+            → (order : ChannelOrder) (shape : Shape) (image : List ℕ) (log : List Event)
+            → Follows order shape image log judge.old → Breaks order shape image log entry.now breach) }
         ensures unchanged { IfErr result
             (λ refusal. (breach : Breach) → refusal ≡ Broken breach → judge.new ≡ judge.old) }
     {
