@@ -16,7 +16,9 @@ use Rattle.tlcheck_rules.specs.declared.entry.Entry.{Entry}
 use Rattle.tlcheck_rules.specs.declared.judge.Breach.{Breach}
 use Rattle.tlcheck_rules.specs.declared.judge.Refusal.{Refusal}
 use Rattle.tlcheck_rules.specs.declared.judge.Refusal.TheVariants.{Broken, Memory}
+use Rattle.tlcheck_rules.specs.declared.order.ChannelOrder.{ChannelOrder}
 use Rattle.tlcheck_record.specs.State.{block_lines, state_lines}
+use Rattle.tlcheck_record.specs.declared.header.Head.{Head}
 use Rattle.tlchart_page.specs.Film.{changed}
 use Rattle.tlchart_page.specs.declared.film.Change.{Change}
 use Rattle.tlchart_record.specs.Film.{AreEntryFrames, Filmed, GoesOn, IsRecordFilm, IsShownBut, IsSomewhere, Plays, block_shown, blocks_shown, entries_of, is_settled, shown_after}
@@ -27,28 +29,29 @@ use Rattle.tlchart_record.specs.declared.window.Written.{Written}
 
 -- one that is permitted
 plays-on : (entry : Entry) (old new : JudgeState)
-    → ((shape : Shape) (image : List ℕ) (log : List Event) → Follows shape image log old
-    → IsPermitted shape image log entry × Follows shape image (log ++ entry.event ∷ []) new)
+    → ((order : ChannelOrder) (shape : Shape) (image : List ℕ) (log : List Event) → Follows order shape image log old
+    → IsPermitted order shape image log entry × Follows order shape image (log ++ entry.event ∷ []) new)
     → Plays entry old new
-plays-on entry old new took = λ shape image log f.
-    let h = took shape image log f in (log ++ entry.event ∷ [], inl (h.0, refl), h.1)
+plays-on entry old new took = λ head image log f.
+    let h = took head.order head.shape image log f in (log ++ entry.event ∷ [], inl (h.0, refl), h.1)
 
 -- one that breaks something
 plays-back : (entry : Entry) (old new : JudgeState) (breach : Breach)
-    → ((shape : Shape) (image : List ℕ) (log : List Event) → Follows shape image log old → Breaks shape image log entry breach)
+    → ((order : ChannelOrder) (shape : Shape) (image : List ℕ) (log : List Event) → Follows order shape image log old
+    → Breaks order shape image log entry breach)
     → new ≡ old → Plays entry old new
-plays-back entry old new breach broke same = λ shape image log f.
-    (log, inr (breach, broke shape image log f, refl), subst (λ (judge : JudgeState). Follows shape image log judge) (sym same) f)
+plays-back entry old new breach broke same = λ head image log f.
+    (log, inr (breach, broke head.order head.shape image log f, refl), subst (λ (judge : JudgeState). Follows head.order head.shape image log judge) (sym same) f)
 
 -- either, where there was memory
 pub plays : {A : Type 0} (entry : Entry) (old new : JudgeState) (done : Result (Unit {0}) Refusal) (settled : Result (Unit {0}) A)
     → is_ok settled ≡ is_settled done
     → OnOk done
-    ((shape : Shape) (image : List ℕ) (log : List Event) → Follows shape image log old
-    → IsPermitted shape image log entry × Follows shape image (log ++ entry.event ∷ []) new)
+    ((order : ChannelOrder) (shape : Shape) (image : List ℕ) (log : List Event) → Follows order shape image log old
+    → IsPermitted order shape image log entry × Follows order shape image (log ++ entry.event ∷ []) new)
     → IfErr done
-    (λ refusal. (breach : Breach) → refusal ≡ Broken breach → (shape : Shape) (image : List ℕ) (log : List Event)
-    → Follows shape image log old → Breaks shape image log entry breach)
+    (λ refusal. (breach : Breach) → refusal ≡ Broken breach → (order : ChannelOrder) (shape : Shape) (image : List ℕ) (log : List Event)
+    → Follows order shape image log old → Breaks order shape image log entry breach)
     → IfErr done (λ refusal. (breach : Breach) → refusal ≡ Broken breach → new ≡ old)
     → OnOk settled (Plays entry old new)
 plays entry old new (Ok u) (Ok w) is ok broken same = plays-on entry old new ok
@@ -62,27 +65,27 @@ plays entry old new (Err Memory) (Err error) is ok broken same = tt
 -- ## A judge shows what its log leads to
 
 -- of a block
-lines-follow : (shape : Shape) (image : List ℕ) (log : List Event) (judge : JudgeState) → Follows shape image log judge → (block : ℕ)
-    → state_lines judge.plain block ≡ block_shown shape image log block
-lines-follow shape image log judge f block =
+lines-follow : (head : Head) (image : List ℕ) (log : List Event) (judge : JudgeState) → Follows head.order head.shape image log judge → (block : ℕ)
+    → state_lines judge.plain block ≡ block_shown head.shape image log block
+lines-follow head image log judge f block =
     ap (λ (s : Shape). if nat_lt block s.blocks then block_lines s block (state_of_plain judge.plain block) else []) f.same_shape
-    ∙ elim (cases_Bool (nat_lt block shape.blocks)) [
+    ∙ elim (cases_Bool (nat_lt block head.shape.blocks)) [
       | inl is ↦
-          let here : state_of_plain judge.plain block ≡ end_of shape image log block =
-          sym (f.ended block (ltb-true block shape.blocks is)) in
-          ap (λ (s : Block). if nat_lt block shape.blocks then block_lines shape block s else []) here
+          let here : state_of_plain judge.plain block ≡ end_of head.shape image log block =
+          sym (f.ended block (ltb-true block head.shape.blocks is)) in
+          ap (λ (s : Block). if nat_lt block head.shape.blocks then block_lines head.shape block s else []) here
       | inr fails ↦
-          ap (λ (t : Bool). cond t (block_lines shape block (state_of_plain judge.plain block)) []) fails
-          ∙ sym (ap (λ (t : Bool). cond t (block_lines shape block (end_of shape image log block)) []) fails)
+          ap (λ (t : Bool). cond t (block_lines head.shape block (state_of_plain judge.plain block)) []) fails
+          ∙ sym (ap (λ (t : Bool). cond t (block_lines head.shape block (end_of head.shape image log block)) []) fails)
     ]
 
 -- of some
-pub shown-follow : (shape : Shape) (image : List ℕ) (log : List Event) (judge : JudgeState) → Follows shape image log judge
-    → (blocks : List ℕ) → blocks_shown judge.plain blocks ≡ shown_after shape image log blocks
-shown-follow shape image log judge f [] = refl
-shown-follow shape image log judge f (block ∷ blocks) =
-    ap (λ (t : List ℕ). t ∷ blocks_shown judge.plain blocks) (lines-follow shape image log judge f block)
-    ∙ ap (λ (ts : List (List ℕ)). block_shown shape image log block ∷ ts) (shown-follow shape image log judge f blocks)
+pub shown-follow : (head : Head) (image : List ℕ) (log : List Event) (judge : JudgeState) → Follows head.order head.shape image log judge
+    → (blocks : List ℕ) → blocks_shown judge.plain blocks ≡ shown_after head.shape image log blocks
+shown-follow head image log judge f [] = refl
+shown-follow head image log judge f (block ∷ blocks) =
+    ap (λ (t : List ℕ). t ∷ blocks_shown judge.plain blocks) (lines-follow head image log judge f block)
+    ∙ ap (λ (ts : List (List ℕ)). block_shown head.shape image log block ∷ ts) (shown-follow head image log judge f blocks)
 
 -- ## An entry of another block
 
@@ -95,23 +98,23 @@ end-other shape image log e block ne =
     (ne_eqb block (block_of shape e) ne)
 
 -- it shows what it showed
-block-other : (shape : Shape) (image : List ℕ) (log next : List Event) (entry : Entry) → GoesOn shape image log entry next → (block : ℕ)
-    → block ≢ block_of shape entry.event → block_shown shape image next block ≡ block_shown shape image log block
-block-other shape image log next entry (inl goes) block ne =
-    ap (λ (es : List Event). block_shown shape image es block) goes.1
-    ∙ ap (λ (s : Block). if nat_lt block shape.blocks then block_lines shape block s else []) (end-other shape image log entry.event block ne)
-block-other shape image log next entry (inr stays) block ne = ap (λ (es : List Event). block_shown shape image es block) stays.2
+block-other : (head : Head) (image : List ℕ) (log next : List Event) (entry : Entry) → GoesOn head image log entry next → (block : ℕ)
+    → block ≢ block_of head.shape entry.event → block_shown head.shape image next block ≡ block_shown head.shape image log block
+block-other head image log next entry (inl goes) block ne =
+    ap (λ (es : List Event). block_shown head.shape image es block) goes.1
+    ∙ ap (λ (s : Block). if nat_lt block head.shape.blocks then block_lines head.shape block s else []) (end-other head.shape image log entry.event block ne)
+block-other head image log next entry (inr stays) block ne = ap (λ (es : List Event). block_shown head.shape image es block) stays.2
 
 -- as the judge has it
 lines-other : (entry : Entry) (old new : JudgeState) → IsSomewhere old → Plays entry old new → (block : ℕ)
     → block ≢ block_of old.plain.shape entry.event → state_lines new.plain block ≡ state_lines old.plain block
 lines-other entry old new at plays block ne =
-    let played = plays at.shape at.image at.log at.follows in
-    let other : block ≢ block_of at.shape entry.event =
+    let played = plays at.head at.image at.log at.follows in
+    let other : block ≢ block_of at.head.shape entry.event =
     λ e. ne (e ∙ ap (λ (s : Shape). block_of s entry.event) (sym at.follows.same_shape)) in
-    lines-follow at.shape at.image played.0 new played.2 block
-    ∙ block-other at.shape at.image at.log played.0 entry played.1 block other
-    ∙ sym (lines-follow at.shape at.image at.log old at.follows block)
+    lines-follow at.head at.image played.0 new played.2 block
+    ∙ block-other at.head at.image at.log played.0 entry played.1 block other
+    ∙ sym (lines-follow at.head at.image at.log old at.follows block)
 
 -- so a state that shows what all blocks showed shows what they show now, but for the entry's
 pub shown-but : (entry : Entry) (old new : JudgeState) (block : ℕ) (blocks : List ℕ) (state : List (List ℕ)) → IsSomewhere old
@@ -128,31 +131,31 @@ shown-but entry old new block blocks state at plays of shows = record {
 -- the judge is somewhere then
 pub somewhere-next : (entry : Entry) (old new : JudgeState) → IsSomewhere old → Plays entry old new → IsSomewhere new
 somewhere-next entry old new at plays =
-    let played = plays at.shape at.image at.log at.follows in
-    record { shape = at.shape; image = at.image; log = played.0; follows = played.2 }
+    let played = plays at.head at.image at.log at.follows in
+    record { head = at.head; image = at.image; log = played.0; follows = played.2 }
 
 -- ## One more entry
 
 -- one more entry after some that were filmed is filmed with them
-frames-push : (shape : Shape) (image blocks : List ℕ) (log mid last : List Event) (entries : List Entry) (frames : List (List Change))
+frames-push : (head : Head) (image blocks : List ℕ) (log mid last : List Event) (entries : List Entry) (frames : List (List Change))
     (entry : Entry) (changes : List Change)
-    → AreEntryFrames shape image blocks log entries frames mid → GoesOn shape image mid entry last
-    → changed (shown_after shape image mid blocks) changes ≡ shown_after shape image last blocks
-    → AreEntryFrames shape image blocks log (entries ++ entry ∷ []) (frames ++ changes ∷ []) last
-frames-push shape image blocks log mid last [] [] entry changes h goes shows = (
+    → AreEntryFrames head image blocks log entries frames mid → GoesOn head image mid entry last
+    → changed (shown_after head.shape image mid blocks) changes ≡ shown_after head.shape image last blocks
+    → AreEntryFrames head image blocks log (entries ++ entry ∷ []) (frames ++ changes ∷ []) last
+frames-push head image blocks log mid last [] [] entry changes h goes shows = (
   last,
-  subst (λ (es : List Event). GoesOn shape image es entry last) h goes,
-  subst (λ (es : List Event). changed (shown_after shape image es blocks) changes ≡ shown_after shape image last blocks) h shows,
+  subst (λ (es : List Event). GoesOn head image es entry last) h goes,
+  subst (λ (es : List Event). changed (shown_after head.shape image es blocks) changes ≡ shown_after head.shape image last blocks) h shows,
   refl,
 )
-frames-push shape image blocks log mid last [] (c ∷ frames) entry changes h goes shows = absurd h
-frames-push shape image blocks log mid last (e ∷ entries) [] entry changes h goes shows = absurd h
-frames-push shape image blocks log mid last (e ∷ entries) (c ∷ frames) entry changes h goes shows =
-    (h.0, h.1, h.2, frames-push shape image blocks h.0 mid last entries frames entry changes h.3 goes shows)
+frames-push head image blocks log mid last [] (c ∷ frames) entry changes h goes shows = absurd h
+frames-push head image blocks log mid last (e ∷ entries) [] entry changes h goes shows = absurd h
+frames-push head image blocks log mid last (e ∷ entries) (c ∷ frames) entry changes h goes shows =
+    (h.0, h.1, h.2, frames-push head image blocks h.0 mid last entries frames entry changes h.3 goes shows)
 
 -- none was filmed
 pub filmed-none : (judge : JudgeState) (blocks : List ℕ) (frames : List (List Change)) → frames ≡ [] → Filmed judge judge blocks [] frames
-filmed-none judge blocks [] none = λ shape image log f. (log, refl, f)
+filmed-none judge blocks [] none = λ head image log f. (log, refl, f)
 filmed-none judge blocks (c ∷ frames) none = cc
 
 -- one more was
@@ -161,13 +164,13 @@ filmed-push : (first old new : JudgeState) (blocks : List ℕ) (entries : List E
     → Filmed first old blocks entries frames → Plays entry old new
     → changed (blocks_shown old.plain blocks) changes ≡ blocks_shown new.plain blocks
     → Filmed first new blocks (entries ++ entry ∷ []) (frames ++ changes ∷ [])
-filmed-push first old new blocks entries frames entry changes so_far plays shows = λ shape image log f.
-    let before = so_far shape image log f in
-    let played = plays shape image before.0 before.2 in
-    let is : changed (shown_after shape image before.0 blocks) changes ≡ shown_after shape image played.0 blocks =
-    ap (λ (s : List (List ℕ)). changed s changes) (sym (shown-follow shape image before.0 old before.2 blocks))
-    ∙ shows ∙ shown-follow shape image played.0 new played.2 blocks in
-    (played.0, frames-push shape image blocks log before.0 played.0 entries frames entry changes before.1 played.1 is, played.2)
+filmed-push first old new blocks entries frames entry changes so_far plays shows = λ head image log f.
+    let before = so_far head image log f in
+    let played = plays head image before.0 before.2 in
+    let is : changed (shown_after head.shape image before.0 blocks) changes ≡ shown_after head.shape image played.0 blocks =
+    ap (λ (s : List (List ℕ)). changed s changes) (sym (shown-follow head image before.0 old before.2 blocks))
+    ∙ shows ∙ shown-follow head image played.0 new played.2 blocks in
+    (played.0, frames-push head image blocks log before.0 played.0 entries frames entry changes before.1 played.1 is, played.2)
 
 -- one more of those that are filmed
 pub filmed-more : (first old new : JudgeState) (blocks : List ℕ) (entries : List Written) (i : ℕ) (written : Written)
@@ -188,7 +191,7 @@ filmed-more first old new blocks entries i written frames more changes lt at is 
 pub filmed-all : (first last : JudgeState) (blocks : List ℕ) (entries : List Entry) (film : RecordFilm)
     → map string_bytes film.start.items ≡ blocks_shown first.plain blocks
     → Filmed first last blocks entries (map vec_items film.changes.items)
-    → (shape : Shape) (image : List ℕ) (log : List Event) → Follows shape image log first → IsRecordFilm shape image log blocks entries film
-filmed-all first last blocks entries film start filmed = λ shape image log f.
-    let r = filmed shape image log f in
-    record { last = r.0; start = start ∙ shown-follow shape image log first f blocks; frames = r.1 }
+    → (head : Head) (image : List ℕ) (log : List Event) → Follows head.order head.shape image log first → IsRecordFilm head image log blocks entries film
+filmed-all first last blocks entries film start filmed = λ head image log f.
+    let r = filmed head image log f in
+    record { last = r.0; start = start ∙ shown-follow head image log first f blocks; frames = r.1 }

@@ -3,16 +3,16 @@ use Rattle.std.proofs.Common.{◌≡◌, ◌≢◌, ◌+◌, ◌<◌, ◌≤◌,
 use Rattle.std.proofs.lemmas.List.{append-nil, take_all, drop_all, take-append-drop, take-append-le, drop-append-le, map-append}
 use Rattle.std.specs.Io.BufRead.{take_through, drop_through, strip_last}
 use Rattle.tl_protocol.specs.declared.event.Event.{Event}
-use Rattle.tl_protocol.specs.declared.shape.Shape.{Shape}
 use Rattle.tlcheck_rules.specs.Judged.{Follows}
 use Rattle.tlcheck_rules.specs.declared.entry.Entry.{Entry}
 use Rattle.tlcheck_record.specs.Cause.{◌>>=◌, Refuses}
 use Rattle.tlcheck_record.specs.Entry.{entry_of}
-use Rattle.tlcheck_record.specs.Header.{image_of, shape_of}
+use Rattle.tlcheck_record.specs.Header.{head_of, image_of}
 use Rattle.tlcheck_record.specs.Words.{is_blank, text_in}
 use Rattle.tlcheck_record.specs.declared.cause.Cause.{Cause}
 use Rattle.tlcheck_record.specs.declared.cause.LineError.{LineError}
 use Rattle.tlcheck_record.specs.declared.cause.LineError.TheVariants.{Wrong, Memory as no_memory}
+use Rattle.tlcheck_record.specs.declared.header.Head.{Head}
 use Rattle.tlcheck_reader.specs.Lines.{lines_of}
 use Rattle.tlcheck_reader.specs.Reading.{Reading, fresh, shaped, going, after_line, after_text, image_or_entry, next, reading_of, with_entry}
 use Rattle.tlcheck_reader.proofs.Steps.{at_end, cut, read_more}
@@ -29,21 +29,21 @@ use Rattle.tlchart_record.specs.declared.window.Written.{Written}
 -- ## One more entry
 
 -- the log goes on with it
-lead-more : (shape : Shape) (image : List ℕ) (log : List Event) (entries : List Entry) (mid next_ : List Event) (entry : Entry)
-    → Lead shape image log entries mid → GoesOn shape image mid entry next_ → Lead shape image log (entries ++ entry ∷ []) next_
-lead-more shape image log [] mid next_ entry h g = (next_, subst (λ (es : List Event). GoesOn shape image es entry next_) h g, refl)
-lead-more shape image log (x ∷ rest) mid next_ entry h g = (h.0, h.1, lead-more shape image h.0 rest mid next_ entry h.2 g)
+lead-more : (head : Head) (image : List ℕ) (log : List Event) (entries : List Entry) (mid next_ : List Event) (entry : Entry)
+    → Lead head image log entries mid → GoesOn head image mid entry next_ → Lead head image log (entries ++ entry ∷ []) next_
+lead-more head image log [] mid next_ entry h g = (next_, subst (λ (es : List Event). GoesOn head image es entry next_) h g, refl)
+lead-more head image log (x ∷ rest) mid next_ entry h g = (h.0, h.1, lead-more head image h.0 rest mid next_ entry h.2 g)
 
 -- it is written after those that are shown
-written-more : (text : List ℕ) (shape : Shape) (image : List ℕ) (entries : List Entry) (shown : List Written) (written : Written)
-    → AreWrittenAfter text shape image entries shown → IsWrittenAfter text shape image (entries ++ entries_of shown) written
-    → AreWrittenAfter text shape image entries (shown ++ written ∷ [])
-written-more text shape image entries [] written h w =
-    (subst (λ (es : List Entry). IsWrittenAfter text shape image es written) (append-nil entries) w, tt)
-written-more text shape image entries (x ∷ rest) written h w = (
+written-more : (text : List ℕ) (head : Head) (image : List ℕ) (entries : List Entry) (shown : List Written) (written : Written)
+    → AreWrittenAfter text head image entries shown → IsWrittenAfter text head image (entries ++ entries_of shown) written
+    → AreWrittenAfter text head image entries (shown ++ written ∷ [])
+written-more text head image entries [] written h w =
+    (subst (λ (es : List Entry). IsWrittenAfter text head image es written) (append-nil entries) w, tt)
+written-more text head image entries (x ∷ rest) written h w = (
   h.0,
-  written-more text shape image (entries ++ x.entry ∷ []) rest written h.1
-      (subst (λ (es : List Entry). IsWrittenAfter text shape image es written) (sym (append_assoc entries (x.entry ∷ []) (entries_of rest))) w),
+  written-more text head image (entries ++ x.entry ∷ []) rest written h.1
+      (subst (λ (es : List Entry). IsWrittenAfter text head image es written) (sym (append_assoc entries (x.entry ∷ []) (entries_of rest))) w),
 )
 
 -- nothing is shown where no entry is
@@ -52,31 +52,31 @@ empty [] e = refl
 empty (w ∷ ws) e = cc
 
 -- an entry before the window
-shows-before : (text : List ℕ) (before : ℕ) (shape : Shape) (image : List ℕ) (entries : List Entry) (entry : Entry) (old new : Window)
-    → length entries < before → Shows text before shape image entries old → Plays entry old.judge new.judge
-    → new.entries.items ≡ old.entries.items → Shows text before shape image (entries ++ entry ∷ []) new
-shows-before text before shape image entries entry old new few shows plays same =
+shows-before : (text : List ℕ) (before : ℕ) (head : Head) (image : List ℕ) (entries : List Entry) (entry : Entry) (old new : Window)
+    → length entries < before → Shows text before head image entries old → Plays entry old.judge new.judge
+    → new.entries.items ≡ old.entries.items → Shows text before head image (entries ++ entry ∷ []) new
+shows-before text before head image entries entry old new few shows plays same =
     let more : length (entries ++ entry ∷ []) ≤ before = omega (arith, few, length_more entries entry) in
     let all : take before entries ≡ entries = take_all before entries (omega (arith, few)) in
     let all_more : take before (entries ++ entry ∷ []) ≡ entries ++ entry ∷ [] = take_all before (entries ++ entry ∷ []) more in
     let none : old.entries.items ≡ [] = empty old.entries.items (shows.shown ∙ drop_all before entries (omega (arith, few))) in
-    let played = plays shape image shows.log shows.judge in
+    let played = plays head image shows.log shows.judge in
     record {
       shown = ap (λ (ws : List Written). entries_of ws) (same ∙ none) ∙ sym (drop_all before (entries ++ entry ∷ []) more);
-      lines = subst (λ (ws : List Written). AreWrittenAfter text shape image (take before (entries ++ entry ∷ [])) ws) (sym (same ∙ none)) tt;
+      lines = subst (λ (ws : List Written). AreWrittenAfter text head image (take before (entries ++ entry ∷ [])) ws) (sym (same ∙ none)) tt;
       log = played.0;
       taken =
-          subst (λ (es : List Entry). Lead shape image [] es played.0) (sym all_more)
-          (lead-more shape image [] entries shows.log played.0 entry (subst (λ (es : List Entry). Lead shape image [] es shows.log) all shows.taken) played.1);
+          subst (λ (es : List Entry). Lead head image [] es played.0) (sym all_more)
+          (lead-more head image [] entries shows.log played.0 entry (subst (λ (es : List Entry). Lead head image [] es shows.log) all shows.taken) played.1);
       judge = played.2;
     }
 
 -- an entry of the window
-shows-more : (text : List ℕ) (before : ℕ) (shape : Shape) (image : List ℕ) (entries : List Entry) (written : Written) (old new : Window)
-    → before ≤ length entries → Shows text before shape image entries old → new.judge ≡ old.judge
-    → new.entries.items ≡ old.entries.items ++ written ∷ [] → IsWrittenAfter text shape image entries written
-    → Shows text before shape image (entries ++ written.entry ∷ []) new
-shows-more text before shape image entries written old new many shows same more w =
+shows-more : (text : List ℕ) (before : ℕ) (head : Head) (image : List ℕ) (entries : List Entry) (written : Written) (old new : Window)
+    → before ≤ length entries → Shows text before head image entries old → new.judge ≡ old.judge
+    → new.entries.items ≡ old.entries.items ++ written ∷ [] → IsWrittenAfter text head image entries written
+    → Shows text before head image (entries ++ written.entry ∷ []) new
+shows-more text before head image entries written old new many shows same more w =
     let kept : take before (entries ++ written.entry ∷ []) ≡ take before entries = take-append-le before entries (written.entry ∷ []) many in
     let split : take before entries ++ entries_of old.entries.items ≡ entries =
     ap (λ (es : List Entry). take before entries ++ es) shows.shown ∙ take-append-drop before entries in
@@ -87,24 +87,24 @@ shows-more text before shape image entries written old new many shows same more 
           ∙ sym (drop-append-le before entries (written.entry ∷ []) many);
       lines =
           rw (kept, more)
-          (written-more text shape image (take before entries) old.entries.items written shows.lines
-          (subst (λ (es : List Entry). IsWrittenAfter text shape image es written) (sym split) w));
+          (written-more text head image (take before entries) old.entries.items written shows.lines
+          (subst (λ (es : List Entry). IsWrittenAfter text head image es written) (sym split) w));
       log = shows.log;
-      taken = subst (λ (es : List Entry). Lead shape image [] es shows.log) (sym kept) shows.taken;
-      judge = subst (λ j. Follows shape image shows.log j) (sym same) shows.judge;
+      taken = subst (λ (es : List Entry). Lead head image [] es shows.log) (sym kept) shows.taken;
+      judge = subst (λ j. Follows head.order head.shape image shows.log j) (sym same) shows.judge;
     }
 
 -- either
-shows-next : (text : List ℕ) (before count line : ℕ) (shape : Shape) (image : List ℕ) (entries : List Entry) (entry : Entry) (old new : Window)
+shows-next : (text : List ℕ) (before count line : ℕ) (head : Head) (image : List ℕ) (entries : List Entry) (entry : Entry) (old new : Window)
     → (is_shown : Bool) → (is_shown ≡ true → before ≤ count) → (is_shown ≡ false → count < before)
-    → Takes is_shown line entry old new → Shows text before shape image entries old → length entries ≡ count
-    → IsFullLine text line (Ok (going shape image (entries ++ entry ∷ []))) → Shows text before shape image (entries ++ entry ∷ []) new
-shows-next text before count line shape image entries entry old new true many few t shows same w =
+    → Takes is_shown line entry old new → Shows text before head image entries old → length entries ≡ count
+    → IsFullLine text line (Ok (going head image (entries ++ entry ∷ []))) → Shows text before head image (entries ++ entry ∷ []) new
+shows-next text before count line head image entries entry old new true many few t shows same w =
     let enough : before ≤ length entries = rw same (many refl) in
-    shows-more text before shape image entries (record { line = line; entry = entry }) old new enough shows t.0 t.1 w
-shows-next text before count line shape image entries entry old new false many few t shows same w =
+    shows-more text before head image entries (record { line = line; entry = entry }) old new enough shows t.0 t.1 w
+shows-next text before count line head image entries entry old new false many few t shows same w =
     let less : length entries < before = rw same (few refl) in
-    shows-before text before shape image entries entry old new less shows t.0 t.1
+    shows-before text before head image entries entry old new less shows t.0 t.1
 
 -- ## One more line
 
@@ -121,94 +121,94 @@ refused_on value f (Wrong cause) h = ap (λ v. v >>= f) h
 refused_on value f no_memory h = tt
 
 -- a line with an entry
-pub entry-taken : (text : List ℕ) (before count line : ℕ) (shape : Shape) (image : List ℕ) (entries : List Entry) (words : List ℕ) (entry : Entry)
+pub entry-taken : (text : List ℕ) (before count line : ℕ) (head : Head) (image : List ℕ) (entries : List Entry) (words : List ℕ) (entry : Entry)
     (old new : Window) (is_shown : Bool) → entry_of words ≡ Ok entry → (is_shown ≡ true → before ≤ count) → (is_shown ≡ false → count < before)
-    → Takes is_shown line entry old new → Shows text before shape image entries old → length entries ≡ count
-    → IsFullLine text line (with_entry shape image entries words)
-    → LeadsTo text before (with_entry shape image entries words) (Ok (Going new (count + 1)))
-entry-taken text before count line shape image entries words entry old new is_shown e many few t shows same w =
-    let leads : with_entry shape image entries words ≡ Ok (going shape image (entries ++ entry ∷ [])) =
-    ap (λ (o : Result Entry Cause). o >>= (λ x. Ok (going shape image (entries ++ x ∷ [])))) e in
-    let at : IsFullLine text line (Ok (going shape image (entries ++ entry ∷ []))) =
+    → Takes is_shown line entry old new → Shows text before head image entries old → length entries ≡ count
+    → IsFullLine text line (with_entry head image entries words)
+    → LeadsTo text before (with_entry head image entries words) (Ok (Going new (count + 1)))
+entry-taken text before count line head image entries words entry old new is_shown e many few t shows same w =
+    let leads : with_entry head image entries words ≡ Ok (going head image (entries ++ entry ∷ [])) =
+    ap (λ (o : Result Entry Cause). o >>= (λ x. Ok (going head image (entries ++ x ∷ [])))) e in
+    let at : IsFullLine text line (Ok (going head image (entries ++ entry ∷ []))) =
     subst (λ (o : Result Reading Cause). IsFullLine text line o) leads w in
     let longer : length (entries ++ entry ∷ []) ≡ count + 1 = omega (arith, same, length_more entries entry) in (
-      going shape image (entries ++ entry ∷ []),
+      going head image (entries ++ entry ∷ []),
       leads,
-      (shows-next text before count line shape image entries entry old new is_shown many few t shows same at, longer),
+      (shows-next text before count line head image entries entry old new is_shown many few t shows same at, longer),
     )
 
-pub entry-refused : (text : List ℕ) (before : ℕ) (shape : Shape) (image : List ℕ) (entries : List Entry) (words : List ℕ) (error : LineError)
-    → Refuses error (entry_of words) → LeadsTo text before (with_entry shape image entries words) (Err (unread_as error))
-entry-refused text before shape image entries words error e =
-    refused text before _ error (refused_on (entry_of words) (λ x. Ok (going shape image (entries ++ x ∷ []))) error e)
+pub entry-refused : (text : List ℕ) (before : ℕ) (head : Head) (image : List ℕ) (entries : List Entry) (words : List ℕ) (error : LineError)
+    → Refuses error (entry_of words) → LeadsTo text before (with_entry head image entries words) (Err (unread_as error))
+entry-refused text before head image entries words error e =
+    refused text before _ error (refused_on (entry_of words) (λ x. Ok (going head image (entries ++ x ∷ []))) error e)
 
 -- the numbers
-pub shape-taken : (text : List ℕ) (before : ℕ) (words : List ℕ) (shape : Shape) → shape_of words ≡ Ok shape → (reading : Reading)
-    → Agrees text before reading Fresh → LeadsTo text before (next reading words) (Ok (Shaped shape))
-shape-taken text before words shape e fresh h = (shaped shape, ap (λ (s : Result Shape Cause). s >>= (λ x. Ok (shaped x))) e, refl)
-shape-taken text before words shape e (shaped s) h = absurd h
-shape-taken text before words shape e (going s image entries) h = absurd h
+pub head-taken : (text : List ℕ) (before : ℕ) (words : List ℕ) (head : Head) → head_of words ≡ Ok head → (reading : Reading)
+    → Agrees text before reading Fresh → LeadsTo text before (next reading words) (Ok (Shaped head))
+head-taken text before words head e fresh h = (shaped head, ap (λ (s : Result Head Cause). s >>= (λ x. Ok (shaped x))) e, refl)
+head-taken text before words head e (shaped s) h = absurd h
+head-taken text before words head e (going s image entries) h = absurd h
 
-pub shape-refused : (text : List ℕ) (before : ℕ) (words : List ℕ) (error : LineError) → Refuses error (shape_of words) → (reading : Reading)
+pub head-refused : (text : List ℕ) (before : ℕ) (words : List ℕ) (error : LineError) → Refuses error (head_of words) → (reading : Reading)
     → Agrees text before reading Fresh → LeadsTo text before (next reading words) (Err (unread_as error))
-shape-refused text before words error e fresh h = refused text before _ error (refused_on (shape_of words) (λ x. Ok (shaped x)) error e)
-shape-refused text before words error e (shaped s) h = absurd h
-shape-refused text before words error e (going s image entries) h = absurd h
+head-refused text before words error e fresh h = refused text before _ error (refused_on (head_of words) (λ x. Ok (shaped x)) error e)
+head-refused text before words error e (shaped s) h = absurd h
+head-refused text before words error e (going s image entries) h = absurd h
 
 -- a window before all entries
-shows-none : (text : List ℕ) (before : ℕ) (shape : Shape) (image : List ℕ) (window : Window) → Follows shape image [] window.judge
-    → window.entries.items ≡ [] → Shows text before shape image [] window
-shows-none text before shape image window f none =
+shows-none : (text : List ℕ) (before : ℕ) (head : Head) (image : List ℕ) (window : Window) → Follows head.order head.shape image [] window.judge
+    → window.entries.items ≡ [] → Shows text before head image [] window
+shows-none text before head image window f none =
     let taken : take before [] ≡ [] = take_all before [] (omega arith) in
     record {
       shown = ap (λ (ws : List Written). entries_of ws) none ∙ sym (drop_all before [] (omega arith));
-      lines = subst (λ (ws : List Written). AreWrittenAfter text shape image (take before []) ws) (sym none) tt;
+      lines = subst (λ (ws : List Written). AreWrittenAfter text head image (take before []) ws) (sym none) tt;
       log = [];
-      taken = subst (λ (es : List Entry). Lead shape image [] es []) (sym taken) refl;
+      taken = subst (λ (es : List Entry). Lead head image [] es []) (sym taken) refl;
       judge = f;
     }
 
 -- an image
-pub image-taken : (text : List ℕ) (before : ℕ) (words image : List ℕ) (shape : Shape) (window : Window) → image_of shape words ≡ Ok (Some image)
-    → Follows shape image [] window.judge → window.entries.items ≡ [] → (reading : Reading) → Agrees text before reading (Shaped shape)
+pub image-taken : (text : List ℕ) (before : ℕ) (words image : List ℕ) (head : Head) (window : Window) → image_of head.shape words ≡ Ok (Some image)
+    → Follows head.order head.shape image [] window.judge → window.entries.items ≡ [] → (reading : Reading) → Agrees text before reading (Shaped head)
     → LeadsTo text before (next reading words) (Ok (Going window 0))
-image-taken text before words image shape window e f none fresh h = absurd h
-image-taken text before words image shape window e f none (shaped s) h = (
+image-taken text before words image head window e f none fresh h = absurd h
+image-taken text before words image head window e f none (shaped s) h = (
   going s image [],
-  ap (λ (x : Shape). image_of x words >>= (λ i. image_or_entry s words i)) (sym h)
+  ap (λ (x : Head). image_of x.shape words >>= (λ i. image_or_entry s words i)) (sym h)
       ∙ ap (λ (o : Result (Option (List ℕ)) Cause). o >>= (λ i. image_or_entry s words i)) e,
-  (shows-none text before s image window (subst (λ (x : Shape). Follows x image [] window.judge) h f) none, refl),
+  (shows-none text before s image window (subst (λ (x : Head). Follows x.order x.shape image [] window.judge) h f) none, refl),
 )
-image-taken text before words image shape window e f none (going s i entries) h = absurd h
+image-taken text before words image head window e f none (going s i entries) h = absurd h
 
-pub image-refused : (text : List ℕ) (before : ℕ) (words : List ℕ) (shape : Shape) (error : LineError) → Refuses error (image_of shape words)
-    → (reading : Reading) → Agrees text before reading (Shaped shape) → LeadsTo text before (next reading words) (Err (unread_as error))
-image-refused text before words shape error e fresh h = absurd h
-image-refused text before words shape error e (shaped s) h =
+pub image-refused : (text : List ℕ) (before : ℕ) (words : List ℕ) (head : Head) (error : LineError) → Refuses error (image_of head.shape words)
+    → (reading : Reading) → Agrees text before reading (Shaped head) → LeadsTo text before (next reading words) (Err (unread_as error))
+image-refused text before words head error e fresh h = absurd h
+image-refused text before words head error e (shaped s) h =
     refused text before _ error
-    (refused_on (image_of s words) (λ i. image_or_entry s words i) error (subst (λ (x : Shape). Refuses error (image_of x words)) h e))
-image-refused text before words shape error e (going s i entries) h = absurd h
+    (refused_on (image_of s.shape words) (λ i. image_or_entry s words i) error (subst (λ (x : Head). Refuses error (image_of x.shape words)) h e))
+image-refused text before words head error e (going s i entries) h = absurd h
 
 -- no image: the first entry
-pub no-image : (text : List ℕ) (before line : ℕ) (words : List ℕ) (shape : Shape) (window : Window) (result : Result Progress WindowFault)
-    → image_of shape words ≡ Ok None → Follows shape [] [] window.judge → window.entries.items ≡ []
-    → ((x : Shape) (image : List ℕ) (entries : List Entry) → IsFullLine text line (with_entry x image entries words)
+pub no-image : (text : List ℕ) (before line : ℕ) (words : List ℕ) (head : Head) (window : Window) (result : Result Progress WindowFault)
+    → image_of head.shape words ≡ Ok None → Follows head.order head.shape [] [] window.judge → window.entries.items ≡ []
+    → ((x : Head) (image : List ℕ) (entries : List Entry) → IsFullLine text line (with_entry x image entries words)
     → Shows text before x image entries window → length entries ≡ 0 → LeadsTo text before (with_entry x image entries words) result)
-    → (reading : Reading) → IsFullLine text line (next reading words) → Agrees text before reading (Shaped shape)
+    → (reading : Reading) → IsFullLine text line (next reading words) → Agrees text before reading (Shaped head)
     → LeadsTo text before (next reading words) result
-no-image text before line words shape window result e f none leads fresh w h = absurd h
-no-image text before line words shape window result e f none leads (shaped s) w h =
+no-image text before line words head window result e f none leads fresh w h = absurd h
+no-image text before line words head window result e f none leads (shaped s) w h =
     let same : next (shaped s) words ≡ with_entry s [] [] words =
-    ap (λ (x : Shape). image_of x words >>= (λ i. image_or_entry s words i)) (sym h)
+    ap (λ (x : Head). image_of x.shape words >>= (λ i. image_or_entry s words i)) (sym h)
     ∙ ap (λ (o : Result (Option (List ℕ)) Cause). o >>= (λ i. image_or_entry s words i)) e in
     subst (λ (o : Result Reading Cause). LeadsTo text before o result) (sym same)
     (leads s [] [] (subst (λ (o : Result Reading Cause). IsFullLine text line o) same w)
-    (shows-none text before s [] window (subst (λ (x : Shape). Follows x [] [] window.judge) h f) none) refl)
-no-image text before line words shape window result e f none leads (going s i entries) w h = absurd h
+    (shows-none text before s [] window (subst (λ (x : Head). Follows x.order x.shape [] [] window.judge) h f) none) refl)
+no-image text before line words head window result e f none leads (going s i entries) w h = absurd h
 
 -- an entry after others
 pub going-on : (text : List ℕ) (before count line : ℕ) (words : List ℕ) (window : Window) (result : Result Progress WindowFault)
-    → ((x : Shape) (image : List ℕ) (entries : List Entry) → IsFullLine text line (with_entry x image entries words)
+    → ((x : Head) (image : List ℕ) (entries : List Entry) → IsFullLine text line (with_entry x image entries words)
     → Shows text before x image entries window → length entries ≡ count → LeadsTo text before (with_entry x image entries words) result)
     → (reading : Reading) → IsFullLine text line (next reading words) → Agrees text before reading (Going window count)
     → LeadsTo text before (next reading words) result
@@ -260,38 +260,38 @@ pub record Remain (count : ℕ) (reading : Reading) (lines : List (List ℕ)) : 
   pub read : List (List ℕ)
   pub rest : List (List ℕ)
   pub lines_are : lines ≡ read ++ rest
-  pub shape : Shape
+  pub head : Head
   pub image : List ℕ
   pub entries : List Entry
-  pub reads : reading_of reading read ≡ Ok (going shape image entries)
+  pub reads : reading_of reading read ≡ Ok (going head image entries)
   pub counted : length entries ≡ count
 
 -- so many entries are not yet there
 abbrev pub IsShortOf : ℕ → Progress → Type 0
 IsShortOf count Fresh = Unit {0}
-IsShortOf count (Shaped shape) = Unit {0}
+IsShortOf count (Shaped head) = Unit {0}
 IsShortOf count (Going window taken) = taken ≢ count
 
 -- the same of what was read
 abbrev IsShort : ℕ → Reading → Type 0
 IsShort count fresh = Unit {0}
-IsShort count (shaped shape) = Unit {0}
-IsShort count (going shape image entries) = length entries ≢ count
+IsShort count (shaped head) = Unit {0}
+IsShort count (going head image entries) = length entries ≢ count
 
 is-short : (text : List ℕ) (before count : ℕ) (reading : Reading) (progress : Progress) → Agrees text before reading progress
     → IsShortOf count progress → IsShort count reading
 is-short text before count fresh progress h s = tt
-is-short text before count (shaped shape) progress h s = tt
-is-short text before count (going shape image entries) Fresh h s = absurd h
-is-short text before count (going shape image entries) (Shaped x) h s = absurd h
-is-short text before count (going shape image entries) (Going window taken) h s = λ e. s (sym h.1 ∙ e)
+is-short text before count (shaped head) progress h s = tt
+is-short text before count (going head image entries) Fresh h s = absurd h
+is-short text before count (going head image entries) (Shaped x) h s = absurd h
+is-short text before count (going head image entries) (Going window taken) h s = λ e. s (sym h.1 ∙ e)
 
 -- what was read has not so many
-not-there : (count : ℕ) (reading : Reading) (shape : Shape) (image : List ℕ) (entries : List Entry) → IsShort count reading
-    → reading ≡ going shape image entries → length entries ≡ count → ⊥
-not-there count fresh shape image entries s e n = cc
-not-there count (shaped x) shape image entries s e n = cc
-not-there count (going x i es) shape image entries s e n =
+not-there : (count : ℕ) (reading : Reading) (head : Head) (image : List ℕ) (entries : List Entry) → IsShort count reading
+    → reading ≡ going head image entries → length entries ≡ count → ⊥
+not-there count fresh head image entries s e n = cc
+not-there count (shaped x) head image entries s e n = cc
+not-there count (going x i es) head image entries s e n =
     let same : es ≡ entries = cc in
     s (ap (λ (l : List Entry). length l) same ∙ n)
 
@@ -319,7 +319,7 @@ stands-first text before count = record {
     read = h.writes.read;
     rest = h.writes.rest;
     lines_are = h.writes.lines;
-    shape = h.shape;
+    head = h.head;
     image = h.image;
     entries = h.entries;
     reads = h.writes.reads;
@@ -329,12 +329,12 @@ stands-first text before count = record {
 
 -- one line fewer remains
 remain-step : (count : ℕ) (reading next_ : Reading) (line : List ℕ) (rest : List (List ℕ)) → IsShort count reading
-    → after_line reading line ≡ Ok next_ → (read rest_ : List (List ℕ)) → line ∷ rest ≡ read ++ rest_ → (shape : Shape) (image : List ℕ) (entries : List Entry)
-    → reading_of reading read ≡ Ok (going shape image entries) → length entries ≡ count → Remain count next_ rest
-remain-step count reading next_ line rest s e [] rest_ is shape image entries r n =
-    let same : reading ≡ going shape image entries = cc in
-    absurd (not-there count reading shape image entries s same n)
-remain-step count reading next_ line rest s e (l ∷ read) rest_ is shape image entries r n =
+    → after_line reading line ≡ Ok next_ → (read rest_ : List (List ℕ)) → line ∷ rest ≡ read ++ rest_ → (head : Head) (image : List ℕ) (entries : List Entry)
+    → reading_of reading read ≡ Ok (going head image entries) → length entries ≡ count → Remain count next_ rest
+remain-step count reading next_ line rest s e [] rest_ is head image entries r n =
+    let same : reading ≡ going head image entries = cc in
+    absurd (not-there count reading head image entries s same n)
+remain-step count reading next_ line rest s e (l ∷ read) rest_ is head image entries r n =
     let first : line ≡ l = cc in
     let others : rest ≡ read ++ rest_ = cc in
     let here : after_line reading l ≡ Ok next_ = ap (λ (x : List ℕ). after_line reading x) (sym first) ∙ e in
@@ -342,7 +342,7 @@ remain-step count reading next_ line rest s e (l ∷ read) rest_ is shape image 
       read = read;
       rest = rest_;
       lines_are = others;
-      shape = shape;
+      head = head;
       image = image;
       entries = entries;
       reads = sym (ap (λ (o : Result Reading Cause). o >>= (λ t. reading_of t read)) here) ∙ r;
@@ -351,12 +351,12 @@ remain-step count reading next_ line rest s e (l ∷ read) rest_ is shape image 
 
 -- a line that cannot be read is none of them
 remain-bad : (count : ℕ) (reading : Reading) (line : List ℕ) (rest : List (List ℕ)) (cause : Cause) → IsShort count reading
-    → after_line reading line ≡ Err cause → (read rest_ : List (List ℕ)) → line ∷ rest ≡ read ++ rest_ → (shape : Shape) (image : List ℕ) (entries : List Entry)
-    → reading_of reading read ≡ Ok (going shape image entries) → length entries ≡ count → ⊥
-remain-bad count reading line rest cause s e [] rest_ is shape image entries r n =
-    let same : reading ≡ going shape image entries = cc in
-    not-there count reading shape image entries s same n
-remain-bad count reading line rest cause s e (l ∷ read) rest_ is shape image entries r n =
+    → after_line reading line ≡ Err cause → (read rest_ : List (List ℕ)) → line ∷ rest ≡ read ++ rest_ → (head : Head) (image : List ℕ) (entries : List Entry)
+    → reading_of reading read ≡ Ok (going head image entries) → length entries ≡ count → ⊥
+remain-bad count reading line rest cause s e [] rest_ is head image entries r n =
+    let same : reading ≡ going head image entries = cc in
+    not-there count reading head image entries s same n
+remain-bad count reading line rest cause s e (l ∷ read) rest_ is head image entries r n =
     let first : line ≡ l = cc in
     let here : after_line reading l ≡ Err cause = ap (λ (x : List ℕ). after_line reading x) (sym first) ∙ e in
     let stops : reading_of reading (l ∷ read) ≡ Err cause = ap (λ (o : Result Reading Cause). o >>= (λ t. reading_of t read)) here in
@@ -364,11 +364,11 @@ remain-bad count reading line rest cause s e (l ∷ read) rest_ is shape image e
 
 -- nothing remains at the end
 remain-end : (count : ℕ) (reading : Reading) → IsShort count reading → (read rest_ : List (List ℕ)) → [] ≡ read ++ rest_
-    → (shape : Shape) (image : List ℕ) (entries : List Entry) → reading_of reading read ≡ Ok (going shape image entries) → length entries ≡ count → ⊥
-remain-end count reading s [] rest_ is shape image entries r n =
-    let same : reading ≡ going shape image entries = cc in
-    not-there count reading shape image entries s same n
-remain-end count reading s (l ∷ read) rest_ is shape image entries r n = cc
+    → (head : Head) (image : List ℕ) (entries : List Entry) → reading_of reading read ≡ Ok (going head image entries) → length entries ≡ count → ⊥
+remain-end count reading s [] rest_ is head image entries r n =
+    let same : reading ≡ going head image entries = cc in
+    not-there count reading head image entries s same n
+remain-end count reading s (l ∷ read) rest_ is head image entries r n = cc
 
 module _ (text : List ℕ) (before count : ℕ) (left : List ℕ) (number : ℕ) (progress : Progress) (at : Stands text before count left number progress) where
   -- the end
@@ -377,7 +377,7 @@ module _ (text : List ℕ) (before count : ℕ) (left : List ℕ) (number : ℕ)
       let all : lines_of left ≡ [] = ap (λ (l : List ℕ). lines_of l) (at_end left none) in
       let there = at.remain has in
       remain-end count at.reading (is-short text before count at.reading progress at.agrees at.short) there.read there.rest
-      (sym all ∙ there.lines_are) there.shape there.image there.entries there.reads there.counted
+      (sym all ∙ there.lines_are) there.head there.image there.entries there.reads there.counted
 
   module _ (some : take_through 10 left ≢ []) where
     -- the line that is taken
@@ -422,7 +422,7 @@ module _ (text : List ℕ) (before count : ℕ) (left : List ℕ) (number : ℕ)
       remain = λ has.
           let there = at.remain has in
           remain-step count at.reading leads.0 line (lines_of (drop_through 10 left)) (is-short text before count at.reading progress at.agrees at.short)
-          leads.1 there.read there.rest (sym (cut left some) ∙ there.lines_are) there.shape there.image there.entries there.reads there.counted;
+          leads.1 there.read there.rest (sym (cut left some) ∙ there.lines_are) there.head there.image there.entries there.reads there.counted;
     }
 
     -- it cannot be read
@@ -430,7 +430,7 @@ module _ (text : List ℕ) (before count : ℕ) (left : List ℕ) (number : ℕ)
     bad Line leads e has =
         let there = at.remain has in
         remain-bad count at.reading line (lines_of (drop_through 10 left)) leads.0 (is-short text before count at.reading progress at.agrees at.short)
-        leads.1 there.read there.rest (sym (cut left some) ∙ there.lines_are) there.shape there.image there.entries there.reads there.counted
+        leads.1 there.read there.rest (sym (cut left some) ∙ there.lines_are) there.head there.image there.entries there.reads there.counted
     bad Memory leads e has = cc
 
     -- the window
@@ -439,7 +439,7 @@ module _ (text : List ℕ) (before count : ℕ) (left : List ℕ) (number : ℕ)
     done fresh window taken r h e = absurd h
     done (shaped s) window taken r h e = absurd h
     done (going s image entries) window taken r h e = record {
-      shape = s;
+      head = s;
       image = image;
       entries = entries;
       writes = record { read = at.read ++ line ∷ []; rest = lines_of (drop_through 10 left); lines = lines_here; reads = reads_more (going s image entries) r };
@@ -453,4 +453,4 @@ module _ (text : List ℕ) (before count : ℕ) (left : List ℕ) (number : ℕ)
 
 -- the judge of a window is where some log leads
 pub window-somewhere : (text : List ℕ) (before count : ℕ) (window : Window) → IsWindow text before count window → IsSomewhere window.judge
-window-somewhere text before count window w = record { shape = w.shape; image = w.image; log = w.shows.log; follows = w.shows.judge }
+window-somewhere text before count window w = record { head = w.head; image = w.image; log = w.shows.log; follows = w.shows.judge }

@@ -10,6 +10,7 @@ use Rattle.tlcheck_rules.specs.declared.judge.Breach.{Breach}
 use Rattle.tlcheck_rules.specs.declared.judge.Refusal.{Refusal}
 use Rattle.tlcheck_rules.specs.declared.judge.Refusal.TheVariants.{Broken, Memory}
 use Rattle.tlcheck_record.specs.State.{block_lines, state_lines}
+use Rattle.tlcheck_record.specs.declared.header.Head.{Head}
 use Rattle.tlchart_page.specs.Film.{changed}
 use Rattle.tlchart_page.specs.declared.film.Change.{Change}
 use Rattle.tlchart_record.specs.declared.film.Frame.{Frame}
@@ -34,10 +35,10 @@ blocks_shown plain blocks = map (state_lines plain) blocks
 -- ## One entry
 
 -- After a log an entry is permitted, and its event is the last of the log from there on; or it breaks something, and the log stays.
-abbrev pub GoesOn : Shape → List ℕ → List Event → Entry → List Event → Type 0
-GoesOn shape image log entry next =
-    (IsPermitted shape image log entry × (next ≡ log ++ entry.event ∷ []))
-    ⊎ ((breach : Breach) × Breaks shape image log entry breach × (next ≡ log))
+abbrev pub GoesOn : Head → List ℕ → List Event → Entry → List Event → Type 0
+GoesOn head image log entry next =
+    (IsPermitted head.order head.shape image log entry × (next ≡ log ++ entry.event ∷ []))
+    ⊎ ((breach : Breach) × Breaks head.order head.shape image log entry breach × (next ≡ log))
 
 -- a judge was given an entry, and there was memory for it
 abbrev pub is_settled : Result (Unit {0}) Refusal → Bool
@@ -48,15 +49,15 @@ is_settled (Err Memory) = false
 -- a judge took an entry, where it is permitted, and is where it was where it is not
 abbrev pub Plays : Entry → JudgeState → JudgeState → Type 0
 Plays entry old new =
-    (shape : Shape) (image : List ℕ) (log : List Event) → Follows shape image log old
-    → (next : List Event) × GoesOn shape image log entry next × Follows shape image next new
+    (head : Head) (image : List ℕ) (log : List Event) → Follows head.order head.shape image log old
+    → (next : List Event) × GoesOn head image log entry next × Follows head.order head.shape image next new
 
 -- A judge is where some log leads.
 pub record IsSomewhere (judge : JudgeState) : Type 0 where
-  pub shape : Shape
+  pub head : Head
   pub image : List ℕ
   pub log : List Event
-  pub follows : Follows shape image log judge
+  pub follows : Follows head.order head.shape image log judge
 
 -- A state shows these blocks as a judge has them, but for one.
 pub record IsShownBut (plain : PlainState) (blocks : List ℕ) (block : ℕ) (state : List (List ℕ)) : Type 0 where
@@ -77,24 +78,24 @@ entries_of written = map (λ (w : Written). w.entry) written
 
 -- From a log on, the changes of each entry make of the state that was shown before it the one that the log with it leads to, up to
 -- the last log.
-abbrev pub AreEntryFrames : Shape → List ℕ → List ℕ → List Event → List Entry → List (List Change) → List Event → Type 0
-AreEntryFrames shape image blocks log [] [] last = last ≡ log
-AreEntryFrames shape image blocks log (entry ∷ entries) (changes ∷ rest) last =
+abbrev pub AreEntryFrames : Head → List ℕ → List ℕ → List Event → List Entry → List (List Change) → List Event → Type 0
+AreEntryFrames head image blocks log [] [] last = last ≡ log
+AreEntryFrames head image blocks log (entry ∷ entries) (changes ∷ rest) last =
     (next : List Event)
-    × GoesOn shape image log entry next
-    × (changed (shown_after shape image log blocks) changes ≡ shown_after shape image next blocks)
-    × AreEntryFrames shape image blocks next entries rest last
-AreEntryFrames shape image blocks log entries changes last = ⊥
+    × GoesOn head image log entry next
+    × (changed (shown_after head.shape image log blocks) changes ≡ shown_after head.shape image next blocks)
+    × AreEntryFrames head image blocks next entries rest last
+AreEntryFrames head image blocks log entries changes last = ⊥
 
 -- a judge took these entries, and these are their changes, whatever log led to where it was
 abbrev pub Filmed : JudgeState → JudgeState → List ℕ → List Entry → List (List Change) → Type 0
 Filmed old new blocks entries frames =
-    (shape : Shape) (image : List ℕ) (log : List Event) → Follows shape image log old
-    → (last : List Event) × AreEntryFrames shape image blocks log entries frames last × Follows shape image last new
+    (head : Head) (image : List ℕ) (log : List Event) → Follows head.order head.shape image log old
+    → (last : List Event) × AreEntryFrames head image blocks log entries frames last × Follows head.order head.shape image last new
 
 -- A film of some entries after a log over an image: it begins with what these blocks show after the log, and has a frame for each entry.
 -- So the state that is shown after an entry is the one where the permitted entries up to it lead.
-pub record IsRecordFilm (shape : Shape) (image : List ℕ) (log : List Event) (blocks : List ℕ) (entries : List Entry) (film : RecordFilm) : Type 0 where
+pub record IsRecordFilm (head : Head) (image : List ℕ) (log : List Event) (blocks : List ℕ) (entries : List Entry) (film : RecordFilm) : Type 0 where
   pub last : List Event
-  pub start : map string_bytes film.start.items ≡ shown_after shape image log blocks
-  pub frames : AreEntryFrames shape image blocks log entries (map vec_items film.changes.items) last
+  pub start : map string_bytes film.start.items ≡ shown_after head.shape image log blocks
+  pub frames : AreEntryFrames head image blocks log entries (map vec_items film.changes.items) last

@@ -2,9 +2,9 @@
 ghost use Rattle.std.specs.Prelude.{◌≡◌, ◌≢◌, ◌<◌, ◌++◌, ℕ, List, IfOk, OnOk, [], is_ok, length, map, slice_index_or, slice_set, string_bytes, vec_items};
 ghost use Rattle.tl_protocol.specs.Protocol.{block_of};
 ghost use Rattle.tl_protocol.specs.declared.event.Event.{Event};
-ghost use Rattle.tl_protocol.specs.declared.shape.Shape.{Shape};
 ghost use Rattle.tlcheck_rules.specs.Judged.{Follows};
 ghost use Rattle.tlcheck_record.specs.State.{state_lines};
+ghost use Rattle.tlcheck_record.specs.declared.header.Head.{Head};
 ghost use Rattle.tlchart_page.specs.Film.{changed};
 ghost use Rattle.tlchart_page.specs.Told.{IsToldOn};
 ghost use Rattle.tlchart_record.specs.Film.{Filmed, IsLonger, IsRecordFilm, IsShownBut, IsSomewhere, Plays, blocks_shown, entries_of, is_settled};
@@ -142,7 +142,7 @@ fn frame_of(
         (λ frame. changed (blocks_shown judge.old.plain blocks.now) frame.changes.items
         ≡ blocks_shown judge.new.plain blocks.now) }
 {
-    let turn = turn_of(judge, serials, entry);
+    let turn = turn_of(judge, serials, entry)?;
     let block = block_of(judge, entry);
     play(judge, entry)?;
     let changes = changes_in(alloc, judge, blocks, block, state)?;
@@ -193,8 +193,9 @@ pub fn film_entries(
 ) -> Result<RecordFilm, AllocError>
     requires { IsSomewhere judge.old }
     ensures { IfOk result
-        (λ film. (shape : Shape) (image : List ℕ) (log : List Event) → Follows shape image log judge.old
-        → IsRecordFilm shape image log blocks.now (entries_of entries.now) film) }
+        (λ film. (head : Head) (image : List ℕ) (log : List Event)
+        → Follows head.order head.shape image log judge.old
+        → IsRecordFilm head image log blocks.now (entries_of entries.now) film) }
 {
     let start = state_of(alloc, judge, blocks)?;
     let mut state = state_of(alloc, judge, blocks)?;

@@ -2,9 +2,9 @@
 ghost use Rattle.std.specs.Prelude.{◌≡◌, ◌<◌, ◌≤◌, ℕ, List, [], length, IfOk, IfErr, OnOk, false};
 ghost use Rattle.std.specs.Io.BufRead.{strip_last};
 ghost use Rattle.tl_types.specs.declared.limits.TheConstants.{BLOCKS, BLOCK_BYTES};
-ghost use Rattle.tl_protocol.specs.declared.shape.Shape.{Shape};
 ghost use Rattle.tlcheck_rules.specs.declared.entry.Entry.{Entry};
 ghost use Rattle.tlcheck_rules.specs.Judged.{Follows};
+ghost use Rattle.tlcheck_record.specs.declared.header.Head.{Head};
 ghost use Rattle.tlcheck_reader.specs.Reading.{Reading, after_line, next, with_entry};
 ghost use Rattle.tlchart_record.specs.Film.{IsSomewhere};
 ghost use Rattle.tlchart_record.specs.Window.{Agrees, HasEntries, IsFit, IsFullLine, IsLineOf, IsWindow, LeadsTo, Shows, Takes, unread_as};
@@ -17,7 +17,9 @@ use std::alloc::{AllocError, Global};
 use std::io::BufRead;
 use tl_rules::Shape;
 use tlcheck_chart::{Serials, turn_of};
-use tlcheck_record::{LineError, is_blank, read_entry, read_image_line, read_shape, read_text};
+use tlcheck_record::{
+    Head, LineError, is_blank, read_entry, read_head, read_image_line, read_text,
+};
 use tlcheck_rules::{Entry, Judge};
 
 /// An entry, and the number of its line from 1 on.
@@ -27,8 +29,8 @@ pub struct Written {
     pub entry: Entry,
 }
 
-/// The entries of a record that a page shows, the judge of those before them, and how many messages these sent and
-/// took.
+/// The entries of a record that a page shows, the judge of those before them, and the messages that these left on the
+/// channels.
 #[derive(Drop)]
 pub struct Window {
     pub judge: Judge,
@@ -58,8 +60,8 @@ impl From<AllocError> for WindowFault {
 pub(crate) enum Progress {
     /// No line but blank ones.
     Fresh,
-    /// Its numbers.
-    Shaped(Shape),
+    /// Its first line.
+    Shaped(Head),
     /// Its image, where it has one, and so many entries.
     Going(Window, u64),
 }
@@ -89,7 +91,7 @@ fn text_of(line: &[u8]) -> &[u8]
 fn pass(window: &mut Window, entry: &Entry) -> Result<(), AllocError>
     ensures { OnOk result (Takes false 0 entry.now window.old window.new) }
 {
-    let _turn = turn_of(&window.judge, &mut window.serials, entry);
+    let _turn = turn_of(&window.judge, &mut window.serials, entry)?;
     play(&mut window.judge, entry)?;
     Ok(())
 }
@@ -106,26 +108,27 @@ fn take(window: &mut Window, line: u64, entry: Entry, is_shown: bool) -> Result<
 }
 
 /// A window with no entry yet, over an image.
-fn open(alloc: Global, shape: Shape, image: &[u8]) -> Result<Window, AllocError>
-    requires bytes { (0 < shape.block_bytes) × (shape.block_bytes ≤ BLOCK_BYTES) }
-    requires blocks { shape.blocks ≤ BLOCKS }
-    ensures { IfOk result (λ window. Follows shape image.now [] window.judge × (window.entries.items ≡ [])) }
+fn open(alloc: Global, head: Head, image: &[u8]) -> Result<Window, AllocError>
+    requires bytes { (0 < head.shape.block_bytes) × (head.shape.block_bytes ≤ BLOCK_BYTES) }
+    requires blocks { head.shape.blocks ≤ BLOCKS }
+    ensures { IfOk result
+        (λ window. Follows head.order head.shape image.now [] window.judge × (window.entries.items ≡ [])) }
 {
     Ok(Window {
-        judge: Judge::new(alloc, shape, image)?,
-        serials: Serials::new(alloc, shape.clients)?,
+        judge: Judge::new(alloc, head.order, head.shape, image)?,
+        serials: Serials::new(alloc),
         entries: Vec::new(alloc),
     })
 }
 
-/// Takes the first line that is not blank, which has the numbers.
+/// Takes the first line that is not blank, which has the numbers and the order.
 fn first_line(alloc: Global, words: &str) -> Result<Progress, WindowFault>
     ensures leads { (text : List ℕ) (before : ℕ) (reading : Reading) → Agrees text before reading Progress.Fresh
         → LeadsTo text before (next reading words.now) result }
     ensures fit { IfOk result IsFit }
 {
-    match read_shape(alloc, words) {
-        Ok(shape) => Ok(Progress::Shaped(shape)),
+    match read_head(alloc, words) {
+        Ok(head) => Ok(Progress::Shaped(head)),
         Err(error) => Err(unread(error)),
     }
 }
@@ -139,10 +142,10 @@ fn entry_line(
     number: u64,
     words: &str,
 ) -> Result<Progress, WindowFault>
-    ensures leads { (text : List ℕ) (shape : Shape) (image : List ℕ) (entries : List Entry)
-        → IsFullLine text number (with_entry shape image entries words.now)
-        → Shows text before shape image entries window → length entries ≡ count
-        → LeadsTo text before (with_entry shape image entries words.now) result }
+    ensures leads { (text : List ℕ) (head : Head) (image : List ℕ) (entries : List Entry)
+        → IsFullLine text number (with_entry head image entries words.now)
+        → Shows text before head image entries window → length entries ≡ count
+        → LeadsTo text before (with_entry head image entries words.now) result }
     ensures fit { IfOk result IsFit }
 {
     if count == u64::MAX {
@@ -157,27 +160,27 @@ fn entry_line(
     }
 }
 
-/// Takes the line after the numbers, which has the image or, where there is none, the first entry.
+/// Takes the line after the first, which has the image or, where there is none, the first entry.
 fn second_line(
     alloc: Global,
-    shape: Shape,
+    head: Head,
     before: u64,
     number: u64,
     words: &str,
 ) -> Result<Progress, WindowFault>
-    requires bytes { (0 < shape.block_bytes) × (shape.block_bytes ≤ BLOCK_BYTES) }
-    requires blocks { shape.blocks ≤ BLOCKS }
+    requires bytes { (0 < head.shape.block_bytes) × (head.shape.block_bytes ≤ BLOCK_BYTES) }
+    requires blocks { head.shape.blocks ≤ BLOCKS }
     ensures leads { (text : List ℕ) (reading : Reading) → IsFullLine text number (next reading words.now)
-        → Agrees text before reading (Progress.Shaped shape) → LeadsTo text before (next reading words.now) result }
+        → Agrees text before reading (Progress.Shaped head) → LeadsTo text before (next reading words.now) result }
     ensures fit { IfOk result IsFit }
 {
-    match read_image_line(alloc, shape, words) {
+    match read_image_line(alloc, head.shape, words) {
         Ok(Some(image)) => {
-            let window = open(alloc, shape, &image)?;
+            let window = open(alloc, head, &image)?;
             Ok(Progress::Going(window, 0))
         }
         Ok(None) => {
-            let window = open(alloc, shape, &[])?;
+            let window = open(alloc, head, &[])?;
             entry_line(alloc, window, 0, before, number, words)
         }
         Err(error) => Err(unread(error)),
@@ -199,7 +202,7 @@ fn full_line(
 {
     match progress {
         Progress::Fresh => first_line(alloc, words),
-        Progress::Shaped(shape) => second_line(alloc, shape, before, number, words),
+        Progress::Shaped(head) => second_line(alloc, head, before, number, words),
         Progress::Going(window, count) => entry_line(alloc, window, count, before, number, words),
     }
 }

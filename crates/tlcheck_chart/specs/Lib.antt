@@ -1,2 +1,4 @@
+pub mod Lanes
 pub mod Rows
+pub mod Serials
 pub mod Told

@@ -5,10 +5,11 @@ use Rattle.tl_protocol.specs.Protocol.{block_of}
 use Rattle.tl_protocol.specs.declared.shape.Shape.{Shape}
 use Rattle.tlcheck_record.specs.Cause.{◌>>=◌}
 use Rattle.tlcheck_record.specs.Entry.{entry_of}
-use Rattle.tlcheck_record.specs.Header.{shape_of as shape_written}
+use Rattle.tlcheck_record.specs.Header.{head_of as head_written}
 use Rattle.tlcheck_record.specs.Reason.{breaks_text}
 use Rattle.tlcheck_record.specs.Words.{is_blank, text_in}
 use Rattle.tlcheck_record.specs.declared.cause.Cause.{Cause}
+use Rattle.tlcheck_record.specs.declared.header.Head.{Head}
 use Rattle.tlcheck_rules.specs.declared.entry.Entry.{Entry}
 use Rattle.tlcheck_rules.specs.declared.judge.Breach.{Breach}
 use Rattle.tlchart_draw.specs.Strip.{IsStrip}
@@ -23,23 +24,23 @@ abbrev pub said : List (List ℕ) → List (List ℕ)
 said [] = []
 said (line ∷ rest) = if is_blank line then said rest else line ∷ rest
 
--- the geometry of a text that was read
-abbrev pub shape_read : Result Shape Cause → Option Shape
-shape_read (Ok shape) = Some shape
-shape_read (Err cause) = None
+-- the geometry and the order of a text that was read
+abbrev pub head_read : Result Head Cause → Option Head
+head_read (Ok head) = Some head
+head_read (Err cause) = None
 
--- the geometry that a line writes, if it writes one
-abbrev pub shape_of : List ℕ → Option Shape
-shape_of line = shape_read (text_in line >>= (λ text. shape_written text))
+-- the geometry and the order that a line writes, if it writes them
+abbrev pub head_of : List ℕ → Option Head
+head_of line = head_read (text_in line >>= (λ text. head_written text))
 
--- that of the first of some lines
-abbrev pub first_shape : List (List ℕ) → Option Shape
-first_shape [] = None
-first_shape (line ∷ rest) = shape_of line
+-- those of the first of some lines
+abbrev pub first_head : List (List ℕ) → Option Head
+first_head [] = None
+first_head (line ∷ rest) = head_of line
 
--- the geometry of a record that begins with these lines: the first one that says something writes it
-abbrev pub geometry_of : List (List ℕ) → Option Shape
-geometry_of lines = first_shape (said lines)
+-- the geometry and the order of a record that begins with these lines: the first one that says something writes them
+abbrev pub record_head : List (List ℕ) → Option Head
+record_head lines = first_head (said lines)
 
 -- an entry is of a block
 abbrev pub is_of : Shape → ℕ → Result Entry Cause → Bool

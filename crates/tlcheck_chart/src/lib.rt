@@ -5,10 +5,12 @@ mod entries;
 mod picture;
 mod reply;
 mod rows;
+mod serials;
 mod start;
 mod turns;
 
 pub use picture::picture_of_ending;
 pub use reply::tell_chart;
 pub use rows::strip_of;
-pub use turns::{Serials, turn_of};
+pub use serials::Serials;
+pub use turns::turn_of;

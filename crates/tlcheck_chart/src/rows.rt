@@ -1,15 +1,16 @@
 //! The rows of a chart: the last entries of a block, and the one that is not permitted.
 ghost use Rattle.std.specs.List.{All};
 ghost use Rattle.std.specs.Prelude.{◌≡◌, ◌+◌, IfOk, MatchOption, None, Some, false, length, map};
-ghost use Rattle.tl_protocol.specs.declared.shape.Shape.{Shape};
 ghost use Rattle.tl_script_words.specs.Words.{texts};
 ghost use Rattle.tlchart_draw.specs.Strip.{IsBrokenRow, IsUnbroken, is_broken};
-ghost use Rattle.tlcheck_chart.specs.Rows.{IsStripOf, geometry_of};
+ghost use Rattle.tlcheck_chart.specs.Rows.{IsStripOf, record_head};
 ghost use Rattle.tlcheck_record.specs.Reason.{breaks_text};
+ghost use Rattle.tlcheck_record.specs.declared.header.Head.{Head};
 
 use crate::entries::{Numbered, entries_of};
+use crate::serials::Serials;
 use crate::start::judge_of;
-use crate::turns::{Serials, lifeline_of, turn_of};
+use crate::turns::{lifeline_of, turn_of};
 use std::alloc::{AllocError, Global};
 use tl_rules::{Event, Plain};
 use tl_types::{BankNo, BlockNo, ClientId, Perm};
@@ -23,7 +24,7 @@ use tlcheck_rules::{Breach, Entry, Judge, Refusal};
 fn take(judge: &mut Judge, serials: &mut Serials, entry: &Entry) -> Result<Turn, AllocError>
     ensures { IfOk result (λ turn. is_broken turn.mark ≡ false) }
 {
-    let turn = turn_of(judge, serials, entry);
+    let turn = turn_of(judge, serials, entry)?;
     match judge.step(entry) {
         Ok(()) | Err(Refusal::Broken(_)) => Ok(turn),
         Err(Refusal::Memory) => Err(AllocError),
@@ -136,7 +137,7 @@ fn strip_at(
     let block = BlockNo::new(broken.block);
     let entries = entries_of(alloc, lines, shape, broken.block)?;
     let (passed, shown) = entries.split_at(entries.len().saturating_sub(LINES_BEFORE));
-    let mut serials = Serials::new(alloc, shape.clients)?;
+    let mut serials = Serials::new(alloc);
     pass(&mut judge, &mut serials, passed)?;
     let held = held_of(alloc, judge.plain(), block)?;
     let mut rows = rows_of(alloc, lines, &mut judge, &mut serials, shown)?;
@@ -159,9 +160,9 @@ pub fn strip_of(
     broken: &BrokenEntry,
 ) -> Result<Option<Strip>, AllocError>
     ensures { IfOk result
-        (λ found. MatchOption found (geometry_of (texts lines.now) ≡ None)
-        (λ strip. (shape : Shape) × (geometry_of (texts lines.now) ≡ Some shape)
-        × IsStripOf shape (texts lines.now) broken.now.block broken.now.breach strip)) }
+        (λ found. MatchOption found (record_head (texts lines.now) ≡ None)
+        (λ strip. (head : Head) × (record_head (texts lines.now) ≡ Some head)
+        × IsStripOf head.shape (texts lines.now) broken.now.block broken.now.breach strip)) }
 {
     match judge_of(alloc, lines)? {
         Some(judge) => Ok(Some(strip_at(alloc, judge, lines, last, broken)?)),

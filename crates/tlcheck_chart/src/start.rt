@@ -2,12 +2,12 @@
 ghost use Rattle.std.specs.Prelude.{◌≡◌, ◌<◌, ◌≤◌, IfOk, IfSome, MatchOption, None, Some};
 ghost use Rattle.tl_script_words.specs.Words.{texts};
 ghost use Rattle.tl_types.specs.declared.limits.TheConstants.{BLOCKS, BLOCK_BYTES};
-ghost use Rattle.tlcheck_chart.specs.Rows.{geometry_of, said, shape_of};
+ghost use Rattle.tlcheck_chart.specs.Rows.{head_of, record_head, said};
 
 use std::alloc::{AllocError, Global};
 use tl_rules::Shape;
 use tl_types::{BLOCK_BYTES, BLOCKS};
-use tlcheck_record::{LineError, is_blank, read_image_line, read_shape, read_text};
+use tlcheck_record::{Head, LineError, is_blank, read_head, read_image_line, read_text};
 use tlcheck_rules::Judge;
 
 /// The lines from the first one on that says something.
@@ -22,18 +22,19 @@ fn said<'a, 'b>(lines: &'b [&'a [u8]]) -> &'b [&'a [u8]]
     &lines[lines.len()..]
 }
 
-/// The geometry that a line writes, if it writes one.
-fn shape_of(alloc: Global, line: &[u8]) -> Result<Option<Shape>, AllocError>
-    ensures value { IfOk result (λ found. found ≡ shape_of line.now) }
+/// The geometry and the order that a line writes, if it writes them.
+fn head_of(alloc: Global, line: &[u8]) -> Result<Option<Head>, AllocError>
+    ensures value { IfOk result (λ found. found ≡ head_of line.now) }
     ensures bytes { IfOk result
-        (λ found. IfSome found (λ shape. (0 < shape.block_bytes) × (shape.block_bytes ≤ BLOCK_BYTES))) }
-    ensures blocks { IfOk result (λ found. IfSome found (λ shape. shape.blocks ≤ BLOCKS)) }
+        (λ found. IfSome found
+        (λ head. (0 < head.shape.block_bytes) × (head.shape.block_bytes ≤ BLOCK_BYTES))) }
+    ensures blocks { IfOk result (λ found. IfSome found (λ head. head.shape.blocks ≤ BLOCKS)) }
 {
     let Ok(text) = read_text(line) else {
         return Ok(None);
     };
-    match read_shape(alloc, text) {
-        Ok(shape) => Ok(Some(shape)),
+    match read_head(alloc, text) {
+        Ok(head) => Ok(Some(head)),
         Err(LineError::Wrong(_)) => Ok(None),
         Err(LineError::Memory) => Err(AllocError),
     }
@@ -52,29 +53,31 @@ fn image_in(alloc: Global, shape: Shape, line: &[u8]) -> Result<Vec<u8>, AllocEr
 }
 
 /// A judge at reset over the image that the first of some lines writes that says something.
-fn judge_over(alloc: Global, shape: Shape, lines: &[&[u8]]) -> Result<Judge, AllocError>
-    requires bytes { (0 < shape.block_bytes) × (shape.block_bytes ≤ BLOCK_BYTES) }
-    requires blocks { shape.blocks ≤ BLOCKS }
-    ensures { IfOk result (λ judge. judge.plain.shape ≡ shape) }
+fn judge_over(alloc: Global, head: Head, lines: &[&[u8]]) -> Result<Judge, AllocError>
+    requires bytes { (0 < head.shape.block_bytes) × (head.shape.block_bytes ≤ BLOCK_BYTES) }
+    requires blocks { head.shape.blocks ≤ BLOCKS }
+    ensures shape { IfOk result (λ judge. judge.plain.shape ≡ head.shape) }
+    ensures order { IfOk result (λ judge. judge.order ≡ head.order) }
 {
     let image = match said(lines) {
-        [line, ..] => image_in(alloc, shape, line)?,
+        [line, ..] => image_in(alloc, head.shape, line)?,
         [] => Vec::new(alloc),
     };
-    Judge::new(alloc, shape, &image)
+    Judge::new(alloc, head.order, head.shape, &image)
 }
 
-/// A judge at reset over the image of a record that begins with these lines, with the record's geometry; None where
-/// they write none. The error is want of memory.
+/// A judge at reset over the image of a record that begins with these lines, with the record's geometry and in its
+/// order; None where they write none. The error is want of memory.
 pub(crate) fn judge_of(alloc: Global, lines: &[&[u8]]) -> Result<Option<Judge>, AllocError>
     ensures { IfOk result
-        (λ found. MatchOption found (geometry_of (texts lines.now) ≡ None)
-        (λ judge. geometry_of (texts lines.now) ≡ Some judge.plain.shape)) }
+        (λ found. MatchOption found (record_head (texts lines.now) ≡ None)
+        (λ judge. record_head (texts lines.now)
+        ≡ Some (record { shape = judge.plain.shape; order = judge.order }))) }
 {
     match said(lines) {
         [] => Ok(None),
-        [line, rest @ ..] => match shape_of(alloc, line)? {
-            Some(shape) => Ok(Some(judge_over(alloc, shape, rest)?)),
+        [line, rest @ ..] => match head_of(alloc, line)? {
+            Some(head) => Ok(Some(judge_over(alloc, head, rest)?)),
             None => Ok(None),
         },
     }

@@ -1,68 +1,25 @@
 //! What each entry of a record did.
-ghost use Rattle.std.specs.Prelude.{◌≡◌, false};
+ghost use Rattle.std.specs.Prelude.{◌≡◌, ◌⊎◌, ℕ, IfOk, IfSome, OnOk, Some, false};
+ghost use Rattle.tl_types.specs.declared.channel.Channel.{Channel};
 ghost use Rattle.tl_protocol.specs.Protocol.{May};
+ghost use Rattle.tl_protocol_lanes.specs.Lanes.{post_of, take_of};
 ghost use Rattle.tlchart_draw.specs.Strip.{is_broken};
-ghost use Rattle.tlcheck_rules.specs.Judged.{own_block};
+ghost use Rattle.tlchart_model.specs.declared.turn.Mark.TheVariants.{Unlawful};
+ghost use Rattle.tlcheck_rules.specs.Judged.{Allows, Rejects, own_block};
+ghost use Rattle.tlcheck_rules.specs.declared.judge.Breach.{Breach};
+ghost use Rattle.tlcheck_chart.specs.Serials.{IsDone, joined, lane_at, message_sent, place_taken, removed};
 
-use std::alloc::{AllocError, Global};
+use crate::serials::Serials;
+use std::alloc::AllocError;
 use tl_protocol::Outward;
 use tl_rules::{Event, Plain};
-use tl_types::{BankNo, BlockBytes, BlockNo, Channel, ClientId, Kind, Ticket};
+use tl_types::{BankNo, BlockBytes, BlockNo, Kind};
 use tlchart_model::{Lifeline, Mark, Place, ShownMessage, Turn, link_message};
 use tlcheck_rules::{Entry, Judge, client_of, taken_channel};
-
-/// A link has as many channels.
-const CHANNELS: usize = 5;
-
-/// How many messages were sent on each channel of each client, and how many were taken.
-#[derive(Drop)]
-pub struct Serials {
-    sent: Vec<u64>,
-    taken: Vec<u64>,
-}
-
-impl Serials {
-    /// Those of a record that begins.
-    pub fn new(alloc: Global, clients: u32) -> Result<Serials, AllocError> {
-        let count = clients as usize * CHANNELS;
-        Ok(Serials {
-            sent: vec![in alloc; 0; count]?,
-            taken: vec![in alloc; 0; count]?,
-        })
-    }
-}
 
 /// The home of a record, which has one.
 fn home() -> BankNo {
     BankNo::new(0)
-}
-
-/// The place of a channel of a client.
-fn place_of(client: ClientId, channel: Channel) -> usize {
-    client
-        .index()
-        .saturating_mul(CHANNELS)
-        .saturating_add(channel.index())
-}
-
-/// The number at a place, which then is one more.
-fn next(numbers: &mut [u64], place: usize) -> u64 {
-    if place >= numbers.len() {
-        return u64::MAX;
-    }
-    let number = numbers[place];
-    numbers[place] = number.saturating_add(1);
-    number
-}
-
-/// The ticket of the next message at a place.
-fn ticket_of(numbers: &mut [u64], client: ClientId, channel: Channel) -> Ticket {
-    Ticket {
-        bank: home(),
-        client,
-        channel,
-        serial: next(numbers, place_of(client, channel)),
-    }
 }
 
 /// Who makes an event.
@@ -154,59 +111,90 @@ fn memory_sent(plain: &Plain, event: &Event) -> Option<ShownMessage> {
     }
 }
 
-/// The place of the message that an event takes.
-fn taken_by(serials: &mut Serials, event: &Event) -> Option<Place> {
+/// The place of the message on a link that an event of a block takes, if it takes one: the first that is of its block.
+fn link_taken(serials: &mut Serials, event: &Event, block: BlockNo) -> Option<Place>
+    ensures place { IfSome (take_of event.now) (λ link. result ≡ place_taken serials.old block link) }
+    ensures after { (x : ℕ) (k : Channel)
+        → lane_at serials.new x k ≡ removed (take_of event.now) block x k (lane_at serials.old x k) }
+{
+    let channel = taken_channel(event)?;
+    let ticket = serials.take(client_of(event), channel, block)?;
+    Some(Place::Link(ticket))
+}
+
+/// The place of the message that an event of a block takes.
+fn taken_by(serials: &mut Serials, event: &Event, block: BlockNo) -> Option<Place>
+    ensures place { IfSome (take_of event.now) (λ link. result ≡ place_taken serials.old block link) }
+    ensures after { (x : ℕ) (k : Channel)
+        → lane_at serials.new x k ≡ removed (take_of event.now) block x k (lane_at serials.old x k) }
+{
     match event {
         Event::Serve(block) => Some(Place::ToMemory(*block)),
         Event::TakeData(block) | Event::TakePutAck(block) => Some(Place::FromMemory(*block)),
-        _ => match taken_channel(event) {
-            Some(channel) => {
-                let ticket = ticket_of(serials.taken.as_mut_slice(), client_of(event), channel);
-                Some(Place::Link(ticket))
-            }
-            None => None,
-        },
+        _ => link_taken(serials, event, block),
     }
 }
 
-/// What an event that may come next sends.
-fn sent_by(judge: &Judge, serials: &mut Serials, event: &Event) -> Option<ShownMessage>
+/// What an event of a block that may come next sends.
+fn sent_by(
+    judge: &Judge,
+    serials: &mut Serials,
+    event: &Event,
+    block: BlockNo,
+) -> Result<Option<ShownMessage>, AllocError>
     requires { May judge.now.plain.shape (own_block judge.now event.now) event.now }
+    ensures message { IfOk result
+        (λ message. IfSome (post_of judge.now.plain.shape (own_block judge.now event.now) event.now)
+        (λ post. message ≡ Some (message_sent serials.old block post))) }
+    ensures after { OnOk result
+        ((x : ℕ) (k : Channel)
+        → lane_at serials.new x k
+        ≡ joined (post_of judge.now.plain.shape (own_block judge.now event.now) event.now) block x k
+        (lane_at serials.old x k)) }
 {
     match judge.sent(event) {
         Some((channel, body)) => {
-            let block = BlockNo::new(event.block(judge.plain().shape()));
-            let ticket = ticket_of(serials.sent.as_mut_slice(), client_of(event), channel);
-            Some(link_message(&ticket, block, &body))
+            let ticket = serials.send(client_of(event), channel, block)?;
+            Ok(Some(link_message(&ticket, block, &body)))
         }
-        None => memory_sent(judge.plain(), event),
+        None => Ok(memory_sent(judge.plain(), event)),
     }
 }
 
 /// What an event that may come next does.
-fn done_by(judge: &Judge, serials: &mut Serials, event: &Event) -> Turn
+fn done_by(judge: &Judge, serials: &mut Serials, event: &Event) -> Result<Turn, AllocError>
     requires { May judge.now.plain.shape (own_block judge.now event.now) event.now }
-    ensures { is_broken result.mark ≡ false }
+    ensures unbroken { IfOk result (λ turn. is_broken turn.mark ≡ false) }
+    ensures done { IfOk result (λ turn. IsDone judge.now event.now serials.old serials.new turn) }
 {
-    Turn {
+    let block = BlockNo::new(event.block(judge.plain().shape()));
+    let takes = taken_by(serials, event, block);
+    let sends = sent_by(judge, serials, event, block)?;
+    Ok(Turn {
         at: lifeline_of(event),
-        sends: sent_by(judge, serials, event),
-        takes: taken_by(serials, event),
+        sends,
+        takes,
         mark: mark_of(event),
-    }
+    })
 }
 
-/// What an entry does that comes next, where it is permitted; else its mark says that it is not.
-pub fn turn_of(judge: &Judge, serials: &mut Serials, entry: &Entry) -> Turn
-    ensures { is_broken result.mark ≡ false }
+/// What an entry does that comes next, where it is permitted: it takes the first message of its channel that is of its
+/// block, and what it sends gets the next number of its channel. Else its mark says that it is not. The error is want
+/// of memory, or of numbers.
+pub fn turn_of(judge: &Judge, serials: &mut Serials, entry: &Entry) -> Result<Turn, AllocError>
+    ensures unbroken { IfOk result (λ turn. is_broken turn.mark ≡ false) }
+    ensures done { IfOk result
+        (λ turn. (Allows judge.now entry.now × IsDone judge.now entry.now.event serials.old serials.new turn)
+        ⊎ ((breach : Breach) × Rejects judge.now entry.now breach × (turn.mark ≡ Some Unlawful)
+        × (serials.new ≡ serials.old))) }
 {
     match judge.breach(entry) {
         None => done_by(judge, serials, &entry.event),
-        Some(_) => Turn {
+        Some(_) => Ok(Turn {
             at: lifeline_of(&entry.event),
             sends: None,
             takes: None,
             mark: Some(Mark::Unlawful),
-        },
+        }),
     }
 }
