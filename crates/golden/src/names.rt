@@ -72,6 +72,7 @@ pub const PAGED: &[&str] = &[
     "answers-before-the-release-ack",
     "grants-beside-a-probe",
     "grants-old-bytes",
+    "in-another-order",
     "out-of-order",
     "reads-old-bytes",
     "two-writers",
