@@ -8,9 +8,6 @@ use tl_client::{Agent, Command};
 use tl_map::Geometry;
 use tl_types::{Channel, ClientId};
 
-/// The agent's only command.
-const LOAD: &[Command] = &[Command::Load { address: 0, len: 1 }];
-
 /// Whether a turn asks just the tickets with these serials, and this many loads were then asked for in all.
 fn loads_after<R: Wait + Clock>(
     scene: &mut Scene<'_>,
@@ -42,11 +39,12 @@ fn waits_by_mail<R: Wait + Clock>(rt: &R, alloc: Global, agent: Option<Agent<'_>
     waits(rt, scene_of(alloc, agent, mail, to))
 }
 
-/// The same with the client's share.
+/// The same of an agent that has one load to do. `None` where a request for memory was refused.
 fn waits_with_shares<R: Wait + Clock>(rt: &R, alloc: Global) -> Option<bool> {
     let geometry = Geometry::new(NUMBERS).ok()?;
     let shares = shares(alloc, geometry)?;
-    let agent = Agent::new(alloc, ClientId::new(0), geometry, LOAD, shares).ok();
+    let commands = [Command::Load { address: 0, len: 1 }];
+    let agent = Agent::new(alloc, ClientId::new(0), geometry, &commands, shares).ok();
     waits_by_mail(rt, alloc, agent)
 }
 

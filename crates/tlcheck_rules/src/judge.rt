@@ -171,7 +171,9 @@ impl Judge {
         }
     }
 
-    /// The first test that an entry does not meet.
+    /// The first test that an entry does not meet. It and `take_allowed` stand apart, so that what they call is laid
+    /// into them.
+    #[inline(never)]
     pub fn breach(&self, entry: &Entry) -> Option<Breach>
         ensures { MatchOption result (Allows self.now entry.now) (λ breach. Rejects self.now entry.now breach) }
     {
@@ -202,6 +204,7 @@ impl Judge {
 
     /// Takes an entry against which `breach` has nothing. The error is want of memory; nothing is claimed of the judge
     /// then.
+    #[inline(never)]
     pub fn take_allowed(&mut self, entry: &Entry) -> Result<(), AllocError>
         requires { Allows self.old entry.now }
         ensures { OnOk result
