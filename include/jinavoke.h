@@ -779,7 +779,7 @@ JV_AT_(jj_verdict, param, 12);
 JV_AT_(jj_verdict, len, 16); JV_AT_(jj_verdict, perm, 20); JV_AT_(jj_verdict, is_at_home, 24);
 JV_AT_(jj_verdict, why, 28);
 JV_AT_(jj_verdict, bytes, 32); JV_ASSERT_(sizeof(jj_verdict) == 96, whole_verdict);
-JV_ASSERT_(sizeof(jj_numbers) == 16, whole_judge_numbers);
+JV_AT_(jj_numbers, order, 12); JV_ASSERT_(sizeof(jj_numbers) == 16, whole_judge_numbers);
 
 size_t jj_size(void);  /* how many bytes of room a judge needs */
 size_t jj_align(void); /* what the room's address divides by */
@@ -917,7 +917,7 @@ typedef struct { /* what is not told is 0 */
     uint8_t bytes[64];
 } jp_verdict;
 
-JV_AT_(jp_numbers, client, 12); JV_AT_(jp_numbers, cores_unseen, 16);
+JV_AT_(jp_numbers, client, 16); JV_AT_(jp_numbers, cores_unseen, 20);
 JV_ASSERT_(sizeof(jp_numbers) == 24, whole_pins_numbers);
 JV_AT_(jp_line, what, 0); JV_AT_(jp_line, client, 4); JV_AT_(jp_line, place, 8); JV_AT_(jp_line, channel, 12);
 JV_AT_(jp_line, opcode, 16);
