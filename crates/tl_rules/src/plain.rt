@@ -229,6 +229,7 @@ impl Plain {
     }
 
     /// Carries out an event that is known to be permitted. The error is want of memory; nothing changes then.
+    #[inline]
     pub fn carry_out(&mut self, event: &Event) -> Result<(), AllocError>
         requires { May self.old.shape (state_of_plain self.old (block_of self.old.shape event.now)) event.now }
         ensures ok { OnOk result (IsStep self.old self.new event.now) }

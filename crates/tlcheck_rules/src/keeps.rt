@@ -159,6 +159,7 @@ fn asks_each_client(event: &Event) -> bool {
 
 /// The first rule that an event breaks, in the order of the protocol's tests; none exactly where the event is
 /// permitted.
+#[inline]
 pub fn broken_rule(plain: &Plain, event: &Event) -> Option<Rule>
     ensures first { IsFirstBroken plain.now.shape (state_of_plain plain.now (block_of plain.now.shape event.now))
         event.now result }
