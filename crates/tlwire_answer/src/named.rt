@@ -84,6 +84,22 @@ pub(crate) fn names(premises: &[Premise], way: Way) -> bool
     }
 }
 
+/// Whether a line of a header, with the others, names a way of seeing for one client.
+fn names_client(premises: &[Premise], line: &Premise) -> bool {
+    match line {
+        Premise::AtClient(client) => names(premises, Way::AtClient(client.number())),
+        _ => false,
+    }
+}
+
+/// Whether a header names a way of seeing.
+pub(crate) fn names_any(premises: &[Premise]) -> bool {
+    names(premises, Way::Between)
+        || names(premises, Way::AtHome)
+        || names(premises, Way::AtClients)
+        || premises.iter().any(|line| names_client(premises, line))
+}
+
 /// With the number that a line `skew D` gives, the least so far.
 fn least_with(found: Option<u32>, line: &Premise) -> Option<u32>
     ensures { result ≡ least_with found line.now }

@@ -5,7 +5,7 @@ ghost use Rattle.tlwire_record.specs.Messages.{MessagesState};
 ghost use Rattle.tlwire_search.specs.Explained.{Explains, IsExplanation};
 
 use crate::advice::Advice;
-use crate::named::is_all_in_order;
+use crate::named::{is_all_in_order, names_any};
 use crate::order::{Order, other_order};
 use crate::pins::wrong_at_pins;
 use crate::sets::{Sets, all_sets, sets_at_pins, sets_between};
@@ -282,6 +282,36 @@ fn weighed<W: Watcher>(
     }
 }
 
+/// Whether the first search finds a run for the lines before a place, in each order that the header asks for: then no
+/// run of a block is stuck at one of them.
+fn is_explained_before(
+    alloc: Global,
+    messages: &Messages,
+    place: usize,
+) -> Result<bool, AllocError> {
+    let Some(lines) = messages.seen().get(..place) else {
+        return Ok(false);
+    };
+    match explained_at_once(alloc, messages, lines)? {
+        Verdict::Explained(_) => Ok(true),
+        _ => Ok(false),
+    }
+}
+
+/// Whether closed sets may name a line before a place. They take longer than the search for a run of these lines, so it
+/// is asked first.
+fn may_be_stuck_before(
+    alloc: Global,
+    messages: &Messages,
+    place: usize,
+) -> Result<bool, AllocError> {
+    let premises = messages.setting().premises();
+    if has_drops(premises) || !names_any(premises) {
+        return Ok(false);
+    }
+    Ok(!is_explained_before(alloc, messages, place)?)
+}
+
 /// That a line may not be seen at its client's pins; or that each run of a block is stuck at an earlier one.
 fn wrong_first<W: Watcher>(
     alloc: Global,
@@ -292,6 +322,9 @@ fn wrong_first<W: Watcher>(
     requires { IsFirstOf messages.now messages.now.setting.shape.clients (Some wrong) }
     ensures { IfOk result (IsVerdict messages.now) }
 {
+    if !may_be_stuck_before(alloc, messages, wrong.place)? {
+        return Ok(Verdict::Impossible(wrong));
+    }
     match all_sets(alloc, messages, wrong.place, watcher)? {
         Sets::Stuck(stuck) => Ok(Verdict::RuledOut(stuck)),
         Sets::Open(_) => Ok(Verdict::Impossible(wrong)),

@@ -58,14 +58,26 @@ fn unmet_by(long: Option<Opened>, quiet: Option<Opened>) -> Option<Unmet>
     }
 }
 
-/// What the header expects and a record does not keep, if anything. Err is a refused request for memory.
-pub(crate) fn unmet_of(alloc: Global, messages: &Messages) -> Result<Option<Unmet>, AllocError>
+/// What the header expects of the exchanges of a record, and the record does not keep, if anything. Err is a refused
+/// request for memory.
+fn unmet_in(alloc: Global, messages: &Messages) -> Result<Option<Unmet>, AllocError>
     ensures { IfOk result (λ unmet. unmet ≡ unmet_of messages.now) }
 {
     let exchanges = exchanges_of(alloc, messages.seen())?;
     let long = too_long(messages, &exchanges);
     let quiet = not_quiet(messages, &exchanges);
     Ok(unmet_by(long, quiet))
+}
+
+/// The same; the exchanges are not looked at where the header expects nothing of them.
+pub(crate) fn unmet_of(alloc: Global, messages: &Messages) -> Result<Option<Unmet>, AllocError>
+    ensures { IfOk result (λ unmet. unmet ≡ unmet_of messages.now) }
+{
+    let expects = messages.setting().expects();
+    match (expects.patience, expects.quiet) {
+        (None, false) => Ok(None),
+        _ => unmet_in(alloc, messages),
+    }
 }
 
 /// As what an exchange is told.
