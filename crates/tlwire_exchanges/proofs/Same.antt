@@ -1,15 +1,14 @@
 -- Two exchanges that compare as equal are the same.
-use Rattle.std.proofs.Common.{◌≡◌, ◌+◌, ◌==◌, ◌&&◌, ℕ, zero, suc, Bool, true, false, cond, Option, Some, None, refl, sym, ap, ◌∙◌, arith, nat_eq, BTreeMap, unwrap_or}
+use Rattle.std.proofs.Common.{◌≡◌, ◌&&◌, ℕ, zero, suc, Bool, true, false, cond, List, Option, Some, None, refl, sym, ap, ◌∙◌, arith, nat_eq, BTreeMap}
 use Rattle.std.proofs.lemmas.Bool.{and_parts, eqb-true}
 use Rattle.std.proofs.lemmas.Bool.Decides.{nat_tests}
-use Rattle.std.proofs.lemmas.Cmp.{nat_eq_equiv}
 use Rattle.std.specs.BTreeMap.{get}
-use Rattle.std.specs.Option.{option_cmp, option_eq}
+use Rattle.std.specs.Option.{option_cmp, option_eq, option_flatten}
 use Rattle.std.specs.Ordering.{eq_by_cmp, is_eq, nat_cmp, ordering_then}
 use Rattle.std.specs.declared.cmp.Ordering.{Ordering}
 use Rattle.std.specs.declared.cmp.Ordering.TheVariants.{Less, Equal, Greater}
 use Rattle.tlwire_exchanges.specs.Exchange.{is_same, number_of}
-use Rattle.tlwire_exchanges.specs.Opened.{by_key, by_numbered, count_of, key_of, place_of}
+use Rattle.tlwire_exchanges.specs.Opened.{after, by_key, first_of, key_of}
 use Rattle.tlwire_exchanges.specs.declared.answers.Key.{Key}
 use Rattle.tlwire_exchanges.specs.declared.exchange.Exchange.{Exchange}
 use Rattle.tlwire_exchanges.specs.declared.exchange.Response.{Response}
@@ -29,21 +28,28 @@ eq_option None (Some y) = refl
 eq_option (Some x) None = refl
 eq_option (Some x) (Some y) = eq_nat x y
 
+-- the other way round
+turned : (x y z : Bool) → (x && (y && z)) ≡ (z && (y && x))
+turned true true true = refl
+turned true true false = refl
+turned true false true = refl
+turned true false false = refl
+turned false true true = refl
+turned false true false = refl
+turned false false true = refl
+turned false false false = refl
+
 -- exchanges compare as equal just where they are the same
 pub compared : (a b : Exchange) → eq_by_cmp by_key (key_of a) (key_of b) ≡ is_same a b
 compared a b =
-    eq_then (nat_cmp (number_of a.response) (number_of b.response)) (ordering_then (option_cmp nat_cmp a.client b.client) (nat_cmp a.block b.block))
-    ∙ (ap (λ (t : Bool). t && is_eq (ordering_then (option_cmp nat_cmp a.client b.client) (nat_cmp a.block b.block))) (eq_nat (number_of a.response) (number_of b.response))
-    ∙ ap (λ (t : Bool). nat_eq (number_of a.response) (number_of b.response) && t)
-    (eq_then (option_cmp nat_cmp a.client b.client) (nat_cmp a.block b.block)
-    ∙ (ap (λ (t : Bool). t && is_eq (nat_cmp a.block b.block)) (eq_option a.client b.client)
-    ∙ ap (λ (t : Bool). option_eq nat_eq a.client b.client && t) (eq_nat a.block b.block))))
-
--- with a number each
-pub numbered : (a b : Exchange) (n m : ℕ) → eq_by_cmp by_numbered (key_of a, n) (key_of b, m) ≡ (is_same a b && nat_eq n m)
-numbered a b n m =
-    eq_then (by_key (key_of a) (key_of b)) (nat_cmp n m)
-    ∙ (ap (λ (t : Bool). t && is_eq (nat_cmp n m)) (compared a b) ∙ ap (λ (t : Bool). is_same a b && t) (eq_nat n m))
+    let block : is_eq (nat_cmp a.block b.block) ≡ nat_eq a.block b.block = eq_nat a.block b.block in
+    let client : is_eq (option_cmp nat_cmp a.client b.client) ≡ option_eq nat_eq a.client b.client =
+    eq_option a.client b.client in
+    let r : ℕ = number_of a.response in
+    let s : ℕ = number_of b.response in
+    let response : is_eq (nat_cmp r s) ≡ nat_eq r s = eq_nat r s in
+    simp (eq_then, block, client, response)
+    (turned (nat_eq a.block b.block) (option_eq nat_eq a.client b.client) (nat_eq r s))
 
 -- the response with a number
 response_of : ℕ → Response
@@ -83,32 +89,28 @@ same_is a b e =
     ∙ (ap (λ (x : Option ℕ). (let y : Exchange = record { response = b.response; client = x; block = a.block } in y)) c
     ∙ ap (λ (x : ℕ). (let y : Exchange = record { response = b.response; client = b.client; block = x } in y)) k)
 
--- so a count grows by one at the exchange alone
-pub counted : (m n : BTreeMap Key ℕ) (f e : Exchange) (key : Key) (v : ℕ) → key ≡ key_of f → v ≡ count_of m f + 1
-    → get by_key n (key_of e) ≡ cond (eq_by_cmp by_key key (key_of e)) (Some v) (get by_key m (key_of e)) → count_of n e ≡ count_of m e + cond (is_same f e) 1 0
-counted m n f e key v own is put =
-    ap (λ (o : Option ℕ). unwrap_or o 0)
+-- so a map changes at the exchange alone
+pub changed : (m n : BTreeMap Key (Option ℕ)) (f e : Exchange) (key : Key) (v : Option ℕ) → key ≡ key_of f
+    → get by_key n (key_of e) ≡ cond (eq_by_cmp by_key key (key_of e)) (Some v) (get by_key m (key_of e))
+    → first_of n e ≡ cond (is_same f e) v (first_of m e)
+changed m n f e key v own put =
+    ap (λ (o : Option (Option ℕ)). option_flatten o)
     (put
     ∙ (ap (λ (k : Key). cond (eq_by_cmp by_key k (key_of e)) (Some v) (get by_key m (key_of e))) own
     ∙ ap (λ (t : Bool). cond t (Some v) (get by_key m (key_of e))) (compared f e)))
-    ∙ by_test (is_same f e) refl
+    ∙ by_test (is_same f e)
   where
-    by_test : (t : Bool) → is_same f e ≡ t → unwrap_or (cond t (Some v) (get by_key m (key_of e))) 0 ≡ count_of m e + cond t 1 0
-    by_test true same = is ∙ ap (λ (x : Exchange). count_of m x + 1) (same_is f e same)
-    by_test false apart = omega arith
+    by_test : (t : Bool) → option_flatten (cond t (Some v) (get by_key m (key_of e))) ≡ cond t v (first_of m e)
+    by_test true = refl
+    by_test false = refl
 
--- and a place is kept at its exchange and number alone
-pub kept : (counts : BTreeMap Key ℕ) (m n : BTreeMap (Key × ℕ) ℕ) (f e : Exchange) (key : Key) (number k p : ℕ) → key ≡ key_of f → number ≡ count_of counts f
-    → place_of n e k ≡ cond (eq_by_cmp by_numbered (key, number) (key_of e, k)) (Some p) (place_of m e k)
-    → place_of n e k ≡ cond (is_same f e && (k == count_of counts e)) (Some p) (place_of m e k)
-kept counts m n f e key number k p own is put =
-    put
-    ∙ (ap (λ (x : Key). cond (eq_by_cmp by_numbered (x, number) (key_of e, k)) (Some p) (place_of m e k)) own
-    ∙ (ap (λ (t : Bool). cond t (Some p) (place_of m e k)) (numbered f e number k) ∙ by_test (is_same f e) refl))
+-- where its first answer is taken, the one behind that is the first
+pub taken : (next : List (Option ℕ)) (m n : BTreeMap Key (Option ℕ)) (f e : Exchange) (key : Key) (v : Option ℕ)
+    → key ≡ key_of f → v ≡ after next (first_of m f)
+    → get by_key n (key_of e) ≡ cond (eq_by_cmp by_key key (key_of e)) (Some v) (get by_key m (key_of e))
+    → first_of n e ≡ cond (is_same f e) (after next (first_of m e)) (first_of m e)
+taken next m n f e key v own is put = changed m n f e key v own put ∙ by_test (is_same f e) refl
   where
-    by_test : (t : Bool) → is_same f e ≡ t
-        → cond (t && nat_eq number k) (Some p) (place_of m e k) ≡ cond (t && (k == count_of counts e)) (Some p) (place_of m e k)
-    by_test true same =
-        ap (λ (t : Bool). cond t (Some p) (place_of m e k))
-        (nat_eq_equiv.symm number k ∙ ap (λ (x : ℕ). k == x) (is ∙ ap (λ (x : Exchange). count_of counts x) (same_is f e same)))
+    by_test : (t : Bool) → is_same f e ≡ t → cond t v (first_of m e) ≡ cond t (after next (first_of m e)) (first_of m e)
+    by_test true same = is ∙ ap (λ (x : Exchange). after next (first_of m x)) (same_is f e same)
     by_test false apart = refl

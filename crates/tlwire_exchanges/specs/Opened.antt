@@ -1,7 +1,7 @@
 -- The exchanges that what was seen opens, and their answers.
-use Rattle.std.specs.Prelude.{◌≡◌, ℕ, suc, ◌+◌, Bool, List, [], ◌∷◌, ◌++◌, length, take, slice_get, Option, Some, None, if◌then◌else◌}
+use Rattle.std.specs.Prelude.{◌≡◌, ℕ, suc, ◌+◌, ◌<◌, Bool, List, [], ◌∷◌, ◌++◌, length, take, drop, slice_get, slice_index_or, slice_set, Option, Some, None, IfSome, if◌then◌else◌}
 use Rattle.std.specs.BTreeMap.{BTreeMap, get}
-use Rattle.std.specs.Option.{option_cmp, unwrap_or}
+use Rattle.std.specs.Option.{option_cmp, option_flatten}
 use Rattle.std.specs.Ordering.{nat_cmp, ordering_then}
 use Rattle.std.specs.declared.cmp.Ordering.{Ordering}
 use Rattle.tlwire_search.specs.declared.seen.Seen.{Seen}
@@ -48,30 +48,53 @@ exchanges_of seen = opened_from seen 0 seen
 
 -- an exchange as it is looked up
 abbrev pub key_of : Exchange → Key
-key_of e = record { response = number_of e.response; client = e.client; block = e.block }
+key_of e = record { block = e.block; client = e.client; response = number_of e.response }
 
 -- keys in order
 abbrev pub by_key : Key → Key → Ordering
-by_key a b = ordering_then (nat_cmp a.response b.response) (ordering_then (option_cmp nat_cmp a.client b.client) (nat_cmp a.block b.block))
+by_key a b =
+    ordering_then (nat_cmp a.block b.block)
+    (ordering_then (option_cmp nat_cmp a.client b.client) (nat_cmp a.response b.response))
 
--- with numbers in order
-abbrev pub by_numbered : Key × ℕ → Key × ℕ → Ordering
-by_numbered a b = ordering_then (by_key a.0 b.0) (nat_cmp a.1 b.1)
+-- the place of the first answer to an exchange, of those that are left
+abbrev pub first_of : BTreeMap Key (Option ℕ) → Exchange → Option ℕ
+first_of first e = option_flatten (get by_key first (key_of e))
 
--- how many were counted of an exchange
-abbrev pub count_of : BTreeMap Key ℕ → Exchange → ℕ
-count_of counts e = unwrap_or (get by_key counts (key_of e)) 0
+-- the place of the answer after this one
+abbrev pub after : List (Option ℕ) → Option ℕ → Option ℕ
+after next None = None
+after next (Some place) = slice_index_or next place None
 
--- the place that was kept of an exchange and a number
-abbrev pub place_of : BTreeMap (Key × ℕ) ℕ → Exchange → ℕ → Option ℕ
-place_of places e n = get by_numbered places (key_of e, n)
+-- Each first answer that is left has a place in the list of the next ones.
+abbrev pub AreWithin : Answers → Type 0
+AreWithin a = (e : Exchange) → IfSome (first_of a.first e) (λ place. place < length a.next.items)
 
--- All answers of what was seen are kept, by their exchanges and numbers.
-pub record HasAnswers (a : Answers) (seen : List Seen) : Type 0 where
-  pub counts : (e : Exchange) → count_of a.counts e ≡ length (places (answers e) seen)
-  pub places : (e : Exchange) (n : ℕ) → place_of a.places e n ≡ slice_get (places (answers e) seen) n
+-- Each of these places leads to the one behind it, and the last to none.
+abbrev pub IsLinked : List (Option ℕ) → List ℕ → Type 0
+IsLinked next ps = (n : ℕ) → after next (slice_get ps n) ≡ slice_get ps (suc n)
 
--- what joins the exchanges at a place, by the answers that are kept and what was counted so far
-abbrev pub joined_by : Answers → BTreeMap Key ℕ → ℕ → Option Exchange → List Opened
-joined_by a counts place None = []
-joined_by a counts place (Some e) = (record { place = place; exchange = e; answer = place_of a.places e (count_of counts e) }) ∷ []
+-- the places of the answers to an exchange from a place on
+abbrev pub answers_from : Exchange → ℕ → List Seen → List ℕ
+answers_from e place seen = places_from (answers e) place (drop place seen)
+
+-- The answers from a place on are kept: the first to each exchange, and behind each one the next.
+pub record HasAnswers (a : Answers) (place : ℕ) (seen : List Seen) : Type 0 where
+  pub first : (e : Exchange) → first_of a.first e ≡ slice_get (answers_from e place seen) 0
+  pub next : (e : Exchange) → IsLinked a.next.items (answers_from e place seen)
+  pub sized : length a.next.items ≡ length seen
+
+-- Those answers are left that no exchange opened before a place has.
+pub record AreLeft (a : Answers) (place : ℕ) (seen : List Seen) : Type 0 where
+  pub first : (e : Exchange) → first_of a.first e ≡ answer_at e place seen
+  pub next : (e : Exchange) → IsLinked a.next.items (places (answers e) seen)
+  pub sized : length a.next.items ≡ length seen
+
+-- the next answers, where one to this exchange at a place comes before its first
+abbrev pub linked : BTreeMap Key (Option ℕ) → Option Exchange → ℕ → List (Option ℕ) → List (Option ℕ)
+linked first None place next = next
+linked first (Some e) place next = slice_set next place (first_of first e)
+
+-- what joins the exchanges at a place, by the answers that are left
+abbrev pub joined_by : BTreeMap Key (Option ℕ) → ℕ → Option Exchange → List Opened
+joined_by first place None = []
+joined_by first place (Some e) = (record { place = place; exchange = e; answer = first_of first e }) ∷ []

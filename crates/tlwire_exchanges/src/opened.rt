@@ -1,13 +1,12 @@
 //! The exchanges that what was seen opens, and their answers.
-ghost use Rattle.std.specs.Prelude.{◌≡◌, ◌+◌, ◌<◌, ◌≤◌, ◌^◌, ◌++◌, IfOk, OnOk, if◌then◌else◌};
-ghost use Rattle.tlwire_exchanges.specs.Exchange.{is_same, opened_by, opens};
-ghost use Rattle.tlwire_exchanges.specs.Opened.{HasAnswers, count_of, exchanges_of, joined_by, place_of};
+ghost use Rattle.std.specs.Prelude.{◌≡◌, ◌++◌, IfOk, OnOk, if◌then◌else◌};
+ghost use Rattle.tlwire_exchanges.specs.Exchange.{opened_by, opens};
+ghost use Rattle.tlwire_exchanges.specs.Opened.{AreLeft, AreWithin, after, exchanges_of, first_of, joined_by};
 ghost use Rattle.tlwire_exchanges.specs.declared.exchange.Exchange.{Exchange};
 
-use crate::answers::{Answers, Counts, count_one};
+use crate::answers::Answers;
 use crate::exchange::{Exchange, opened_by};
 use std::alloc::{AllocError, Global};
-use std::collections::BTreeMap;
 use tlwire_search::Seen;
 
 /// An exchange that was opened.
@@ -21,67 +20,44 @@ pub struct Opened {
     pub answer: Option<usize>,
 }
 
-/// One exchange more is opened, at a place.
-fn open_one(
-    answers: &Answers,
-    counts: &mut Counts,
-    exchange: Exchange,
-    place: usize,
-) -> Result<Opened, AllocError>
-    requires { count_of counts.old exchange + 1 < 2 ^ 64 }
-    ensures opened { IfOk result
-        (λ one. one ≡ record {
-          place = place;
-          exchange = exchange;
-          answer = place_of answers.now.places exchange (count_of counts.old exchange);
-        }) }
-    ensures counts { OnOk result
-        ((e : Exchange) → count_of counts.new e
-        ≡ count_of counts.old e + (if is_same exchange e then 1 else 0)) }
-{
-    let number = count_one(counts, exchange)?;
-    Ok(Opened {
-        place,
-        exchange,
-        answer: answers.get(exchange, number),
-    })
-}
-
 /// The exchange that what was seen at a place opens, if it opens one, joins those before it.
 fn join(
-    answers: &Answers,
-    counts: &mut Counts,
+    answers: &mut Answers,
     all: &mut Vec<Opened>,
     seen: &Seen,
     place: usize,
 ) -> Result<(), AllocError>
-    requires room { place + 1 < 2 ^ 64 }
-    requires few { (e : Exchange) → count_of counts.old e ≤ place }
+    requires { AreWithin answers.old }
     ensures all { OnOk result
-        (all.new.items ≡ all.old.items ++ joined_by answers.now counts.old place (opened_by seen.now)) }
-    ensures counts { OnOk result
-        ((e : Exchange) → count_of counts.new e
-        ≡ count_of counts.old e + (if opens e seen.now then 1 else 0)) }
+        (all.new.items ≡ all.old.items ++ joined_by answers.old.first place (opened_by seen.now)) }
+    ensures first { OnOk result
+        ((e : Exchange) → first_of answers.new.first e
+        ≡ (if opens e seen.now then after answers.old.next.items (first_of answers.old.first e)
+        else first_of answers.old.first e)) }
+    ensures next { OnOk result (answers.new.next.items ≡ answers.old.next.items) }
 {
     match opened_by(seen) {
         Some(exchange) => {
-            let one = open_one(answers, counts, exchange, place)?;
-            all.push(one)?;
+            let answer = answers.take(exchange);
+            all.push(Opened {
+                place,
+                exchange,
+                answer,
+            })?;
             Ok(())
         }
         None => Ok(()),
     }
 }
 
-/// The exchanges that what was seen opens, with the answers that `answers` has.
-fn opened_in(alloc: Global, answers: &Answers, seen: &[Seen]) -> Result<Vec<Opened>, AllocError>
-    requires { HasAnswers answers.now seen.now }
+/// The exchanges that what was seen opens, with these answers.
+fn opened_in(alloc: Global, mut answers: Answers, seen: &[Seen]) -> Result<Vec<Opened>, AllocError>
+    requires { AreLeft answers 0 seen.now }
     ensures { IfOk result (λ all. all.items ≡ exchanges_of seen.now) }
 {
-    let mut counts = BTreeMap::new(alloc);
     let mut all = Vec::new(alloc);
     for place in 0..seen.len() {
-        join(answers, &mut counts, &mut all, &seen[place], place)?;
+        join(&mut answers, &mut all, &seen[place], place)?;
     }
     Ok(all)
 }
@@ -92,5 +68,5 @@ pub fn exchanges_of(alloc: Global, seen: &[Seen]) -> Result<Vec<Opened>, AllocEr
     ensures { IfOk result (λ all. all.items ≡ exchanges_of seen.now) }
 {
     let answers = Answers::of(alloc, seen)?;
-    opened_in(alloc, &answers, seen)
+    opened_in(alloc, answers, seen)
 }
