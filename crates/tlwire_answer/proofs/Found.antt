@@ -1,5 +1,5 @@
 -- What a search for a run comes to, as what is said of a record.
-use Rattle.std.proofs.Common.{◌≡◌, ◌<◌, ℕ, List, length, Result, Ok, Err, IfOk, subst}
+use Rattle.std.proofs.Common.{◌≡◌, ◌<◌, List, length, Result, Ok, Err, IfOk, subst}
 use Rattle.tl_protocol.specs.declared.event.Event.{Event}
 use Rattle.tlwire_search.specs.Premises.{drops}
 use Rattle.tlwire_search.specs.declared.premise.Premise.{Premise}

@@ -1,6 +1,5 @@
 -- What the answer to a record of messages ends with.
-use Rattle.std.specs.Prelude.{◌≡◌, ◌<◌, ℕ, true, false, List, length, take, Option, Some, None, if◌then◌else◌}
-use Rattle.std.specs.List.{list_any}
+use Rattle.std.specs.Prelude.{◌≡◌, ◌<◌, ℕ, true, false, List, length, take, Option, Some, None}
 use Rattle.tlwire_search.specs.Explained.{Explains}
 use Rattle.tlwire_search.specs.Premises.{drops, has_drops}
 use Rattle.tl_protocol.specs.Runs.{at_reset}

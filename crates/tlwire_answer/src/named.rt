@@ -5,7 +5,9 @@ ghost use Rattle.tlwire_answer.specs.Named.{is_at_client, is_at_clients, is_betw
 
 use tl_types::{Channel, ClientId};
 use tlwire_closed::Way;
-use tlwire_search::{Premise, Wire, is_seen_at_home, is_seen_at_pins, is_unseen, is_whole};
+use tlwire_search::{
+    Premise, Wire, has_drops, is_seen_at_home, is_seen_at_pins, is_unseen, is_whole,
+};
 
 fn is_between(line: &Premise) -> bool
     ensures { result ≡ is_between line.now }
@@ -92,8 +94,11 @@ fn names_client(premises: &[Premise], line: &Premise) -> bool {
     }
 }
 
-/// Whether a header names a way of seeing.
-pub(crate) fn names_any(premises: &[Premise]) -> bool {
+/// Whether closed sets are made under a header: it names a way of seeing, and no client drops clean copies.
+pub(crate) fn has_sets(premises: &[Premise]) -> bool {
+    if has_drops(premises) {
+        return false;
+    }
     names(premises, Way::Between)
         || names(premises, Way::AtHome)
         || names(premises, Way::AtClients)

@@ -59,11 +59,12 @@ fn joined(one: Sets, other: Sets) -> Sets
 }
 
 /// What closed sets say of the lines before a place, in a way of seeing, where the header names it; nothing where clients
-/// drop clean copies, since the sets have no such step.
+/// drop clean copies, since the sets have no such step. Before the place `known` none is stuck, as far as is known.
 fn sets_by<W: Watcher>(
     alloc: Global,
     messages: &Messages,
     way: Way,
+    known: usize,
     to: usize,
     watcher: &mut W,
 ) -> Result<Sets, AllocError>
@@ -79,6 +80,7 @@ fn sets_by<W: Watcher>(
         premise_of(setting.premises(), way),
         messages.image(),
         messages.seen(),
+        known,
         to,
         watcher,
     )? {
@@ -93,13 +95,14 @@ fn sets_beside<W: Watcher>(
     messages: &Messages,
     sets: Sets,
     way: Way,
+    known: usize,
     to: usize,
     watcher: &mut W,
 ) -> Result<Sets, AllocError>
     requires { IsSets messages.now to sets }
     ensures { IfOk result (IsSets messages.now to) }
 {
-    let other = sets_by(alloc, messages, way, asked_to(&sets, to), watcher)?;
+    let other = sets_by(alloc, messages, way, known, asked_to(&sets, to), watcher)?;
     Ok(joined(sets, other))
 }
 
@@ -108,13 +111,14 @@ fn sets_beside<W: Watcher>(
 pub(crate) fn sets_between<W: Watcher>(
     alloc: Global,
     messages: &Messages,
+    known: usize,
     to: usize,
     watcher: &mut W,
 ) -> Result<Sets, AllocError>
     ensures { IfOk result (IsSets messages.now to) }
 {
-    let sets = sets_by(alloc, messages, Way::Between, to, watcher)?;
-    sets_beside(alloc, messages, sets, Way::AtHome, to, watcher)
+    let sets = sets_by(alloc, messages, Way::Between, known, to, watcher)?;
+    sets_beside(alloc, messages, sets, Way::AtHome, known, to, watcher)
 }
 
 /// What they say beside these at the pins of the client that a line of the header names, if it names one.
@@ -123,6 +127,7 @@ fn sets_of_line<W: Watcher>(
     messages: &Messages,
     sets: Sets,
     line: &Premise,
+    known: usize,
     to: usize,
     watcher: &mut W,
 ) -> Result<Sets, AllocError>
@@ -136,6 +141,7 @@ fn sets_of_line<W: Watcher>(
                 messages,
                 sets,
                 Way::AtClient(client.number()),
+                known,
                 to,
                 watcher,
             )
@@ -149,15 +155,16 @@ pub(crate) fn sets_at_pins<W: Watcher>(
     alloc: Global,
     messages: &Messages,
     sets: Sets,
+    known: usize,
     to: usize,
     watcher: &mut W,
 ) -> Result<Sets, AllocError>
     requires { IsSets messages.now to sets }
     ensures { IfOk result (IsSets messages.now to) }
 {
-    let mut all = sets_beside(alloc, messages, sets, Way::AtClients, to, watcher)?;
+    let mut all = sets_beside(alloc, messages, sets, Way::AtClients, known, to, watcher)?;
     for line in messages.setting().premises() {
-        all = sets_of_line(alloc, messages, all, line, to, watcher)?;
+        all = sets_of_line(alloc, messages, all, line, known, to, watcher)?;
     }
     Ok(all)
 }
@@ -166,11 +173,12 @@ pub(crate) fn sets_at_pins<W: Watcher>(
 pub(crate) fn all_sets<W: Watcher>(
     alloc: Global,
     messages: &Messages,
+    known: usize,
     to: usize,
     watcher: &mut W,
 ) -> Result<Sets, AllocError>
     ensures { IfOk result (IsSets messages.now to) }
 {
-    let sets = sets_between(alloc, messages, to, watcher)?;
-    sets_at_pins(alloc, messages, sets, to, watcher)
+    let sets = sets_between(alloc, messages, known, to, watcher)?;
+    sets_at_pins(alloc, messages, sets, known, to, watcher)
 }

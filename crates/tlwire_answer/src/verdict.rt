@@ -5,7 +5,7 @@ ghost use Rattle.tlwire_record.specs.Messages.{MessagesState};
 ghost use Rattle.tlwire_search.specs.Explained.{Explains, IsExplanation};
 
 use crate::advice::Advice;
-use crate::named::{is_all_in_order, names_any};
+use crate::named::{has_sets, is_all_in_order};
 use crate::order::{Order, other_order};
 use crate::pins::wrong_at_pins;
 use crate::sets::{Sets, all_sets, sets_at_pins, sets_between};
@@ -144,22 +144,35 @@ fn explained_in_rounds(
     weighed_run(alloc, messages, seen, explanation)
 }
 
-/// A run that explains these lines, or how far the first attempt came.
-fn explained(alloc: Global, messages: &Messages, seen: &[Seen]) -> Result<Verdict, AllocError>
+/// What was found; else a run that the search in rounds finds.
+fn explained_again(
+    alloc: Global,
+    messages: &Messages,
+    seen: &[Seen],
+    first: Verdict,
+) -> Result<Verdict, AllocError>
+    requires { IsFound (with_lines messages.now seen.now) first }
     ensures { IfOk result (IsFound (with_lines messages.now seen.now)) }
 {
-    let verdict = explained_at_once(alloc, messages, seen)?;
-    if let Verdict::Explained(_) = &verdict {
-        return Ok(verdict);
+    if let Verdict::Explained(_) = &first {
+        return Ok(first);
     }
     if seen.len() > MOST_SEEN {
-        return Ok(verdict);
+        return Ok(first);
     }
     let again = explained_in_rounds(alloc, messages, seen)?;
     if let Verdict::Explained(_) = &again {
         return Ok(again);
     }
-    Ok(verdict)
+    Ok(first)
+}
+
+/// A run that explains these lines, or how far the first attempt came.
+fn explained(alloc: Global, messages: &Messages, seen: &[Seen]) -> Result<Verdict, AllocError>
+    ensures { IfOk result (IsFound (with_lines messages.now seen.now)) }
+{
+    let first = explained_at_once(alloc, messages, seen)?;
+    explained_again(alloc, messages, seen, first)
 }
 
 /// A run that explains the record in full, where clients drop clean copies.
@@ -181,15 +194,45 @@ fn explained_with_drops(
     }
 }
 
-/// A run that explains what was seen, with the drops of clean copies that nobody saw or without, or how far the first
-/// attempt came.
-fn explained_or_not(alloc: Global, messages: &Messages) -> Result<Verdict, AllocError>
+/// A run that the first search finds for what was seen, or how far it came.
+fn found_first(alloc: Global, messages: &Messages) -> Result<Verdict, AllocError>
+    ensures found { IfOk result (IsFound (with_lines messages.now messages.now.seen)) }
+    ensures verdict { IfOk result (IsVerdict messages.now) }
+{
+    explained_at_once(alloc, messages, messages.seen())
+}
+
+/// What the first search found for what was seen; else a run that the search in rounds finds.
+fn found_again(alloc: Global, messages: &Messages, first: Verdict) -> Result<Verdict, AllocError>
+    requires { IsFound (with_lines messages.now messages.now.seen) first }
     ensures { IfOk result (IsVerdict messages.now) }
 {
-    if let Some(run) = explained_with_drops(alloc, messages)? {
-        return Ok(Verdict::Explained(run));
+    explained_again(alloc, messages, messages.seen(), first)
+}
+
+/// What the first search finds for the lines before a place.
+fn explained_before(
+    alloc: Global,
+    messages: &Messages,
+    place: usize,
+) -> Result<Verdict, AllocError> {
+    let seen = messages.seen();
+    explained_at_once(alloc, messages, seen.get(..place).unwrap_or(seen))
+}
+
+/// A place before which no run of a block is stuck, since the first search, which came so far, explains the lines before
+/// it; 0 where it does not, or no closed sets are made.
+fn known_place(alloc: Global, messages: &Messages, verdict: &Verdict) -> Result<usize, AllocError> {
+    let Verdict::NotDecided(place, _, _) = verdict else {
+        return Ok(0);
+    };
+    if !has_sets(messages.setting().premises()) {
+        return Ok(0);
     }
-    explained(alloc, messages, messages.seen())
+    match explained_before(alloc, messages, *place)? {
+        Verdict::Explained(_) => Ok(*place),
+        _ => Ok(0),
+    }
 }
 
 /// A verdict, with the reason for which closed sets say nothing, where it is none.
@@ -212,6 +255,7 @@ fn sets_behind<W: Watcher>(
     alloc: Global,
     messages: &Messages,
     between: Option<Sets>,
+    known: usize,
     to: usize,
     watcher: &mut W,
 ) -> Result<Sets, AllocError>
@@ -219,27 +263,32 @@ fn sets_behind<W: Watcher>(
     ensures { IfOk result (IsSets messages.now to) }
 {
     match between {
-        Some(sets) => sets_at_pins(alloc, messages, sets, to, watcher),
-        None => all_sets(alloc, messages, to, watcher),
+        Some(sets) => sets_at_pins(alloc, messages, sets, known, to, watcher),
+        None => all_sets(alloc, messages, known, to, watcher),
     }
 }
 
-/// A run that explains what was seen; else what closed sets say, in the ways of seeing that were not asked before.
+/// What the first search found, or a run that the search in rounds finds; else what closed sets say, in the ways of
+/// seeing that were not asked before. Before the place `known` no run of a block is stuck, as far as is known.
 fn sought<W: Watcher>(
     alloc: Global,
     messages: &Messages,
+    first: Verdict,
+    known: usize,
     between: Option<Sets>,
     watcher: &mut W,
 ) -> Result<Verdict, AllocError>
+    requires first { IsFound (with_lines messages.now messages.now.seen) first }
     requires pins { MayAtPins messages.now messages.now.seen }
     requires between { (to : ℕ) → IfSome between (IsSets messages.now to) }
     ensures { IfOk result (IsVerdict messages.now) }
 {
-    let verdict = explained_or_not(alloc, messages)?;
+    let verdict = found_again(alloc, messages, first)?;
     if let Verdict::Explained(_) = &verdict {
         return Ok(verdict);
     }
-    match sets_behind(alloc, messages, between, messages.seen().len(), watcher)? {
+    let to = messages.seen().len();
+    match sets_behind(alloc, messages, between, known, to, watcher)? {
         Sets::Stuck(stuck) => Ok(Verdict::RuledOut(stuck)),
         Sets::Open(reason) => Ok(with_reason(verdict, reason)),
     }
@@ -250,21 +299,61 @@ fn stuck_first<W: Watcher>(
     alloc: Global,
     messages: &Messages,
     stuck: Stuck,
+    known: usize,
     watcher: &mut W,
 ) -> Result<Verdict, AllocError>
     requires pins { MayAtPins messages.now messages.now.seen }
     requires stuck { IsRuledOut messages.now }
     ensures { IfOk result (IsVerdict messages.now) }
 {
-    match sets_at_pins(alloc, messages, Sets::Open(None), stuck.place, watcher)? {
+    match sets_at_pins(
+        alloc,
+        messages,
+        Sets::Open(None),
+        known,
+        stuck.place,
+        watcher,
+    )? {
         Sets::Stuck(first) => Ok(Verdict::RuledOut(first)),
         Sets::Open(_) => Ok(Verdict::RuledOut(stuck)),
     }
 }
 
-/// What is said of what may be seen at the pins of its clients. Closed sets take longer than the search for a run, so
-/// it comes first; but not between the links' ends or at home, where all was watched in order of time: there a set is
-/// small.
+/// What closed sets say between the links' ends and at home; else what a search for a run comes to, which may have been
+/// begun.
+fn sets_first<W: Watcher>(
+    alloc: Global,
+    messages: &Messages,
+    first: Option<Verdict>,
+    known: usize,
+    watcher: &mut W,
+) -> Result<Verdict, AllocError>
+    requires first { IfSome first (IsFound (with_lines messages.now messages.now.seen)) }
+    requires pins { MayAtPins messages.now messages.now.seen }
+    ensures { IfOk result (IsVerdict messages.now) }
+{
+    match sets_between(alloc, messages, known, messages.seen().len(), watcher)? {
+        Sets::Stuck(stuck) => stuck_first(alloc, messages, stuck, known, watcher),
+        Sets::Open(reason) => {
+            let first = match first {
+                Some(first) => first,
+                None => found_first(alloc, messages)?,
+            };
+            sought(
+                alloc,
+                messages,
+                first,
+                known,
+                Some(Sets::Open(reason)),
+                watcher,
+            )
+        }
+    }
+}
+
+/// What is said of what may be seen at the pins of its clients. Closed sets take longer than the first search for a run,
+/// so it comes first. Where all was watched in order of time a set between the links' ends or at home is small: there
+/// these sets come before the search in rounds, and in a long record before any search.
 fn weighed<W: Watcher>(
     alloc: Global,
     messages: &Messages,
@@ -273,46 +362,27 @@ fn weighed<W: Watcher>(
     requires { MayAtPins messages.now messages.now.seen }
     ensures { IfOk result (IsVerdict messages.now) }
 {
-    if !is_all_in_order(messages.setting().premises()) {
-        return sought(alloc, messages, None, watcher);
+    if let Some(run) = explained_with_drops(alloc, messages)? {
+        return Ok(Verdict::Explained(run));
     }
-    match sets_between(alloc, messages, messages.seen().len(), watcher)? {
-        Sets::Stuck(stuck) => stuck_first(alloc, messages, stuck, watcher),
-        Sets::Open(reason) => sought(alloc, messages, Some(Sets::Open(reason)), watcher),
+    let is_in_order = is_all_in_order(messages.setting().premises());
+    if is_in_order && messages.seen().len() > MOST_SEEN {
+        return sets_first(alloc, messages, None, 0, watcher);
     }
-}
-
-/// Whether the first search finds a run for the lines before a place, in each order that the header asks for: then no
-/// run of a block is stuck at one of them.
-fn is_explained_before(
-    alloc: Global,
-    messages: &Messages,
-    place: usize,
-) -> Result<bool, AllocError> {
-    let Some(lines) = messages.seen().get(..place) else {
-        return Ok(false);
-    };
-    match explained_at_once(alloc, messages, lines)? {
-        Verdict::Explained(_) => Ok(true),
-        _ => Ok(false),
+    let first = found_first(alloc, messages)?;
+    if let Verdict::Explained(_) = &first {
+        return Ok(first);
+    }
+    let known = known_place(alloc, messages, &first)?;
+    if is_in_order {
+        sets_first(alloc, messages, Some(first), known, watcher)
+    } else {
+        sought(alloc, messages, first, known, None, watcher)
     }
 }
 
-/// Whether closed sets may name a line before a place. They take longer than the search for a run of these lines, so it
-/// is asked first.
-fn may_be_stuck_before(
-    alloc: Global,
-    messages: &Messages,
-    place: usize,
-) -> Result<bool, AllocError> {
-    let premises = messages.setting().premises();
-    if has_drops(premises) || !names_any(premises) {
-        return Ok(false);
-    }
-    Ok(!is_explained_before(alloc, messages, place)?)
-}
-
-/// That a line may not be seen at its client's pins; or that each run of a block is stuck at an earlier one.
+/// That a line may not be seen at its client's pins; or that each run of a block is stuck at an earlier one. Closed sets
+/// are made only where the first search does not explain the lines before it.
 fn wrong_first<W: Watcher>(
     alloc: Global,
     messages: &Messages,
@@ -322,10 +392,15 @@ fn wrong_first<W: Watcher>(
     requires { IsFirstOf messages.now messages.now.setting.shape.clients (Some wrong) }
     ensures { IfOk result (IsVerdict messages.now) }
 {
-    if !may_be_stuck_before(alloc, messages, wrong.place)? {
+    if !has_sets(messages.setting().premises()) {
         return Ok(Verdict::Impossible(wrong));
     }
-    match all_sets(alloc, messages, wrong.place, watcher)? {
+    let before = explained_before(alloc, messages, wrong.place)?;
+    if let Verdict::Explained(_) = &before {
+        return Ok(Verdict::Impossible(wrong));
+    }
+    let known = known_place(alloc, messages, &before)?;
+    match all_sets(alloc, messages, known, wrong.place, watcher)? {
         Sets::Stuck(stuck) => Ok(Verdict::RuledOut(stuck)),
         Sets::Open(_) => Ok(Verdict::Impossible(wrong)),
     }
