@@ -62,6 +62,14 @@ def judged(cache, path):
             and fault.rule == jv.JJ_PUT_ACK_IS_OUTWARD
 
 
+def accepts_the_second_first(path, each_block):
+    """The status of an Acquire that is accepted before the one that its client sent first, of another block."""
+    with jv.Judge(path=path, clients=2, block_bytes=8, memory_blocks=4, each_block=each_block) as judge:
+        for block in 0, 1:
+            judge.see("send_acquire", client=0, place=block, param=jv.JV_NTOB)
+        return judge.see("accept_acquire", client=0, place=1).status
+
+
 def seen_at_pins(path):
     """A judge at a client's pins takes what may be seen there, and stops at a Release that shows other bytes than were stored."""
     with jv.PinsJudge(0, path=path, clients=2, block_bytes=8, memory_blocks=4) as judge:
@@ -82,6 +90,8 @@ def main():
         is_well = at_once(cache) and is_well
         is_well = judged(cache, path) and is_well
         is_well = seen_at_pins(path) and is_well
+        is_well = accepts_the_second_first(path, False) == jv.JV_NOT_PERMITTED and is_well
+        is_well = accepts_the_second_first(path, True) == jv.JV_OK and is_well
         load = jv.asked("load", client=1, place=0, len=8)
         for text, batch, rounds in ("one call", cache.batch(load), 100000), ("a call of 64", cache.batch(*[load] * 64), 2000):
             start = time.perf_counter()

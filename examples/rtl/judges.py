@@ -117,7 +117,7 @@ def events(path):
 
 
 def orders(path):
-    for options in {}, dict(drops_clean=True):
+    for options in dict(drops_clean=True), dict(probes_anyone=True):
         verdict, _, _ = judged(path, accepts_the_second_first, **options)
         want(f"the second of two Acquires is accepted first, {options}: {verdict.rule}",
              (verdict.status, verdict.rule) == (jv.JV_NOT_PERMITTED, jv.JJ_OUT_OF_ORDER))
