@@ -102,6 +102,7 @@ sort -k1,2 -k3,3n "$out/costs" | awk -v unit=$unit -v heads="$heads" '
         return sprintf(" %.1f | %.1f | %.2f |", left, right, left / right)
     }
     function row(work, text) {
+        if (!count[work " left"] && !count[work " right"]) return # of no work that was counted
         text = "| " text " |" cells(least(work, "left"), least(work, "right"))
         print unit == "ns" ? text cells(median(work, "left"), median(work, "right")) : text
     }
