@@ -2,10 +2,10 @@
 //! stands for standard input.
 #![tactic(auto)]
 
-mod asked;
+mod command_line;
 mod fault;
 
-use asked::{Asked, Output, asked_by};
+use command_line::{Output, Request};
 use fault::{Fault, show};
 use std::fs::File;
 use std::process::ExitCode;
@@ -26,7 +26,7 @@ fn bytes(rt: &HostRuntime, file: &str) -> Result<Vec<u8>, Fault> {
 }
 
 /// What is asked for, as text.
-fn text(rt: &HostRuntime, asked: &Asked) -> Result<String, Fault> {
+fn text(rt: &HostRuntime, asked: &Request) -> Result<String, Fault> {
     let bytes = bytes(rt, &asked.file)?;
     let title = title_of(&asked.file);
     match asked.output {
@@ -39,9 +39,14 @@ fn text(rt: &HostRuntime, asked: &Asked) -> Result<String, Fault> {
     }
 }
 
-fn answer(rt: &HostRuntime) -> Result<(), Fault> {
-    let words = words(rt)?;
-    let text = text(rt, &asked_by(rt.alloc(), &words)?)?;
+/// What the words after the program's name ask for.
+fn asked(rt: &HostRuntime) -> Result<Request, Fault> {
+    Ok(Request::parse(rt.alloc(), &words(rt)?)?)
+}
+
+/// Writes what is asked for.
+fn write_asked(rt: &HostRuntime) -> Result<(), Fault> {
+    let text = text(rt, &asked(rt)?)?;
     match write_whole(&mut rt.stdout(), text.as_bytes()) {
         Ok(()) => Ok(()),
         Err(_) => Err(Fault::Program(ProgramFault::File)),
@@ -49,7 +54,7 @@ fn answer(rt: &HostRuntime) -> Result<(), Fault> {
 }
 
 fn main(rt: HostRuntime) -> ExitCode {
-    let status = match answer(&rt) {
+    let status = match write_asked(&rt) {
         Ok(()) => 0,
         Err(fault) => show(&mut rt.stderr(), &fault),
     };

@@ -1,23 +1,25 @@
 //! - `tlcheck [--progress] [--chart] FILE`: whether a record of events is a lawful run, or where it broke, as a chart;
-//!   `-` stands for standard input, and no other word that begins with a dash for a file.
+//!   `-` stands for standard input.
 //! - `tlcheck --coverage [--home] [--html] FILE ..`: which situations of the protocol records have reached, and with
 //!   `--home` which of them this project's home reaches.
 //! - `tlcheck --how N`: a run that reaches situation N; `tlcheck --how --script N`: a script for `tlcache trace` that
 //!   does.
+//!
+//! The options stand in any order.
 #![tactic(auto)]
 
-mod asked;
 mod chart;
+mod command_line;
 mod coverage;
 
-use asked::{Asked, Judged, Output, asked_by};
 use chart::draw;
+use command_line::{Judged, Output, Request};
 use coverage::{tell_coverage, tell_how};
 use std::fs::File;
 use std::io::{BufReader, IsTerminal, Read, Write};
 use std::process::ExitCode;
 use std::time::Clock;
-use tl_streams::{Bounded, Piped, Progress, Watched, words};
+use tl_streams::{Bounded, Piped, Progress, Watched, WordsError, words};
 use tlcheck_reader::{Ending, check_record, show, tell_ending};
 
 pub(crate) fn refuse(rt: &HostRuntime, ending: Ending) -> u8 {
@@ -47,7 +49,7 @@ fn judge<R: Read + Drop, W: Write + Drop, C: Clock + Drop>(
 /// where faults go to a terminal.
 fn judge_read<R: Read + Drop>(
     rt: &HostRuntime,
-    asked: Judged<'_>,
+    asked: &Judged,
     reader: R,
     size: Option<u64>,
 ) -> u8 {
@@ -60,7 +62,7 @@ fn judge_read<R: Read + Drop>(
     let reader = Watched::new(reader, progress);
     match asked.output {
         Output::Verdict => judge(rt, reader),
-        Output::Chart => draw(rt, asked.file, reader),
+        Output::Chart => draw(rt, &asked.file, reader),
     }
 }
 
@@ -73,11 +75,11 @@ fn size_of(file: &File) -> Option<u64> {
 }
 
 /// Judges a file.
-fn judge_file(rt: &HostRuntime, asked: Judged<'_>) -> u8 {
-    if asked.file == "-" {
+fn judge_file(rt: &HostRuntime, asked: &Judged) -> u8 {
+    if asked.file.as_str() == "-" {
         return judge_read(rt, asked, rt.reader(), None);
     }
-    match File::open(rt, asked.file) {
+    match File::open(rt, asked.file.as_str()) {
         Ok(file) => {
             let size = size_of(&file);
             judge_read(rt, asked, file, size)
@@ -86,19 +88,23 @@ fn judge_file(rt: &HostRuntime, asked: Judged<'_>) -> u8 {
     }
 }
 
-fn status(rt: &HostRuntime) -> u8 {
-    let words = match words(rt) {
-        Ok(words) => words,
-        Err(error) => return refuse(rt, Ending::from(error)),
-    };
-    match asked_by(&words) {
-        Some(Asked::Judged(asked)) => judge_file(rt, asked),
-        Some(Asked::Covered(form, by_home, names)) => tell_coverage(rt, form, by_home, names),
-        Some(Asked::Reached(way, number)) => tell_how(rt, way, number),
-        None => refuse(rt, Ending::Usage),
+/// Does what the words of the command line ask for.
+fn carry_out(rt: &HostRuntime, request: &Request) -> u8 {
+    match request {
+        Request::Judge(asked) => judge_file(rt, asked),
+        Request::Cover(form, by_home, names) => tell_coverage(rt, *form, *by_home, names),
+        Request::Reach(way, number) => tell_how(rt, *way, number.as_str()),
     }
 }
 
+/// What the words after the program's name ask for.
+fn asked(rt: &HostRuntime) -> Result<Request, WordsError> {
+    Request::parse(rt.alloc(), &words(rt)?)
+}
+
 fn main(rt: HostRuntime) -> ExitCode {
-    ExitCode::from(status(&rt))
+    ExitCode::from(match asked(&rt) {
+        Ok(request) => carry_out(&rt, &request),
+        Err(error) => refuse(&rt, Ending::from(error)),
+    })
 }

@@ -26,7 +26,7 @@ const KEYS: [&str; 12] = [
 
 /// A number that is asked for.
 #[derive(Clone, Copy)]
-struct Asked<'w> {
+struct Setting<'w> {
     key: &'w str,
     number: u32,
 }
@@ -36,7 +36,7 @@ struct Asked<'w> {
 pub(crate) struct Request<'w> {
     pub(crate) seed: u32,
     pub(crate) traces: bool,
-    asked: Vec<Asked<'w>>,
+    settings: Vec<Setting<'w>>,
 }
 
 impl<'w> Request<'w> {
@@ -47,19 +47,19 @@ impl<'w> Request<'w> {
         };
         let seed = parse_number(seed).ok_or(USAGE)?;
         let traces = traces(mode)?;
-        let asked = asked_by_all(alloc, rest)?;
+        let settings = settings_of(alloc, rest)?;
         Ok(Request {
             seed,
             traces,
-            asked,
+            settings,
         })
     }
 
     /// The number that is asked for under a key, if one is.
     pub(crate) fn number(&self, key: &str) -> Option<u32> {
-        for asked in &self.asked {
-            if asked.key == key {
-                return Some(asked.number);
+        for setting in &self.settings {
+            if setting.key == key {
+                return Some(setting.number);
             }
         }
         None
@@ -75,25 +75,25 @@ fn traces(mode: &str) -> Result<bool, Fault> {
 }
 
 /// The numbers that words ask for. Usage where one asks for none.
-fn asked_by_all(alloc: Global, words: &[String]) -> Result<Vec<Asked<'_>>, Fault> {
+fn settings_of(alloc: Global, words: &[String]) -> Result<Vec<Setting<'_>>, Fault> {
     let mut all = Vec::new(alloc);
     for word in words {
-        let Some(asked) = asked_by(word) else {
+        let Some(setting) = setting_of(word) else {
             return Err(USAGE);
         };
-        all.push(asked)?;
+        all.push(setting)?;
     }
     Ok(all)
 }
 
 /// The number that a word asks for, where its key is known.
-fn asked_by(word: &str) -> Option<Asked<'_>> {
+fn setting_of(word: &str) -> Option<Setting<'_>> {
     let (key, number) = word.split_once('=')?;
     if !is_key(key) {
         return None;
     }
     let number = parse_number(number)?;
-    Some(Asked { key, number })
+    Some(Setting { key, number })
 }
 
 fn is_key(word: &str) -> bool {

@@ -1,14 +1,14 @@
 //! `tlwire [--progress] [--run | --chart] FILE`: whether a run explains what a monitor on the links saw, or where it
-//! broke, as a chart; `-` stands for standard input, and no other word that begins with a dash for a file.
+//! broke, as a chart; `-` stands for standard input. The options stand in any order.
 #![tactic(auto)]
 
-mod asked;
+mod command_line;
 
-use asked::{Asked, Output, asked_by};
+use command_line::{Output, Request};
 use std::fs::File;
 use std::io::{IsTerminal, Read};
 use std::process::ExitCode;
-use tl_streams::{Piped, Progress, Watched, read_whole, words};
+use tl_streams::{Piped, Progress, Watched, WordsError, read_whole, words};
 use tlchart_draw::title_of;
 use tlwire_answer::{Ending, judge_lines, show, tell_ending};
 use tlwire_chart::tell_chart;
@@ -19,7 +19,7 @@ fn refuse(rt: &HostRuntime, ending: Ending) -> u8 {
 }
 
 /// Whether it is told how far the work is: where that is asked for, or where faults go to a terminal.
-fn is_told(rt: &HostRuntime, asked: Asked<'_>) -> bool {
+fn is_told(rt: &HostRuntime, asked: &Request) -> bool {
     asked.is_progress_told || rt.stderr().is_terminal()
 }
 
@@ -41,7 +41,7 @@ fn read_told<R: Read + Drop>(
 /// All that a reader has.
 fn read_from<R: Read + Drop>(
     rt: &HostRuntime,
-    asked: Asked<'_>,
+    asked: &Request,
     mut reader: R,
     size: Option<u64>,
 ) -> Result<Vec<u8>, Ending> {
@@ -60,11 +60,11 @@ fn size_of(file: &File) -> Option<u64> {
 }
 
 /// The bytes of a file.
-fn bytes(rt: &HostRuntime, asked: Asked<'_>) -> Result<Vec<u8>, Ending> {
-    if asked.file == "-" {
+fn bytes(rt: &HostRuntime, asked: &Request) -> Result<Vec<u8>, Ending> {
+    if asked.file.as_str() == "-" {
         return read_from(rt, asked, rt.reader(), None);
     }
-    match File::open(rt, asked.file) {
+    match File::open(rt, asked.file.as_str()) {
         Ok(file) => {
             let size = size_of(&file);
             read_from(rt, asked, file, size)
@@ -85,14 +85,14 @@ fn judge_told(rt: &HostRuntime, lines: &[&[u8]]) -> Ending {
 }
 
 /// Tells what the answer to a record of these lines ends with, as it is asked for.
-fn tell(rt: &HostRuntime, asked: Asked<'_>, lines: &[&[u8]], ending: &Ending) -> u8 {
+fn tell(rt: &HostRuntime, asked: &Request, lines: &[&[u8]], ending: &Ending) -> u8 {
     let (mut output, mut faults) = (Piped::new(rt.stdout()), rt.stderr());
     let status = match asked.output {
         Output::Answer(form) => {
             tell_ending(rt.alloc(), form, lines, ending, &mut output, &mut faults)
         }
         Output::Chart => {
-            let title = title_of(asked.file);
+            let title = title_of(&asked.file);
             tell_chart(rt.alloc(), title, lines, ending, &mut output, &mut faults)
         }
     };
@@ -100,7 +100,7 @@ fn tell(rt: &HostRuntime, asked: Asked<'_>, lines: &[&[u8]], ending: &Ending) ->
 }
 
 /// The answer to a record of these lines.
-fn answer_lines(rt: &HostRuntime, asked: Asked<'_>, lines: &[&[u8]]) -> u8 {
+fn answer_lines(rt: &HostRuntime, asked: &Request, lines: &[&[u8]]) -> u8 {
     let ending = if is_told(rt, asked) {
         judge_told(rt, lines)
     } else {
@@ -110,23 +110,25 @@ fn answer_lines(rt: &HostRuntime, asked: Asked<'_>, lines: &[&[u8]]) -> u8 {
 }
 
 /// The answer to what a file has.
-fn answer_text(rt: &HostRuntime, asked: Asked<'_>, text: &[u8]) -> u8 {
+fn answer_text(rt: &HostRuntime, asked: &Request, text: &[u8]) -> u8 {
     match split_lines(rt.alloc(), text) {
         Ok(lines) => answer_lines(rt, asked, &lines),
         Err(_) => refuse(rt, Ending::Memory),
     }
 }
 
+/// What the words after the program's name ask for.
+fn asked(rt: &HostRuntime) -> Result<Request, WordsError> {
+    Request::parse(rt.alloc(), &words(rt)?)
+}
+
 fn status(rt: &HostRuntime) -> u8 {
-    let words = match words(rt) {
-        Ok(words) => words,
+    let asked = match asked(rt) {
+        Ok(asked) => asked,
         Err(error) => return refuse(rt, Ending::from(error)),
     };
-    let Some(asked) = asked_by(&words) else {
-        return refuse(rt, Ending::Usage);
-    };
-    match bytes(rt, asked) {
-        Ok(text) => answer_text(rt, asked, &text),
+    match bytes(rt, &asked) {
+        Ok(text) => answer_text(rt, &asked, &text),
         Err(ending) => refuse(rt, ending),
     }
 }
