@@ -1,29 +1,26 @@
--- From one line of a record to the next, and the entries that a page shows.
-use Rattle.std.proofs.Common.{◌≡◌, ◌≢◌, ◌+◌, ◌<◌, ◌≤◌, ℕ, Bool, true, false, cond, List, [], ◌∷◌, ◌++◌, length, take, Option, Some, None, Result, Ok, Err, refl, sym, ◌∙◌, ap, subst, arith, append_assoc, length-append}
+-- The entries that a page shows.
+use Rattle.std.proofs.Common.{◌≡◌, ◌+◌, ◌<◌, ◌≤◌, ℕ, zero, suc, Bool, true, false, List, [], ◌∷◌, ◌++◌, length, take, Option, Some, None, IfOk, IfSome, Result, Ok, Err, refl, sym, ◌∙◌, ap, subst, arith, append_assoc, length-append}
 use Rattle.std.proofs.lemmas.List.{append-nil, take_all, drop_all, take-append-drop, take-append-le, drop-append-le, map-append}
-use Rattle.std.specs.Io.BufRead.{take_through, drop_through, strip_last}
+use Rattle.std.specs.Prelude.{is_some}
 use Rattle.tl_protocol.specs.declared.event.Event.{Event}
 use Rattle.tlcheck_rules.specs.Judged.{Follows}
 use Rattle.tlcheck_rules.specs.declared.entry.Entry.{Entry}
-use Rattle.tlcheck_record.specs.Cause.{◌>>=◌, Refuses}
-use Rattle.tlcheck_record.specs.Entry.{entry_of}
-use Rattle.tlcheck_record.specs.Header.{head_of, image_of}
-use Rattle.tlcheck_record.specs.Words.{is_blank, text_in}
 use Rattle.tlcheck_record.specs.declared.cause.Cause.{Cause}
-use Rattle.tlcheck_record.specs.declared.cause.LineError.{LineError}
-use Rattle.tlcheck_record.specs.declared.cause.LineError.TheVariants.{Wrong, Memory as no_memory}
 use Rattle.tlcheck_record.specs.declared.header.Head.{Head}
+use Rattle.tlcheck_reader.specs.Entries.{IsAmong, IsFirstEntry, IsReadFault}
+use Rattle.tlcheck_reader.specs.Text.{IsFullLine, IsShort, IsUnreadable}
+use Rattle.tlcheck_reader.specs.EntriesState.{EntriesState}
 use Rattle.tlcheck_reader.specs.Lines.{lines_of}
-use Rattle.tlcheck_reader.specs.Reading.{Reading, fresh, shaped, going, after_line, after_text, image_or_entry, next, reading_of, with_entry}
-use Rattle.tlcheck_reader.proofs.Steps.{at_end, cut, read_more}
-use Rattle.tlcheck_reader.proofs.Takes.{length_more}
+use Rattle.tlcheck_reader.specs.Reading.{Reading, fresh, shaped, going, after_line, entries_in, reading_of}
+use Rattle.tlcheck_reader.specs.declared.entries.ReadFault.{ReadFault}
+use Rattle.tlcheck_reader.specs.declared.entries.ReadFault.TheVariants as read
+use Rattle.tlcheck_reader.proofs.Growing.{Beginnings, beginnings, count_in, longer, never_fewer, reads_line, reads_rest, shorter, stays_going}
+use Rattle.tlcheck_reader.proofs.Judging.{length_more}
 use Rattle.tlchart_record.specs.Film.{GoesOn, IsSomewhere, Plays, entries_of}
-use Rattle.tlchart_record.specs.Window.{Agrees, AreWrittenAfter, HasEntries, IsFullLine, IsLineOf, IsWindow, IsWrittenAfter, Lead, LeadsTo, Shows, Takes, unread_as}
-use Rattle.tlchart_record.specs.declared.window.Progress.{Progress}
-use Rattle.tlchart_record.specs.declared.window.Progress.TheVariants.{Fresh, Shaped, Going}
+use Rattle.tlchart_record.specs.Window.{AreWrittenAfter, HasEntries, IsWindow, IsWrittenAfter, Lead, Shows, Takes, Writes, fault_of}
 use Rattle.tlchart_record.specs.declared.window.Window.{Window}
 use Rattle.tlchart_record.specs.declared.window.WindowFault.{WindowFault}
-use Rattle.tlchart_record.specs.declared.window.WindowFault.TheVariants.{Memory, Line}
+use Rattle.tlchart_record.specs.declared.window.WindowFault.TheVariants.{Line}
 use Rattle.tlchart_record.specs.declared.window.Written.{Written}
 
 -- ## One more entry
@@ -95,7 +92,7 @@ shows-more text before head image entries written old new many shows same more w
     }
 
 -- either
-shows-next : (text : List ℕ) (before count line : ℕ) (head : Head) (image : List ℕ) (entries : List Entry) (entry : Entry) (old new : Window)
+pub shows-next : (text : List ℕ) (before count line : ℕ) (head : Head) (image : List ℕ) (entries : List Entry) (entry : Entry) (old new : Window)
     → (is_shown : Bool) → (is_shown ≡ true → before ≤ count) → (is_shown ≡ false → count < before)
     → Takes is_shown line entry old new → Shows text before head image entries old → length entries ≡ count
     → IsFullLine text line (Ok (going head image (entries ++ entry ∷ []))) → Shows text before head image (entries ++ entry ∷ []) new
@@ -106,57 +103,8 @@ shows-next text before count line head image entries entry old new false many fe
     let less : length entries < before = rw same (few refl) in
     shows-before text before head image entries entry old new less shows t.0 t.1
 
--- ## One more line
-
--- a line that cannot be read
-pub refused : (text : List ℕ) (before : ℕ) (then_ : Result Reading Cause) (error : LineError) → Refuses error then_
-    → LeadsTo text before then_ (Err (unread_as error))
-refused text before then_ (Wrong cause) h = (cause, h)
-refused text before then_ no_memory h = tt
-
--- what cannot be read cannot be read on
-refused_on : {A : Type 0} (value : Result A Cause) (f : A → Result Reading Cause) (error : LineError) → Refuses error value
-    → Refuses error (value >>= f)
-refused_on value f (Wrong cause) h = ap (λ v. v >>= f) h
-refused_on value f no_memory h = tt
-
--- a line with an entry
-pub entry-taken : (text : List ℕ) (before count line : ℕ) (head : Head) (image : List ℕ) (entries : List Entry) (words : List ℕ) (entry : Entry)
-    (old new : Window) (is_shown : Bool) → entry_of words ≡ Ok entry → (is_shown ≡ true → before ≤ count) → (is_shown ≡ false → count < before)
-    → Takes is_shown line entry old new → Shows text before head image entries old → length entries ≡ count
-    → IsFullLine text line (with_entry head image entries words)
-    → LeadsTo text before (with_entry head image entries words) (Ok (Going new (count + 1)))
-entry-taken text before count line head image entries words entry old new is_shown e many few t shows same w =
-    let leads : with_entry head image entries words ≡ Ok (going head image (entries ++ entry ∷ [])) =
-    ap (λ (o : Result Entry Cause). o >>= (λ x. Ok (going head image (entries ++ x ∷ [])))) e in
-    let at : IsFullLine text line (Ok (going head image (entries ++ entry ∷ []))) =
-    subst (λ (o : Result Reading Cause). IsFullLine text line o) leads w in
-    let longer : length (entries ++ entry ∷ []) ≡ count + 1 = omega (arith, same, length_more entries entry) in (
-      going head image (entries ++ entry ∷ []),
-      leads,
-      (shows-next text before count line head image entries entry old new is_shown many few t shows same at, longer),
-    )
-
-pub entry-refused : (text : List ℕ) (before : ℕ) (head : Head) (image : List ℕ) (entries : List Entry) (words : List ℕ) (error : LineError)
-    → Refuses error (entry_of words) → LeadsTo text before (with_entry head image entries words) (Err (unread_as error))
-entry-refused text before head image entries words error e =
-    refused text before _ error (refused_on (entry_of words) (λ x. Ok (going head image (entries ++ x ∷ []))) error e)
-
--- the numbers
-pub head-taken : (text : List ℕ) (before : ℕ) (words : List ℕ) (head : Head) → head_of words ≡ Ok head → (reading : Reading)
-    → Agrees text before reading Fresh → LeadsTo text before (next reading words) (Ok (Shaped head))
-head-taken text before words head e fresh h = (shaped head, ap (λ (s : Result Head Cause). s >>= (λ x. Ok (shaped x))) e, refl)
-head-taken text before words head e (shaped s) h = absurd h
-head-taken text before words head e (going s image entries) h = absurd h
-
-pub head-refused : (text : List ℕ) (before : ℕ) (words : List ℕ) (error : LineError) → Refuses error (head_of words) → (reading : Reading)
-    → Agrees text before reading Fresh → LeadsTo text before (next reading words) (Err (unread_as error))
-head-refused text before words error e fresh h = refused text before _ error (refused_on (head_of words) (λ x. Ok (shaped x)) error e)
-head-refused text before words error e (shaped s) h = absurd h
-head-refused text before words error e (going s image entries) h = absurd h
-
 -- a window before all entries
-shows-none : (text : List ℕ) (before : ℕ) (head : Head) (image : List ℕ) (window : Window) → Follows head.order head.shape image [] window.judge
+pub shows-none : (text : List ℕ) (before : ℕ) (head : Head) (image : List ℕ) (window : Window) → Follows head.order head.shape image [] window.judge
     → window.entries.items ≡ [] → Shows text before head image [] window
 shows-none text before head image window f none =
     let taken : take before [] ≡ [] = take_all before [] (omega arith) in
@@ -168,289 +116,175 @@ shows-none text before head image window f none =
       judge = f;
     }
 
--- an image
-pub image-taken : (text : List ℕ) (before : ℕ) (words image : List ℕ) (head : Head) (window : Window) → image_of head.shape words ≡ Ok (Some image)
-    → Follows head.order head.shape image [] window.judge → window.entries.items ≡ [] → (reading : Reading) → Agrees text before reading (Shaped head)
-    → LeadsTo text before (next reading words) (Ok (Going window 0))
-image-taken text before words image head window e f none fresh h = absurd h
-image-taken text before words image head window e f none (shaped s) h = (
-  going s image [],
-  ap (λ (x : Head). image_of x.shape words >>= (λ i. image_or_entry s words i)) (sym h)
-      ∙ ap (λ (o : Result (Option (List ℕ)) Cause). o >>= (λ i. image_or_entry s words i)) e,
-  (shows-none text before s image window (subst (λ (x : Head). Follows x.order x.shape image [] window.judge) h f) none, refl),
-)
-image-taken text before words image head window e f none (going s i entries) h = absurd h
+-- ## As many entries as are asked for
 
-pub image-refused : (text : List ℕ) (before : ℕ) (words : List ℕ) (head : Head) (error : LineError) → Refuses error (image_of head.shape words)
-    → (reading : Reading) → Agrees text before reading (Shaped head) → LeadsTo text before (next reading words) (Err (unread_as error))
-image-refused text before words head error e fresh h = absurd h
-image-refused text before words head error e (shaped s) h =
-    refused text before _ error
-    (refused_on (image_of s.shape words) (λ i. image_or_entry s words i) error (subst (λ (x : Head). Refuses error (image_of x.shape words)) h e))
-image-refused text before words head error e (going s i entries) h = absurd h
-
--- no image: the first entry
-pub no-image : (text : List ℕ) (before line : ℕ) (words : List ℕ) (head : Head) (window : Window) (result : Result Progress WindowFault)
-    → image_of head.shape words ≡ Ok None → Follows head.order head.shape [] [] window.judge → window.entries.items ≡ []
-    → ((x : Head) (image : List ℕ) (entries : List Entry) → IsFullLine text line (with_entry x image entries words)
-    → Shows text before x image entries window → length entries ≡ 0 → LeadsTo text before (with_entry x image entries words) result)
-    → (reading : Reading) → IsFullLine text line (next reading words) → Agrees text before reading (Shaped head)
-    → LeadsTo text before (next reading words) result
-no-image text before line words head window result e f none leads fresh w h = absurd h
-no-image text before line words head window result e f none leads (shaped s) w h =
-    let same : next (shaped s) words ≡ with_entry s [] [] words =
-    ap (λ (x : Head). image_of x.shape words >>= (λ i. image_or_entry s words i)) (sym h)
-    ∙ ap (λ (o : Result (Option (List ℕ)) Cause). o >>= (λ i. image_or_entry s words i)) e in
-    subst (λ (o : Result Reading Cause). LeadsTo text before o result) (sym same)
-    (leads s [] [] (subst (λ (o : Result Reading Cause). IsFullLine text line o) same w)
-    (shows-none text before s [] window (subst (λ (x : Head). Follows x.order x.shape [] [] window.judge) h f) none) refl)
-no-image text before line words head window result e f none leads (going s i entries) w h = absurd h
-
--- an entry after others
-pub going-on : (text : List ℕ) (before count line : ℕ) (words : List ℕ) (window : Window) (result : Result Progress WindowFault)
-    → ((x : Head) (image : List ℕ) (entries : List Entry) → IsFullLine text line (with_entry x image entries words)
-    → Shows text before x image entries window → length entries ≡ count → LeadsTo text before (with_entry x image entries words) result)
-    → (reading : Reading) → IsFullLine text line (next reading words) → Agrees text before reading (Going window count)
-    → LeadsTo text before (next reading words) result
-going-on text before count line words window result leads fresh w h = absurd h
-going-on text before count line words window result leads (shaped s) w h = absurd h
-going-on text before count line words window result leads (going s image entries) w h = leads s image entries w h.0 h.1
-
--- ## Blank lines, and those that are no text
-
-pub blank-line : (text : List ℕ) (before : ℕ) (line full : List ℕ) (progress : Progress) (reading : Reading) → is_blank line ≡ true
-    → line ≡ strip_last 10 full → Agrees text before reading progress → LeadsTo text before (after_line reading full) (Ok progress)
-blank-line text before line full progress reading b e h =
-    let is : is_blank (strip_last 10 full) ≡ true = ap (λ (l : List ℕ). is_blank l) (sym e) ∙ b in
-    (reading, ap (λ (t : Bool). cond t (Ok reading) (text_in (strip_last 10 full) >>= (λ x. next reading x))) is, h)
-
--- a line that is not blank leads to what its words do
-words-lead : (line full : List ℕ) (reading : Reading) → is_blank line ≡ false → line ≡ strip_last 10 full
-    → after_line reading full ≡ (text_in line >>= (λ x. next reading x))
-words-lead line full reading b e =
-    ap (λ (l : List ℕ). after_text reading l) (sym e)
-    ∙ ap (λ (t : Bool). cond t (Ok reading) (text_in line >>= (λ x. next reading x))) b
-
-pub full-line : (text : List ℕ) (before number : ℕ) (line full words : List ℕ) (reading : Reading) (result : Result Progress WindowFault)
-    → is_blank line ≡ false → text_in line ≡ Ok words → line ≡ strip_last 10 full → IsLineOf text number reading full
-    → (IsFullLine text number (next reading words) → LeadsTo text before (next reading words) result)
-    → LeadsTo text before (after_line reading full) result
-full-line text before number line full words reading result b t e at leads =
-    let same : after_line reading full ≡ next reading words =
-    words-lead line full reading b e ∙ ap (λ (o : Result (List ℕ) Cause). o >>= (λ x. next reading x)) t in
-    subst (λ (o : Result Reading Cause). LeadsTo text before o result) (sym same)
-    (leads (record {
-      reading = reading;
-      line = full;
-      at = at;
-      full = ap (λ (l : List ℕ). is_blank l) (sym e) ∙ b;
-      reads = same;
-    }))
-
-pub no-words : (text : List ℕ) (before : ℕ) (line full : List ℕ) (reading : Reading) (cause : Cause)
-    → is_blank line ≡ false → text_in line ≡ Err cause → line ≡ strip_last 10 full
-    → LeadsTo text before (after_line reading full) (Err Line)
-no-words text before line full reading cause b t e =
-    (cause, words-lead line full reading b e ∙ ap (λ (o : Result (List ℕ) Cause). o >>= (λ x. next reading x)) t)
-
--- ## The whole text
-
--- from what was read on lines write entries until there are so many
-pub record Remain (count : ℕ) (reading : Reading) (lines : List (List ℕ)) : Type 0 where
-  pub read : List (List ℕ)
-  pub rest : List (List ℕ)
-  pub lines_are : lines ≡ read ++ rest
-  pub head : Head
-  pub image : List ℕ
-  pub entries : List Entry
-  pub reads : reading_of reading read ≡ Ok (going head image entries)
-  pub counted : length entries ≡ count
-
--- so many entries are not yet there
-abbrev pub IsShortOf : ℕ → Progress → Type 0
-IsShortOf count Fresh = Unit {0}
-IsShortOf count (Shaped head) = Unit {0}
-IsShortOf count (Going window taken) = taken ≢ count
-
--- the same of what was read
-abbrev IsShort : ℕ → Reading → Type 0
-IsShort count fresh = Unit {0}
-IsShort count (shaped head) = Unit {0}
-IsShort count (going head image entries) = length entries ≢ count
-
-is-short : (text : List ℕ) (before count : ℕ) (reading : Reading) (progress : Progress) → Agrees text before reading progress
-    → IsShortOf count progress → IsShort count reading
-is-short text before count fresh progress h s = tt
-is-short text before count (shaped head) progress h s = tt
-is-short text before count (going head image entries) Fresh h s = absurd h
-is-short text before count (going head image entries) (Shaped x) h s = absurd h
-is-short text before count (going head image entries) (Going window taken) h s = λ e. s (sym h.1 ∙ e)
-
--- what was read has not so many
-not-there : (count : ℕ) (reading : Reading) (head : Head) (image : List ℕ) (entries : List Entry) → IsShort count reading
-    → reading ≡ going head image entries → length entries ≡ count → ⊥
-not-there count fresh head image entries s e n = cc
-not-there count (shaped x) head image entries s e n = cc
-not-there count (going x i es) head image entries s e n =
-    let same : es ≡ entries = cc in
-    s (ap (λ (l : List Entry). length l) same ∙ n)
-
--- what is left of a record after so many lines: where the reading is, and which entries are still to come
-pub record Stands (text : List ℕ) (before count : ℕ) (left : List ℕ) (number : ℕ) (progress : Progress) : Type 0 where
-  pub reading : Reading
-  pub read : List (List ℕ)
-  pub lines : lines_of text ≡ read ++ lines_of left
-  pub reads : reading_of fresh read ≡ Ok reading
-  pub number_is : length read ≡ number
-  pub agrees : Agrees text before reading progress
-  pub short : IsShortOf count progress
-  pub remain : HasEntries text count → Remain count reading (lines_of left)
-
-pub stands-first : (text : List ℕ) (before count : ℕ) → Stands text before count text 0 Fresh
-stands-first text before count = record {
-  reading = fresh;
-  read = [];
-  lines = refl;
-  reads = refl;
-  number_is = refl;
-  agrees = tt;
-  short = tt;
-  remain = λ h. record {
-    read = h.writes.read;
-    rest = h.writes.rest;
-    lines_are = h.writes.lines;
-    head = h.head;
-    image = h.image;
-    entries = h.entries;
-    reads = h.writes.reads;
-    counted = h.counted;
-  };
+-- those that were given out are written, where none waits
+writes_as : (text : List ℕ) (now : Option (List ℕ)) (number : ℕ) (first : Option Entry) (head : Head) (image : List ℕ) (entries : List Entry)
+    → (length entries ≡ 0 → first ≡ None) → IsAmong (Some text) now (record { number = number; first = first }) head image entries
+    → Writes text head image entries
+writes_as text now number None head image entries none a = record {
+  read = a.read.read;
+  rest = lines_of a.left;
+  lines = a.read.lines;
+  reads =
+      subst (λ (es : List Entry). reading_of fresh a.read.read ≡ Ok (going head image es)) (append-nil entries) a.read.reads;
 }
-
--- one line fewer remains
-remain-step : (count : ℕ) (reading next_ : Reading) (line : List ℕ) (rest : List (List ℕ)) → IsShort count reading
-    → after_line reading line ≡ Ok next_ → (read rest_ : List (List ℕ)) → line ∷ rest ≡ read ++ rest_ → (head : Head) (image : List ℕ) (entries : List Entry)
-    → reading_of reading read ≡ Ok (going head image entries) → length entries ≡ count → Remain count next_ rest
-remain-step count reading next_ line rest s e [] rest_ is head image entries r n =
-    let same : reading ≡ going head image entries = cc in
-    absurd (not-there count reading head image entries s same n)
-remain-step count reading next_ line rest s e (l ∷ read) rest_ is head image entries r n =
-    let first : line ≡ l = cc in
-    let others : rest ≡ read ++ rest_ = cc in
-    let here : after_line reading l ≡ Ok next_ = ap (λ (x : List ℕ). after_line reading x) (sym first) ∙ e in
-    record {
-      read = read;
-      rest = rest_;
-      lines_are = others;
-      head = head;
-      image = image;
-      entries = entries;
-      reads = sym (ap (λ (o : Result Reading Cause). o >>= (λ t. reading_of t read)) here) ∙ r;
-      counted = n;
-    }
-
--- a line that cannot be read is none of them
-remain-bad : (count : ℕ) (reading : Reading) (line : List ℕ) (rest : List (List ℕ)) (cause : Cause) → IsShort count reading
-    → after_line reading line ≡ Err cause → (read rest_ : List (List ℕ)) → line ∷ rest ≡ read ++ rest_ → (head : Head) (image : List ℕ) (entries : List Entry)
-    → reading_of reading read ≡ Ok (going head image entries) → length entries ≡ count → ⊥
-remain-bad count reading line rest cause s e [] rest_ is head image entries r n =
-    let same : reading ≡ going head image entries = cc in
-    not-there count reading head image entries s same n
-remain-bad count reading line rest cause s e (l ∷ read) rest_ is head image entries r n =
-    let first : line ≡ l = cc in
-    let here : after_line reading l ≡ Err cause = ap (λ (x : List ℕ). after_line reading x) (sym first) ∙ e in
-    let stops : reading_of reading (l ∷ read) ≡ Err cause = ap (λ (o : Result Reading Cause). o >>= (λ t. reading_of t read)) here in
+writes_as text now number (Some entry) head image entries none a =
+    let never : Some entry ≡ None = none (ap (λ (es : List Entry). length es) a.waits.0) in
     cc
 
--- nothing remains at the end
-remain-end : (count : ℕ) (reading : Reading) → IsShort count reading → (read rest_ : List (List ℕ)) → [] ≡ read ++ rest_
-    → (head : Head) (image : List ℕ) (entries : List Entry) → reading_of reading read ≡ Ok (going head image entries) → length entries ≡ count → ⊥
-remain-end count reading s [] rest_ is head image entries r n =
-    let same : reading ≡ going head image entries = cc in
-    not-there count reading head image entries s same n
-remain-end count reading s (l ∷ read) rest_ is head image entries r n = cc
+-- So many were given out.
+pub record Given (text : List ℕ) (now : Option (List ℕ)) (at : EntriesState) (head : Head) (image : List ℕ) (taken : ℕ) : Type 0 where
+  pub entries : List Entry
+  pub among : IsAmong (Some text) now at head image entries
+  pub counted : length entries ≡ taken
 
-module _ (text : List ℕ) (before count : ℕ) (left : List ℕ) (number : ℕ) (progress : Progress) (at : Stands text before count left number progress) where
-  -- the end
-  pub ended : take_through 10 left ≡ [] → HasEntries text count → ⊥
-  ended none has =
-      let all : lines_of left ≡ [] = ap (λ (l : List ℕ). lines_of l) (at_end left none) in
-      let there = at.remain has in
-      remain-end count at.reading (is-short text before count at.reading progress at.agrees at.short) there.read there.rest
-      (sym all ∙ there.lines_are) there.head there.image there.entries there.reads there.counted
+pub given_more : (text : List ℕ) (now : Option (List ℕ)) (at : EntriesState) (head : Head) (image : List ℕ) (taken : ℕ) (given : Given text now at head image taken)
+    (then_now : Option (List ℕ)) (next_at : EntriesState) (entry : Entry) → IsAmong (Some text) then_now next_at head image (given.entries ++ entry ∷ [])
+    → Given text then_now next_at head image (taken + 1)
+given_more text now at head image taken given then_now next_at entry among =
+    record { entries = given.entries ++ entry ∷ []; among = among; counted = omega (arith, given.counted, length_more given.entries entry) }
 
-  module _ (some : take_through 10 left ≢ []) where
-    -- the line that is taken
-    abbrev line : List ℕ
-    line = take_through 10 left
+-- So many were taken into a window.
+pub record Took (text : List ℕ) (before : ℕ) (now : Option (List ℕ)) (at : EntriesState) (head : Head) (image : List ℕ) (window : Window) (taken : ℕ) : Type 0 where
+  pub entries : List Entry
+  pub among : IsAmong (Some text) now at head image entries
+  pub shows : Shows text before head image entries window
+  pub counted : length entries ≡ taken
 
-    lines_left : lines_of text ≡ at.read ++ line ∷ lines_of (drop_through 10 left)
-    lines_left = at.lines ∙ ap (λ (ls : List (List ℕ)). at.read ++ ls) (cut left some)
+pub took_none : (text : List ℕ) (before : ℕ) (now : Option (List ℕ)) (at : EntriesState) (head : Head) (image : List ℕ) (window : Window)
+    → IsAmong (Some text) now at head image [] → Shows text before head image [] window → Took text before now at head image window 0
+took_none text before now at head image window a s = record { entries = []; among = a; shows = s; counted = refl }
 
-    lines_here : lines_of text ≡ (at.read ++ line ∷ []) ++ lines_of (drop_through 10 left)
-    lines_here = lines_left ∙ sym (append_assoc at.read (line ∷ []) (lines_of (drop_through 10 left)))
+pub took_more : (text : List ℕ) (before : ℕ) (now : Option (List ℕ)) (at : EntriesState) (head : Head) (image : List ℕ) (old new : Window) (taken : ℕ)
+    (took : Took text before now at head image old taken) (then_now : Option (List ℕ)) (next_at : EntriesState) (entry : Entry) (is_shown : Bool)
+    → (is_shown ≡ true → before ≤ taken) → (is_shown ≡ false → taken < before)
+    → IsAmong (Some text) then_now next_at head image (took.entries ++ entry ∷ [])
+    → IsFullLine text next_at.number (Ok (going head image (took.entries ++ entry ∷ [])))
+    → Takes is_shown next_at.number entry old new → Took text before then_now next_at head image new (taken + 1)
+took_more text before now at head image old new taken took then_now next_at entry is_shown many few among line takes = record {
+  entries = took.entries ++ entry ∷ [];
+  among = among;
+  shows = shows-next text before taken next_at.number head image took.entries entry old new is_shown many few takes took.shows took.counted line;
+  counted = omega (arith, took.counted, length_more took.entries entry);
+}
 
-    pub line-at : IsLineOf text (number + 1) at.reading line
-    line-at = record {
-      read = at.read;
-      rest = lines_of (drop_through 10 left);
-      lines = lines_left;
-      reads = at.reads;
-      numbered = ap (λ (n : ℕ). n + 1) at.number_is;
-    }
+-- the window
+pub is_window : (text : List ℕ) (before : ℕ) (now : Option (List ℕ)) (at : EntriesState) (head : Head) (image : List ℕ) (window : Window) (count : ℕ)
+    → Took text before now at head image window count → (count ≡ 0 → at.first ≡ None) → IsWindow text before count window
+is_window text before now at head image window count took none = record {
+  head = head;
+  image = image;
+  entries = took.entries;
+  writes = writes_as text now at.number at.first head image took.entries (λ e. none (sym took.counted ∙ e)) took.among;
+  counted = took.counted;
+  shows = took.shows;
+}
 
-    -- what it leads to, by what is taken without its line feed
-    pub leads-here : (words : List ℕ) → words ≡ strip_last 10 line → (result : Result Progress WindowFault)
-        → ((t : List ℕ) (reading : Reading) (full : List ℕ) → IsLineOf t (number + 1) reading full → words ≡ strip_last 10 full
-        → Agrees t before reading progress → LeadsTo t before (after_line reading full) result)
-        → LeadsTo text before (after_line at.reading line) result
-    leads-here words same result leads = leads text at.reading line line-at same at.agrees
+-- ## Fewer
 
-    reads_more : (next_ : Reading) → after_line at.reading line ≡ Ok next_ → reading_of fresh (at.read ++ line ∷ []) ≡ Ok next_
-    reads_more next_ e = read_more fresh at.read line at.reading at.reads ∙ e
+-- the text has fewer
+pub ended : (text : List ℕ) (count : ℕ) (head : Head) (image : List ℕ) (entries : List Entry) → reading_of fresh (lines_of text) ≡ Ok (going head image entries)
+    → length entries < count → HasEntries text count → ⊥
+ended text count head image entries e few has =
+    let all : reading_of fresh (has.writes.read ++ has.writes.rest) ≡ Ok (going head image entries) =
+    ap (λ (ls : List (List ℕ)). reading_of fresh ls) (sym has.writes.lines) ∙ e in
+    let on = reads_rest has.writes.read has.writes.rest fresh (going has.head has.image has.entries) (going head image entries) has.writes.reads all in
+    omega (arith, few, has.counted, never_fewer has.writes.rest (going has.head has.image has.entries) (going head image entries) on)
 
-    pub stands-next : (then_ : Progress) → LeadsTo text before (after_line at.reading line) (Ok then_) → IsShortOf count then_
-        → Stands text before count (drop_through 10 left) (number + 1) then_
-    stands-next then_ leads short = record {
-      reading = leads.0;
-      read = at.read ++ line ∷ [];
-      lines = lines_here;
-      reads = reads_more leads.0 leads.1;
-      number_is = omega (arith, length-append at.read (line ∷ []), at.number_is);
-      agrees = leads.2;
-      short = short;
-      remain = λ has.
-          let there = at.remain has in
-          remain-step count at.reading leads.0 line (lines_of (drop_through 10 left)) (is-short text before count at.reading progress at.agrees at.short)
-          leads.1 there.read there.rest (sym (cut left some) ∙ there.lines_are) there.head there.image there.entries there.reads there.counted;
-    }
+-- it has neither image nor entry
+pub empty_text : (text : List ℕ) (count : ℕ) (reading : Reading) → reading_of fresh (lines_of text) ≡ Ok reading → IsShort reading → HasEntries text count → ⊥
+empty_text text count reading e short has =
+    let all : reading_of fresh (has.writes.read ++ has.writes.rest) ≡ Ok reading =
+    ap (λ (ls : List (List ℕ)). reading_of fresh ls) (sym has.writes.lines) ∙ e in
+    stays_going has.writes.rest has.head has.image has.entries reading
+    (reads_rest has.writes.read has.writes.rest fresh (going has.head has.image has.entries) reading has.writes.reads all) short
 
-    -- it cannot be read
-    pub bad : (fault : WindowFault) → LeadsTo text before (after_line at.reading line) (Err fault) → fault ≡ Line → HasEntries text count → ⊥
-    bad Line leads e has =
-        let there = at.remain has in
-        remain-bad count at.reading line (lines_of (drop_through 10 left)) leads.0 (is-short text before count at.reading progress at.agrees at.short)
-        leads.1 there.read there.rest (sym (cut left some) ∙ there.lines_are) there.head there.image there.entries there.reads there.counted
-    bad Memory leads e has = cc
+-- a line cannot be read, and those before it have not so many
+module _ (text : List ℕ) (count number : ℕ) (cause : Cause) (bad : IsUnreadable text number cause)
+    (few : (head : Head) (image : List ℕ) (entries : List Entry) (lines : List (List ℕ)) → length entries ≡ count
+    → reading_of (going head image entries) lines ≡ Ok bad.reading → ⊥) (has : HasEntries text count) where
+  shorter_than : (line : List ℕ) (middle : List (List ℕ)) → has.writes.read ≡ bad.read ++ line ∷ middle → bad.bad ∷ bad.rest ≡ line ∷ (middle ++ has.writes.rest) → ⊥
+  shorter_than line middle e rest =
+      let first : line ≡ bad.bad = cc in
+      let last = going has.head has.image has.entries in
+      let all : reading_of fresh (bad.read ++ line ∷ middle) ≡ Ok last = ap (λ (ls : List (List ℕ)). reading_of fresh ls) (sym e) ∙ has.writes.reads in
+      let on = reads_line bad.reading line middle last (reads_rest bad.read (line ∷ middle) fresh bad.reading last bad.reads all) in
+      let stops : after_line bad.reading line ≡ Err cause = ap (λ (x : List ℕ). after_line bad.reading x) first ∙ bad.outside in
+      let goes : after_line bad.reading line ≡ Ok on.0 = on.1 in
+      cc
 
-    -- the window
-    done : (reading : Reading) (window : Window) (taken : ℕ) → after_line at.reading line ≡ Ok reading → Agrees text before reading (Going window taken) → taken ≡ count
-        → IsWindow text before count window
-    done fresh window taken r h e = absurd h
-    done (shaped s) window taken r h e = absurd h
-    done (going s image entries) window taken r h e = record {
-      head = s;
-      image = image;
-      entries = entries;
-      writes = record { read = at.read ++ line ∷ []; rest = lines_of (drop_through 10 left); lines = lines_here; reads = reads_more (going s image entries) r };
-      counted = h.1 ∙ e;
-      shows = h.0;
-    }
+  compared : Beginnings has.writes.read has.writes.rest bad.read (bad.bad ∷ bad.rest) → ⊥
+  compared (longer middle e) =
+      let last = bad.reading in
+      let all : reading_of fresh (has.writes.read ++ middle) ≡ Ok last = ap (λ (ls : List (List ℕ)). reading_of fresh ls) (sym e) ∙ bad.reads in
+      few has.head has.image has.entries middle has.counted (reads_rest has.writes.read middle fresh (going has.head has.image has.entries) last has.writes.reads all)
+  compared (shorter line middle e rest) = shorter_than line middle e rest
 
-    pub window-done : (window : Window) (taken : ℕ) → LeadsTo text before (after_line at.reading line) (Ok (Going window taken)) → taken ≡ count
-        → IsWindow text before count window
-    window-done window taken leads e = done leads.0 window taken leads.1 leads.2 e
+  not_there : ⊥
+  not_there = compared (beginnings has.writes.read has.writes.rest bad.read (bad.bad ∷ bad.rest) (sym has.writes.lines ∙ bad.lines))
+
+-- before the entries
+pub no_opening : (text : List ℕ) (count : ℕ) (error : ReadFault) → IsReadFault (Some text) IsShort error → fault_of error ≡ Line → HasEntries text count → ⊥
+no_opening text count (read.Unreadable number cause) h e has =
+    not_there text count number cause h.0 (λ head image entries lines same on. stays_going lines head image entries h.0.reading on h.1) has
+no_opening text count read.Memory h e has = cc
+no_opening text count read.File h e has = cc
+
+-- among them
+pub no_entry : (text : List ℕ) (count : ℕ) (head : Head) (image : List ℕ) (entries : List Entry) (error : ReadFault)
+    → IsReadFault (Some text) (λ reading. reading ≡ going head image entries) error → length entries < count → fault_of error ≡ Line → HasEntries text count → ⊥
+no_entry text count head image entries (read.Unreadable number cause) h less e has =
+    not_there text count number cause h.0
+    (λ hd im es lines same on.
+    omega (arith, less, same, never_fewer lines (going hd im es) h.0.reading on, ap (λ (r : Reading). length (entries_in r)) h.1)) has
+no_entry text count head image entries read.Memory h less e has = cc
+no_entry text count head image entries read.File h less e has = cc
+
+-- the first entry stands behind the geometry
+module _ (text : List ℕ) (now : Option (List ℕ)) (number : ℕ) (entry : Entry) (head : Head) (image : List ℕ)
+    (a : IsAmong (Some text) now (record { number = number; first = Some entry }) head image []) (has : HasEntries text 0) where
+  no_shorter : (line : List ℕ) (middle : List (List ℕ)) → has.writes.read ≡ a.waits.1.at.read ++ line ∷ middle
+      → a.waits.1.line ∷ a.waits.1.at.rest ≡ line ∷ (middle ++ has.writes.rest) → ⊥
+  no_shorter line middle e rest =
+      let first : line ≡ a.waits.1.line = cc in
+      let last = going has.head has.image has.entries in
+      let all : reading_of fresh (a.waits.1.at.read ++ line ∷ middle) ≡ Ok last = ap (λ (ls : List (List ℕ)). reading_of fresh ls) (sym e) ∙ has.writes.reads in
+      let on = reads_line (shaped head) line middle last (reads_rest a.waits.1.at.read (line ∷ middle) fresh (shaped head) last a.waits.1.at.reads all) in
+      let is : after_line (shaped head) line ≡ Ok (going head image (entry ∷ [])) = ap (λ (x : List ℕ). after_line (shaped head) x) first ∙ a.waits.1.reads in
+      let same : on.0 ≡ going head image (entry ∷ []) = cc in
+      omega (arith, never_fewer middle on.0 last on.2, ap (λ (r : Reading). length (entries_in r)) same, has.counted)
+
+  waiting_compared : Beginnings has.writes.read has.writes.rest a.waits.1.at.read (a.waits.1.line ∷ a.waits.1.at.rest) → ⊥
+  waiting_compared (longer middle e) =
+      let all : reading_of fresh (has.writes.read ++ middle) ≡ Ok (shaped head) = ap (λ (ls : List (List ℕ)). reading_of fresh ls) (sym e) ∙ a.waits.1.at.reads in
+      stays_going middle has.head has.image has.entries (shaped head)
+      (reads_rest has.writes.read middle fresh (going has.head has.image has.entries) (shaped head) has.writes.reads all) tt
+  waiting_compared (shorter line middle e rest) = no_shorter line middle e rest
+
+  none_there : ⊥
+  none_there = waiting_compared (beginnings has.writes.read has.writes.rest a.waits.1.at.read (a.waits.1.line ∷ a.waits.1.at.rest) (sym has.writes.lines ∙ a.waits.1.at.lines))
+
+-- whether one waits
+pub waits_some : (first : Option Entry) → is_some first ≡ true → (entry : Entry) × (first ≡ Some entry)
+waits_some None e = cc
+waits_some (Some entry) e = (entry, refl)
+
+pub waits_none : (first : Option Entry) → is_some first ≡ false → first ≡ None
+waits_none None e = refl
+waits_none (Some entry) e = cc
+
+pub never_none : (text : List ℕ) (now : Option (List ℕ)) (number : ℕ) (first : Option Entry) (entry : Entry) (head : Head) (image : List ℕ) → first ≡ Some entry
+    → IsAmong (Some text) now (record { number = number; first = first }) head image [] → HasEntries text 0 → ⊥
+never_none text now number first entry head image some a has =
+    none_there text now number entry head image
+    (subst (λ (f : Option Entry). IsAmong (Some text) now (record { number = number; first = f }) head image []) some a) has
 
 -- the judge of a window is where some log leads
 pub window-somewhere : (text : List ℕ) (before count : ℕ) (window : Window) → IsWindow text before count window → IsSomewhere window.judge
 window-somewhere text before count window w = record { head = w.head; image = w.image; log = w.shows.log; follows = w.shows.judge }
+
+pub all-somewhere : (text : List ℕ) (before count : ℕ) (result : Result Window WindowFault) → IfOk result (λ window. IsWindow text before count window)
+    → IfOk result (λ window. IsSomewhere window.judge)
+all-somewhere text before count (Ok window) w = window-somewhere text before count window w
+all-somewhere text before count (Err why) w = tt

@@ -1,25 +1,20 @@
 //! The entries of a record that a page shows: the last so many up to its verdict.
-ghost use Rattle.std.specs.Prelude.{◌≡◌, ◌<◌, ◌≤◌, ℕ, List, [], length, IfOk, IfErr, OnOk, false};
-ghost use Rattle.std.specs.Io.BufRead.{strip_last};
-ghost use Rattle.tl_types.specs.declared.limits.TheConstants.{BLOCKS, BLOCK_BYTES};
-ghost use Rattle.tlcheck_rules.specs.declared.entry.Entry.{Entry};
+ghost use Rattle.std.specs.Prelude.{◌≡◌, ◌<◌, ℕ, List, [], IfOk, IfErr, OnOk, None, Some, false};
 ghost use Rattle.tlcheck_rules.specs.Judged.{Follows};
 ghost use Rattle.tlcheck_record.specs.declared.header.Head.{Head};
-ghost use Rattle.tlcheck_reader.specs.Reading.{Reading, after_line, next, with_entry};
+ghost use Rattle.tlcheck_reader.specs.Entries.{IsAmong, IsFit};
 ghost use Rattle.tlchart_record.specs.Film.{IsSomewhere};
-ghost use Rattle.tlchart_record.specs.Window.{Agrees, HasEntries, IsFit, IsFullLine, IsLineOf, IsWindow, LeadsTo, Shows, Takes, unread_as};
+ghost use Rattle.tlchart_record.specs.Window.{HasEntries, IsWindow, Shows, Takes, fault_of};
 ghost use Rattle.tlchart_record.specs.declared.window.WindowFault.TheVariants as fault;
 ghost use Rattle.tlchart_record.specs.declared.window.WindowFault.TheVariants.{Line};
-ghost use Rattle.tlchart_record.specs.declared.window.Progress.{Progress};
 
 use crate::film::play;
 use std::alloc::{AllocError, Global};
 use std::io::BufRead;
 use tl_rules::Shape;
 use tlcheck_chart::{Serials, turn_of};
-use tlcheck_record::{
-    Head, LineError, is_blank, read_entry, read_head, read_image_line, read_text,
-};
+use tlcheck_reader::{Entries, ReadFault};
+use tlcheck_record::Head;
 use tlcheck_rules::{Entry, Judge};
 
 /// An entry, and the number of its line from 1 on.
@@ -39,7 +34,7 @@ pub struct Window {
 }
 
 /// Why there is no window. A record that was checked has one, where there is memory.
-#[derive(Clone, Copy, Debug, PartialEq, Eq)]
+#[derive(Clone, Copy, PartialEq, Eq)]
 pub enum WindowFault {
     /// A request for memory was refused.
     Memory,
@@ -55,35 +50,14 @@ impl From<AllocError> for WindowFault {
     }
 }
 
-/// How far a record was read.
-#[derive(Drop)]
-pub(crate) enum Progress {
-    /// No line but blank ones.
-    Fresh,
-    /// Its first line.
-    Shaped(Head),
-    /// Its image, where it has one, and so many entries.
-    Going(Window, u64),
-}
+impl From<ReadFault> for WindowFault {
+    ghost from_gives = { λ error e. e ≡ fault_of error };
 
-/// A line is not as it was checked, or there was no memory to read it.
-fn unread(error: LineError) -> WindowFault
-    ensures { result ≡ unread_as error }
-{
-    match error {
-        LineError::Wrong(_) => WindowFault::Line,
-        LineError::Memory => WindowFault::Memory,
-    }
-}
-
-/// A line without the line feed at its end.
-fn text_of(line: &[u8]) -> &[u8]
-    ensures { result.now ≡ strip_last 10 line.now }
-{
-    if line.len() > 0 && line[line.len() - 1] == b'\n' {
-        &line[..line.len() - 1]
-    } else {
-        line
+    fn from(error: ReadFault) -> WindowFault {
+        match error {
+            ReadFault::Unreadable(_, _) => WindowFault::Line,
+            ReadFault::Memory | ReadFault::File => WindowFault::Memory,
+        }
     }
 }
 
@@ -109,8 +83,7 @@ fn take(window: &mut Window, line: u64, entry: Entry, is_shown: bool) -> Result<
 
 /// A window with no entry yet, over an image.
 fn open(alloc: Global, head: Head, image: &[u8]) -> Result<Window, AllocError>
-    requires bytes { (0 < head.shape.block_bytes) × (head.shape.block_bytes ≤ BLOCK_BYTES) }
-    requires blocks { head.shape.blocks ≤ BLOCKS }
+    requires { IsFit head }
     ensures { IfOk result
         (λ window. Follows head.order head.shape image.now [] window.judge × (window.entries.items ≡ [])) }
 {
@@ -121,113 +94,29 @@ fn open(alloc: Global, head: Head, image: &[u8]) -> Result<Window, AllocError>
     })
 }
 
-/// Takes the first line that is not blank, which has the numbers and the order.
-fn first_line(alloc: Global, words: &str) -> Result<Progress, WindowFault>
-    ensures leads { (text : List ℕ) (before : ℕ) (reading : Reading) → Agrees text before reading Progress.Fresh
-        → LeadsTo text before (next reading words.now) result }
-    ensures fit { IfOk result IsFit }
-{
-    match read_head(alloc, words) {
-        Ok(head) => Ok(Progress::Shaped(head)),
-        Err(error) => Err(unread(error)),
-    }
-}
-
-/// Takes the line with that number, which has an entry; so many stand before it.
-fn entry_line(
+/// Takes so many entries of a record into a window that has none; those behind the first `before` are shown.
+fn take_entries<R: BufRead>(
     alloc: Global,
+    reader: &mut R,
+    mut entries: Entries,
     mut window: Window,
+    before: u64,
     count: u64,
-    before: u64,
-    number: u64,
-    words: &str,
-) -> Result<Progress, WindowFault>
-    ensures leads { (text : List ℕ) (head : Head) (image : List ℕ) (entries : List Entry)
-        → IsFullLine text number (with_entry head image entries words.now)
-        → Shows text before head image entries window → length entries ≡ count
-        → LeadsTo text before (with_entry head image entries words.now) result }
-    ensures fit { IfOk result IsFit }
+) -> Result<Window, WindowFault>
+    ensures window { (text : List ℕ) (head : Head) (image : List ℕ)
+        → IsAmong (Some text) (R.remaining reader.old) entries head image [] → (count ≡ 0 → entries.first ≡ None)
+        → Shows text before head image [] window → IfOk result (λ window. IsWindow text before count window) }
+    ensures fault { (text : List ℕ) (head : Head) (image : List ℕ)
+        → IsAmong (Some text) (R.remaining reader.old) entries head image []
+        → IfErr result (λ fault. fault ≡ Line → HasEntries text count → ⊥) }
 {
-    if count == u64::MAX {
-        return Err(WindowFault::Memory);
+    for taken in 0..count {
+        let Some(entry) = entries.next(alloc, reader)? else {
+            return Err(WindowFault::Line);
+        };
+        take(&mut window, entries.number(), entry, before <= taken)?;
     }
-    match read_entry(alloc, words) {
-        Ok(entry) => {
-            take(&mut window, number, entry, count >= before)?;
-            Ok(Progress::Going(window, count + 1))
-        }
-        Err(error) => Err(unread(error)),
-    }
-}
-
-/// Takes the line after the first, which has the image or, where there is none, the first entry.
-fn second_line(
-    alloc: Global,
-    head: Head,
-    before: u64,
-    number: u64,
-    words: &str,
-) -> Result<Progress, WindowFault>
-    requires bytes { (0 < head.shape.block_bytes) × (head.shape.block_bytes ≤ BLOCK_BYTES) }
-    requires blocks { head.shape.blocks ≤ BLOCKS }
-    ensures leads { (text : List ℕ) (reading : Reading) → IsFullLine text number (next reading words.now)
-        → Agrees text before reading (Progress.Shaped head) → LeadsTo text before (next reading words.now) result }
-    ensures fit { IfOk result IsFit }
-{
-    match read_image_line(alloc, head.shape, words) {
-        Ok(Some(image)) => {
-            let window = open(alloc, head, &image)?;
-            Ok(Progress::Going(window, 0))
-        }
-        Ok(None) => {
-            let window = open(alloc, head, &[])?;
-            entry_line(alloc, window, 0, before, number, words)
-        }
-        Err(error) => Err(unread(error)),
-    }
-}
-
-/// Takes the line with that number, which is not blank.
-fn full_line(
-    alloc: Global,
-    progress: Progress,
-    before: u64,
-    number: u64,
-    words: &str,
-) -> Result<Progress, WindowFault>
-    requires { IsFit progress }
-    ensures leads { (text : List ℕ) (reading : Reading) → IsFullLine text number (next reading words.now)
-        → Agrees text before reading progress → LeadsTo text before (next reading words.now) result }
-    ensures fit { IfOk result IsFit }
-{
-    match progress {
-        Progress::Fresh => first_line(alloc, words),
-        Progress::Shaped(head) => second_line(alloc, head, before, number, words),
-        Progress::Going(window, count) => entry_line(alloc, window, count, before, number, words),
-    }
-}
-
-/// Takes the line with that number, without its line feed.
-fn take_line(
-    alloc: Global,
-    progress: Progress,
-    before: u64,
-    number: u64,
-    line: &[u8],
-) -> Result<Progress, WindowFault>
-    requires { IsFit progress }
-    ensures leads { (text : List ℕ) (reading : Reading) (full : List ℕ) → IsLineOf text number reading full
-        → line.now ≡ strip_last 10 full → Agrees text before reading progress
-        → LeadsTo text before (after_line reading full) result }
-    ensures fit { IfOk result IsFit }
-{
-    if is_blank(line) {
-        return Ok(progress);
-    }
-    match read_text(line) {
-        Ok(words) => full_line(alloc, progress, before, number, words),
-        Err(_) => Err(WindowFault::Line),
-    }
+    Ok(window)
 }
 
 /// The first `count` entries of a record without the first `before`, which the judge has taken, each with the number of
@@ -243,28 +132,14 @@ pub fn window_of(
     ensures somewhere { IfOk result (λ window. IsSomewhere window.judge) }
 {
     let mut reader = bytes;
-    let mut progress = Progress::Fresh;
-    let mut line = Vec::new(alloc);
-    for number in 0..u64::MAX {
-        line.clear();
-        match reader.read_until(b'\n', &mut line) {
-            Ok(_) => {}
-            Err(_) => return Err(WindowFault::Memory),
-        }
-        if line.is_empty() {
-            return Err(WindowFault::Line);
-        }
-        match take_line(alloc, progress, before, number + 1, text_of(&line))? {
-            Progress::Going(window, taken) => {
-                if taken == count {
-                    return Ok(window);
-                }
-                progress = Progress::Going(window, taken);
-            }
-            next => progress = next,
-        }
+    let Some(opening) = Entries::open(alloc, &mut reader)? else {
+        return Err(WindowFault::Line);
+    };
+    if count == 0 && opening.entries.waits() {
+        return Err(WindowFault::Line);
     }
-    Err(WindowFault::Memory)
+    let window = open(alloc, opening.head, &opening.image)?;
+    take_entries(alloc, &mut reader, opening.entries, window, before, count)
 }
 
 /// The blocks of the memory that some entries are of, by rising number, each once.

@@ -1,4 +1,2 @@
-pub mod Covering
-pub mod Lines
+pub mod Counting
 pub mod Opening
-pub mod Shape

@@ -34,12 +34,6 @@ last : {X : Type 0} (xs : List X) (x : X) → slice_get (xs ++ x ∷ []) (length
 last [] x = refl
 last (y ∷ ys) x = last ys x
 
--- a place of a list has something
-pub place_has : {X : Type 0} (xs : List X) (i : ℕ) → i < length xs → ((x : X) × (slice_get xs i ≡ Some x))
-place_has [] i h = absurd (omega arith)
-place_has (x ∷ xs) zero h = (x, refl)
-place_has (x ∷ xs) (suc i) h = place_has xs i (omega arith)
-
 -- ## The tally at a place
 
 -- what stands at one place is one thing

@@ -7,15 +7,9 @@ use Rattle.tlcheck_situations.specs.Reach.{situation_after}
 use Rattle.tlcheck_home.specs.Tally.{IsNoted, TallyState}
 use Rattle.tlcheck_home.specs.declared.tally.Mark.{Mark}
 use Rattle.tlcheck_reader.specs.Lines.{lines_of}
-use Rattle.tlcheck_reader.specs.Reading.{Reading, fresh, shaped, going, after_line, reading_of}
+use Rattle.tlcheck_reader.specs.Reading.{Reading, fresh, going, after_line, entries_in, reading_of}
 use Rattle.tlcheck_coverage.specs.Tallies.{IsChangedAt, Opens, TalliesState}
 use Rattle.tlcheck_coverage.specs.declared.tallies.TheConstants.{MOST}
-
--- the entries that were read
-abbrev pub entries_in : Reading → List Entry
-entries_in fresh = []
-entries_in (shaped head) = []
-entries_in (going head image entries) = entries
 
 -- An entry that was read is counted in the situation that it is in after those before it.
 pub record CountsEntry (mark : Mark) (before after : Reading) (old new : TallyState) : Type 0 where

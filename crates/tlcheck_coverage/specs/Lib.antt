@@ -1,5 +1,3 @@
-pub mod Amid
 pub mod Covered
-pub mod Reading
-pub mod Steps
+pub mod Faults
 pub mod Tallies

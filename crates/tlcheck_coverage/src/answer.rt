@@ -14,14 +14,14 @@ use tlcheck_reader::{Ending, Outcome};
 use tlcheck_situations::{Situation, Table, TableError};
 
 /// How the tables are told.
-#[derive(Clone, Copy, Debug, PartialEq, Eq)]
+#[derive(Clone, Copy, PartialEq, Eq)]
 pub enum Form {
     Text,
     Page,
 }
 
 /// A situation by its number: that of the clients of its table, and its place there, from 1 on.
-#[derive(Clone, Copy, Debug, PartialEq, Eq)]
+#[derive(Clone, Copy, PartialEq, Eq)]
 pub struct Number {
     clients: u32,
     place: u32,
@@ -130,7 +130,7 @@ pub fn tell_tables<W: Write, E: Write>(
 }
 
 /// How a way into a situation is told.
-#[derive(Clone, Copy, Debug, PartialEq, Eq)]
+#[derive(Clone, Copy, PartialEq, Eq)]
 pub enum Way {
     /// A run, as a record.
     Record,

@@ -29,7 +29,7 @@ impl fmt::Display for Spot<'_> {
 }
 
 /// How many situations were reached, of how many.
-#[derive(Clone, Copy, Debug, PartialEq, Eq)]
+#[derive(Clone, Copy, PartialEq, Eq)]
 pub(crate) struct Sum {
     pub(crate) reached: usize,
     pub(crate) all: usize,
@@ -64,7 +64,7 @@ impl fmt::Display for Sum {
 }
 
 /// How many situations were reached; and of those that this project's home reaches, where its table is asked for.
-#[derive(Clone, Copy, Debug, PartialEq, Eq)]
+#[derive(Clone, Copy, PartialEq, Eq)]
 pub(crate) struct Sums {
     pub(crate) all: Sum,
     pub(crate) by_home: Option<Sum>,

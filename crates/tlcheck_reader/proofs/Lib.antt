@@ -1,2 +1,5 @@
+pub mod Growing
+pub mod Judging
+pub mod Giving
+pub mod Shape
 pub mod Steps
-pub mod Takes

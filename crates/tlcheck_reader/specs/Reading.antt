@@ -1,5 +1,5 @@
 -- What the lines of a record write, one after another (this project's own format).
-use Rattle.std.specs.Prelude.{ℕ, List, [], ◌∷◌, ◌++◌, Option, Some, None, Result, Ok, Err, if◌then◌else◌}
+use Rattle.std.specs.Prelude.{ℕ, List, [], ◌∷◌, ◌++◌, Option, Some, None, Result, Ok, if◌then◌else◌}
 use Rattle.std.specs.Io.BufRead.{strip_last}
 use Rattle.tlcheck_rules.specs.declared.entry.Entry.{Entry}
 use Rattle.tlcheck_record.specs.Cause.{◌>>=◌}
@@ -14,6 +14,12 @@ pub data Reading : Type 0 where
   fresh : Reading
   shaped : Head → Reading
   going : Head → List ℕ → List Entry → Reading
+
+-- the entries that were read
+abbrev pub entries_in : Reading → List Entry
+entries_in fresh = []
+entries_in (shaped head) = []
+entries_in (going head image entries) = entries
 
 -- one more entry
 abbrev pub with_entry : Head → List ℕ → List Entry → List ℕ → Result Reading Cause

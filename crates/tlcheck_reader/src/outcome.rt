@@ -1,6 +1,9 @@
-//! What a check answers, and where it is.
-use tlcheck_record::{Cause, Head};
-use tlcheck_rules::{Breach, Judge};
+//! What a check answers.
+ghost use Rattle.std.specs.Prelude.{◌≡◌};
+ghost use Rattle.tlcheck_reader.specs.Outcome.{broken_at};
+
+use tlcheck_record::Cause;
+use tlcheck_rules::{Breach, Entry, Judge};
 
 /// The first entry that is not permitted.
 #[derive(Drop)]
@@ -28,24 +31,15 @@ pub enum Outcome {
     Empty,
 }
 
-/// Why a line is not taken.
-#[derive(Drop)]
-pub enum LineFault {
-    /// It cannot be read, for this cause.
-    Unreadable(Cause),
-    /// It has an entry that is not permitted.
-    Broken(BrokenEntry),
-    /// A request for memory was refused.
-    Memory,
-}
-
-/// Where a check is.
-#[derive(Drop)]
-pub enum Stage {
-    /// Nothing was read.
-    Fresh,
-    /// The first line was read.
-    Shaped(Head),
-    /// So many entries were read.
-    Judging(Judge, u64),
+/// An entry that breaks something, with the judge of those before it and its number among the entries.
+pub fn broken(judge: Judge, entry: &Entry, number: u64, breach: Breach) -> BrokenEntry
+    ensures { result ≡ broken_at judge entry.now number breach }
+{
+    let block = entry.event.block(judge.plain().shape());
+    BrokenEntry {
+        judge,
+        block,
+        number,
+        breach,
+    }
 }

@@ -1,15 +1,15 @@
 //! The check of a whole record.
-ghost use Rattle.std.specs.Prelude.{◌≡◌, ◌↔◌, ℕ, List, [], IfOk, IfSome, IsTrue, Option, Some};
-ghost use Rattle.std.specs.Io.BufRead.{strip_last};
-ghost use Rattle.tlcheck_reader.specs.Entries.{IsWhere};
-ghost use Rattle.tlcheck_reader.specs.Outcome.{IsOutcome, ending_of, stop_of};
+ghost use Rattle.std.specs.Prelude.{◌≡◌, ℕ, List, [], IfOk, IfSome, Option};
+ghost use Rattle.tlcheck_rules.specs.Judged.{Follows};
+ghost use Rattle.tlcheck_record.specs.declared.header.Head.{Head};
+ghost use Rattle.tlcheck_reader.specs.Entries.{IsAmong};
+ghost use Rattle.tlcheck_reader.specs.Outcome.{IsChecked, IsOutcome};
 
-use crate::line::{line_fault, take_entry, take_line};
-use crate::outcome::{LineFault, Outcome, Stage};
+use crate::entries::{Entries, ReadFault};
+use crate::outcome::{Outcome, broken};
 use std::alloc::Global;
-use std::io;
-use std::io::{BufRead, ErrorKind};
-use tlcheck_rules::Judge;
+use std::io::BufRead;
+use tlcheck_rules::{Judge, Refusal};
 
 /// Why a check answers nothing.
 #[derive(Clone, Copy, Debug, PartialEq, Eq)]
@@ -20,79 +20,43 @@ pub enum CheckFault {
     File,
 }
 
-fn fault(error: &io::Error) -> CheckFault {
-    match error.kind() {
-        ErrorKind::OutOfMemory => CheckFault::Memory,
-        _ => CheckFault::File,
-    }
-}
-
-/// A line without the line feed at its end.
-pub fn text_of(line: &[u8]) -> &[u8]
-    ensures { result.now ≡ strip_last 10 line.now }
-{
-    if line.len() > 0 && line[line.len() - 1] == b'\n' {
-        &line[..line.len() - 1]
-    } else {
-        line
-    }
-}
-
-/// Nothing was read, since nothing is left.
-pub fn is_end(line: &[u8]) -> bool
-    ensures { IsTrue result ↔ (line.now ≡ []) }
-{
-    line.is_empty()
-}
-
-/// What is said at the end of a record.
-fn ending(stage: Stage) -> Outcome
-    ensures { result ≡ ending_of stage }
-{
-    match stage {
-        Stage::Fresh | Stage::Shaped(_) => Outcome::Empty,
-        Stage::Judging(judge, count) => Outcome::Lawful(judge, count),
-    }
-}
-
-/// What is said where a line is not taken.
-fn stop(number: u64, fault: LineFault) -> Result<Outcome, CheckFault>
-    ensures { IfOk result (λ outcome. stop_of number fault ≡ Some outcome) }
-{
-    match fault {
-        LineFault::Unreadable(cause) => Ok(Outcome::Unreadable(number, cause)),
-        LineFault::Broken(broken) => Ok(Outcome::Broken(number, broken)),
-        LineFault::Memory => Err(CheckFault::Memory),
-    }
-}
-
-/// Checks the lines behind the first so many, where the judge is at work.
+/// Checks the entries of a record, with a judge at reset.
 fn check_entries<R: BufRead>(
     alloc: Global,
     reader: &mut R,
-    mut line: Vec<u8>,
-    lines: u64,
+    mut entries: Entries,
     mut judge: Judge,
-    mut count: u64,
-) -> Result<Outcome, CheckFault>
-    ensures { (known : Option (List ℕ)) → IsWhere known (R.remaining reader.old) lines (Stage.Judging judge count)
-        → IfOk result (λ outcome. IfSome known (λ text. IsOutcome text outcome)) }
+) -> Result<Outcome, ReadFault>
+    ensures { (known : Option (List ℕ)) (head : Head) (image : List ℕ)
+        → IsAmong known (R.remaining reader.old) entries head image [] → Follows head.order head.shape image [] judge
+        → IsChecked known result }
 {
-    for number in lines..u64::MAX {
-        line.clear();
-        match reader.read_until(b'\n', &mut line) {
-            Ok(_) => {}
-            Err(error) => return Err(fault(&error)),
-        }
-        if is_end(&line) {
+    for count in 0..u64::MAX {
+        let Some(entry) = entries.next(alloc, reader)? else {
             return Ok(Outcome::Lawful(judge, count));
-        }
-        count = match take_entry(alloc, &mut judge, count, text_of(&line)) {
-            Ok(next) => next,
-            Err(fault) => return stop(number + 1, line_fault(judge, fault)),
         };
+        match judge.step(&entry) {
+            Ok(()) => {}
+            Err(Refusal::Broken(breach)) => {
+                let stopped = broken(judge, &entry, count + 1, breach);
+                return Ok(Outcome::Broken(entries.number(), stopped));
+            }
+            Err(Refusal::Memory) => return Err(ReadFault::Memory),
+        }
     }
-    Err(CheckFault::File)
+    Err(ReadFault::Memory)
+}
+
+/// Checks a record as far as it can be read.
+fn check_read<R: BufRead>(alloc: Global, reader: &mut R) -> Result<Outcome, ReadFault>
+    ensures { IsChecked (R.remaining reader.old) result }
+{
+    let Some(opening) = Entries::open(alloc, reader)? else {
+        return Ok(Outcome::Empty);
+    };
+    let head = opening.head;
+    let judge = Judge::new(alloc, head.order, head.shape, &opening.image)?;
+    check_entries(alloc, reader, opening.entries, judge)
 }
 
 /// Checks a record line by line, as it is read: it takes memory for one line, for blocks, clients and the messages that
@@ -102,24 +66,10 @@ fn check_entries<R: BufRead>(
 pub fn check<R: BufRead>(alloc: Global, reader: &mut R) -> Result<Outcome, CheckFault>
     ensures { IfOk result (λ outcome. IfSome (R.remaining reader.old) (λ text. IsOutcome text outcome)) }
 {
-    let mut stage = Stage::Fresh;
-    let mut line = Vec::new(alloc);
-    for number in 0..u64::MAX {
-        line.clear();
-        match reader.read_until(b'\n', &mut line) {
-            Ok(_) => {}
-            Err(error) => return Err(fault(&error)),
-        }
-        if is_end(&line) {
-            return Ok(ending(stage));
-        }
-        match take_line(alloc, stage, text_of(&line)) {
-            Ok(Stage::Judging(judge, count)) => {
-                return check_entries(alloc, reader, line, number + 1, judge, count);
-            }
-            Ok(next) => stage = next,
-            Err(fault) => return stop(number + 1, fault),
-        }
+    match check_read(alloc, reader) {
+        Ok(outcome) => Ok(outcome),
+        Err(ReadFault::Unreadable(line, cause)) => Ok(Outcome::Unreadable(line, cause)),
+        Err(ReadFault::Memory) => Err(CheckFault::Memory),
+        Err(ReadFault::File) => Err(CheckFault::File),
     }
-    Err(CheckFault::File)
 }

@@ -1,62 +1,42 @@
-use Rattle.std.proofs.Common.{◌≡◌, ◌≢◌, ◌+◌, ◌++◌, ℕ, List, [], Ok, Err, rules, ap, subst, ◌∙◌}
-use Rattle.std.specs.Io.BufRead.{drop_through, take_through, strip_last}
-use Rattle.tlcheck_reader.specs.Reading.{after_line}
-use Rattle.tlchart_record.specs.Window.{LeadsTo}
-use Rattle.tlchart_record.specs.declared.window.Progress.{Progress}
-use Rattle.tlchart_record.proofs.Windows.{IsShortOf, Stands, bad, leads-here, stands-next, window-done, window-somewhere}
-use Rattle.tlchart_record.proofs.window.window_of.Goals.{in-Going+else-taken-count, in_default}
+use Rattle.std.proofs.Common.{◌≡◌, Err, None, Some, sym, rules, arith}
+use Rattle.tlchart_record.specs.Window.{fault_of}
+use Rattle.tlchart_record.proofs.Windows.{empty_text, never_none, no_opening, shows-none, waits_none, waits_some, all-somewhere}
 use Rattle.tlchart_record.proofs.window.window_of.Goals as goal
+use Rattle.tlchart_record.proofs.window.window_of.Goals.{else-count-eq0-via-then-count-eq0+else-waits, else-count-eq0-via-else-count-eq0}
 
--- a line is not as it was checked
-pub returns-in_err-next-clause-fault : goal.returns-in_err-next-clause-fault
-returns-in_err-next-clause-fault c =
-    let left : List ℕ = c.loop-number.reader.now in
-    let line : c.read_until.new.buf.items ≡ take_through 10 left =
-    (c.in-Ok.ensures {u = tt}).bytes ∙ ap (λ (o : List ℕ). o ++ take_through 10 left) c.clear.ensures.items in
-    let some : take_through 10 left ≢ [] = λ h. let none : c.read_until.new.buf.items ≡ [] = line ∙ h in search rules in
-    let cut = c.text_of.ensures ∙ ap (λ (x : List ℕ). strip_last 10 x) (c.deref.ensures.value ∙ line) in
-    let next = leads-here c.args.bytes.now c.args.before c.args.count left c.loop-number.number c.loop-number.progress c.loop-number.invariant.0 some _ cut
-    (Err c.in_err-next.field-0.0) c.in_err-next.ensures.leads in
-    let fails = bad c.args.bytes.now c.args.before c.args.count left c.loop-number.number c.loop-number.progress c.loop-number.invariant.0 some
-    c.in_err-next.field-0.0 next in
-    search rules
+-- what stands before the entries cannot be read
+pub returns-in_err-opening-clause-fault : goal.returns-in_err-opening-clause-fault
+returns-in_err-opening-clause-fault c =
+    let is : c.from_residual.result ≡ Err (fault_of c.in_err-opening.field-0.0) = search rules in
+    rw is (no_opening c.args.bytes.now c.args.count c.in_err-opening.field-0.0 (c.in_err-opening.ensures {u = tt}).opens)
 
--- all entries are there
-pub returns-then-taken-count-clause-window : goal.returns-then-taken-count-clause-window
-returns-then-taken-count-clause-window c =
-    let left : List ℕ = c.loop-number.reader.now in
-    let line : c.read_until.new.buf.items ≡ take_through 10 left =
-    (c.in-Ok.ensures {u = tt}).bytes ∙ ap (λ (o : List ℕ). o ++ take_through 10 left) c.clear.ensures.items in
-    let some : take_through 10 left ≢ [] = λ h. let none : c.read_until.new.buf.items ≡ [] = line ∙ h in search rules in
-    let cut = c.text_of.ensures ∙ ap (λ (x : List ℕ). strip_last 10 x) (c.deref.ensures.value ∙ line) in
-    let next = leads-here c.args.bytes.now c.args.before c.args.count left c.loop-number.number c.loop-number.progress c.loop-number.invariant.0 some _ cut
-    (Ok c.in_ok-next.next) c.in_ok-next.ensures.leads in
-    window-done c.args.bytes.now c.args.before c.args.count left c.loop-number.number c.loop-number.progress c.loop-number.invariant.0 some c.in-Going.window
-    c.in-Going.taken (rw (← c.in-Going.is) next) (search rules)
+-- there is none
+pub returns-in_default-clause-fault : goal.returns-in_default-clause-fault
+returns-in_default-clause-fault c = λ e.
+    let none = rw c.in_default.is at (c.in_ok-opening.ensures {u = tt}).opens in
+    empty_text c.args.bytes.now c.args.count none.0 none.1 none.2
 
-pub returns-then-taken-count-clause-somewhere : goal.returns-then-taken-count-clause-somewhere
-returns-then-taken-count-clause-somewhere c =
-    window-somewhere c.args.bytes.now c.args.before c.args.count c.in-Going.window (returns-then-taken-count-clause-window c)
+-- the first entry stands behind the geometry
+pub returns-then-waits-clause-fault : goal.returns-then-waits-clause-fault
+returns-then-waits-clause-fault c = λ e has.
+    let among = rw c.in-Some.is at (c.in_ok-opening.ensures {u = tt}).opens in
+    let waits = waits_some c.in-Some.opening.entries.first (sym (c.if-waits.ensures {u = tt})) in
+    let zero : c.args.count ≡ 0 = omega (arith, c.if-count-eq0.true) in
+    never_none c.args.bytes.now _ c.in-Some.opening.entries.number c.in-Some.opening.entries.first waits.0 c.in-Some.opening.head c.in-Some.opening.image.items waits.1 among
+    (rw zero at has)
 
--- the next line
-pub loop-number-preserved : goal.loop-number-preserved
-loop-number-preserved c =
-    let left : List ℕ = c.loop-number.reader.now in
-    let line : c.read_until.new.buf.items ≡ take_through 10 left =
-    (c.in-Ok.ensures {u = tt}).bytes ∙ ap (λ (o : List ℕ). o ++ take_through 10 left) c.clear.ensures.items in
-    let some : take_through 10 left ≢ [] = λ h. let none : c.read_until.new.buf.items ≡ [] = line ∙ h in search rules in
-    let cut = c.text_of.ensures ∙ ap (λ (x : List ℕ). strip_last 10 x) (c.deref.ensures.value ∙ line) in
-    let next = leads-here c.args.bytes.now c.args.before c.args.count left c.loop-number.number c.loop-number.progress c.loop-number.invariant.0 some _ cut
-    (Ok c.in_ok-next.next) c.in_ok-next.ensures.leads in
-    let dropped = (c.in-Ok.ensures {u = tt}).rest in
-    let rest : drop_through 10 left ≡ c.read_until.new.self.now = cc in
-    let go : (then_ : Progress) → LeadsTo c.args.bytes.now c.args.before (after_line c.loop-number.invariant.0.reading (take_through 10 left)) (Ok then_)
-    → IsShortOf c.args.count then_
-    → Stands c.args.bytes.now c.args.before c.args.count c.read_until.new.self.now (c.loop-number.number + 1) then_ =
-    λ then_ leads short.
-    subst (λ (l : List ℕ). Stands c.args.bytes.now c.args.before c.args.count l (c.loop-number.number + 1) then_) rest
-    (stands-next c.args.bytes.now c.args.before c.args.count left c.loop-number.number c.loop-number.progress c.loop-number.invariant.0 some then_ leads short) in
-    elim c.match-branch-2.branch [
-      | in-Going+else-taken-count w ↦ rw w.progress-is (go _ (rw (← w.in-Going.is) next) (search rules), tt)
-      | in_default w ↦ rw w.progress-is (go c.in_ok-next.next next (search rules), c.in_ok-next.ensures.fit)
-    ]
+-- the window
+pub returns-clause-window : goal.returns-clause-window
+returns-clause-window c =
+    let among = rw c.in-Some.is at (c.in_ok-opening.ensures {u = tt}).opens in
+    let none : c.args.count ≡ 0 → c.in-Some.opening.entries.first ≡ None = λ e.
+    elim c.else-count-eq0.branch [
+      | else-count-eq0-via-then-count-eq0+else-waits w ↦ waits_none c.in-Some.opening.entries.first (sym (w.if-waits.ensures {u = tt}))
+      | else-count-eq0-via-else-count-eq0 w ↦ absurd (omega (arith, e, w.if-count-eq0.false))
+    ] in
+    let opened = rw c.deref.ensures.value at (c.in_ok-window.ensures {u = tt}) in
+    c.take_entries.ensures.window c.args.bytes.now c.in-Some.opening.head c.in-Some.opening.image.items among none
+    (shows-none c.args.bytes.now c.args.before c.in-Some.opening.head c.in-Some.opening.image.items c.in_ok-window.window opened.0 opened.1)
+
+pub returns-clause-somewhere : goal.returns-clause-somewhere
+returns-clause-somewhere c = all-somewhere c.args.bytes.now c.args.before c.args.count c.take_entries.result (returns-clause-window c)

@@ -1,66 +1,55 @@
-use Rattle.std.proofs.Common.{List, ℕ, Result, Ok, Err, rules, refl, sym, subst, ap, ◌∙◌, arith}
-use Rattle.std.specs.Io.BufRead.{strip_last}
-use Rattle.tlcheck_reader.specs.Outcome.{Takes}
-use Rattle.tlcheck_reader.specs.Reading.{after_text}
-use Rattle.tlcheck_reader.specs.declared.outcome.LineFault.{LineFault}
-use Rattle.tlcheck_reader.specs.declared.outcome.Stage.{Stage as CheckStage}
-use Rattle.tlcheck_coverage.specs.Reading.{counting_of, staged}
-use Rattle.tlcheck_reader.specs.declared.line.EntryFault.{EntryFault}
-use Rattle.tlcheck_coverage.specs.declared.reading.Halt.{Halt}
-use Rattle.tlcheck_coverage.specs.declared.reading.Halt.TheVariants.{Line}
-use Rattle.tlcheck_coverage.specs.declared.reading.Stage.{Stage}
-use Rattle.tlcheck_coverage.specs.declared.reading.Stage.TheVariants.{Counting}
-use Rattle.tlcheck_coverage.proofs.Covering.{ended, goes, no_refusal, says, staged_as}
+use Rattle.std.proofs.Common.{arith}
+use Rattle.tlcheck_rules.specs.Judged.{events_of}
+use Rattle.tlcheck_reader.proofs.Judging.{goes_on as judged_on, init}
+use Rattle.tlcheck_coverage.proofs.Counting.{at_end, begins, goes_on, refuses}
 use Rattle.tlcheck_coverage.proofs.reading.cover_entries.Goals as goal
 
-pub loop-before-init : goal.loop-before-init
-loop-before-init g c = record { at = λ known initial h. h; fit = c.requires }
+pub loop-count-init : goal.loop-count-init
+loop-count-init g c = record {
+  inside = c.requires;
+  judged = λ known head image among follows.
+      init known (g.R.Read.remaining c.args.reader.now) c.args.entries head image c.args.judge among follows;
+  amid = λ known head image initial among follows client opens.
+      begins c.args.file c.args.place known (g.R.Read.remaining c.args.reader.now) c.args.entries head image c.args.judge initial c.args.tallies.now among follows opens;
+}
 
 -- nothing is left
-pub returns-then-is_end-clause-covered : goal.returns-then-is_end-clause-covered
-returns-then-is_end-clause-covered g c = λ known initial h.
-    let none = sym c.deref.ensures.value ∙ (c.if-is_end.ensures {u = tt}).0 (search rules) in
-    ended c.args.file (g.R.Read.remaining c.loop-before.reader) c.loop-before.before (Counting c.loop-before.counting) initial
-    c.loop-before.tallies c.clear.new.self.items c.read_until.new.buf.items c.clear.ensures.items (c.in-Ok.ensures {u = tt}).bytes known
-    (c.loop-before.invariant.at known initial h) none (Ok c.loop-before.counting.entries) refl
+pub returns-in_default-clause-covered : goal.returns-in_default-clause-covered
+returns-in_default-clause-covered g c = λ known head image initial among follows client opens.
+    let amid = c.loop-count.invariant.amid known head image initial among follows client opens in
+    let all = rw c.in_default.is at (c.in_ok-entry.ensures {u = tt} known head image amid.judged.entries amid.judged.among) in
+    at_end c.args.file c.args.place known (g.R.Read.remaining c.loop-count.reader) c.loop-count.entries head image c.loop-count.judge c.loop-count.count initial
+    c.loop-count.tallies amid all
 
--- the line is not taken
-pub returns-in-Err-take_entry-clause-refused : goal.returns-in-Err-take_entry-clause-refused
-returns-in-Err-take_entry-clause-refused g c = λ known initial h.
-    let left = counting_of c.take_entry.new.counting c.take_entry.result in
-    says c.args.file (g.R.Read.remaining c.loop-before.reader) c.loop-before.before (Counting c.loop-before.counting) initial
-    c.loop-before.tallies c.clear.new.self.items c.read_until.new.buf.items c.clear.ensures.items (c.in-Ok.ensures {u = tt}).bytes
-    (λ e. let t = (c.if-is_end.ensures {u = tt}).1 (c.deref.ensures.value ∙ e) in search rules)
-    c.text_of.result.now (c.text_of.ensures ∙ ap (λ (x : List ℕ). strip_last 10 x) c.deref-in-loop-before.ensures.value) (staged left)
-    (λ reading agrees.
-    subst (λ (r : Result CheckStage LineFault). Takes (after_text reading c.text_of.result.now) r) (sym (staged_as left))
-    (c.take_entry.ensures.takes reading agrees))
-    known (Line c.line_fault.result) c.stop.result
-    (ap (λ (r : Result (Unit {0}) EntryFault). staged (counting_of c.take_entry.new.counting r)) c.in-Err-take_entry.is
-    ∙ ap (λ (f : LineFault). let halt : Result Stage Halt = Err (Line f) in halt) (sym c.line_fault.ensures))
-    c.stop.ensures (c.loop-before.invariant.at known initial h)
+-- the entry breaks something
+pub returns-in-Err-Broken-clause-refused : goal.returns-in-Err-Broken-clause-refused
+returns-in-Err-Broken-clause-refused g c = λ known head image among follows.
+    let judged = c.loop-count.invariant.judged known head image among follows in
+    let more = rw c.in-Some.is at (c.in_ok-entry.ensures {u = tt} known head image judged.entries judged.among) in
+    let said = c.in-Err-Broken.ensures {u = tt} in
+    let breaks = said.broken c.in-Err-Broken.breach c.in-Err-Broken.field-0-is head.order head.shape image (events_of judged.entries) judged.follows in
+    let kept = said.unchanged c.in-Err-Broken.breach c.in-Err-Broken.field-0-is in
+    rw c.broken-stopped.ensures (rw c.number.ensures (rw c.in-Err-Broken.breach-is
+    (refuses known (g.R.Read.remaining c.loop-count.reader) c.loop-count.entries head image c.loop-count.judge c.loop-count.count judged
+    c.in-Some.entry c.see.new.judge c.in-Err-Broken.breach kept breaks c.next.new.self.number more.1)))
 
--- the file cannot be read
-pub returns-in-Err-clause-refused : goal.returns-in-Err-clause-refused
-returns-in-Err-clause-refused g c = λ known initial h. no_refusal known c.no_file.result c.no_file.ensures
-
--- the next line
-pub loop-before-preserved : goal.loop-before-preserved
-loop-before-preserved g c =
-    let left = counting_of c.take_entry.new.counting c.take_entry.result in
-    record {
-      at = λ known initial h.
-          goes c.args.file (g.R.Read.remaining c.loop-before.reader) c.loop-before.before (Counting c.loop-before.counting) initial
-          c.loop-before.tallies c.clear.new.self.items c.read_until.new.buf.items c.clear.ensures.items (c.in-Ok.ensures {u = tt}).bytes
-          (λ e. let t = (c.if-is_end.ensures {u = tt}).1 (c.deref.ensures.value ∙ e) in search rules)
-          c.text_of.result.now (c.text_of.ensures ∙ ap (λ (x : List ℕ). strip_last 10 x) c.deref-in-loop-before.ensures.value) (staged left)
-          (λ reading agrees.
-          subst (λ (r : Result CheckStage LineFault). Takes (after_text reading c.text_of.result.now) r) (sym (staged_as left))
-          (c.take_entry.ensures.takes reading agrees))
-          known (g.R.Read.remaining c.read_until.new.self) (Counting c.take_entry.new.counting) c.take_entry.new.tallies
-          (ap (λ (r : Result (Unit {0}) EntryFault). staged (counting_of c.take_entry.new.counting r)) c.in-Ok-take_entry.is)
-          (c.in-Ok.ensures {u = tt}).rest c.take_entry.ensures.counts
-          (omega (arith, c.loop-before.invariant.fit, c.take_entry.ensures.place, c.take_entry.ensures.size))
-          (c.loop-before.invariant.at known initial h);
-      fit = omega (arith, c.loop-before.invariant.fit, c.take_entry.ensures.place, c.take_entry.ensures.size);
-    }
+-- the next entry
+pub loop-count-preserved : goal.loop-count-preserved
+loop-count-preserved g c = record {
+  inside = omega (arith, c.loop-count.invariant.inside, c.see.ensures.size);
+  judged = λ known head image among follows.
+      let judged = c.loop-count.invariant.judged known head image among follows in
+      let more = rw c.in-Some.is at (c.in_ok-entry.ensures {u = tt} known head image judged.entries judged.among) in
+      let next_ = (c.in-Ok.ensures {u = tt}).permitted head.order head.shape image (events_of judged.entries) judged.follows in
+      judged_on known (g.R.Read.remaining c.loop-count.reader) c.loop-count.entries head image c.loop-count.judge c.loop-count.count judged
+      (g.R.Read.remaining c.next.new.reader) c.next.new.self c.in-Some.entry c.see.new.judge more.0 next_.0 next_.1;
+  amid = λ known head image initial among follows client opens.
+      let amid = c.loop-count.invariant.amid known head image initial among follows client opens in
+      let more = rw c.in-Some.is at (c.in_ok-entry.ensures {u = tt} known head image amid.judged.entries amid.judged.among) in
+      let seen = c.in-Ok.ensures {u = tt} in
+      let next_ = seen.permitted head.order head.shape image (events_of amid.judged.entries) amid.judged.follows in
+      let sees = seen.ok head.order head.shape image (events_of amid.judged.entries) amid.judged.follows client in
+      goes_on c.args.file c.args.place known (g.R.Read.remaining c.loop-count.reader) c.loop-count.entries head image c.loop-count.judge c.loop-count.count initial
+      c.loop-count.tallies amid (g.R.Read.remaining c.next.new.reader) c.next.new.self c.in-Some.entry c.see.new.judge c.see.new.self more.0 more.1 next_.0 next_.1
+      (rw c.number.ensures at sees);
+}
