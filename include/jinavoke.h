@@ -26,7 +26,7 @@
  *                    `EveryJudging`).
  *   jp_size, jp_align, jp_open, jp_see
  *                    a judge at one client's pins, which tells of each line that is seen there at once whether it may
- *                    be seen after those before it, and of the first that may not which rule it breaks; then no legal
+ *                    be seen after those before it, and of the first that may not which rule it breaks; then no lawful
  *                    run of the protocol is seen so at these pins (`OpensPins`, `SeesRoom`, `EveryJudgingAtPins`).
  *   jv_echo            the request again (`echoed`); jv_echo_seen likewise (`seen_echoed`); jv_version the number 7.
  * The functions that are `static inline` are C: they fill in a request and call one of these, and are tested
@@ -871,7 +871,7 @@ static inline const char *jj_rule_name(uint32_t rule) {
 
    It is handed what a monitor sees at the pins of one client, a line at a time, and tells of each at once whether it
    may be seen there after those before it, as `tlwire` does of a record that is `seen at client N` (docs/RECORD.md).
-   Where it may not, no legal run of the protocol, over any image, is seen so, whatever home and the other clients do:
+   Where it may not, no lawful run of the protocol, over any image, is seen so, whatever home and the other clients do:
    so it needs no image and no event of home. Hand in a message on A or C as the client sends it, one on D as the client
    takes it, a load and a store as the core makes them. Lines of another client and messages on B and E may be handed in
    too, and break nothing. It takes memory for the blocks that the client's lines are of, and none for the lines. */

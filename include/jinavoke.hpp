@@ -1034,7 +1034,7 @@ class Home {
         take(clients_[m->client], Held{*m, std::nullopt, cycle_, cycle_, JV_OK, has_source});
     }
     // `raised`: the cycle in which valid rose for this beat, where it is known. A BtoT that waited since before its
-    // copy was probed away is legal: it is granted with data.
+    // copy was probed away is lawful: it is granted with data.
     void a(uint32_t k, const Beat &beat, std::optional<uint64_t> raised = std::nullopt) {
         Link &link = link_of(k);
         Message m;
