@@ -1,5 +1,5 @@
 -- The entries that a page shows.
-use Rattle.std.proofs.Common.{◌≡◌, ◌+◌, ◌<◌, ◌≤◌, ℕ, zero, suc, Bool, true, false, List, [], ◌∷◌, ◌++◌, length, take, Option, Some, None, IfOk, IfSome, Result, Ok, Err, refl, sym, ◌∙◌, ap, subst, arith, append_assoc, length-append}
+use Rattle.std.proofs.Common.{◌≡◌, ◌+◌, ◌<◌, ◌≤◌, ℕ, Bool, true, false, List, [], ◌∷◌, ◌++◌, length, take, Option, Some, None, IfOk, Result, Ok, Err, refl, sym, ◌∙◌, ap, subst, arith, append_assoc}
 use Rattle.std.proofs.lemmas.List.{append-nil, take_all, drop_all, take-append-drop, take-append-le, drop-append-le, map-append}
 use Rattle.std.specs.Prelude.{is_some}
 use Rattle.tl_protocol.specs.declared.event.Event.{Event}
@@ -7,14 +7,14 @@ use Rattle.tlcheck_rules.specs.Judged.{Follows}
 use Rattle.tlcheck_rules.specs.declared.entry.Entry.{Entry}
 use Rattle.tlcheck_record.specs.declared.cause.Cause.{Cause}
 use Rattle.tlcheck_record.specs.declared.header.Head.{Head}
-use Rattle.tlcheck_reader.specs.Entries.{IsAmong, IsFirstEntry, IsReadFault}
+use Rattle.tlcheck_reader.specs.Entries.{IsAmong, IsReadFault}
 use Rattle.tlcheck_reader.specs.Text.{IsFullLine, IsShort, IsUnreadable}
 use Rattle.tlcheck_reader.specs.EntriesState.{EntriesState}
 use Rattle.tlcheck_reader.specs.Lines.{lines_of}
 use Rattle.tlcheck_reader.specs.Reading.{Reading, fresh, shaped, going, after_line, entries_in, reading_of}
 use Rattle.tlcheck_reader.specs.declared.entries.ReadFault.{ReadFault}
 use Rattle.tlcheck_reader.specs.declared.entries.ReadFault.TheVariants as read
-use Rattle.tlcheck_reader.proofs.Growing.{Beginnings, beginnings, count_in, longer, never_fewer, reads_line, reads_rest, shorter, stays_going}
+use Rattle.tlcheck_reader.proofs.Growing.{Beginnings, beginnings, longer, never_fewer, reads_line, reads_rest, shorter, stays_going}
 use Rattle.tlcheck_reader.proofs.Judging.{length_more}
 use Rattle.tlchart_record.specs.Film.{GoesOn, IsSomewhere, Plays, entries_of}
 use Rattle.tlchart_record.specs.Window.{AreWrittenAfter, HasEntries, IsWindow, IsWrittenAfter, Lead, Shows, Takes, Writes, fault_of}

@@ -1,4 +1,4 @@
-use Rattle.std.proofs.Common.{◌≡◌, Err, None, Some, sym, rules, arith}
+use Rattle.std.proofs.Common.{◌≡◌, Err, None, sym, rules, arith}
 use Rattle.tlchart_record.specs.Window.{fault_of}
 use Rattle.tlchart_record.proofs.Windows.{empty_text, never_none, no_opening, shows-none, waits_none, waits_some, all-somewhere}
 use Rattle.tlchart_record.proofs.window.window_of.Goals as goal
