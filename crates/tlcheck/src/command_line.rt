@@ -95,7 +95,7 @@ fn all_words(alloc: Global, matches: &ArgMatches<'_>) -> Result<Vec<String>, All
     Ok(words)
 }
 
-fn judged(alloc: Global, matches: &ArgMatches<'_>) -> Result<Request, WordsError> {
+fn to_judge(alloc: Global, matches: &ArgMatches<'_>) -> Result<Request, WordsError> {
     Ok(Request::Judge(Judged {
         file: only_word(alloc, matches)?,
         output: if matches.get_flag("chart") {
@@ -107,7 +107,7 @@ fn judged(alloc: Global, matches: &ArgMatches<'_>) -> Result<Request, WordsError
     }))
 }
 
-fn covered(alloc: Global, matches: &ArgMatches<'_>) -> Result<Request, WordsError> {
+fn to_cover(alloc: Global, matches: &ArgMatches<'_>) -> Result<Request, WordsError> {
     let form = if matches.get_flag("html") {
         Form::Page
     } else {
@@ -117,7 +117,7 @@ fn covered(alloc: Global, matches: &ArgMatches<'_>) -> Result<Request, WordsErro
     Ok(Request::Cover(form, by_home, all_words(alloc, matches)?))
 }
 
-fn reached(alloc: Global, matches: &ArgMatches<'_>) -> Result<Request, WordsError> {
+fn to_reach(alloc: Global, matches: &ArgMatches<'_>) -> Result<Request, WordsError> {
     let way = if matches.get_flag("script") {
         Way::Script
     } else {
@@ -131,9 +131,9 @@ impl Request {
     pub(crate) fn parse(alloc: Global, words: &[String]) -> Result<Request, WordsError> {
         let matches = command(alloc)?.try_get_matches_from(words)?;
         match job_of(&matches) {
-            Some(Job::Judge) => judged(alloc, &matches),
-            Some(Job::Cover) => covered(alloc, &matches),
-            Some(Job::Reach) => reached(alloc, &matches),
+            Some(Job::Judge) => to_judge(alloc, &matches),
+            Some(Job::Cover) => to_cover(alloc, &matches),
+            Some(Job::Reach) => to_reach(alloc, &matches),
             None => Err(WordsError::Usage),
         }
     }
