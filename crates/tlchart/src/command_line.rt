@@ -81,7 +81,8 @@ fn output_of(matches: &ArgMatches<'_>) -> Result<Output, WordsError> {
 }
 
 impl Request {
-    /// What the words after the program's name ask for. `Usage` where they are not so, `Memory` where memory is refused.
+    /// What the words after the program's name ask for. `Usage` where they are not so, `Memory` where memory is
+    /// refused.
     pub(crate) fn parse(alloc: Global, words: &[String]) -> Result<Request, WordsError> {
         let matches = command(alloc)?.try_get_matches_from(words)?;
         let output = output_of(&matches)?;

@@ -127,7 +127,8 @@ fn to_reach(alloc: Global, matches: &ArgMatches<'_>) -> Result<Request, WordsErr
 }
 
 impl Request {
-    /// What the words after the program's name ask for. `Usage` where they are not so, `Memory` where memory is refused.
+    /// What the words after the program's name ask for. `Usage` where they are not so, `Memory` where memory is
+    /// refused.
     pub(crate) fn parse(alloc: Global, words: &[String]) -> Result<Request, WordsError> {
         let matches = command(alloc)?.try_get_matches_from(words)?;
         match job_of(&matches) {
