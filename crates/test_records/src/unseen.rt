@@ -51,7 +51,7 @@ fn with_state_key_taken(
 ) -> Result<(bool, bool), AllocError> {
     let mut found = Found::new(alloc, 1);
     if let Some(state) = all.states().get(place) {
-        found.state_places.insert(state_key(state, 1), 0)?;
+        found.lead_state(state_key(state, 1), 0)?;
     }
     outcome(alloc, found, STATES)
 }
@@ -64,7 +64,7 @@ fn with_situation_key_taken(
 ) -> Result<(bool, bool), AllocError> {
     let mut found = Found::new(alloc, 1);
     if let Some(situation) = all.situations().get(place) {
-        found.situation_places.insert(situation_key(situation), 0)?;
+        found.lead_situation(situation_key(situation), 0)?;
     }
     outcome(alloc, found, STATES)
 }
@@ -94,7 +94,7 @@ fn is_closed_with_one_key(alloc: Global, place: usize) -> Result<bool, AllocErro
     let mut found = all_of_one(alloc)?;
     if let Some(state) = found.states().get(place) {
         let key = state_key(state, 1);
-        found.state_places.insert(key, place.saturating_add(1))?;
+        found.lead_state(key, place.saturating_add(1))?;
     }
     is_known_closed(&found, alloc, false)
 }

@@ -1,9 +1,9 @@
 pub mod Acting
 pub mod Actions
 pub mod Bareness
-pub mod Closing
 pub mod Complete
-pub mod Growing
 pub mod Likeness
+pub mod Reached
 pub mod Sights
+pub mod Enough
 pub mod Walks

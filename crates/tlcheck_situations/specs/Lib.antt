@@ -1,9 +1,9 @@
 pub mod Action
 pub mod Bare
-pub mod Closing
+pub mod Blocks
 pub mod FoundState
-pub mod Next
 pub mod Reach
 pub mod Run
 pub mod Situation
+pub mod Steps
 pub mod TableState
