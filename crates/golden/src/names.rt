@@ -96,7 +96,7 @@ pub const NOT_CHARTED_MESSAGES: &[&str] = &[
     "a-miss",
     "a-release-is-never-acknowledged",
     "no-such-sink",
-    "two-writers",
+    "two-writers-beside-a-client-that-drops",
 ];
 
 /// Records of messages, each a file.
@@ -159,6 +159,7 @@ pub const MESSAGES: &[&str] = &[
     "two-readers-and-a-writer.txt",
     "two-writers-at-their-pins.txt",
     "two-writers-before-grant-acks-in-another-order.txt",
+    "two-writers-beside-a-client-that-drops.txt",
     "two-writers.txt",
     "unwatched-answers-before-its-release-ack.txt",
     "unwatched-asks-before-its-release-ack.txt",

@@ -2,7 +2,7 @@
 use Rattle.std.proofs.Common.{◌≡◌, ◌<◌, List, length, Result, Ok, Err, IfOk, subst}
 use Rattle.tl_protocol.specs.declared.event.Event.{Event}
 use Rattle.tlwire_search.specs.Premises.{drops}
-use Rattle.tlwire_search.specs.declared.premise.Premise.{Premise}
+use Rattle.tlwire_search.specs.declared.premises.Premises.{Premises}
 use Rattle.tlwire_search.specs.declared.seen.Seen.{Seen}
 use Rattle.tlwire_pins.proofs.InFull.{full_itself}
 use Rattle.tlwire_pins.specs.Drops.{IsInFull}
@@ -30,12 +30,12 @@ found_then (Ok v) m seen e found = found_verdict m seen v e found
 found_then (Err x) m seen e found = tt
 
 -- of the record in full
-pub found_in_full : (m : MessagesState) (premises : List Premise) (seen full given : List Seen) (run : List Event) → premises ≡ m.setting.premises → seen ≡ m.seen
+pub found_in_full : (m : MessagesState) (premises : Premises) (seen full given : List Seen) (run : List Event) → premises ≡ m.setting.premises → seen ≡ m.seen
     → given ≡ full → IsInFull (drops premises) seen full → IsExplained (with_lines m given) run → IsExplainedInFull m run
 found_in_full m premises seen full given run p e g filled explained = record {
   full = full;
   in_full =
       subst (λ (xs : List Seen). IsInFull (drops m.setting.premises) xs full) e
-      (subst (λ (ps : List Premise). IsInFull (drops ps) seen full) p filled);
+      (subst (λ (ps : Premises). IsInFull (drops ps) seen full) p filled);
   explained = subst (λ (xs : List Seen). IsExplained (with_lines m xs) run) g explained;
 }

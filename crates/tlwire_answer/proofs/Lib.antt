@@ -3,5 +3,6 @@ mod Asked
 mod Clients
 mod Firsts
 mod Found
+mod Replied
 pub mod Texts
 pub mod Told

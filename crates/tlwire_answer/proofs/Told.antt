@@ -9,8 +9,8 @@ use Rattle.tlwire_pins.specs.Pins.{KeepsOrder, lines_from}
 use Rattle.tlwire_pins.specs.declared.view.Cores.{Cores}
 use Rattle.tlwire_closed.specs.Along.{IsSeenSo}
 use Rattle.tlwire_closed.specs.declared.premise.Premise.{Premise as SetPremise}
-use Rattle.tlwire_closed.specs.declared.premise.Way.{Way}
-use Rattle.tlwire_closed.specs.declared.premise.Way.TheVariants.{Between, AtSending, AtHome, AtClients, AtClient}
+use Rattle.tlwire_search.specs.declared.way.Way.{Way}
+use Rattle.tlwire_search.specs.declared.way.Way.TheVariants.{Between, AtHome, AtClients, AtClient}
 use Rattle.tlwire_record.specs.Messages.{MessagesState}
 use Rattle.tlwire_answer.specs.Answer.{ClientKeepsOrder, EachKeepsOrder, IsExplained, IsInOrder, Meets}
 use Rattle.tlwire_answer.specs.Named.{premise_of}
@@ -57,7 +57,6 @@ meets_then (Err x) m run way shape premise image seen s p i e h = tt
 pub each_way : (m : MessagesState) (run : List Event) → Meets m run Between → Meets m run AtHome → Meets m run AtClients
     → ((client : ℕ) → Meets m run (AtClient client)) → (way : Way) → Meets m run way
 each_way m run between home clients each Between = between
-each_way m run between home clients each AtSending = λ named. cc
 each_way m run between home clients each AtHome = home
 each_way m run between home clients each AtClients = clients
 each_way m run between home clients each (AtClient client) = each client

@@ -1,14 +1,14 @@
 -- A line of the header that would have decided a record, where it is true (this project's own format).
-use Rattle.std.specs.Prelude.{◌≡◌, Bool, true, false, ℕ, List, [], ◌∷◌, ◌++◌, codes, Option, Some, None, IfSome}
+use Rattle.std.specs.Prelude.{◌≡◌, Bool, true, false, ℕ, List, [], ◌++◌, codes, Option, Some, None, IfSome}
 use Rattle.std.specs.List.{list_any}
-use Rattle.tl_types.specs.declared.channel.Channel.TheVariants as channel
-use Rattle.tlwire_search.specs.Premises.{is_unseen_on}
-use Rattle.tlwire_search.specs.declared.premise.Premise.{Premise}
-use Rattle.tlwire_search.specs.declared.premise.Premise.TheVariants as premise
+use Rattle.tlwire_search.specs.Explained.{wire_of}
+use Rattle.tlwire_search.specs.Premises.{is_unseen}
+use Rattle.tlwire_search.specs.declared.premises.Premises.{Premises}
 use Rattle.tlwire_search.specs.declared.seen.Seen.{Seen}
-use Rattle.tlwire_search.specs.declared.seen.Seen.TheVariants.{OnLink, OnMemory, Load as Loads, Store as Stores}
-use Rattle.tlwire_search.specs.declared.seen.Wire.TheVariants as wire
 use Rattle.tlwire_record.specs.Messages.{MessagesState, supposing}
+use Rattle.tlwire_record.specs.Premise.{with_line}
+use Rattle.tlwire_record.specs.declared.premise.Premise.{Premise}
+use Rattle.tlwire_record.specs.declared.premise.Premise.TheVariants as premise
 use Rattle.tlwire_answer.specs.Answer.{IsJudged}
 use Rattle.tlwire_answer.specs.declared.advice.Advice.{Advice}
 use Rattle.tlwire_answer.specs.declared.advice.Advice.TheVariants as its
@@ -24,16 +24,17 @@ premise_of its.MemoryUnseen = premise.MemoryUnseen
 premise_of its.CoresUnseen = premise.CoresUnseen
 premise_of its.Whole = premise.Whole
 
--- a line stands where a premise says that nobody watched
-unfoldable pub is_unwatched_by : Premise → Seen → Bool
-is_unwatched_by p (OnLink c block shown) = false
-is_unwatched_by p (OnMemory block shown) = list_any (is_unseen_on (wire.Memory channel.A)) (p ∷ [])
-is_unwatched_by p (Loads c offset bytes) = list_any (is_unseen_on (wire.Core c)) (p ∷ [])
-is_unwatched_by p (Stores c offset bytes) = list_any (is_unseen_on (wire.Core c)) (p ∷ [])
+-- a line stands where a header says that nobody watched
+abbrev pub is_unwatched : Premises → Seen → Bool
+is_unwatched premises s = is_unseen premises (wire_of s)
 
 -- some does
-abbrev pub is_forbidden : List Seen → Premise → Bool
-is_forbidden lines p = list_any (is_unwatched_by p) lines
+abbrev pub is_forbidden : List Seen → Premises → Bool
+is_forbidden lines premises = list_any (is_unwatched premises) lines
+
+-- what the header would say of how the record was seen with this line too
+abbrev pub supposed : MessagesState → Advice → Premises
+supposed m a = with_line m.setting.premises (premise_of a)
 
 -- it is a run, or that there is none
 abbrev pub is_decided : Verdict → Bool
@@ -46,9 +47,9 @@ is_decided (Unmet unmet) = false
 
 -- With one line more in its header, which the record's lines allow, what is said of the record is decided.
 pub record Decides (m : MessagesState) (a : Advice) : Type 0 where
-  pub allowed : is_forbidden m.seen (premise_of a) ≡ false
+  pub allowed : is_forbidden m.seen (supposed m a) ≡ false
   pub verdict : Verdict
-  pub judged : IsJudged (supposing m (premise_of a)) verdict
+  pub judged : IsJudged (supposing m (supposed m a)) verdict
   pub decided : is_decided verdict ≡ true
 
 -- A verdict that is none names such a line, or no line.

@@ -13,8 +13,9 @@ use Rattle.tlwire_pins.specs.Taps.{cores_of, tap_of}
 use Rattle.tlwire_pins.specs.Walk.{IsWrong}
 use Rattle.tlwire_pins.specs.declared.pass.Wrong.{Wrong}
 use Rattle.tlwire_closed.specs.Along.{IsImpossible as IsSeenByNone, IsSeenSo}
-use Rattle.tlwire_closed.specs.declared.premise.Way.{Way}
-use Rattle.tlwire_answer.specs.Named.{is_told, names, premise_of}
+use Rattle.tlwire_closed.specs.declared.premise.Premise.{Premise as SetPremise}
+use Rattle.tlwire_search.specs.declared.way.Way.{Way}
+use Rattle.tlwire_answer.specs.Named.{Says, is_told, names, premise_of}
 use Rattle.tlwire_answer.specs.Waits.{unmet_of}
 use Rattle.tlwire_record.specs.Messages.{MessagesState}
 use Rattle.tlwire_answer.specs.declared.sets.Sets.{Sets}
@@ -43,12 +44,12 @@ MayBelow m clients lines = (client : ℕ) → client < clients → MayAt m lines
 abbrev pub MayAtPins : MessagesState → List Seen → Type 0
 MayAtPins m lines = MayBelow m m.setting.shape.clients lines
 
--- The header names a way of seeing, and no lawful run over the image is seen so; no client drops clean copies.
+-- The header says how the record was seen, and no lawful run over the image is seen so; no client drops clean copies.
 pub record IsRuledOut (m : MessagesState) : Type 0 where
   pub nobody_drops : has_drops m.setting.premises ≡ false
-  pub way : Way
-  pub named : names m.setting.premises way ≡ true
-  pub impossible : IsSeenByNone m.setting.shape (premise_of m.setting.premises way) m.image m.seen
+  pub premise : SetPremise
+  pub said : Says m.setting.premises (length m.seen) premise
+  pub impossible : IsSeenByNone m.setting.shape premise m.image m.seen
 
 -- lines at the pins of clients have the record's in their order, of a client that is told there
 abbrev pub ClientKeepsOrder : MessagesState → List Seen → ℕ → Type 0

@@ -1,22 +1,20 @@
 //! A line of the header that would have decided a record, where it is true.
 ghost use Rattle.std.specs.Prelude.{◌≡◌, Some, IfOk, IfSome, IsTrue};
 ghost use Rattle.std.specs.List.{list_any};
-ghost use Rattle.tlwire_answer.specs.Advice.{Decides, IsAdvised, advice_text, advised_line, is_decided, is_forbidden, is_unwatched_by};
+ghost use Rattle.tlwire_answer.specs.Advice.{Decides, IsAdvised, advice_text, advised_line, is_decided, is_forbidden, is_unwatched};
 ghost use Rattle.tlwire_answer.specs.Answer.{IsJudged};
-ghost use Rattle.tlwire_search.specs.Premises.{is_unseen_on};
 
 use crate::verdict::{Undecided, Verdict, judge};
 use std::alloc::{AllocError, Global};
 use std::fmt;
-use tl_types::Channel;
-use tlwire_record::Messages;
-use tlwire_search::{Premise, Seen, Wire, is_unseen};
+use tlwire_record::{Messages, Premise};
+use tlwire_search::{Premises, Seen};
 
 /// How many messages, loads and stores a record has, at most, for which lines of the header are tried.
 const MOST_ADVISED: usize = 1_000;
 
 /// A line of the header that is tried.
-#[derive(Clone, Copy, Debug, PartialEq, Eq)]
+#[derive(Clone, Copy, PartialEq, Eq)]
 pub enum Advice {
     /// `seen between`
     Between,
@@ -93,25 +91,18 @@ impl Advice {
     }
 }
 
-/// Whether a line stands where a premise says that nobody watched.
-#[tactic(auto, unfolding(crate::specs::Advice::is_unwatched_by))]
-fn is_unwatched_by(premise: Premise, seen: &Seen) -> bool
-    ensures { result ≡ is_unwatched_by premise seen.now }
+/// Whether a line stands where a header says that nobody watched.
+fn is_unwatched(premises: &Premises, seen: &Seen) -> bool
+    ensures { result ≡ is_unwatched premises.now seen.now }
 {
-    match seen {
-        Seen::OnLink(_, _, _) => false,
-        Seen::OnMemory(_, _) => is_unseen(&[premise], Wire::Memory(Channel::A)),
-        Seen::Load(client, _, _) | Seen::Store(client, _, _) => {
-            is_unseen(&[premise], Wire::Core(*client))
-        }
-    }
+    premises.is_unseen(seen.wire())
 }
 
 /// Whether some line does, so that the header may not say so.
-fn is_forbidden(lines: &[Seen], premise: Premise) -> bool
-    ensures { result ≡ is_forbidden lines.now premise }
+fn is_forbidden(lines: &[Seen], premises: &Premises) -> bool
+    ensures { result ≡ is_forbidden lines.now premises.now }
 {
-    lines.iter().any(|seen| is_unwatched_by(premise, seen))
+    lines.iter().any(|seen| is_unwatched(premises, seen))
 }
 
 /// Whether it is a run, or that there is none.
@@ -129,14 +120,13 @@ fn decides(alloc: Global, messages: &mut Messages, advice: Advice) -> Result<boo
     ensures kept { messages.new ≡ messages.old }
     ensures decides { IfOk result (λ yes. IsTrue yes → Decides messages.old advice) }
 {
-    let premise = advice.premise();
-    if is_forbidden(messages.seen(), premise) {
+    let premises = messages.premises_with(alloc, advice.premise())?;
+    if is_forbidden(messages.seen(), &premises) {
         return Ok(false);
     }
-    let count = messages.setting().premises().len();
-    messages.suppose(premise)?;
+    let before = messages.suppose(premises);
     let verdict = judge(alloc, messages, &mut ());
-    messages.withdraw(count);
+    messages.suppose(before);
     Ok(is_decided(&verdict?))
 }
 

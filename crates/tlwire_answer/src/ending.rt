@@ -24,10 +24,10 @@ use tlcheck_rules::Breach;
 use tlwire_closed::{Hindrance, Reason, Side, Stop, Stuck};
 use tlwire_pins::{View, Wrong};
 use tlwire_record::Messages;
-use tlwire_search::{Limit, has_drops};
+use tlwire_search::Limit;
 
 /// What is written of a run that was found.
-#[derive(Clone, Copy, Debug, PartialEq, Eq)]
+#[derive(Clone, Copy, PartialEq, Eq)]
 pub enum Form {
     /// That it was found, and how many events it has.
     Summary,
@@ -537,7 +537,7 @@ fn undecided_text(messages: &Messages, undecided: Undecided) -> UndecidedText
     ensures undecided { result.undecided ≡ undecided }
 {
     UndecidedText {
-        drops: has_drops(messages.setting().premises()),
+        drops: messages.setting().premises().has_drops(),
         undecided,
     }
 }

@@ -1,165 +1,94 @@
-//! Which ways of seeing the lines of a header name, and what each of them says.
-ghost use Rattle.std.specs.Prelude.{◌≡◌, None};
-ghost use Rattle.std.specs.List.{list_any};
-ghost use Rattle.tlwire_answer.specs.Named.{is_at_client, is_at_clients, is_between, is_in_time, is_skew, is_told, least_of, least_with, names, premise_of, skew_of};
+//! Which ways of seeing a header names, and what each of them says.
+ghost use Rattle.std.specs.Prelude.{◌≡◌};
+ghost use Rattle.tlwire_answer.specs.Named.{is_told, is_untimed, names, premise_of, untimed};
 
-use tl_types::{Channel, ClientId};
-use tlwire_closed::Way;
-use tlwire_search::{
-    Premise, Wire, has_drops, is_seen_at_home, is_seen_at_pins, is_unseen, is_whole,
-};
+use tl_types::ClientId;
+use tlwire_closed::Premise;
+use tlwire_search::{Premises, Way};
 
-fn is_between(line: &Premise) -> bool
-    ensures { result ≡ is_between line.now }
-{
-    matches!(line, Premise::Between)
-}
-
-fn is_at_clients(line: &Premise) -> bool
-    ensures { result ≡ is_at_clients line.now }
-{
-    matches!(line, Premise::AtClients)
-}
-
-fn is_at_client(line: &Premise, client: ClientId) -> bool
-    ensures { result ≡ is_at_client client line.now }
-{
-    match line {
-        Premise::AtClient(c) => *c == client,
-        _ => false,
-    }
-}
-
-fn is_skew(line: &Premise) -> bool
-    ensures { result ≡ is_skew line.now }
-{
-    matches!(line, Premise::Skew(_))
-}
-
-/// Whether the header says that each message was seen between its sending and its taking.
-fn is_any_between(premises: &[Premise]) -> bool
-    ensures { result ≡ list_any is_between premises.now }
-{
-    premises.iter().any(|line| is_between(line))
-}
-
-/// Whether the header says that each client's link was seen at the client's pins.
-fn is_any_at_clients(premises: &[Premise]) -> bool
-    ensures { result ≡ list_any is_at_clients premises.now }
-{
-    premises.iter().any(|line| is_at_clients(line))
-}
-
-/// Whether the header says that a client's link was seen at the client's pins, by a line for this client.
-fn is_any_at_client(premises: &[Premise], client: ClientId) -> bool
-    ensures { result ≡ list_any (is_at_client client) premises.now }
-{
-    premises.iter().any(|line| is_at_client(line, client))
-}
-
-/// Whether the header says how far lines may stand behind later ones.
-fn is_any_skew(premises: &[Premise]) -> bool
-    ensures { result ≡ list_any is_skew premises.now }
-{
-    premises.iter().any(|line| is_skew(line))
-}
+/// How many messages, loads and stores a record has, at most, for which sets are made where their lines may stand in
+/// any order: such a set holds many states.
+pub(crate) const MOST_UNTIMED: usize = 1_000;
 
 /// Whether a header names a way of seeing.
-pub(crate) fn names(premises: &[Premise], way: Way) -> bool
+pub(crate) fn names(premises: &Premises, way: Way) -> bool
     ensures { result ≡ names premises.now way }
 {
     match way {
         Way::Between => {
-            is_any_between(premises)
-                || (is_any_skew(premises)
-                    && !is_seen_at_home(premises)
-                    && !is_any_at_clients(premises))
+            premises.between
+                || (premises.skew.is_some() && !premises.at_home && !premises.pins.has_all())
         }
-        Way::AtHome => is_seen_at_home(premises),
-        Way::AtClients => is_any_at_clients(premises),
+        Way::AtHome => premises.at_home,
+        Way::AtClients => premises.pins.has_all(),
         Way::AtClient(client) => {
-            is_any_at_client(premises, ClientId::new(client))
-                && !is_any_at_clients(premises)
-                && !is_in_time(premises)
+            premises.pins.is_named(ClientId::new(client))
+                && !premises.pins.has_all()
+                && !premises.is_in_time()
         }
-        Way::AtSending => false,
     }
 }
 
-/// Whether a line of a header, with the others, names a way of seeing for one client.
-fn names_client(premises: &[Premise], line: &Premise) -> bool {
-    match line {
-        Premise::AtClient(client) => names(premises, Way::AtClient(client.number())),
-        _ => false,
-    }
+/// Whether a header does not say when messages were seen, but for clients that it names one by one, and says that
+/// none is left out.
+pub(crate) fn is_untimed(premises: &Premises) -> bool
+    ensures { result ≡ is_untimed premises.now }
+{
+    premises.whole
+        && !premises.between
+        && !premises.at_home
+        && !premises.pins.has_all()
+        && premises.skew.is_none()
 }
 
-/// Whether closed sets are made under a header: it names a way of seeing, and no client drops clean copies.
-pub(crate) fn has_sets(premises: &[Premise]) -> bool {
-    if has_drops(premises) {
+/// Whether closed sets are made of a record of so many lines under a header: it says how the record was seen, and no
+/// client drops clean copies.
+pub(crate) fn has_sets(premises: &Premises, lines: usize) -> bool {
+    if premises.has_drops() {
         return false;
     }
-    names(premises, Way::Between)
+    (is_untimed(premises) && lines <= MOST_UNTIMED)
+        || names(premises, Way::Between)
         || names(premises, Way::AtHome)
         || names(premises, Way::AtClients)
-        || premises.iter().any(|line| names_client(premises, line))
-}
-
-/// With the number that a line `skew D` gives, the least so far.
-fn least_with(found: Option<u32>, line: &Premise) -> Option<u32>
-    ensures { result ≡ least_with found line.now }
-{
-    match (found, line) {
-        (None, Premise::Skew(most)) => Some(*most),
-        (Some(one), Premise::Skew(most)) => { if one <= *most { Some(one) } else { Some(*most) } }
-        (found, _) => found,
-    }
-}
-
-/// By how many lines one may stand behind a later one.
-fn skew_of(premises: &[Premise]) -> usize
-    ensures { result ≡ skew_of premises.now }
-{
-    let mut found = None;
-    for line in premises {
-        found = least_with(found, line);
-    }
-    match found {
-        Some(most) => most as usize,
-        None => 0,
-    }
-}
-
-/// Whether lines stand in order of time: the header gives no skew, or one of 0.
-fn is_in_time(premises: &[Premise]) -> bool
-    ensures { result ≡ is_in_time premises.now }
-{
-    skew_of(premises) == 0
+        || premises
+            .pins
+            .named()
+            .iter()
+            .any(|client| names(premises, Way::AtClient(client.number())))
 }
 
 /// Whether a client's lines are told at the client's pins in order of time.
-pub(crate) fn is_told(premises: &[Premise], client: ClientId) -> bool
+pub(crate) fn is_told(premises: &Premises, client: ClientId) -> bool
     ensures { result ≡ is_told premises.now client }
 {
-    is_seen_at_pins(premises, client) && is_in_time(premises)
+    premises.is_seen_at_pins(client) && premises.is_in_time()
 }
 
 /// The premise of a way of seeing.
-pub(crate) fn premise_of(premises: &[Premise], way: Way) -> tlwire_closed::Premise
+pub(crate) fn premise_of(premises: &Premises, way: Way) -> Premise
     ensures { result ≡ premise_of premises.now way }
 {
-    tlwire_closed::Premise {
+    Premise {
         way,
-        skew: skew_of(premises),
-        whole: is_whole(premises),
-        memory_unseen: is_unseen(premises, Wire::Memory(Channel::A)),
-        cores_unseen: is_unseen(premises, Wire::Core(ClientId::new(0))),
+        skew: premises.skew_of() as usize,
+        whole: premises.whole,
+        memory_unseen: premises.memory_unseen,
+        cores_unseen: premises.cores_unseen,
+    }
+}
+
+/// What such a header says: lines of different wires may stand in any order.
+pub(crate) fn untimed(premises: &Premises, lines: usize) -> Premise
+    ensures { result ≡ untimed premises.now lines }
+{
+    Premise {
+        skew: lines,
+        ..premise_of(premises, Way::Between)
     }
 }
 
 /// Whether somebody watched the memory's link and the cores, and lines stand in order of time.
-pub(crate) fn is_all_in_order(premises: &[Premise]) -> bool {
-    !is_any_skew(premises)
-        && !is_unseen(premises, Wire::Memory(Channel::A))
-        && !is_unseen(premises, Wire::Core(ClientId::new(0)))
+pub(crate) fn is_all_in_order(premises: &Premises) -> bool {
+    premises.skew.is_none() && !premises.memory_unseen && !premises.cores_unseen
 }

@@ -1,23 +1,22 @@
 //! Whether a run has the orders of lines that a header asks for.
-ghost use Rattle.std.specs.Prelude.{◌≡◌, ℕ, true, IfOk, IsNone, IsTrue};
+ghost use Rattle.std.specs.Prelude.{ℕ, IfOk, IsNone, IsTrue};
 ghost use Rattle.std.specs.Bool.{OnFalse};
 ghost use Rattle.tl_protocol.specs.Runs.{IsRun};
 ghost use Rattle.tlwire_answer.specs.Answer.{ClientKeepsOrder, EachKeepsOrder, IsInOrder, Meets, NobodyIsTold, with_lines};
-ghost use Rattle.tlwire_answer.specs.Named.{is_at_client};
-ghost use Rattle.tlwire_closed.specs.declared.premise.Way.{Way};
-ghost use Rattle.tlwire_closed.specs.declared.premise.Way.TheVariants.{AtClient};
+ghost use Rattle.tlwire_search.specs.declared.way.Way.{Way};
+ghost use Rattle.tlwire_search.specs.declared.way.Way.TheVariants.{AtClient};
 
 use crate::named::{is_told, names, premise_of};
 use std::alloc::{AllocError, Global};
 use tl_rules::Event;
 use tl_types::ClientId;
-use tlwire_closed::{Way, is_seen_so};
+use tlwire_closed::is_seen_so;
 use tlwire_pins::{cores_of, keeps_order, lines_at_pins};
 use tlwire_record::Messages;
-use tlwire_search::{Premise, Seen};
+use tlwire_search::{Seen, Way};
 
 /// An order of lines that the header asks for, and a run does not have.
-#[derive(Clone, Copy, Debug, PartialEq, Eq)]
+#[derive(Clone, Copy, PartialEq, Eq)]
 pub enum Order {
     /// That of the lines of a client at its pins.
     AtPins,
@@ -118,38 +117,6 @@ fn meets(
     is_seen_so(alloc, shape, premise, messages.image(), seen, run)
 }
 
-/// Whether a run is seen so at the pins of the client that a line of the header names, if it names one.
-fn meets_line(
-    alloc: Global,
-    messages: &Messages,
-    seen: &[Seen],
-    run: &[Event],
-    line: &Premise,
-) -> Result<bool, AllocError>
-    ensures { IfOk result
-        (λ yes. IsTrue yes → IsRun messages.now.setting.shape messages.now.image run.now
-        → (client : ℕ) → is_at_client client line.now ≡ true → Meets (with_lines messages.now seen.now) run.now (AtClient client)) }
-{
-    match line {
-        Premise::AtClient(client) => meets(
-            alloc,
-            messages,
-            seen,
-            run,
-            Way::AtClient(client.number()),
-        ),
-        Premise::AtClients
-        | Premise::AtHome
-        | Premise::Between
-        | Premise::Skew(_)
-        | Premise::Whole
-        | Premise::MemoryUnseen
-        | Premise::CoresUnseen
-        | Premise::ClientDrops(_)
-        | Premise::ClientsDrop => Ok(true),
-    }
-}
-
 /// Whether a run is seen so at the pins of each client that lines of the header name.
 fn meets_at_clients(
     alloc: Global,
@@ -161,9 +128,9 @@ fn meets_at_clients(
         (λ yes. IsTrue yes → IsRun messages.now.setting.shape messages.now.image run.now
         → (client : ℕ) → Meets (with_lines messages.now seen.now) run.now (AtClient client)) }
 {
-    let premises = messages.setting().premises();
-    for line in premises {
-        if !meets_line(alloc, messages, seen, run, line)? {
+    let named = messages.setting().premises().pins.named();
+    for client in named {
+        if !meets(alloc, messages, seen, run, Way::AtClient(client.number()))? {
             return Ok(false);
         }
     }

@@ -1,14 +1,16 @@
 //! What closed sets say of what was seen.
-ghost use Rattle.std.specs.Prelude.{◌≡◌, ◌≤◌, ℕ, IfOk};
+ghost use Rattle.std.specs.Prelude.{◌≡◌, ◌≤◌, ℕ, false, IfOk, length};
 ghost use Rattle.tlwire_answer.specs.Answer.{IsSets};
+ghost use Rattle.tlwire_answer.specs.Named.{Says};
 ghost use Rattle.tlwire_record.specs.Messages.{MessagesState};
+ghost use Rattle.tlwire_search.specs.Premises.{has_drops};
 
-use crate::named::{names, premise_of};
+use crate::named::{MOST_UNTIMED, is_untimed, names, premise_of, untimed};
 use std::alloc::{AllocError, Global};
 use tl_streams::Watcher;
-use tlwire_closed::{Answer, Reason, Stuck, Way, rule_out};
+use tlwire_closed::{Answer, Premise, Reason, Stuck, rule_out};
 use tlwire_record::Messages;
-use tlwire_search::{Premise, has_drops};
+use tlwire_search::Way;
 
 /// What closed sets say of what was seen.
 #[derive(Drop)]
@@ -58,8 +60,38 @@ fn joined(one: Sets, other: Sets) -> Sets
     }
 }
 
-/// What closed sets say of the lines before a place, in a way of seeing, where the header names it; nothing where clients
-/// drop clean copies, since the sets have no such step. Before the place `known` none is stuck, as far as is known.
+/// What closed sets say of the lines before a place, under a premise that the header says. Before the place `known` none
+/// is stuck, as far as is known.
+fn sets_under<W: Watcher>(
+    alloc: Global,
+    messages: &Messages,
+    premise: Premise,
+    known: usize,
+    to: usize,
+    watcher: &mut W,
+) -> Result<Sets, AllocError>
+    requires drops { has_drops messages.now.setting.premises ≡ false }
+    requires said { Says messages.now.setting.premises (length messages.now.seen) premise }
+    ensures { IfOk result (IsSets messages.now to) }
+{
+    let setting = messages.setting();
+    match rule_out(
+        alloc,
+        setting.shape(),
+        premise,
+        messages.image(),
+        messages.seen(),
+        known,
+        to,
+        watcher,
+    )? {
+        Answer::Impossible(stuck) => Ok(Sets::Stuck(stuck)),
+        Answer::NotDecided(reason) => Ok(Sets::Open(Some(reason))),
+    }
+}
+
+/// What they say in a way of seeing, where the header names it; nothing where clients drop clean copies, since the sets
+/// have no such step.
 fn sets_by<W: Watcher>(
     alloc: Global,
     messages: &Messages,
@@ -71,22 +103,32 @@ fn sets_by<W: Watcher>(
     ensures { IfOk result (IsSets messages.now to) }
 {
     let setting = messages.setting();
-    if has_drops(setting.premises()) || !names(setting.premises(), way) {
+    let premises = setting.premises();
+    if premises.has_drops() || !names(premises, way) {
         return Ok(Sets::Open(None));
     }
-    match rule_out(
-        alloc,
-        setting.shape(),
-        premise_of(setting.premises(), way),
-        messages.image(),
-        messages.seen(),
-        known,
-        to,
-        watcher,
-    )? {
-        Answer::Impossible(stuck) => Ok(Sets::Stuck(stuck)),
-        Answer::NotDecided(reason) => Ok(Sets::Open(Some(reason))),
+    let premise = premise_of(premises, way);
+    sets_under(alloc, messages, premise, known, to, watcher)
+}
+
+/// What they say where the header does not say when messages were seen.
+fn sets_untimed<W: Watcher>(
+    alloc: Global,
+    messages: &Messages,
+    known: usize,
+    to: usize,
+    watcher: &mut W,
+) -> Result<Sets, AllocError>
+    ensures { IfOk result (IsSets messages.now to) }
+{
+    let setting = messages.setting();
+    let premises = setting.premises();
+    let lines = messages.seen().len();
+    if premises.has_drops() || !is_untimed(premises) || lines > MOST_UNTIMED {
+        return Ok(Sets::Open(None));
     }
+    let premise = untimed(premises, lines);
+    sets_under(alloc, messages, premise, known, to, watcher)
 }
 
 /// What they say beside what others said.
@@ -121,37 +163,8 @@ pub(crate) fn sets_between<W: Watcher>(
     sets_beside(alloc, messages, sets, Way::AtHome, known, to, watcher)
 }
 
-/// What they say beside these at the pins of the client that a line of the header names, if it names one.
-fn sets_of_line<W: Watcher>(
-    alloc: Global,
-    messages: &Messages,
-    sets: Sets,
-    line: &Premise,
-    known: usize,
-    to: usize,
-    watcher: &mut W,
-) -> Result<Sets, AllocError>
-    requires { IsSets messages.now to sets }
-    ensures { IfOk result (IsSets messages.now to) }
-{
-    match line {
-        Premise::AtClient(client) => {
-            sets_beside(
-                alloc,
-                messages,
-                sets,
-                Way::AtClient(client.number()),
-                known,
-                to,
-                watcher,
-            )
-        }
-        _ => Ok(sets),
-    }
-}
-
 /// What they say beside these in the ways of seeing that are told at clients' pins.
-pub(crate) fn sets_at_pins<W: Watcher>(
+fn sets_at_clients<W: Watcher>(
     alloc: Global,
     messages: &Messages,
     sets: Sets,
@@ -163,10 +176,28 @@ pub(crate) fn sets_at_pins<W: Watcher>(
     ensures { IfOk result (IsSets messages.now to) }
 {
     let mut all = sets_beside(alloc, messages, sets, Way::AtClients, known, to, watcher)?;
-    for line in messages.setting().premises() {
-        all = sets_of_line(alloc, messages, all, line, known, to, watcher)?;
+    for client in messages.setting().premises().pins.named() {
+        let way = Way::AtClient(client.number());
+        all = sets_beside(alloc, messages, all, way, known, to, watcher)?;
     }
     Ok(all)
+}
+
+/// The same, and what they say where the header does not say when messages were seen.
+pub(crate) fn sets_at_pins<W: Watcher>(
+    alloc: Global,
+    messages: &Messages,
+    sets: Sets,
+    known: usize,
+    to: usize,
+    watcher: &mut W,
+) -> Result<Sets, AllocError>
+    requires { IsSets messages.now to sets }
+    ensures { IfOk result (IsSets messages.now to) }
+{
+    let sets = sets_at_clients(alloc, messages, sets, known, to, watcher)?;
+    let other = sets_untimed(alloc, messages, known, asked_to(&sets, to), watcher)?;
+    Ok(joined(sets, other))
 }
 
 /// What they say in each way of seeing.

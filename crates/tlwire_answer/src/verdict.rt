@@ -2,7 +2,7 @@
 ghost use Rattle.std.specs.Prelude.{◌≡◌, ℕ, Some, None, IfOk, IfSome};
 ghost use Rattle.tlwire_answer.specs.Answer.{IsExplainedInFull, IsFirstOf, IsFound, IsJudged, IsRuledOut, IsSets, IsVerdict, MayAtPins, with_lines};
 ghost use Rattle.tlwire_record.specs.Messages.{MessagesState};
-ghost use Rattle.tlwire_search.specs.Explained.{Explains, IsExplanation};
+ghost use Rattle.tlwire_search.specs.Explained.{Explains};
 
 use crate::advice::Advice;
 use crate::named::{has_sets, is_all_in_order};
@@ -17,13 +17,13 @@ use tlwire_closed::{Reason, Stuck};
 use tlwire_pins::{Wrong, in_full};
 use tlwire_record::Messages;
 use tlwire_rounds::explain_in_rounds;
-use tlwire_search::{Explanation, Limit, Seen, explain, has_drops};
+use tlwire_search::{Explanation, Limit, Seen, explain};
 
 /// How many messages, loads and stores a record has, at most, for which a run is sought in rounds.
 const MOST_SEEN: usize = 10_000;
 
 /// What is told where neither was found.
-#[derive(Clone, Copy, Debug, PartialEq, Eq)]
+#[derive(Clone, Copy, PartialEq, Eq)]
 pub struct Undecided {
     /// Why closed sets say nothing, where one was sought.
     pub sets: Option<Reason>,
@@ -85,27 +85,6 @@ fn ordered(
     }
 }
 
-/// What an explanation comes to: a run, where it has each order that the header asks for; or how far an attempt came.
-fn weighed_run(
-    alloc: Global,
-    messages: &Messages,
-    seen: &[Seen],
-    explanation: Explanation,
-) -> Result<Verdict, AllocError>
-    requires { IsExplanation messages.now.setting.premises messages.now.setting.shape messages.now.image seen.now
-        explanation }
-    ensures { IfOk result (IsFound (with_lines messages.now seen.now)) }
-{
-    match explanation {
-        Explanation::Explained(run) => ordered(alloc, messages, seen, run),
-        Explanation::NotExplained(place, limit) => Ok(Verdict::NotDecided(
-            place,
-            limit,
-            nothing_told(),
-        )),
-    }
-}
-
 /// A run that explains these lines, or how far an attempt came.
 fn explained_at_once(
     alloc: Global,
@@ -115,33 +94,38 @@ fn explained_at_once(
     ensures { IfOk result (IsFound (with_lines messages.now seen.now)) }
 {
     let setting = messages.setting();
-    let explanation = explain(
-        alloc,
-        setting.shape(),
-        setting.premises(),
-        messages.image(),
-        seen,
-    )?;
-    weighed_run(alloc, messages, seen, explanation)
+    let premises = setting.premises();
+    match explain(alloc, setting.shape(), premises, messages.image(), seen)? {
+        Explanation::Explained(run) => ordered(alloc, messages, seen, run),
+        Explanation::NotExplained(place, limit) => Ok(Verdict::NotDecided(
+            place,
+            limit,
+            nothing_told(),
+        )),
+    }
 }
 
-/// The same by the search in rounds, which takes longer.
+/// A run that the search in rounds finds, which takes longer; else what was found before.
 fn explained_in_rounds(
     alloc: Global,
     messages: &Messages,
     seen: &[Seen],
+    first: Verdict,
 ) -> Result<Verdict, AllocError>
+    requires { IsFound (with_lines messages.now seen.now) first }
     ensures { IfOk result (IsFound (with_lines messages.now seen.now)) }
 {
-    let setting = messages.setting();
-    let explanation = explain_in_rounds(
-        alloc,
-        setting.shape(),
-        setting.premises(),
-        messages.image(),
-        seen,
-    )?;
-    weighed_run(alloc, messages, seen, explanation)
+    let shape = messages.setting().shape();
+    let premises = messages.setting().premises();
+    let found = explain_in_rounds(alloc, shape, premises, messages.image(), seen)?;
+    let Some(run) = found else {
+        return Ok(first);
+    };
+    let again = ordered(alloc, messages, seen, run)?;
+    if let Verdict::Explained(_) = &again {
+        return Ok(again);
+    }
+    Ok(first)
 }
 
 /// What was found; else a run that the search in rounds finds.
@@ -160,11 +144,7 @@ fn explained_again(
     if seen.len() > MOST_SEEN {
         return Ok(first);
     }
-    let again = explained_in_rounds(alloc, messages, seen)?;
-    if let Verdict::Explained(_) = &again {
-        return Ok(again);
-    }
-    Ok(first)
+    explained_in_rounds(alloc, messages, seen, first)
 }
 
 /// A run that explains these lines, or how far the first attempt came.
@@ -184,7 +164,7 @@ fn explained_with_drops(
 {
     let setting = messages.setting();
     let premises = setting.premises();
-    if !has_drops(premises) {
+    if !premises.has_drops() {
         return Ok(None);
     }
     let full = in_full(alloc, setting.shape(), premises, messages.seen())?;
@@ -220,13 +200,13 @@ fn explained_before(
     explained_at_once(alloc, messages, seen.get(..place).unwrap_or(seen))
 }
 
-/// A place before which no run of a block is stuck, since the first search, which came so far, explains the lines before
-/// it; 0 where it does not, or no closed sets are made.
+/// A place before which no run of a block is stuck, since the first search, which came so far, explains the lines
+/// before it; 0 where it does not, or no closed sets are made.
 fn known_place(alloc: Global, messages: &Messages, verdict: &Verdict) -> Result<usize, AllocError> {
     let Verdict::NotDecided(place, _, _) = verdict else {
         return Ok(0);
     };
-    if !has_sets(messages.setting().premises()) {
+    if !has_sets(messages.setting().premises(), messages.seen().len()) {
         return Ok(0);
     }
     match explained_before(alloc, messages, *place)? {
@@ -351,9 +331,9 @@ fn sets_first<W: Watcher>(
     }
 }
 
-/// What is said of what may be seen at the pins of its clients. Closed sets take longer than the first search for a run,
-/// so it comes first. Where all was watched in order of time a set between the links' ends or at home is small: there
-/// these sets come before the search in rounds, and in a long record before any search.
+/// What is said of what may be seen at the pins of its clients. Closed sets take longer than the first search for a
+/// run, so it comes first. Where all was watched in order of time a set between the links' ends or at home is small:
+/// there these sets come before the search in rounds, and in a long record before any search.
 fn weighed<W: Watcher>(
     alloc: Global,
     messages: &Messages,
@@ -381,8 +361,8 @@ fn weighed<W: Watcher>(
     }
 }
 
-/// That a line may not be seen at its client's pins; or that each run of a block is stuck at an earlier one. Closed sets
-/// are made only where the first search does not explain the lines before it.
+/// That a line may not be seen at its client's pins; or that each run of a block is stuck at an earlier one. Closed
+/// sets are made only where the first search does not explain the lines before it.
 fn wrong_first<W: Watcher>(
     alloc: Global,
     messages: &Messages,
@@ -392,7 +372,7 @@ fn wrong_first<W: Watcher>(
     requires { IsFirstOf messages.now messages.now.setting.shape.clients (Some wrong) }
     ensures { IfOk result (IsVerdict messages.now) }
 {
-    if !has_sets(messages.setting().premises()) {
+    if !has_sets(messages.setting().premises(), messages.seen().len()) {
         return Ok(Verdict::Impossible(wrong));
     }
     let before = explained_before(alloc, messages, wrong.place)?;

@@ -16,7 +16,7 @@ use tlwire_exchanges::{
 use tlwire_record::Messages;
 
 /// What the header expects of the exchanges, and a record does not keep.
-#[derive(Clone, Copy, Debug, PartialEq, Eq)]
+#[derive(Clone, Copy, PartialEq, Eq)]
 pub enum Unmet {
     /// `patience NUM`: this exchange is open for more cycles.
     TooLong(Opened),
@@ -81,7 +81,7 @@ pub(crate) fn unmet_of(alloc: Global, messages: &Messages) -> Result<Option<Unme
 }
 
 /// As what an exchange is told.
-#[derive(Clone, Copy, Debug, PartialEq, Eq)]
+#[derive(Clone, Copy, PartialEq, Eq)]
 pub(crate) enum Told {
     /// As one that is open at the end.
     Open,

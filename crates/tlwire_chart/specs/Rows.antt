@@ -5,7 +5,7 @@ use Rattle.tl_types.specs.declared.kind.Kind.{Kind}
 use Rattle.tlcheck_rules.specs.declared.entry.Shown.{Shown}
 use Rattle.tlwire_answer.specs.Lines.{number_at}
 use Rattle.tlwire_record.specs.Messages.{MessagesState}
-use Rattle.tlwire_search.specs.Lists.{block_of}
+use Rattle.tlwire_search.specs.Where.{block_of}
 use Rattle.tlwire_search.specs.declared.seen.Seen.{Seen}
 use Rattle.tlwire_search.specs.declared.seen.Seen.TheVariants.{OnLink, OnMemory, Load, Store}
 use Rattle.tlchart_draw.specs.Strip.{IsStrip, last_of}

@@ -8,7 +8,7 @@ use tl_types::{Awaited, ClientId};
 use tlcheck_rules::Breach;
 
 /// Why a closed set of a block was not found.
-#[derive(Clone, Copy, Debug, PartialEq, Eq)]
+#[derive(Clone, Copy, PartialEq, Eq)]
 pub enum Reason {
     /// In each block some run comes to the end of the lines, or near it.
     NoContradiction,
@@ -17,7 +17,7 @@ pub enum Reason {
 }
 
 /// Why the work on a block ends early.
-#[derive(Clone, Copy, Debug, PartialEq, Eq)]
+#[derive(Clone, Copy, PartialEq, Eq)]
 pub(crate) enum Halt {
     /// A run of the block may be complete.
     MayBeComplete,

@@ -3,11 +3,10 @@ ghost use Rattle.std.specs.Prelude.{◌≡◌, ◌<◌, ◌==◌, ◌++◌, ◌�
 ghost use Rattle.tl_protocol.specs.Merges.{on_block};
 ghost use Rattle.tlwire_closed.specs.Blocks.{lines_at};
 
-use crate::table::line_block;
 use std::alloc::{AllocError, Global};
 use tl_protocol::Queue;
-use tl_rules::{Access, Event, Shape};
-use tlwire_search::{Seen, Wire};
+use tl_rules::{Event, Shape};
+use tlwire_search::{Seen, Wire, block_of, copied};
 
 /// A line of a block: its place in the record, and its wire.
 #[derive(Drop)]
@@ -60,7 +59,7 @@ pub(crate) fn lines_by_block(
     let mut groups = no_lines(alloc, shape.blocks)?;
     for place in 0..seen.len() {
         let line = &seen[place];
-        let block = line_block(shape, line) as usize;
+        let block = block_of(shape, line) as usize;
         if block >= groups.len() {
             return Ok(None);
         }
@@ -68,43 +67,6 @@ pub(crate) fn lines_by_block(
         join_line(&mut groups, block, place, wire)?;
     }
     Ok(Some(groups))
-}
-
-fn copied_access(access: &Access) -> Access
-    ensures { result ≡ access.now }
-{
-    Access {
-        client: access.client,
-        address: access.address,
-        stamp: access.stamp,
-        index: access.index,
-        bytes: access.bytes.copied(),
-    }
-}
-
-fn copied(event: &Event) -> Event
-    ensures { result ≡ event.now }
-{
-    match event {
-        Event::Load(access) => Event::Load(copied_access(access)),
-        Event::Store(access) => Event::Store(copied_access(access)),
-        Event::SendAcquire(c, block, grow) => Event::SendAcquire(*c, *block, *grow),
-        Event::SendRelease(c, block, prune) => Event::SendRelease(*c, *block, *prune),
-        Event::AnswerProbe(c, block) => Event::AnswerProbe(*c, *block),
-        Event::TakeGrant(c, block) => Event::TakeGrant(*c, *block),
-        Event::TakeReleaseAck(c, block) => Event::TakeReleaseAck(*c, *block),
-        Event::AcceptAcquire(c, block) => Event::AcceptAcquire(*c, *block),
-        Event::SendProbe(c, block, cap) => Event::SendProbe(*c, *block, *cap),
-        Event::TakeC(c, block) => Event::TakeC(*c, *block),
-        Event::SendGrant(c, block) => Event::SendGrant(*c, *block),
-        Event::TakeGrantAck(c, block) => Event::TakeGrantAck(*c, *block),
-        Event::SendGet(block) => Event::SendGet(*block),
-        Event::Serve(block) => Event::Serve(*block),
-        Event::TakeData(block) => Event::TakeData(*block),
-        Event::Drop(block) => Event::Drop(*block),
-        Event::SendPut(block) => Event::SendPut(*block),
-        Event::TakePutAck(block) => Event::TakePutAck(*block),
-    }
 }
 
 /// No event of each of so many blocks.

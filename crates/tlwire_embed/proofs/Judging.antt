@@ -1,7 +1,7 @@
 -- What a judge at a client's pins tells of all lines that it sees.
 use Rattle.std.proofs.Common.{◌≡◌, ◌⊎◌, inl, inr, ℕ, List, [], ◌∷◌, ◌++◌, Option, Some, None, refl, sym, ◌∙◌, ap, subst}
 use Rattle.tl_protocol.specs.declared.shape.Shape.{Shape}
-use Rattle.tlwire_search.specs.Lists.{block_of}
+use Rattle.tlwire_search.specs.Where.{block_of}
 use Rattle.tlwire_search.specs.declared.seen.Seen.{Seen}
 use Rattle.tlwire_pins.specs.Judged.{EachMay, Follows, holds}
 use Rattle.tlwire_pins.specs.View.{keeps}

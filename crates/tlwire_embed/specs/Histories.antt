@@ -1,7 +1,7 @@
 -- What holds of all verdicts of a judge at a client's pins.
 use Rattle.std.specs.Prelude.{◌≡◌, ◌≢◌, ◌⊎◌, ℕ, List, [], ◌∷◌, ◌++◌, Some, None}
 use Rattle.tl_protocol.specs.declared.shape.Shape.{Shape}
-use Rattle.tlwire_search.specs.Lists.{block_of}
+use Rattle.tlwire_search.specs.Where.{block_of}
 use Rattle.tlwire_search.specs.declared.seen.Seen.{Seen}
 use Rattle.tlwire_pins.specs.Judged.{Breaks, EachMay}
 use Rattle.tlwire_pins.specs.Pins.{own}

@@ -1,7 +1,7 @@
 -- What a judge at a client's pins does of a line.
 use Rattle.std.specs.Prelude.{◌≡◌, ◌⊎◌, ℕ, List, [], ◌∷◌, ◌++◌, Option, Some, None}
 use Rattle.tl_protocol.specs.declared.shape.Shape.{Shape}
-use Rattle.tlwire_search.specs.Lists.{block_of}
+use Rattle.tlwire_search.specs.Where.{block_of}
 use Rattle.tlwire_search.specs.declared.seen.Seen.{Seen}
 use Rattle.tlwire_pins.specs.Judged.{Breaks, Follows, holds}
 use Rattle.tlwire_pins.specs.declared.judge.PinsJudge.{PinsJudge}

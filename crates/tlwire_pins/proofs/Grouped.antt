@@ -6,7 +6,7 @@ use Rattle.std.proofs.lemmas.List.Elements.{filter-append}
 use Rattle.std.specs.Borrow.{Bor}
 use Rattle.tl_types.specs.Codes.{channel_of}
 use Rattle.tl_protocol.specs.declared.shape.Shape.{Shape}
-use Rattle.tlwire_search.specs.Lists.{block_of}
+use Rattle.tlwire_search.specs.Where.{block_of}
 use Rattle.tlwire_search.specs.declared.seen.Seen.{Seen}
 use Rattle.tlwire_search.specs.declared.seen.Seen.TheVariants.{OnLink, OnMemory, Load, Store}
 use Rattle.tlwire_pins.proofs.Ordered.{own-filter, told-filter}

@@ -5,7 +5,7 @@ use Rattle.tl_protocol.specs.Runs.{at_reset}
 use Rattle.tl_protocol.specs.declared.event.Event.{Event}
 use Rattle.tl_rules.specs.PlainState.{PlainState}
 use Rattle.tlwire_search.specs.Led.{LeadsTo}
-use Rattle.tlwire_search.specs.Lists.{block_of}
+use Rattle.tlwire_search.specs.Where.{block_of}
 use Rattle.tlwire_search.specs.declared.seen.Seen.{Seen}
 use Rattle.tlwire_pins.specs.Pins.{is_own, lines_from, own}
 use Rattle.tlwire_pins.specs.View.{BreaksLine, MayLine, MayBeSeen, after_seen, before_line, fresh, led_by}

@@ -14,7 +14,7 @@ use std::collections::HashMap;
 use tl_rules::Shape;
 use tl_types::{BLOCK_BYTES, BlockNo, ClientId, Kind, Perm, Prune};
 use tlcheck_rules::Shown;
-use tlwire_search::{Premise, Seen, drops};
+use tlwire_search::{Premises, Seen};
 
 /// What each client holds of each block, as its lines so far tell.
 type Copies = HashMap<(u32, u32), View>;
@@ -78,12 +78,12 @@ fn all_of(held: Perm) -> Prune
 }
 
 /// The Release of a clean copy that nobody saw before a line, where its client drops such copies and holds this.
-fn release_before(premises: &[Premise], view: &View, cores: Cores, line: &Seen) -> Option<Prune>
+fn release_before(premises: &Premises, view: &View, cores: Cores, line: &Seen) -> Option<Prune>
     ensures { IfSome result (λ prune. IsBehindDrop (drops premises.now) prune line.now) }
 {
     match line {
         Seen::OnLink(client, _, message) => {
-            if drops(premises, *client) && has_nothing(message.kind) && view.may_drop(cores) {
+            if premises.drops(*client) && has_nothing(message.kind) && view.may_drop(cores) {
                 Some(all_of(view.held.perm()))
             } else {
                 None
@@ -97,7 +97,7 @@ fn release_before(premises: &[Premise], view: &View, cores: Cores, line: &Seen) 
 fn release_at(
     copies: &mut Copies,
     shape: Shape,
-    premises: &[Premise],
+    premises: &Premises,
     line: &Seen,
 ) -> Result<Option<Prune>, AllocError>
     requires { (0 < shape.block_bytes) × (shape.block_bytes ≤ BLOCK_BYTES) }
@@ -139,7 +139,7 @@ fn tell(full: &mut Vec<Seen>, release: Option<Prune>, line: &Seen) -> Result<(),
 pub fn in_full(
     alloc: Global,
     shape: Shape,
-    premises: &[Premise],
+    premises: &Premises,
     seen: &[Seen],
 ) -> Result<Vec<Seen>, AllocError>
     requires { (0 < shape.block_bytes) × (shape.block_bytes ≤ BLOCK_BYTES) }

@@ -27,7 +27,7 @@ pub enum Cores {
 }
 
 /// What of a client may stay unseen at its pins.
-#[derive(Clone, Copy, Debug, PartialEq, Eq)]
+#[derive(Clone, Copy, PartialEq, Eq)]
 pub struct Tap {
     /// Whether somebody watched its core.
     pub cores: Cores,

@@ -6,8 +6,9 @@ use Rattle.tlcheck_record.specs.Words.{number_in}
 use Rattle.tlcheck_record.specs.declared.cause.Cause.{Cause}
 use Rattle.tlcheck_record.specs.declared.cause.Cause.TheVariants as cause
 use Rattle.tlwire_search.specs.Premises.{drops, has_drops}
-use Rattle.tlwire_search.specs.declared.premise.Premise.{Premise}
-use Rattle.tlwire_search.specs.declared.premise.Premise.TheVariants.{ClientDrops, ClientsDrop}
+use Rattle.tlwire_search.specs.declared.premises.Premises.{Premises}
+use Rattle.tlwire_record.specs.declared.premise.Premise.{Premise}
+use Rattle.tlwire_record.specs.declared.premise.Premise.TheVariants.{ClientDrops, ClientsDrop}
 
 -- a client that is there
 abbrev pub dropping_client : Shape → ℕ → Result Premise Cause
@@ -22,7 +23,7 @@ drops_in shape (word ∷ number ∷ []) =
 drops_in shape _ = Err cause.Premise
 
 -- an earlier line says already that a client drops, or that some do
-abbrev pub says_again : List Premise → Premise → Bool
+abbrev pub says_again : Premises → Premise → Bool
 says_again premises (ClientDrops c) = drops premises c
 says_again premises ClientsDrop = has_drops premises
 says_again premises p = false

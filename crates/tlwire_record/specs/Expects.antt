@@ -1,10 +1,11 @@
 -- What the header of a record expects of its exchanges (this project's own format).
-use Rattle.std.specs.Prelude.{ℕ, ◌||◌, nat_le, Bool, true, List, [], ◌∷◌, codes, bytes_eq, Option, Some, None, Result, Ok, Err, if◌then◌else◌}
+use Rattle.std.specs.Prelude.{ℕ, ◌||◌, Bool, true, List, [], ◌∷◌, codes, bytes_eq, Some, Result, Ok, Err, if◌then◌else◌}
 use Rattle.tlcheck_record.specs.Cause.{◌>>=◌}
 use Rattle.tlcheck_record.specs.Words.{number_in}
 use Rattle.tlcheck_record.specs.declared.cause.Cause.{Cause}
 use Rattle.tlcheck_record.specs.declared.cause.Cause.TheVariants as cause
 use Rattle.tlwire_record.specs.Header.{SettingState}
+use Rattle.tlwire_record.specs.Premise.{least}
 use Rattle.tlwire_record.specs.declared.expects.Expects.{Expects}
 
 -- the first word of a line that says what is expected
@@ -15,11 +16,6 @@ is_expects_word word = bytes_eq word (codes "ends") || bytes_eq word (codes "pat
 abbrev pub quiet_in : Expects → List (List ℕ) → Result Expects Cause
 quiet_in e (word ∷ []) = if bytes_eq word (codes "quiet") then Ok (record e { quiet = true }) else Err cause.Premise
 quiet_in e _ = Err cause.Premise
-
--- the lesser of a number that may be absent and another
-abbrev pub least : Option ℕ → ℕ → ℕ
-least None other = other
-least (Some one) other = if nat_le one other then one else other
 
 -- `NUM`, behind `patience`: the least of several counts
 unfoldable pub patience_in : Expects → List (List ℕ) → Result Expects Cause

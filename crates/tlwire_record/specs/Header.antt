@@ -1,5 +1,5 @@
 -- The lines before the messages (this project's own format).
-use Rattle.std.specs.Prelude.{ℕ, ◌%◌, ◌*◌, ◌+◌, ◌++◌, ◌==◌, ◌&&◌, ◌||◌, nat_le, nat_lt, Bool, false, List, [], ◌∷◌, take, codes, bytes_eq, None, Result, Ok, Err, if◌then◌else◌}
+use Rattle.std.specs.Prelude.{ℕ, ◌%◌, ◌*◌, ◌+◌, ◌++◌, ◌==◌, ◌&&◌, ◌||◌, nat_le, nat_lt, Bool, false, List, [], ◌∷◌, codes, bytes_eq, None, Result, Ok, Err, if◌then◌else◌}
 use Rattle.std.specs.List.{list_any}
 use Rattle.tl_protocol.specs.declared.shape.Shape.{Shape}
 use Rattle.tlcheck_record.specs.Header.{is_in_range}
@@ -14,16 +14,19 @@ use Rattle.tlwire_record.specs.declared.header.TheConstants.{REACH}
 use Rattle.tlwire_record.specs.declared.header.Sources.{Sources}
 use Rattle.tlwire_record.specs.declared.expects.Expects.{Expects}
 use Rattle.tlwire_record.specs.declared.ignored.Ignored.{Ignored}
-use Rattle.tlwire_search.specs.declared.premise.Premise.{Premise}
-use Rattle.tlwire_search.specs.declared.premise.Premise.TheVariants.{AtClient, AtClients, AtHome, Between, Skew, Whole, MemoryUnseen, CoresUnseen}
+use Rattle.tlwire_search.specs.Naming.{no_premises}
+use Rattle.tlwire_search.specs.declared.premises.Premises.{Premises}
+use Rattle.tlwire_record.specs.Premise.{with_line}
+use Rattle.tlwire_record.specs.declared.premise.Premise.{Premise}
+use Rattle.tlwire_record.specs.declared.premise.Premise.TheVariants.{AtClient, AtClients, AtHome, Between, Skew, Whole, MemoryUnseen, CoresUnseen}
 
--- The memory, the clients and their sources, and how the record was seen, in the order of their lines; what is expected of its exchanges,
+-- The memory, the clients and their sources, in the order of their lines, and how the record was seen; what is expected of its exchanges,
 -- and whose lines are left out.
 pub record SettingState : Type 0 where
   pub shape : Shape
   pub base : ℕ
   pub sources : List Sources
-  pub premises : List Premise
+  pub premises : Premises
   pub expects : Expects
   pub ignored : List Ignored
 
@@ -77,7 +80,7 @@ is_fit shape base = is_in_range shape && (base % shape.block_bytes == 0) && ends
 
 -- the setting of these numbers, where they are fit
 abbrev pub fitting : Shape → ℕ → Result SettingState Cause
-fitting shape base = if is_fit shape base then Ok (record { shape = shape; base = base; sources = []; premises = []; expects = nothing_expected; ignored = [] }) else Err cause.Range
+fitting shape base = if is_fit shape base then Ok (record { shape = shape; base = base; sources = []; premises = no_premises; expects = nothing_expected; ignored = [] }) else Err cause.Range
 
 -- `clients=NUM block=NUM blocks=NUM base=ADDR`, behind the word `shape`
 unfoldable pub numbers_in : List (List ℕ) → Result SettingState Cause
@@ -183,11 +186,7 @@ premise_in shape word rest =
 
 -- one line more that says how
 abbrev pub with_premise : SettingState → Premise → SettingState
-with_premise setting p = record setting { premises = setting.premises ++ p ∷ [] }
-
--- of the lines that say how, the first so many
-abbrev pub with_first_premises : SettingState → ℕ → SettingState
-with_first_premises setting count = record setting { premises = take count setting.premises }
+with_premise setting p = record setting { premises = with_line setting.premises p }
 
 -- the same, where no earlier line says it already
 abbrev pub new_premise : SettingState → List ℕ → List (List ℕ) → Result Premise Cause

@@ -8,6 +8,7 @@ pub mod Left
 pub mod Line
 pub mod Messages
 pub mod Place
+pub mod Premise
 pub mod Read
 pub mod Reading
 pub mod Tables

@@ -1,19 +1,18 @@
 -- What was seen, with the client and the block that its ids stand for.
 use Rattle.std.specs.Prelude.{ℕ, ◌++◌, nat_lt, not, Bool, true, false, List, [], ◌∷◌, unwrap_or, Option, Some, None, Result, Ok, Err, if◌then◌else◌}
-use Rattle.std.specs.List.{list_any}
 use Rattle.tl_types.specs.declared.channel.Channel.{Channel}
 use Rattle.tl_types.specs.declared.channel.Channel.TheVariants as channel
 use Rattle.tl_types.specs.declared.kind.Kind.{Kind}
 use Rattle.tlcheck_rules.specs.declared.entry.Shown.{Shown}
-use Rattle.tlwire_search.specs.Premises.{is_unseen_on}
-use Rattle.tlwire_search.specs.declared.premise.Premise.{Premise}
+use Rattle.tlwire_search.specs.Premises.{is_unseen}
+use Rattle.tlwire_search.specs.declared.premises.Premises.{Premises}
 use Rattle.tlwire_search.specs.declared.seen.Seen.{Seen}
 use Rattle.tlwire_search.specs.declared.seen.Wire.{Wire}
 use Rattle.tlwire_search.specs.declared.seen.Wire.TheVariants as wire
 use Rattle.tlwire_search.specs.declared.seen.Seen.TheVariants.{OnLink, OnMemory, Load as Loads, Store as Stores}
 use Rattle.tlwire_record.specs.Code.{is_on_link, kind_of, name_of, role_of}
 use Rattle.tlcheck_record.specs.Cause.{◌>>=◌}
-use Rattle.tlwire_record.specs.Header.{SettingState, owns, with_first_premises, with_premise}
+use Rattle.tlwire_record.specs.Header.{SettingState, owns}
 use Rattle.tlwire_record.specs.Left.{LeftState, none_left, said_left}
 use Rattle.tlwire_record.specs.Place.{has_its_data, has_other_fields, is_set, is_size, offset_of}
 use Rattle.tlwire_record.specs.Tables.{TableState, no_tables, taken}
@@ -96,9 +95,9 @@ unwatched_wire (Client c) (said.Store address bytes) = Some (wire.Core c)
 unwatched_wire (Client c) (said.Message channel opcode f) = None
 
 -- the header says that nobody watched such a wire
-abbrev pub is_unwatched : List Premise → Option Wire → Bool
+abbrev pub is_unwatched : Premises → Option Wire → Bool
 is_unwatched premises None = false
-is_unwatched premises (Some w) = list_any (is_unseen_on w) premises
+is_unwatched premises (Some w) = is_unseen premises w
 
 -- the client whose link it is
 abbrev pub owner_of : Link → Result ℕ Cause
@@ -154,12 +153,8 @@ line_taken m number line =
     else if not (is_there m.setting.shape.clients line.link) then Err cause.Client
     else line_of m number line (said_left m.setting m.left line.link line.said)
 
--- ## With one line more in its header
+-- ## With another header
 
--- a record whose header says more of how it was seen
-abbrev pub supposing : MessagesState → Premise → MessagesState
-supposing m p = record m { setting = with_premise m.setting p }
-
--- a record with the first so many of these lines
-abbrev pub with_first : MessagesState → ℕ → MessagesState
-with_first m count = record m { setting = with_first_premises m.setting count }
+-- a record whose header says this of how it was seen
+abbrev pub supposing : MessagesState → Premises → MessagesState
+supposing m premises = record m { setting = record m.setting { premises = premises } }

@@ -144,7 +144,7 @@ pub(crate) fn is_on_link(kind: &Kind, link: &Link) -> bool
 }
 
 /// What a message does to what is open on its link.
-#[derive(Clone, Copy, Debug, PartialEq, Eq)]
+#[derive(Clone, Copy, PartialEq, Eq)]
 pub enum Role {
     /// It opens a request by its source: AcquireBlock, Get, PutFullData.
     Request,

@@ -2,14 +2,15 @@
 ghost use Rattle.std.specs.Prelude.{◌≡◌};
 ghost use Rattle.tl_script_words.specs.Words.{texts};
 ghost use Rattle.tlcheck_record.specs.Cause.{Gives};
-ghost use Rattle.tlwire_record.specs.Expects.{expects_in, expects_taken, is_expects_word, least, patience_in, quiet_in};
+ghost use Rattle.tlwire_record.specs.Expects.{expects_in, expects_taken, is_expects_word, patience_in, quiet_in};
 ghost use Rattle.tlwire_record.specs.Header.{nothing_expected};
 
 use crate::header::Setting;
+use crate::premise::least;
 use tlcheck_record::{Cause, LineError, read_number};
 
 /// What a header expects of the exchanges of its record.
-#[derive(Clone, Copy, Debug, PartialEq, Eq)]
+#[derive(Clone, Copy, PartialEq, Eq)]
 pub struct Expects {
     /// `ends quiet`: none is open at the end.
     pub quiet: bool,
@@ -32,16 +33,6 @@ pub(crate) fn is_expects_word(word: &str) -> bool
     ensures { result ≡ is_expects_word word.now }
 {
     word == "ends" || word == "patience"
-}
-
-/// The lesser of a number that may be absent and another.
-fn least(one: Option<u32>, other: u32) -> u32
-    ensures { result ≡ least one other }
-{
-    match one {
-        Some(one) => { if one <= other { one } else { other } }
-        None => other,
-    }
 }
 
 /// `quiet`, behind `ends`.

@@ -1,26 +1,28 @@
 //! The lines before the messages: the title, the shape, whose the sources are, the image.
-ghost use Rattle.std.specs.Prelude.{◌≡◌, ◌<◌, ◌≤◌, [], ◌∷◌, Ok, OnErr, OnOk};
+ghost use Rattle.std.specs.Prelude.{◌≡◌, ◌<◌, ◌≤◌, [], ◌∷◌, Ok};
 ghost use Rattle.std.specs.List.{list_any};
 ghost use Rattle.tl_script_words.specs.Words.{texts};
 ghost use Rattle.tlcheck_record.specs.Cause.{Gives};
-ghost use Rattle.tlwire_record.specs.Header.{address_at, address_part, ends_in_reach, fitting, has_source, has_sources, is_fit, is_of, is_title, number_at, number_part, numbers_in, owns, setting_in, sources_in, sources_taken, with_first_premises, with_ignored, with_premise, with_sources};
+ghost use Rattle.tlwire_record.specs.Header.{address_at, address_part, ends_in_reach, fitting, has_source, has_sources, is_fit, is_of, is_title, number_at, number_part, numbers_in, owns, setting_in, sources_in, sources_taken, with_ignored, with_premise, with_sources};
 
 use crate::address::read_wide_address;
 use crate::expects::{Expects, nothing_expected};
 use crate::fields::split_pair;
 use crate::ignored::Ignored;
-use std::alloc::{AllocError, Global};
+use crate::premise::{Premise, add_line};
+use std::alloc::Global;
 use std::marker::Model;
+use std::mem;
 use tl_rules::Shape;
 use tl_types::{BLOCK_BYTES, BLOCKS, ClientId};
 use tlcheck_record::{Cause, LineError, read_number};
-use tlwire_search::Premise;
+use tlwire_search::Premises;
 
 /// How many bytes addresses of 64 bits reach.
 pub const REACH: u128 = 18_446_744_073_709_551_616;
 
 /// The source ids from one to another, both with them, which are a client's.
-#[derive(Clone, Copy, Debug, PartialEq, Eq)]
+#[derive(Clone, Copy, PartialEq, Eq)]
 pub struct Sources {
     pub client: ClientId,
     pub from: u32,
@@ -33,7 +35,7 @@ pub struct Setting {
     shape: Shape,
     base: u64,
     sources: Vec<Sources>,
-    premises: Vec<Premise>,
+    premises: Premises,
     expects: Expects,
     ignored: Vec<Ignored>,
 }
@@ -50,7 +52,7 @@ impl Model for Setting {
           shape = s.shape;
           base = s.base;
           sources = s.sources.items;
-          premises = s.premises.items;
+          premises = s.premises;
           expects = s.expects;
           ignored = s.ignored.items;
         } };
@@ -114,8 +116,8 @@ impl Setting {
         owns(self.sources.as_slice(), client, source)
     }
 
-    /// How the record was seen, as the header's lines say.
-    pub fn premises(&self) -> &[Premise]
+    /// How the record was seen, as the header says.
+    pub fn premises(&self) -> &Premises
         ensures { result.now ≡ self.now.premises }
     {
         &self.premises
@@ -154,24 +156,16 @@ impl Setting {
     pub(crate) fn add_premise(&mut self, premise: Premise) -> Result<(), LineError>
         ensures { Gives (λ _. self.new) result (Ok (with_premise self.old premise)) }
     {
-        self.premises.push(premise)?;
+        add_line(&mut self.premises, premise)?;
         Ok(())
     }
 
-    /// One line more that says how, as `add_premise` has it, for a reader of a record that is whole.
-    pub(crate) fn suppose(&mut self, premise: Premise) -> Result<(), AllocError>
-        ensures supposed { OnOk result (self.new ≡ with_premise self.old premise) }
-        ensures kept { OnErr result (self.new ≡ self.old) }
+    /// The header says this in place of what it said, which is given.
+    pub(crate) fn suppose(&mut self, premises: Premises) -> Premises
+        ensures supposed { self.new ≡ record self.old { premises = premises } }
+        ensures given { result ≡ self.old.premises }
     {
-        self.premises.push(premise)?;
-        Ok(())
-    }
-
-    /// Of these lines the first so many are left.
-    pub(crate) fn withdraw(&mut self, count: usize)
-        ensures { self.new ≡ with_first_premises self.old count }
-    {
-        self.premises.truncate(count);
+        mem::replace(&mut self.premises, premises)
     }
 
     /// One line of sources more.
@@ -270,7 +264,7 @@ fn fitting(alloc: Global, shape: Shape, base: u64) -> Result<Setting, Cause>
             shape,
             base,
             sources: Vec::new(alloc),
-            premises: Vec::new(alloc),
+            premises: Premises::new(alloc),
             expects: nothing_expected(),
             ignored: Vec::new(alloc),
         })

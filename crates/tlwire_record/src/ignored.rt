@@ -12,7 +12,7 @@ use tl_types::ClientId;
 use tlcheck_record::{Cause, LineError, read_number};
 
 /// Whose lines are left out.
-#[derive(Clone, Copy, Debug, PartialEq, Eq)]
+#[derive(Clone, Copy, PartialEq, Eq)]
 pub enum Ignored {
     /// Those of an agent on a client's link, by its sources.
     Sources(Sources),

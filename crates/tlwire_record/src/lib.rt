@@ -26,6 +26,7 @@ pub use ignored::Ignored;
 pub use left::LeftOut;
 pub use line::{Line, Link, Said};
 pub use messages::Messages;
+pub use premise::Premise;
 pub use record::{ReadFault, read, split_lines};
 pub use stage::Stage;
 pub use tables::{Id, Tables};

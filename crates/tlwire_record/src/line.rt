@@ -11,7 +11,7 @@ use tl_types::{AccessBytes, Channel, ClientId};
 use tlcheck_record::{Cause, LineError, read_access, read_number};
 
 /// Whose link.
-#[derive(Clone, Copy, Debug, PartialEq, Eq)]
+#[derive(Clone, Copy, PartialEq, Eq)]
 pub enum Link {
     /// A client's.
     Client(ClientId),

@@ -10,13 +10,14 @@ use crate::header::Setting;
 use crate::left::LeftOut;
 use crate::line::{Line, Link, Said};
 use crate::place::{has_its_data, has_other_fields, is_set, is_size, offset_of};
+use crate::premise::{Premise, add_line};
 use crate::tables::Tables;
 use std::alloc::{AllocError, Global};
 use std::marker::Model;
 use tl_types::{AccessBytes, BlockNo, Channel, ClientId, Kind};
 use tlcheck_record::{Cause, LineError};
 use tlcheck_rules::Shown;
-use tlwire_search::{Premise, Seen, Wire, is_unseen};
+use tlwire_search::{Premises, Seen, Wire};
 
 /// Whether a source that stands is one of the client's.
 fn has_own_source(setting: &Setting, link: &Link, source: Option<u32>) -> bool
@@ -113,11 +114,11 @@ fn unwatched_wire(link: &Link, said: &Said) -> Option<Wire>
 }
 
 /// Whether the header says that nobody watched where a line was seen.
-fn is_unwatched(premises: &[Premise], wire: Option<Wire>) -> bool
+fn is_unwatched(premises: &Premises, wire: Option<Wire>) -> bool
     ensures { result ≡ is_unwatched premises.now wire }
 {
     match wire {
-        Some(wire) => is_unseen(premises, wire),
+        Some(wire) => premises.is_unseen(wire),
         None => false,
     }
 }
@@ -165,8 +166,9 @@ impl Model for Messages {
 }
 
 impl Messages {
-    ghost use Rattle.std.specs.Prelude.{Ok, OnErr, OnOk};
-    ghost use Rattle.tlwire_record.specs.Messages.{line_left, line_taken, message_taken, said_taken, supposing, with_first};
+    ghost use Rattle.std.specs.Prelude.{IfOk, Ok};
+    ghost use Rattle.tlwire_record.specs.Messages.{line_left, line_taken, message_taken, said_taken, supposing};
+    ghost use Rattle.tlwire_record.specs.Premise.{with_line};
 
     /// The memory, the clients and their sources.
     pub fn setting(&self) -> &Setting
@@ -217,20 +219,21 @@ impl Messages {
         self.cycle
     }
 
-    /// One line more of the header says how the record was seen. Err is a refused request for memory, and nothing is
-    /// changed.
-    pub fn suppose(&mut self, premise: Premise) -> Result<(), AllocError>
-        ensures supposed { OnOk result (self.new ≡ supposing self.old premise) }
-        ensures kept { OnErr result (self.new ≡ self.old) }
+    /// What the header would say of how the record was seen with one line more. Err is a refused request for memory.
+    pub fn premises_with(&self, alloc: Global, premise: Premise) -> Result<Premises, AllocError>
+        ensures { IfOk result (λ premises. premises ≡ with_line self.now.setting.premises premise) }
     {
-        self.setting.suppose(premise)
+        let mut premises = self.setting.premises().copied(alloc)?;
+        add_line(&mut premises, premise)?;
+        Ok(premises)
     }
 
-    /// Of these lines the first so many are left.
-    pub fn withdraw(&mut self, count: usize)
-        ensures { self.new ≡ with_first self.old count }
+    /// The header says this of how the record was seen, in place of what it said, which is given.
+    pub fn suppose(&mut self, premises: Premises) -> Premises
+        ensures supposed { self.new ≡ supposing self.old premises }
+        ensures given { result ≡ self.old.setting.premises }
     {
-        self.setting.withdraw(count);
+        self.setting.suppose(premises)
     }
 
     /// Nothing was seen.

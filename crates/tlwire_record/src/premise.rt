@@ -1,15 +1,72 @@
 //! The lines before the messages that say how the record was seen.
-ghost use Rattle.std.specs.Prelude.{◌≡◌};
+ghost use Rattle.std.specs.Prelude.{◌≡◌, OnErr, OnOk};
 ghost use Rattle.tl_script_words.specs.Words.{texts};
 ghost use Rattle.tlcheck_record.specs.Cause.{Gives};
 ghost use Rattle.tlwire_record.specs.Drops.{dropping_client, drops_in, says_again};
 ghost use Rattle.tlwire_record.specs.Header.{alone, at_client, is_premise_word, new_premise, place_in, place_named, premise_in, premise_taken, seen_in, skew_in, unseen_in};
+ghost use Rattle.tlwire_record.specs.Premise.{least, with_line};
 
 use crate::header::Setting;
+use std::alloc::AllocError;
 use tl_rules::Shape;
 use tl_types::ClientId;
 use tlcheck_record::{Cause, LineError, read_number};
-use tlwire_search::{Premise, drops, has_drops};
+use tlwire_search::Premises;
+
+/// What a line of a record's header says of how the record was seen.
+#[derive(Clone, Copy, PartialEq, Eq)]
+pub enum Premise {
+    /// `seen at client N`
+    AtClient(ClientId),
+    /// `seen at clients`
+    AtClients,
+    /// `seen at home`
+    AtHome,
+    /// `seen between`
+    Between,
+    /// `skew D`
+    Skew(u32),
+    /// `whole`
+    Whole,
+    /// `memory unseen`
+    MemoryUnseen,
+    /// `cores unseen`
+    CoresUnseen,
+    /// `drops client N`
+    ClientDrops(ClientId),
+    /// `drops clients`
+    ClientsDrop,
+}
+
+/// The lesser of a number that may be absent and another.
+pub(crate) fn least(one: Option<u32>, other: u32) -> u32
+    ensures { result ≡ least one other }
+{
+    match one {
+        Some(one) => { if one <= other { one } else { other } }
+        None => other,
+    }
+}
+
+/// Adds what a line says. Err is a refused request for memory, and nothing is changed.
+pub(crate) fn add_line(premises: &mut Premises, premise: Premise) -> Result<(), AllocError>
+    ensures added { OnOk result (premises.new ≡ with_line premises.old premise) }
+    ensures kept { OnErr result (premises.new ≡ premises.old) }
+{
+    match premise {
+        Premise::AtClient(client) => premises.pins.add(client)?,
+        Premise::AtClients => premises.pins.add_all(),
+        Premise::AtHome => premises.at_home = true,
+        Premise::Between => premises.between = true,
+        Premise::Skew(most) => premises.skew = Some(least(premises.skew, most)),
+        Premise::Whole => premises.whole = true,
+        Premise::MemoryUnseen => premises.memory_unseen = true,
+        Premise::CoresUnseen => premises.cores_unseen = true,
+        Premise::ClientDrops(client) => premises.dropping.add(client)?,
+        Premise::ClientsDrop => premises.dropping.add_all(),
+    }
+    Ok(())
+}
 
 /// Whether a line with this first word says how the record was seen.
 pub(crate) fn is_premise_word(word: &str) -> bool
@@ -145,12 +202,12 @@ fn drops_of(shape: Shape, words: &[&str]) -> Result<Premise, Cause>
 }
 
 /// Whether an earlier line says already that a client drops, or that some do.
-fn says_again(premises: &[Premise], premise: &Premise) -> bool
+fn says_again(premises: &Premises, premise: &Premise) -> bool
     ensures { result ≡ says_again premises.now premise.now }
 {
     match premise {
-        Premise::ClientDrops(client) => drops(premises, *client),
-        Premise::ClientsDrop => has_drops(premises),
+        Premise::ClientDrops(client) => premises.drops(*client),
+        Premise::ClientsDrop => premises.has_drops(),
         _ => false,
     }
 }

@@ -11,7 +11,7 @@ use std::alloc::{AllocError, Global};
 use tlcheck_record::{Cause, LineError};
 
 /// Why a text is no record of messages.
-#[derive(Clone, Copy, Debug, PartialEq, Eq)]
+#[derive(Clone, Copy, PartialEq, Eq)]
 pub enum ReadFault {
     /// On this line, from 1 on, this is wrong.
     Line(u64, Cause),

@@ -15,7 +15,7 @@ use tl_types::BlockNo;
 use tlcheck_record::{Cause, LineError};
 
 /// A source or a sink in use, on the link of a client, by its number, or with no client on the memory's.
-#[derive(Clone, Copy, Debug, PartialEq, Eq, PartialOrd, Ord)]
+#[derive(Clone, Copy, PartialEq, Eq, PartialOrd, Ord)]
 pub struct Id {
     pub client: Option<u32>,
     pub number: u32,

@@ -7,7 +7,7 @@ use crate::rounds::{Course, Taken};
 use std::alloc::{AllocError, Global};
 use tl_rules::{Event, Shape};
 use tl_types::BLOCK_BYTES;
-use tlwire_search::{LastAccepts, Premise, Seen};
+use tlwire_search::{LastAccepts, Premises, Seen};
 
 /// How many lines one may stand behind a later one, level by level; at the last level as many as the header says.
 const LEVELS: &[usize] = &[0, 4, 8, 10, 12, 16, 24, 72];
@@ -168,40 +168,12 @@ impl Round {
     }
 }
 
-/// How many lines one may stand behind a later one by a header's line.
-fn most_by(line: &Premise) -> Option<usize> {
-    match line {
-        Premise::Skew(most) => Some(*most as usize),
-        _ => None,
-    }
-}
-
-/// Whether a line of a header says when all messages are seen, and that the lines are in order of time.
-fn is_in_order(line: &Premise) -> bool {
-    matches!(
-        line,
-        Premise::Between | Premise::AtHome | Premise::AtClients
-    )
-}
-
-/// The least number that the lines of a header give.
-fn least_skew(premises: &[Premise]) -> Option<usize> {
-    let mut least: Option<usize> = None;
-    for line in premises {
-        least = match (least, most_by(line)) {
-            (Some(most), Some(other)) => Some(most.min(other)),
-            (None, other) => other,
-            (most, None) => most,
-        };
-    }
-    least
-}
-
-/// How many lines one may stand behind a later one by a header: any number where it says nothing.
-fn most_of(premises: &[Premise]) -> usize {
-    match least_skew(premises) {
-        Some(most) => most,
-        None if premises.iter().any(|line| is_in_order(line)) => 0,
+/// How many lines one may stand behind a later one by a header: none where it gives no number and says when all was
+/// seen, and any number where it says neither.
+fn most_of(premises: &Premises) -> usize {
+    match premises.skew {
+        Some(most) => most as usize,
+        None if premises.between || premises.at_home || premises.pins.has_all() => 0,
         None => usize::MAX,
     }
 }
@@ -333,7 +305,7 @@ impl<'a> Search<'a> {
 pub(crate) fn search_rounds(
     alloc: Global,
     shape: Shape,
-    premises: &[Premise],
+    premises: &Premises,
     image: &[u8],
     seen: &[Seen],
 ) -> Result<Vec<Event>, AllocError>

@@ -13,7 +13,7 @@ use Rattle.tlwire_search.specs.Explained.{Explains, IsSeenOn, as_list, on, same_
 use Rattle.tlwire_search.specs.Led.{own_block}
 use Rattle.tlwire_search.specs.Left.{GoesAlong, GoesAlongOn, IsMarking, IsNext, MarkState, left}
 use Rattle.tlwire_search.specs.Premises.{may_have_more}
-use Rattle.tlwire_search.specs.declared.premise.Premise.{Premise}
+use Rattle.tlwire_search.specs.declared.premises.Premises.{Premises}
 use Rattle.tlwire_search.specs.declared.seen.Seen.{Seen}
 use Rattle.tlwire_search.specs.declared.seen.Wire.{Wire}
 
@@ -38,7 +38,7 @@ grows shape s (x ∷ rest) e =
     ∙ sym (append_assoc (as_list (seen_of shape (s (block_of shape x)) x)) (seen_from shape (after_next shape s x) rest) (as_list (seen_of shape (end_from shape (after_next shape s x) rest (block_of shape e)) e)))
 
 -- the marks that an event leaves, of which this is seen
-abbrev pub IsNextBy : List Premise → List Seen → MarkState → MarkState → Option Seen → Type 0
+abbrev pub IsNextBy : Premises → List Seen → MarkState → MarkState → Option Seen → Type 0
 IsNextBy premises seen old new None = new ≡ old
 IsNextBy premises seen old new (Some s) = IsNext premises seen old new s
 
@@ -70,7 +70,7 @@ here_or_not more true all rest seen s m done g = unseen_on more all rest seen s 
 here_or_not more false all rest seen s m done g = subst (λ (xs : List Seen). GoesAlongOn more xs rest seen) (sym (append-nil all)) g
 
 -- what goes along still does, after this is seen or not
-pub goes : (premises : List Premise) (seen all : List Seen) (old new : MarkState) (shown : Option Seen) → IsNextBy premises seen old new shown → (w : Wire)
+pub goes : (premises : Premises) (seen all : List Seen) (old new : MarkState) (shown : Option Seen) → IsNextBy premises seen old new shown → (w : Wire)
     → GoesAlongOn (may_have_more premises w) (on w all) (on w (left old.marks seen)) (on w seen)
     → GoesAlongOn (may_have_more premises w) (on w all ++ on w (as_list shown)) (on w (left new.marks seen)) (on w seen)
 goes premises seen all old new None same w g =
@@ -86,12 +86,12 @@ goes premises seen all old new (Some s) (inr (more, done, same, marking)) w g =
     (subst (λ (ms : List Bool). GoesAlongOn (may_have_more premises w) (on w all) (on w (left ms seen)) (on w seen)) (sym same) g)
 
 -- there is a mark for each thing seen still
-pub still : (premises : List Premise) (seen : List Seen) (old new : MarkState) (shown : Option Seen) → IsMarking seen old → IsNextBy premises seen old new shown → IsMarking seen new
+pub still : (premises : Premises) (seen : List Seen) (old new : MarkState) (shown : Option Seen) → IsMarking seen old → IsNextBy premises seen old new shown → IsMarking seen new
 still premises seen old new None m same = subst (λ (n : MarkState). IsMarking seen n) (sym same) m
 still premises seen old new (Some s) m (inl marked) = marked.marking
 still premises seen old new (Some s) m (inr (more, done, same, marking)) = marking
 
-module _ (premises : List Premise) (shape : Shape) (image : List ℕ) (seen : List Seen) (run : List Event) (p : PlainState) (m : MarkState) (g : GoesAlong premises shape image seen run p m) where
+module _ (premises : Premises) (shape : Shape) (image : List ℕ) (seen : List Seen) (run : List Event) (p : PlainState) (m : MarkState) (g : GoesAlong premises shape image seen run p m) where
   -- what is seen of one more event that may come next
   own : (e : Event) → block_of p.shape e < p.shape.blocks
       → seen_along shape image (run ++ e ∷ []) ≡ seen_along shape image run ++ as_list (seen_of p.shape (own_block p e) e)
@@ -122,7 +122,7 @@ starts_on : (more : Bool) (rest seen : List Seen) → rest ≡ seen → GoesAlon
 starts_on false rest seen e = e
 starts_on true rest seen e = inl e
 
-pub starts : (premises : List Premise) (shape : Shape) (image : List ℕ) (seen : List Seen) (p : PlainState) (m : MarkState)
+pub starts : (premises : Premises) (shape : Shape) (image : List ℕ) (seen : List Seen) (p : PlainState) (m : MarkState)
     → IsReset shape image p → IsMarking seen m → left m.marks seen ≡ seen → GoesAlong premises shape image seen [] p m
 starts premises shape image seen p m reset marking all =
     record {
@@ -138,7 +138,7 @@ ends_on true all rest seen none (inl g) =
     ([], sym (append-nil all) ∙ (ap (λ (xs : List Seen). all ++ xs) (sym none) ∙ (g ∙ sym (append-nil seen))))
 ends_on true all rest seen none (inr (done, more)) = more
 
-pub explains : (premises : List Premise) (shape : Shape) (image : List ℕ) (seen : List Seen) (run : List Event) (p : PlainState) (m : MarkState)
+pub explains : (premises : Premises) (shape : Shape) (image : List ℕ) (seen : List Seen) (run : List Event) (p : PlainState) (m : MarkState)
     → GoesAlong premises shape image seen run p m → left m.marks seen ≡ [] → Explains premises shape image seen run
 explains premises shape image seen run p m g none =
     record {
@@ -153,7 +153,7 @@ nothing_on : (more : Bool) (seen : List Seen) → [] ≡ seen → IsSeenOn more 
 nothing_on false seen e = e
 nothing_on true seen e = ([], e ∙ sym (append-nil seen))
 
-pub nothing : (premises : List Premise) (shape : Shape) (image : List ℕ) (seen : List Seen) (run : List Event) → seen ≡ [] → run ≡ [] → Explains premises shape image seen run
+pub nothing : (premises : Premises) (shape : Shape) (image : List ℕ) (seen : List Seen) (run : List Event) → seen ≡ [] → run ≡ [] → Explains premises shape image seen run
 nothing premises shape image seen run none empty =
     subst (λ (es : List Event). Explains premises shape image seen es) (sym empty)
     (record {

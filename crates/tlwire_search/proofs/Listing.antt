@@ -7,7 +7,8 @@ use Rattle.tl_types.specs.Codes.{channel_of}
 use Rattle.tl_types.specs.declared.channel.Channel.{Channel}
 use Rattle.tl_types.specs.declared.channel.Channel.TheVariants.{A, B, C, D, E}
 use Rattle.tlwire_search.specs.Explained.{wire_of}
-use Rattle.tlwire_search.specs.Lists.{AreOfTheirWires, BeginInTime, IsMovedOn, IsOnWire, block_of, gap_at, list_at, list_of, number_of}
+use Rattle.tlwire_search.specs.Lists.{AreOfTheirWires, BeginInTime, IsMovedOn, IsOnWire, gap_at, list_at, list_of, number_of}
+use Rattle.tlwire_search.specs.Where.{block_of}
 use Rattle.tlwire_search.specs.Sought.{IsLike, is_grant}
 use Rattle.tlwire_search.specs.declared.seen.Seen.{Seen}
 use Rattle.tlwire_search.specs.declared.seen.Seen.TheVariants.{OnLink, OnMemory, Load, Store}

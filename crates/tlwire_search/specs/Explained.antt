@@ -20,7 +20,7 @@ use Rattle.tlcheck_rules.specs.declared.entry.Shown.{Shown}
 use Rattle.tlwire_search.specs.Premises.{may_have_more}
 use Rattle.tlwire_search.specs.declared.answer.Explanation.{Explanation}
 use Rattle.tlwire_search.specs.declared.answer.Explanation.TheVariants.{Explained, NotExplained}
-use Rattle.tlwire_search.specs.declared.premise.Premise.{Premise}
+use Rattle.tlwire_search.specs.declared.premises.Premises.{Premises}
 use Rattle.tlwire_search.specs.declared.seen.Seen.{Seen}
 use Rattle.tlwire_search.specs.declared.seen.Seen.TheVariants.{OnLink, OnMemory, Load, Store}
 use Rattle.tlwire_search.specs.declared.seen.Wire.{Wire}
@@ -109,11 +109,11 @@ IsSeenOn true all seen = (unseen : List Seen) × (all ≡ seen ++ unseen)
 -- is seen of it, in that order; what comes behind that was not seen, where the record was cut or nobody watched. Between two channels no
 -- order is kept, since the buffers of a network delay what a monitor sees on each of them. Nor is one in what an agent takes from a
 -- channel: of each block it takes the messages in their order, and of several blocks in any (TileLink 1.8, section 9).
-pub record Explains (premises : List Premise) (shape : Shape) (image : List ℕ) (seen : List Seen) (run : List Event) : Type 0 where
+pub record Explains (premises : Premises) (shape : Shape) (image : List ℕ) (seen : List Seen) (run : List Event) : Type 0 where
   pub lawful : IsRun shape image run
   pub seen_there : (wire : Wire) → IsSeenOn (may_have_more premises wire) (on wire (seen_along shape image run)) (on wire seen)
 
 -- What is answered: a run that explains what was seen; or a place in it, of which nothing else is claimed.
-abbrev pub IsExplanation : List Premise → Shape → List ℕ → List Seen → Explanation → Type 0
+abbrev pub IsExplanation : Premises → Shape → List ℕ → List Seen → Explanation → Type 0
 IsExplanation premises shape image seen (Explained run) = Explains premises shape image seen run.items
 IsExplanation premises shape image seen (NotExplained place limit) = place < length seen

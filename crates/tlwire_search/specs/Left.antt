@@ -6,7 +6,7 @@ use Rattle.tl_rules.specs.PlainState.{PlainState}
 use Rattle.tlwire_search.specs.Explained.{on, seen_along, wire_of}
 use Rattle.tlwire_search.specs.Led.{LeadsTo}
 use Rattle.tlwire_search.specs.Premises.{may_have_more}
-use Rattle.tlwire_search.specs.declared.premise.Premise.{Premise}
+use Rattle.tlwire_search.specs.declared.premises.Premises.{Premises}
 use Rattle.tlwire_search.specs.declared.seen.Seen.{Seen}
 use Rattle.tlwire_search.specs.declared.seen.Wire.{Wire}
 
@@ -42,7 +42,7 @@ pub record IsMarked (seen : List Seen) (old new : MarkState) (s : Seen) : Type 0
   pub next : (wire : Wire) → on wire (left old.marks seen) ≡ on wire (s ∷ []) ++ on wire (left new.marks seen)
 
 -- this is marked as the next on its wire; or nothing is left there, where more may have been sent
-abbrev pub IsNext : List Premise → List Seen → MarkState → MarkState → Seen → Type 0
+abbrev pub IsNext : Premises → List Seen → MarkState → MarkState → Seen → Type 0
 IsNext premises seen old new s =
     IsMarked seen old new s
     ⊎ ((may_have_more premises (wire_of s) ≡ true) × IsDone seen new.marks (wire_of s) × (new.marks ≡ old.marks) × IsMarking seen new)
@@ -54,7 +54,7 @@ GoesAlongOn false all rest seen = all ++ rest ≡ seen
 GoesAlongOn true all rest seen = (all ++ rest ≡ seen) ⊎ ((rest ≡ []) × ((unseen : List Seen) × (all ≡ seen ++ unseen)))
 
 -- A run is lawful, and leads to a map of the state, and what is seen of it is what is marked, or was not seen.
-pub record GoesAlong (premises : List Premise) (shape : Shape) (image : List ℕ) (seen : List Seen) (run : List Event) (plain : PlainState) (m : MarkState) : Type 0 where
+pub record GoesAlong (premises : Premises) (shape : Shape) (image : List ℕ) (seen : List Seen) (run : List Event) (plain : PlainState) (m : MarkState) : Type 0 where
   pub leads : LeadsTo shape image run plain
   pub marking : IsMarking seen m
   pub each :

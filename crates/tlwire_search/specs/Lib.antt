@@ -1,7 +1,11 @@
+pub mod Clients
 pub mod Explained
 pub mod Led
 pub mod Left
 pub mod Lists
+pub mod Naming
 pub mod Premises
 pub mod Sought
 pub mod Unsent
+pub mod Ways
+pub mod Where

@@ -1,20 +1,13 @@
 -- The lists of lines by wire and block, by which what is unsent is looked up. No public clause cites these.
-use Rattle.std.specs.Prelude.{◌≡◌, ◌≢◌, ◌<◌, ◌≤◌, ◌+◌, ◌-◌, ◌*◌, ◌/◌, ◌%◌, ◌⊎◌, ℕ, List, Some, length}
+use Rattle.std.specs.Prelude.{◌≡◌, ◌≢◌, ◌<◌, ◌≤◌, ◌+◌, ◌-◌, ◌*◌, ◌%◌, ◌⊎◌, ℕ, List, Some, length}
 use Rattle.std.specs.Prelude.{slice_get, slice_index, slice_set}
 use Rattle.tl_types.specs.Channel.{channel_index}
 use Rattle.tl_types.specs.declared.channel.Channel.TheVariants.{A, B, C, D, E}
 use Rattle.tlwire_search.specs.Explained.{wire_of}
+use Rattle.tlwire_search.specs.Where.{block_of}
 use Rattle.tlwire_search.specs.declared.seen.Seen.{Seen}
-use Rattle.tlwire_search.specs.declared.seen.Seen.TheVariants.{OnLink, OnMemory, Load, Store}
 use Rattle.tlwire_search.specs.declared.seen.Wire.{Wire}
 use Rattle.tlwire_search.specs.declared.seen.Wire.TheVariants.{Link, Memory, Core}
-
--- the block that something seen is of, where a block has so many bytes
-abbrev pub block_of : ℕ → Seen → ℕ
-block_of bytes (OnLink client block message) = block
-block_of bytes (OnMemory block message) = block
-block_of bytes (Load client address read) = address / bytes
-block_of bytes (Store client address written) = address / bytes
 
 -- a wire's number: the memory's two, then six of each client
 abbrev pub number_of : Wire → ℕ

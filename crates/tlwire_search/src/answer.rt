@@ -2,7 +2,7 @@
 ghost use Rattle.std.specs.Prelude.{◌<◌, ◌≤◌, IfOk};
 ghost use Rattle.tlwire_search.specs.Explained.{IsExplanation};
 
-use crate::premise::Premise;
+use crate::premises::Premises;
 use crate::search::{Limit, search};
 use crate::seen::Seen;
 use crate::walk::explained_by;
@@ -26,7 +26,7 @@ pub enum Explanation {
 pub fn explain(
     alloc: Global,
     shape: Shape,
-    premises: &[Premise],
+    premises: &Premises,
     image: &[u8],
     seen: &[Seen],
 ) -> Result<Explanation, AllocError>
@@ -41,28 +41,5 @@ pub fn explain(
     match explained_by(alloc, shape, premises, image, seen, found.run)? {
         Some(run) => Ok(Explanation::Explained(run)),
         None => Ok(Explanation::NotExplained(found.place.min(seen.len() - 1), found.limit)),
-    }
-}
-
-/// What the events of a run, however it was found, say of what was seen: that the run explains it; or nothing, and the
-/// first thing seen is named. The error is want of memory.
-pub fn explained_along(
-    alloc: Global,
-    shape: Shape,
-    premises: &[Premise],
-    image: &[u8],
-    seen: &[Seen],
-    run: Vec<Event>,
-) -> Result<Explanation, AllocError>
-    requires bytes { (0 < shape.block_bytes) × (shape.block_bytes ≤ BLOCK_BYTES) }
-    requires blocks { shape.blocks ≤ BLOCKS }
-    ensures { IfOk result (IsExplanation premises.now shape image.now seen.now) }
-{
-    if seen.len() == 0 {
-        return Ok(Explanation::Explained(Vec::new(alloc)));
-    }
-    match explained_by(alloc, shape, premises, image, seen, run)? {
-        Some(run) => Ok(Explanation::Explained(run)),
-        None => Ok(Explanation::NotExplained(0, Limit::NoWay)),
     }
 }

@@ -2,7 +2,7 @@
 use crate::clients::{Which, in_way};
 use crate::hidden::hidden_store;
 use crate::last::LastAccepts;
-use crate::premise::{Premise, may_have_more};
+use crate::premises::Premises;
 use crate::seen::{Seen, Wire};
 use crate::target::target;
 use crate::wires::Wires;
@@ -199,14 +199,14 @@ fn room_for(state: &BlockState, clients: u32, c: ClientId, block: BlockNo) -> Op
 fn unseen_store(
     plain: &Plain,
     wires: &Wires<'_>,
-    premises: &[Premise],
+    premises: &Premises,
     seen: &[Seen],
     k: &Client,
     c: ClientId,
     block: BlockNo,
 ) -> Option<Event> {
     let core = Wire::Core(c);
-    if wires.next(core).is_some() || !may_have_more(premises, core) {
+    if wires.next(core).is_some() || !premises.may_have_more(core) {
         return None;
     }
     match seen.get(wires.next(Wire::Link(c, Channel::C))?)? {
@@ -223,7 +223,7 @@ fn unseen_store(
 fn unlike(
     plain: &Plain,
     wires: &Wires<'_>,
-    premises: &[Premise],
+    premises: &Premises,
     seen: &[Seen],
     event: &Event,
     state: &BlockState,
@@ -250,7 +250,7 @@ fn unlike(
 pub(crate) fn enabling_event(
     plain: &Plain,
     wires: &Wires<'_>,
-    premises: &[Premise],
+    premises: &Premises,
     seen: &[Seen],
     event: &Event,
     broken: Option<Rule>,

@@ -9,24 +9,25 @@ mod hidden;
 mod last;
 mod marks;
 mod preceding;
-mod premise;
+mod premises;
 mod search;
 mod seen;
 mod sight;
 mod sought;
 mod target;
 mod walk;
+mod way;
 mod wires;
 
-pub use answer::{Explanation, explain, explained_along};
+pub use answer::{Explanation, explain};
 pub use hidden::hidden_store;
 pub use last::LastAccepts;
-pub use premise::{
-    Premise, drops, has_drops, is_seen_at_home, is_seen_at_pins, is_unseen, is_whole, may_have_more,
-};
+pub use premises::{NamedClients, Premises};
 pub use search::Limit;
 pub use seen::{Seen, Wire};
 pub use sight::{seen_of, seen_on};
 pub use sought::Sought;
 pub use target::{copied, target as event_of, wire_taken};
+pub use walk::explained_by;
+pub use way::Way;
 pub use wires::{block_of, number as wire_number};

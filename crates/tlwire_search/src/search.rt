@@ -7,7 +7,7 @@ use crate::clients::{Which, in_way};
 use crate::enabling::{Preferred, enabling_event};
 use crate::last::LastAccepts;
 use crate::preceding::preceding_event;
-use crate::premise::{Premise, is_seen_at_home, is_seen_at_pins, may_have_more};
+use crate::premises::Premises;
 use crate::seen::{Seen, Wire};
 use crate::sight::seen_of;
 use crate::target::{target, wire_of};
@@ -24,7 +24,7 @@ const EVENTS: u32 = 4096;
 const DEPTH: u32 = 96;
 
 /// Why an attempt went no further.
-#[derive(Clone, Copy, Debug, PartialEq, Eq)]
+#[derive(Clone, Copy, PartialEq, Eq)]
 pub enum Limit {
     /// No event that was tried leads on.
     NoWay,
@@ -55,7 +55,7 @@ pub(crate) struct Found {
 /// What was seen, and how.
 #[derive(Clone, Copy)]
 struct Record<'a> {
-    premises: &'a [Premise],
+    premises: &'a Premises,
     seen: &'a [Seen],
 }
 
@@ -86,7 +86,7 @@ fn in_order(plain: &Plain, wires: &Wires<'_>, record: Record<'_>, event: Event) 
     };
     match wires.next(wire) {
         Some(place) => target(record.seen.get(place)?),
-        None if may_have_more(record.premises, wire) => Some(event),
+        None if record.premises.may_have_more(wire) => Some(event),
         None => None,
     }
 }
@@ -99,7 +99,7 @@ fn is_next(plain: &Plain, wires: &Wires<'_>, record: Record<'_>, event: &Event) 
         return true;
     };
     let Some(place) = wires.next(shown.wire()) else {
-        return may_have_more(record.premises, shown.wire());
+        return record.premises.may_have_more(shown.wire());
     };
     match record.seen.get(place) {
         Some(next) => next.is_same(&shown),
@@ -161,8 +161,8 @@ fn taking(k: &Client, client: ClientId, block: BlockNo, channel: Channel) -> Opt
 /// Whether a message on a client's channel is taken as it is seen: D at the client's pins, A, C and E at home's.
 fn is_taken_as_seen(record: Record<'_>, client: ClientId, channel: Channel) -> bool {
     match channel {
-        Channel::D => is_seen_at_pins(record.premises, client),
-        Channel::A | Channel::C | Channel::E => is_seen_at_home(record.premises),
+        Channel::D => record.premises.is_seen_at_pins(client),
+        Channel::A | Channel::C | Channel::E => record.premises.at_home,
         Channel::B => false,
     }
 }
@@ -188,7 +188,7 @@ fn untaken(plain: &Plain, record: Record<'_>, line: &Seen) -> Option<Event> {
             taking(k, *client, *block, channel)
         }
         Seen::OnMemory(block, message)
-            if message.kind.channel() == Channel::D && is_seen_at_home(record.premises) => {
+            if message.kind.channel() == Channel::D && record.premises.at_home => {
             taking_answer(plain, *block)
         }
         _ => None,
@@ -280,7 +280,7 @@ fn held_up(plain: &Plain, line: &Seen) -> Option<ClientId> {
 pub(crate) fn search(
     alloc: Global,
     shape: Shape,
-    premises: &[Premise],
+    premises: &Premises,
     image: &[u8],
     seen: &[Seen],
 ) -> Result<Found, AllocError>
@@ -315,7 +315,7 @@ pub(crate) fn search(
 fn search_once(
     alloc: Global,
     shape: Shape,
-    premises: &[Premise],
+    premises: &Premises,
     image: &[u8],
     seen: &[Seen],
     preferred: &Preferred<'_>,

@@ -20,7 +20,7 @@ pub enum Seen {
 }
 
 /// Where a monitor sees things, which it sees there in their order.
-#[derive(Clone, Copy, Debug, PartialEq, Eq)]
+#[derive(Clone, Copy, PartialEq, Eq)]
 pub enum Wire {
     /// A channel between a client and home.
     Link(ClientId, Channel),

@@ -18,7 +18,7 @@ fn on_memory(block: BlockNo, kind: Kind, bytes: Option<BlockBytes>) -> Option<Se
 }
 
 /// The memory's answer.
-fn answer(block: BlockNo, state: &BlockState) -> Option<Seen>
+fn memory_answer(block: BlockNo, state: &BlockState) -> Option<Seen>
     ensures { result ≡ answer_seen block state.now.memory state.now.outward }
 {
     match state.outward() {
@@ -79,7 +79,7 @@ pub fn seen_on(state: &BlockState, shape: Shape, event: &Event) -> Option<Seen>
         )),
         Event::SendGet(block) => on_memory(*block, Kind::Get, None),
         Event::SendPut(block) => written_back(*block, state),
-        Event::Serve(block) => answer(*block, state),
+        Event::Serve(block) => memory_answer(*block, state),
         _ => on_link(state, shape, event),
     }
 }

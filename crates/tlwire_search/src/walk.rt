@@ -4,10 +4,10 @@ ghost use Rattle.tl_protocol.specs.declared.event.Event.{Event};
 ghost use Rattle.tl_protocol.specs.declared.shape.Shape.{Shape};
 ghost use Rattle.tlwire_search.specs.Explained.{Explains};
 ghost use Rattle.tlwire_search.specs.Left.{GoesAlong, IsMarking, IsNext};
-ghost use Rattle.tlwire_search.specs.declared.premise.Premise.{Premise};
+ghost use Rattle.tlwire_search.specs.declared.premises.Premises.{Premises};
 
 use crate::marks::Marks;
-use crate::premise::{Premise, may_have_more};
+use crate::premises::Premises;
 use crate::seen::Seen;
 use crate::sight::seen_of;
 use std::alloc::{AllocError, Global};
@@ -17,14 +17,14 @@ use tl_types::{BLOCK_BYTES, BLOCKS};
 /// Marks this as the next on its wire; or nothing is left there, and more may have been sent.
 fn is_next(
     marks: &mut Marks,
-    premises: &[Premise],
+    premises: &Premises,
     seen: &[Seen],
     shown: &Seen,
 ) -> Result<bool, AllocError>
     requires { IsMarking seen.now marks.old }
     ensures { IfOk result (λ yes. IsTrue yes → IsNext premises.now seen.now marks.old marks.new shown.now) }
 {
-    if may_have_more(premises, shown.wire()) && marks.is_done(seen, shown)? {
+    if premises.may_have_more(shown.wire()) && marks.is_done(seen, shown)? {
         return Ok(true);
     }
     Ok(marks.mark(seen, shown))
@@ -34,7 +34,7 @@ fn is_next(
 fn goes_on(
     plain: &mut Plain,
     marks: &mut Marks,
-    premises: &[Premise],
+    premises: &Premises,
     seen: &[Seen],
     event: &Event,
 ) -> Result<bool, AllocError>
@@ -69,7 +69,7 @@ impl Walk {
         requires bytes { (0 < shape.block_bytes) × (shape.block_bytes ≤ BLOCK_BYTES) }
         requires blocks { shape.blocks ≤ BLOCKS }
         ensures { IfOk result
-            (λ walk. (premises : List Premise)
+            (λ walk. (premises : Premises)
             → GoesAlong premises shape image.now seen.now walk.run.items walk.plain walk.marks) }
     {
         let plain = Plain::new(alloc, shape, image)?;
@@ -79,12 +79,7 @@ impl Walk {
     }
 
     /// Takes one more event, where it goes on.
-    fn take(
-        &mut self,
-        premises: &[Premise],
-        seen: &[Seen],
-        event: Event,
-    ) -> Result<bool, AllocError>
+    fn take(&mut self, premises: &Premises, seen: &[Seen], event: Event) -> Result<bool, AllocError>
         requires { IsMarking seen.now self.old.marks }
         ensures { IfOk result (λ yes. IsTrue yes → (shape : Shape) (image : List ℕ)
             → GoesAlong premises.now shape image seen.now self.old.run.items self.old.plain self.old.marks
@@ -98,11 +93,11 @@ impl Walk {
     }
 }
 
-/// The run of these events, where it explains what was seen.
-pub(crate) fn explained_by(
+/// The run of these events, however they were found, where it explains what was seen. The error is want of memory.
+pub fn explained_by(
     alloc: Global,
     shape: Shape,
-    premises: &[Premise],
+    premises: &Premises,
     image: &[u8],
     seen: &[Seen],
     events: Vec<Event>,

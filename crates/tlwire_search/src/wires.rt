@@ -3,7 +3,8 @@ ghost use Rattle.std.specs.Prelude.{◌≡◌, ◌<◌, ◌≤◌, ◌+◌, ◌-
 ghost use Rattle.std.specs.Prelude.{slice_get, slice_index, slice_set};
 ghost use Rattle.tlwire_search.specs.Lists.{AreOfTheirWires, BeginInTime, HasNoneBetween, IsMovedOn, IsNextOn, PassNoLine};
 ghost use Rattle.tlwire_search.specs.Explained.{wire_of};
-ghost use Rattle.tlwire_search.specs.Lists.{block_of, gap_at, list_at, list_of, number_of};
+ghost use Rattle.tlwire_search.specs.Lists.{gap_at, list_at, list_of, number_of};
+ghost use Rattle.tlwire_search.specs.Where.{block_of};
 
 use crate::seen::{Seen, Wire};
 use crate::sought::Sought;

@@ -1,8 +1,8 @@
-use Rattle.std.proofs.Common.{◌≡◌, ℕ, false, List, sym, ap, ◌∙◌, arith, below_more}
+use Rattle.std.proofs.Common.{◌≡◌, ℕ, false, sym, ap, ◌∙◌, arith, below_more}
 use Rattle.tl_protocol.specs.declared.shape.Shape.{Shape}
 use Rattle.tlwire_record.specs.Header.{SettingState}
 use Rattle.tlwire_answer.specs.Named.{is_told}
-use Rattle.tlwire_search.specs.declared.premise.Premise.{Premise}
+use Rattle.tlwire_search.specs.declared.premises.Premises.{Premises}
 use Rattle.tlwire_answer.proofs.order.is_any_told.Goals as goal
 
 pub loop-number-preserved : goal.loop-number-preserved
@@ -11,7 +11,7 @@ loop-number-preserved c =
     let read = c.premises.ensures ∙ ap (λ (x : SettingState). x.premises) c.setting-in-loop-number.ensures in
     let here : is_told named c.loop-number.number ≡ false =
     ap (λ (n : ℕ). is_told named n) (sym c.new.ensures)
-    ∙ (ap (λ (ps : List Premise). is_told ps c.new.result) (sym read)
+    ∙ (ap (λ (ps : Premises). is_told ps c.new.result) (sym read)
     ∙ (sym c.is_told.ensures ∙ c.if-is_told.false)) in
     below_more (λ (n : ℕ). is_told named n ≡ false) c.loop-number.number c.loop-number.invariant here
 

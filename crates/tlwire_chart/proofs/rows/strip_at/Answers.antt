@@ -5,7 +5,7 @@ use Rattle.tlchart_draw.specs.declared.strip.TheConstants.{LINES_BEFORE}
 use Rattle.tlwire_answer.specs.Lines.{number_at}
 use Rattle.tlwire_chart.specs.Rows.{places_before, told_at}
 use Rattle.tlwire_record.specs.Messages.{MessagesState}
-use Rattle.tlwire_search.specs.Lists.{block_of}
+use Rattle.tlwire_search.specs.Where.{block_of}
 use Rattle.tlwire_chart.proofs.rows.strip_at.Goals as goal
 
 -- the rows of the last lines, and that of the line that is impossible

@@ -14,7 +14,7 @@ loop-place-preserved c =
     record {
       lines = λ block.
           line_joins c.args.shape c.args.seen.now c.loop-place.place c.index-seen-place.result c.loop-place.groups.items c.join_line.new.groups.items
-          c.line_block-block.result (kept c.loop-place.place c.wire-wire.result) block lt c.index-seen-place.is c.line_block-block.ensures
+          c.block_of-block.result (kept c.loop-place.place c.wire-wire.result) block lt c.index-seen-place.is c.block_of-block.ensures
           (ap (λ (w : Wire). kept c.loop-place.place w) c.wire-wire.ensures) (c.in_ok-join_line.ensures.joins block) (c.loop-place.invariant.lines block);
       size = c.join_line.ensures.size ∙ c.loop-place.invariant.size;
     }
